@@ -189,7 +189,7 @@ fn verified<R: Rereader>(
 }
 
 fn sign_file(rt: &HostRuntime, arguments: &mut env::Args) -> Result<u64, Stopped> {
-    let key = secret_of(rt, arguments)?.into_unencrypted_secret_key(rt.alloc())?;
+    let key = secret_of(rt, arguments)?.into_unencrypted_secret_key()?;
     let mut source = source_of(rt, arguments)?;
     let text = signed_text(rt.alloc(), &key, &mut source)?;
     Ok(text.len() as u64)

@@ -1,36 +1,23 @@
 -- How opening ends, whether a password is asked for or handed in.
-use Rattle.std.proofs.Common.{◌≡◌, ◌⊎◌, ℕ, List, Option, None, Some, Result, Ok, Err, IfOk, IfErr, ap, inl, inr, sym, ◌∙◌}
-use Rattle.minisign_base.specs.DeviceCalls.{PromptCall}
-use Rattle.minisign_base.specs.Fault.{Fault, Named}
-use Rattle.minisign_base.specs.Prompts.{ConversationEnds}
-use Rattle.minisign_base.specs.Passwords.{password_of}
-use Rattle.minisign_base.specs.declared.faults.NamedFault.TheVariants.{OutOfMemory}
+use Rattle.std.proofs.Common.{◌≡◌, ◌⊎◌, ℕ, List, Option, None, Some, Result, Ok, Err, IsOk, IfOk, IfErr, inl, inr, sym, ◌∙◌}
+use Rattle.minisign.proofs.Common.{PromptCall, Fault, Named, ConversationEnds, password_of, OutOfMemory}
 use Rattle.minisign.specs.Headline.{OpeningHeadline}
 use Rattle.minisign.specs.Records.{SecretKeyRecord}
-use Rattle.minisign.specs.Sealing.{open_sealed}
+use Rattle.minisign.specs.Sealing.{allowed_work, open_sealed, sealed_by_scrypt}
 use Rattle.minisign.specs.Opening.{IsOpening, opening_steps}
-use Rattle.minisign.specs.OpenedTexts.{read_sealed_key}
-use Rattle.minisign.specs.Texts.{IsReadOrNoMemory}
+use Rattle.minisign.specs.Texts.{and_then}
 use Rattle.minisign.specs.SecretKeyText.{read_secret_key}
-use Rattle.minisign.proofs.Openings.{open_text, unopened_text, unread_text}
-use Rattle.minisign.proofs.ReadTexts.{same_fault}
+use Rattle.minisign.proofs.Openings.{open_text, unopened_text}
 
 -- a text that no password opens is refused with the prompt as it was, whether a password is handed in or not
 pub closed_opening : {R W : Type 0} (p : PromptCall R W) (given : Option (List ℕ)) (text : List ℕ) (bound : Option ℕ) (e : Fault)
-    → p.new ≡ p.old → (e ≡ Named OutOfMemory) ⊎ (read_sealed_key text ≡ Err e) → IsOpening p given text bound (Err e)
-closed_opening p (Some password) text bound e same (inl memory) = (same, inr (ap (λ x. Err x) memory))
-closed_opening p (Some password) text bound e same (inr refused) = (same, inl (sym (unopened_text text password bound e refused)))
+    → p.new ≡ p.old → and_then (read_secret_key text) sealed_by_scrypt ≡ Err e → IsOpening p given text bound (Err e)
+closed_opening p (Some password) text bound e same refused = (same, inl (sym (unopened_text text password bound e refused)))
 closed_opening p None text bound e same refused = inl (refused, same)
-
--- so is one that reads as no key
-pub unread_opening : {R W : Type 0} (p : PromptCall R W) (given : Option (List ℕ)) (text : List ℕ) (bound : Option ℕ) (e : Fault)
-    → p.new ≡ p.old → IsReadOrNoMemory (Err e) (read_secret_key text) → IsOpening p given text bound (Err e)
-unread_opening p given text bound e same (inl read) = closed_opening p given text bound e same (inr (unread_text text e (sym read)))
-unread_opening p given text bound e same (inr memory) = closed_opening p given text bound e same (inl (same_fault e _ memory))
 
 -- a key that is read, opened with a password that was asked for
 pub asked_opening : {R W : Type 0} (p : PromptCall R W) (text : List ℕ) (bound : Option ℕ) (k : SecretKeyRecord) (r : Result SecretKeyRecord Fault)
-    → read_sealed_key text ≡ Ok k
+    → and_then (read_secret_key text) sealed_by_scrypt ≡ Ok k
     → IfOk r (λ v. (bytes : List ℕ) × (password : List ℕ) × (password_of bytes ≡ Ok password) × (open_sealed k password bound ≡ Ok v)
     × ConversationEnds p (opening_steps k bound bytes) (Ok tt))
     → IfErr r (λ e. (bytes : List ℕ) × ConversationEnds p (opening_steps k bound bytes) (Err e))
@@ -41,9 +28,10 @@ asked_opening p text bound k (Err e) read opened (bytes, stopped) = inr (k, byte
 
 -- and with one that was handed in
 pub given_opening : {R W : Type 0} (p : PromptCall R W) (password text : List ℕ) (bound : Option ℕ) (k : SecretKeyRecord) (r : Result SecretKeyRecord Fault)
-    → p.new ≡ p.old → read_sealed_key text ≡ Ok k → IsReadOrNoMemory r (open_sealed k password bound) → IsOpening p (Some password) text bound r
+    → p.new ≡ p.old → and_then (read_secret_key text) sealed_by_scrypt ≡ Ok k → (r ≡ open_sealed k password bound) ⊎ ((r ≡ Err (Named OutOfMemory)) × IsOk (allowed_work k bound))
+    → IsOpening p (Some password) text bound r
 given_opening p password text bound k r same read (inl is) = (same, inl (is ∙ sym (open_text text password bound k read)))
-given_opening p password text bound k r same read (inr memory) = (same, inr memory)
+given_opening p password text bound k r same read (inr memory) = (same, inr memory.0)
 
 -- the headline of an opening
 pub headline_of : {R W : Type 0} (p : PromptCall R W) (given : Option (List ℕ)) (text : List ℕ) (bound : Option ℕ) (r : Result SecretKeyRecord Fault)

@@ -1,9 +1,6 @@
 -- What follows after a refusal, and after one draw and then another.
 use Rattle.std.proofs.Common.{◌≡◌, ℕ, List, ◌++◌, Option, None, Some, Result, Ok, Err, IsErrAnd, IfOk, IfErr, OnErr, append_assoc, ap, sym, subst, ◌∙◌}
-use Rattle.std.specs.Io.KnownBytes.{Consumes}
-use Rattle.std.specs.Prelude.{⊤}
-use Rattle.minisign_base.specs.Devices.{HasGiven}
-use Rattle.minisign_base.specs.Steps.{without_value}
+use Rattle.minisign.proofs.Common.{Consumes, ⊤, HasGiven, without_value}
 
 -- what holds anyway holds after a refusal
 pub on_err_of : {T E : Type 0} (r : Result T E) (P : Type 0) → P → OnErr r P

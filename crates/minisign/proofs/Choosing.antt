@@ -1,8 +1,6 @@
 -- Whether two passwords that were typed differ.
 use Rattle.std.proofs.Common.{◌≡◌, ℕ, List, None, Some, Bool, true, false, not, bytes_eq, refl}
-use Rattle.minisign_base.specs.Fault.{Fault, Named}
-use Rattle.minisign_base.specs.declared.faults.NamedFault.TheVariants.{PasswordsDiffer}
-use Rattle.minisign_base.specs.Passwords.{typed_password}
+use Rattle.minisign.proofs.Common.{Fault, Named, PasswordsDiffer, typed_password}
 use Rattle.minisign.specs.NewPassword.{difference}
 
 -- what a test that is turned round says

@@ -1,15 +1,10 @@
 -- Conversations that are known from outside (docs/FORMATS.md), so that a wrong definition does not check: what they
 -- write, and which passwords differ.
 use Rattle.std.proofs.Common.{◌≡◌, ℕ, List, [], ◌∷◌, ◌++◌, None, Some, codes, refl}
-use Rattle.std.specs.Str.{chars, is_utf8}
+use Rattle.minisign.proofs.Common.{chars, is_utf8, Named, PasswordsDiffer, written, accepted_line, first_line, password_of, typed_password}
 use lib.Utf8.{encode}
-use Rattle.minisign_base.specs.Fault.{Named}
-use Rattle.minisign_base.specs.declared.faults.NamedFault.TheVariants.{PasswordsDiffer}
-use Rattle.minisign_base.specs.Prompts.{written}
-use Rattle.minisign_base.specs.Passwords.{accepted_line, first_line, password_of, typed_password}
 use Rattle.minisign.specs.NewPassword.{choosing_steps, difference, sealing_steps}
-use Rattle.minisign.specs.PromptTexts.{asking_text, deriving_text, done_text, purpose_line, sealing_text, second_question}
-use Rattle.minisign.specs.Opening.{opening_steps}
+use Rattle.minisign.specs.Opening.{asking_text, deriving_text, done_text, purpose_line, sealing_text, second_question, opening_steps}
 use Rattle.minisign.specs.Records.{SecretKeyRecord}
 
 -- a line and its line feed

@@ -1,11 +1,7 @@
 -- What an output holds of data that was copied in part.
-use Rattle.std.proofs.Common.{◌≡◌, ◌≢◌, ℕ, List, [], ◌++◌, Option, None, Some, true, false, not, bytes_eq, arith, append-nil, ap, refl, sym, subst, ◌∙◌}
-use Rattle.std.proofs.lemmas.Bool.{true≢false}
-use Rattle.std.proofs.lemmas.Slice.Eq.{bytes_eq-Decides}
-use Rattle.std.specs.Io.KnownBytes.{append_known, Appends, Consumes, Keeps}
-use Rattle.minisign_base.specs.Devices.{AppendsFront, StaysOrHides}
-use Rattle.minisign_base.proofs.Laws.{AppendsFront-after, AppendsFront-keeps, AppendsFront-more}
-use Rattle.minisign.specs.Reading.{IsAhead, WereGiven}
+use Rattle.std.proofs.Common.{◌≡◌, ◌≢◌, ℕ, List, [], ◌++◌, Option, None, Some, true, false, not, bytes_eq, arith, append-nil, ap, refl, sym, subst, ◌∙◌, true≢false}
+use Rattle.minisign.proofs.Common.{bytes_eq-Decides, append_known, Appends, Consumes, Keeps, AppendsFront, SameWhereKnown, AppendsFront-after, AppendsFront-keeps, AppendsFront-more}
+use Rattle.minisign.specs.Reading.{IsAhead}
 
 -- all of a text is a beginning of it
 pub front_of_all : (a b c : Option (List ℕ)) (bs : List ℕ) → Appends a b bs → Keeps b c → AppendsFront a c bs
@@ -42,19 +38,14 @@ pub not_different : (a b : List ℕ) → false ≡ not (bytes_eq a b) → a ≡ 
 not_different a b same = let equal : bytes_eq a b ≡ true = grind arith in (bytes_eq-Decides a b).0 equal
 
 -- what was given so far, and then more
-pub given_more : (old new : Option (List ℕ)) (a b : List ℕ) → WereGiven old a → new ≡ append_known old b → WereGiven new (a ++ b)
-given_more None new a b given more = subst (λ known. WereGiven known (a ++ b)) (sym more) tt
-given_more (Some xs) new a b given more = subst (λ known. WereGiven known (a ++ b)) (sym more) (ap (λ (l : List ℕ). l ++ b) given)
+pub given_more : (old new : Option (List ℕ)) (a b : List ℕ) → IsAhead old a → new ≡ append_known old b → IsAhead new (a ++ b)
+given_more None new a b given more = subst (λ known. IsAhead known (a ++ b)) (sym more) tt
+given_more (Some xs) new a b given more = subst (λ known. IsAhead known (a ++ b)) (sym more) (ap (λ (l : List ℕ). l ++ b) given)
 
 -- what was given so far, and no more
-pub given_still : (old new : Option (List ℕ)) (a : List ℕ) → WereGiven old a → StaysOrHides old new → WereGiven new a
+pub given_still : (old new : Option (List ℕ)) (a : List ℕ) → IsAhead old a → SameWhereKnown old new → IsAhead new a
 given_still old None a given kept = tt
-given_still old (Some ys) a given kept = subst (λ known. WereGiven known a) kept given
-
--- a beginning of what was given
-pub front_of_given : (since old new : Option (List ℕ)) (bs : List ℕ) → WereGiven since bs → AppendsFront old new bs
-    → (read : List ℕ) × WereGiven since read × AppendsFront old new read
-front_of_given since old new bs given front = (bs, given, front)
+given_still old (Some ys) a given kept = subst (λ known. IsAhead known a) kept given
 
 -- lists that differ by the test are not equal
 pub different : (a b : List ℕ) → true ≡ not (bytes_eq a b) → a ≢ b

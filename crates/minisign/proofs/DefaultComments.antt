@@ -1,12 +1,10 @@
 -- The comments by default are read back as they were written.
-use Rattle.std.proofs.Common.{ℕ, ◌^◌, ◌<◌, List, [], ◌∷◌, None, codes, refl, arith}
-use Rattle.std.specs.Fmt.{decimal}
+use Rattle.std.proofs.Common.{ℕ, ◌^◌, ◌<◌, List, [], ◌∷◌, None, codes, refl, arith, decimal}
 use Rattle.std.specs.Str.Parse.{AllDigits}
 use Rattle.std.proofs.lemmas.Fmt.{decimal_is_IsNumeral}
 use Rattle.std.proofs.lemmas.Str.Parse.{digit_from_value}
-use Rattle.minisign.specs.Signing.{AreChosenReadBack, comments_or_defaults, default_trusted_comment, default_untrusted_comment}
-use Rattle.minisign.proofs.Letters.{AllGraphic, all_append, trim_graphic}
-use Rattle.minisign.proofs.WrittenLines.{shown_codes, shown_graphic, shown_one_line}
+use Rattle.minisign.specs.Signing.{AreChosenReadBack, given_comments, default_trusted_comment, default_untrusted_comment}
+use Rattle.minisign.proofs.WrittenLines.{AllGraphic, all_append, trim_graphic, shown_codes, shown_graphic, shown_one_line}
 
 graphic_digits : (ds : List ℕ) → AllDigits 10 ds → AllGraphic ds
 graphic_digits [] d = tt
@@ -18,7 +16,7 @@ graphic_moment moment small =
     let label : AllGraphic (codes "timestamp:") = ((omega arith, omega arith), ((omega arith, omega arith), ((omega arith, omega arith), ((omega arith, omega arith), ((omega arith, omega arith), ((omega arith, omega arith), ((omega arith, omega arith), ((omega arith, omega arith), ((omega arith, omega arith), ((omega arith, omega arith), tt)))))))))) in
     all_append (codes "timestamp:") (decimal moment) label (graphic_digits (decimal moment) (decimal_is_IsNumeral moment small).0.1)
 
-pub defaults_kept : (moment : ℕ) → moment < 2 ^ 64 → AreChosenReadBack (comments_or_defaults None None moment)
+pub defaults_kept : (moment : ℕ) → moment < 2 ^ 64 → AreChosenReadBack (given_comments None None moment)
 unfolding default_untrusted_comment
 defaults_kept moment small =
     let graphic = graphic_moment moment small in

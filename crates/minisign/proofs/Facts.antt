@@ -1,12 +1,9 @@
 -- The definitions on the first run: a key of 42 bytes and a signature of 74, as `verify-raw` takes them, are
 -- read as their fields, and the signature is accepted for its message and refused for another. The bytes
 -- were computed by another program, over Python's Blake2b.
-use Rattle.std.proofs.Common.{◌≡◌, ℕ, false, List, [], ◌∷◌, ◌++◌, None, codes, replicate, refl}
-use Rattle.std.specs.declared.result.Result.TheVariants.{Ok, Err}
-use Rattle.minisign_hash.specs.Blake2b.{blake2b_digest, padded_block, compress, first_state, iv, last_state, mix, mixed_words, round, rounds, sigma, state_after, work_vector}
-use Rattle.minisign_hash.specs.Words.{bytes_of_words64, word_at, words64_of}
-use Rattle.minisign_base.specs.Fault.{Named}
-use Rattle.minisign_base.specs.declared.faults.NamedFault.TheVariants.{SignatureRefused}
+use Rattle.std.proofs.Common.{◌≡◌, ℕ, false, List, [], ◌∷◌, ◌++◌, None, codes, replicate, refl, Ok, Err}
+use Rattle.minisign.proofs.Common.{blake2b_digest, padded_block, compress, iv, mix, round, rounds, sigma, state_after, work_vector, Named, SignatureRefused}
+use Rattle.minisign_hash.specs.Words.{bytes_of_words64, words64_of}
 use Rattle.minisign_base.specs.Toy.{fold_of, toy_accepts}
 use Rattle.minisign.specs.Records.{PublicKeyRecord, SignatureRecord, SignatureBoxRecord, ReadsPublicKey, ReadsSignature}
 use Rattle.minisign.specs.Acceptance.{judge}
@@ -36,9 +33,9 @@ pub reads_signature : ReadsSignature (codes "ED" ++ identifier ++ replicate 32 0
 reads_signature = record { algorithm_length = refl; keynum_length = refl; signature_length = refl; front = ([], refl) }
 
 pub accepted : judge toy_accepts key box (codes "abc") false ≡ Ok tt
-unfolding blake2b_digest last_state state_after padded_block first_state compress work_vector rounds round mix mixed_words iv sigma words64_of word_at bytes_of_words64 fold_of
+unfolding blake2b_digest state_after padded_block compress work_vector rounds round mix iv sigma words64_of bytes_of_words64 fold_of
 accepted = refl
 
 pub refused : judge toy_accepts key box [] false ≡ Err (Named SignatureRefused)
-unfolding blake2b_digest last_state state_after padded_block first_state compress work_vector rounds round mix mixed_words iv sigma words64_of word_at bytes_of_words64 fold_of
+unfolding blake2b_digest state_after padded_block compress work_vector rounds round mix iv sigma words64_of bytes_of_words64 fold_of
 refused = refl

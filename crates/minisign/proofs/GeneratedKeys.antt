@@ -1,13 +1,10 @@
 -- What the keys that are generated are good for.
 use Rattle.std.proofs.Common.{◌≡◌, ◌⊎◌, ◌^◌, ◌<◌, ℕ, List, length, None, Ok, Err, IsOk, inl, inr, refl, sym, ap, subst, ◌∙◌, arith}
-use Rattle.minisign_base.specs.Fault.{Fault, Named}
-use Rattle.minisign_base.specs.DeviceCalls.{RandomCall}
+use Rattle.minisign.proofs.Common.{Fault, Named, RandomCall, OutOfMemory, cost_log2, limits, numbers, sealing_limits}
 use Rattle.minisign_base.specs.Scheme.{IsBytes}
-use Rattle.minisign_base.specs.declared.faults.NamedFault.TheVariants.{OutOfMemory}
-use Rattle.minisign_base.specs.Limits.{cost_log2, limits, sealing_limits}
 use Rattle.minisign.specs.Records.{PublicKeyRecord, SecretKeyRecord}
 use Rattle.minisign.specs.Sealing.{xored_key}
-use Rattle.minisign.specs.Generation.{AreSeedAndKeynum, IsGenuinePair, IsSealedOf, IsSealedPair, OpensToPair, public_key_of, sealing_memory, sealing_operations, secret_of, unsealed_key}
+use Rattle.minisign.specs.Generation.{AreSeedAndKeynum, IsGenuinePair, IsSealedOf, IsSealedPair, OpensToPair, public_key_of, secret_of, unsealed_key}
 use Rattle.minisign.specs.Making.{IsOfParts}
 use Rattle.minisign.proofs.MadeKeys.{sealed_opens, sealed_parts, text_opens, unsealed_parts}
 
@@ -32,12 +29,12 @@ unsealed_pair public_of seed keynum pk sk lengths public secret =
     pair_of_parts public_of seed keynum pk sk lengths public (subst (IsOfParts keynum (secret_of public_of seed)) (sym secret) (unsealed_parts keynum (secret_of public_of seed)))
 
 -- the limits by default are allowed, and lead to N of 2 ^ 15, r of 8 and p of 1
-default_limits : sealing_limits sealing_memory sealing_operations ≡ Ok (record { n_log2 = 15; r = 8; p = 1 })
-unfolding limits cost_log2
+default_limits : sealing_limits 33554432 1048576 ≡ Ok (record { n_log2 = 15; r = 8; p = 1 })
+unfolding limits numbers cost_log2
 default_limits = refl
 
 -- so only memory can run out
-pub only_memory : (e : Fault) → ((e ≡ Named OutOfMemory) × IsOk (sealing_limits sealing_memory sealing_operations)) ⊎ (sealing_limits sealing_memory sealing_operations ≡ Err e)
+pub only_memory : (e : Fault) → ((e ≡ Named OutOfMemory) × IsOk (sealing_limits 33554432 1048576)) ⊎ (sealing_limits 33554432 1048576 ≡ Err e)
     → e ≡ Named OutOfMemory
 only_memory e (inl memory) = memory.0
 only_memory e (inr refused) = let differ = sym refused ∙ default_limits in cc differ
@@ -48,11 +45,11 @@ pub sealed_pair : {Z : Type 0} (public_of : List ℕ → List ℕ) (password : L
 sealed_pair public_of password z pk sk pair =
     let sealed : IsSealedOf public_of pair.seed pair.keynum pair.salt password pk sk = pair.sealed in
     let secret : List ℕ = secret_of public_of pair.seed in
-    let some : sealing_operations < 2 ^ 64 = omega arith in
-    let more : sealing_memory < 2 ^ 64 = omega arith in
-    let parts = subst (IsOfParts pair.keynum secret) (sym sealed.opened) (sealed_parts pair.keynum secret pair.salt sealing_operations sealing_memory) in
+    let some : 1048576 < 2 ^ 64 = omega arith in
+    let more : 33554432 < 2 ^ 64 = omega arith in
+    let parts = subst (IsOfParts pair.keynum secret) (sym sealed.opened) (sealed_parts pair.keynum secret pair.salt 1048576 33554432) in
     record {
-      opens = sealed_opens pair.keynum secret pair.salt password sealing_operations sealing_memory some more sk sealed.secret sealed.opened _ default_limits None;
+      opens = sealed_opens pair.keynum secret pair.salt password 1048576 33554432 some more sk sealed.secret sealed.opened _ default_limits None;
       pair = pair_of_parts public_of pair.seed pair.keynum pk (xored_key sk password) pair.lengths sealed.public parts;
-      texts = text_opens pair.keynum secret pair.salt password sealing_operations sealing_memory some more sk sealed.secret sealed.opened _ default_limits;
+      texts = text_opens pair.keynum secret pair.salt password 1048576 33554432 some more sk sealed.secret sealed.opened _ default_limits;
     }

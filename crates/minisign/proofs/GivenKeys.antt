@@ -1,23 +1,20 @@
 -- Which key a text gives for signing.
-use Rattle.std.proofs.Common.{◌≡◌, Bool, List, [], ℕ, Option, None, Some, Result, Ok, Err, IfSome, true, false, not, if◌then◌else◌, bytes_eq, inl, inr, refl, sym, ap, ◌∙◌}
-use Rattle.std.specs.Option.{option_map}
-use Rattle.minisign_base.specs.Fault.{Fault}
-use Rattle.minisign_base.specs.DeviceCalls.{PromptCall}
+use Rattle.std.proofs.Common.{◌≡◌, Bool, List, [], ℕ, Option, None, Some, Result, Ok, Err, IfSome, true, false, not, if◌then◌else◌, bytes_eq, inl, inr, refl, sym, ap, ◌∙◌, option_map}
+use Rattle.minisign.proofs.Common.{option_map_or, result_ok, Fault, PromptCall}
 use Rattle.minisign.specs.Records.{SecretKeyRecord}
 use Rattle.minisign.specs.SecretKeyText.{read_secret_key}
-use Rattle.minisign.specs.Sealing.{no_kdf}
-use Rattle.minisign.specs.Opening.{IsOpening}
-use Rattle.minisign.specs.OpenedTexts.{is_sealed_text, key_with_password, names_kdf, open_key, read_unencrypted_key}
+use Rattle.minisign.specs.Sealing.{no_kdf, wants_password}
+use Rattle.minisign.specs.Opening.{IsOpening, is_sealed_text, key_with_password, open_key, read_unencrypted_key}
 use Rattle.minisign.specs.SigningTexts.{GivesKey, GivesKeyOf, IsKeyOf}
 use Rattle.minisign.specs.Texts.{IsReadOrNoMemory}
 use Rattle.minisign.proofs.Openings.{unread_unencrypted}
-use Rattle.minisign.proofs.Asking.{closed_opening}
-use Rattle.minisign.proofs.ReadTexts.{read_value, same_fault}
+use Rattle.minisign.proofs.ReadTexts.{read_value}
 
 -- whether a text is that of a sealed key
-is_sealed : (text : List ℕ) (r : Result SecretKeyRecord Fault) → read_secret_key text ≡ r → is_sealed_text text ≡ names_kdf r
+is_sealed : (text : List ℕ) (r : Result SecretKeyRecord Fault) → read_secret_key text ≡ r
+    → is_sealed_text text ≡ option_map_or wants_password (result_ok r) false
 unfolding is_sealed_text
-is_sealed text r read = ap names_kdf read
+is_sealed text r read = ap (λ x. option_map_or wants_password (result_ok x) false) read
 
 module _ {R W : Type 0} (p : PromptCall R W) (given : Option (List ℕ)) (text : List ℕ) (r : Result SecretKeyRecord Fault) where
   -- one that is sealed: it is opened
@@ -26,7 +23,7 @@ module _ {R W : Type 0} (p : PromptCall R W) (given : Option (List ℕ)) (text :
 
   -- one that never was
   pub unsealed_key : (k : SecretKeyRecord) → read_secret_key text ≡ Ok k → bytes_eq k.kdf no_kdf ≡ true → p.new ≡ p.old
-      → IsReadOrNoMemory r (read_unencrypted_key text) → GivesKey p given text r
+      → r ≡ read_unencrypted_key text → GivesKey p given text r
   unsealed_key k read none same h = let no : is_sealed_text text ≡ false = is_sealed text (Ok k) read ∙ ap not none in rw no (same, h)
 
 -- a password that is handed in leaves the prompt as it was
@@ -41,15 +38,10 @@ untouched p bytes (Some password) text r h = of (is_sealed_text text) h
 
 -- a text that reads as no key
 pub unread_key : {R W : Type 0} (p : PromptCall R W) (given : Option (List ℕ)) (text : List ℕ) (e : Fault) → p.new ≡ p.old
-    → IsReadOrNoMemory (Err e) (read_secret_key text) → GivesKey p given text (Err e)
-unread_key p given text e same (inl read) =
-    let no : is_sealed_text text ≡ false = is_sealed text (Err e) (sym read) in
-    rw no (same, inl (sym (unread_unencrypted text e (sym read))))
-unread_key p given text e same (inr memory) = of (is_sealed_text text)
-  where
-    of : (b : Bool) → GivesKeyOf b p given text (Err e)
-    of true = closed_opening p given text None e same (inl (same_fault e _ memory))
-    of false = (same, inr memory)
+    → read_secret_key text ≡ Err e → GivesKey p given text (Err e)
+unread_key p given text e same read =
+    let no : is_sealed_text text ≡ false = is_sealed text (Err e) read in
+    rw no (same, sym (unread_unencrypted text e read))
 
 -- with a password it is what the text gives under it
 pub with_password : {R W : Type 0} (p : PromptCall R W) (password text : List ℕ) (r : Result SecretKeyRecord Fault) → GivesKey p (Some password) text r
@@ -59,7 +51,7 @@ with_password p password text r h = of (is_sealed_text text) h
     of : (b : Bool) → GivesKeyOf b p (Some password) text r
         → IsReadOrNoMemory r (if b then open_key text password None else read_unencrypted_key text)
     of true h = h.1
-    of false h = h.1
+    of false h = inl h.1
 
 -- a key that was given with a prompt or a password is one of the text
 pub key_of_given : {R W : Type 0} (p : PromptCall R W) (given : Option (List ℕ)) (text : List ℕ) (key : SecretKeyRecord)
@@ -67,7 +59,6 @@ pub key_of_given : {R W : Type 0} (p : PromptCall R W) (given : Option (List ℕ
 key_of_given p (Some password) text key h = (password, read_value key _ (with_password p password text (Ok key) h))
 key_of_given p None text key h = of (is_sealed_text text) refl h
   where
-    of : (b : Bool) → is_sealed_text text ≡ b → GivesKeyOf b p None text (Ok key)
-        → IsKeyOf text key
+    of : (b : Bool) → is_sealed_text text ≡ b → GivesKeyOf b p None text (Ok key) → IsKeyOf text key
     of true sealed (k, bytes, password, read, typed, opens, ended) = (password, rw sealed opens)
-    of false plain (same, h) = ([], rw plain (read_value key _ h))
+    of false plain (same, h) = ([], rw plain (sym h))

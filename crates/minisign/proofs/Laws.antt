@@ -1,16 +1,14 @@
 -- What the proofs of other crates cite: of a box that is judged, of a verdict on texts that vouch for a message, of verifying
 -- without an output, and of a sink that is written to in parts.
-use Rattle.std.proofs.Common.{◌≡◌, ℕ, Bool, List, sym, ap, ◌∙◌, inl, inr}
-use Rattle.std.specs.declared.result.Result.TheVariants.{Ok, Err}
-use Rattle.minisign_base.specs.Fault.{Fault, Named}
-use Rattle.minisign_base.specs.declared.faults.NamedFault.TheVariants.{OutOfMemory}
+use Rattle.std.proofs.Common.{◌≡◌, ℕ, Bool, List, sym, ◌∙◌, inl, inr, Ok, Err}
+use Rattle.minisign.proofs.Common.{Fault, Named, OutOfMemory}
 use Rattle.minisign.specs.Acceptance.{Verifier}
 use Rattle.minisign.specs.Headline.{TextsVouchFor, verdict}
 use Rattle.minisign.specs.Texts.{IsReadOrNoMemory}
 use Rattle.minisign.proofs.ReadTexts.{read_value}
 use Rattle.minisign.proofs.Verdicts.{vouched, vouching_verdict}
 pub use Rattle.minisign.proofs.Verdicts.{judged_vouches, vouches_judged}
-pub use Rattle.minisign.proofs.VerifyingLaws.{fails_without_output}
+pub use Rattle.minisign.proofs.Passes.{fails_without_output}
 pub use Rattle.minisign_base.proofs.Laws.{AppendsFront-after, AppendsFront-more}
 
 module _ (accepts : Verifier) (pk_text sig_text message : List ℕ) (legacy : Bool) where
@@ -24,11 +22,6 @@ module _ (accepts : Verifier) (pk_text sig_text message : List ℕ) (legacy : Bo
   pub accepted_vouches : (comment : List ℕ) → IsReadOrNoMemory (Ok comment) (verdict accepts pk_text sig_text message legacy)
       → TextsVouchFor accepts pk_text sig_text message legacy
   accepted_vouches comment given = (vouched accepts pk_text sig_text message legacy comment (read_value comment _ given)).vouched
-
-  -- the answer that was given is the verdict
-  pub verdict_given : (comment : List ℕ) → IsReadOrNoMemory (Ok comment) (verdict accepts pk_text sig_text message legacy)
-      → verdict accepts pk_text sig_text message legacy ≡ Ok comment
-  verdict_given comment given = read_value comment _ given
 
   -- texts that are refused do not vouch for the message
   pub refused_unvouched : (e : Fault) → verdict accepts pk_text sig_text message legacy ≡ Err e → ¬ (TextsVouchFor accepts pk_text sig_text message legacy)

@@ -1,3 +1,4 @@
+pub mod Common
 pub mod Xor
 pub mod SealedParts
 pub mod SealingLimits
@@ -5,10 +6,7 @@ pub mod RecordFields
 pub mod Beginnings
 pub mod Copies
 pub mod SignedBoxes
-pub mod Unvouched
-pub mod FirstLine
 pub mod Base64Texts
-pub mod Letters
 pub mod PublicKeyTexts
 pub mod ReadTexts
 pub mod WrittenLines
@@ -24,13 +22,9 @@ pub mod WrittenKeys
 pub mod SignatureTexts
 pub mod SignedTexts
 pub mod DefaultComments
-pub mod VerifyingLaws
 pub mod Passes
 pub mod Verdicts
 pub mod Laws
 pub mod VouchedTexts
-pub mod Commented
 pub mod MadeKeys
 pub mod GeneratedKeys
-pub mod Base64Pieces
-pub mod InPlace

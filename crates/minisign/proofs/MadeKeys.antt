@@ -1,22 +1,14 @@
 -- Keys that are made of their parts, and their texts.
-use Rattle.std.proofs.Common.{◌≡◌, ◌⊎◌, ℕ, ◌^◌, ◌<◌, ◌+◌, List, length, Option, None, Some, Result, Ok, Err, IsOk, IfOk, true, false, not, inl, inr, refl, sym, ap, subst, ◌∙◌}
-use Rattle.std.specs.Str.{bytes_eq}
-use Rattle.std.proofs.lemmas.Slice.Eq.{bytes_eq-Decides}
-use Rattle.std.specs.Int.{w64, to_le_bytes}
-use Rattle.std.specs.Str.Iter.{LacksByte}
-use Rattle.std.proofs.lemmas.Bool.{true≢false}
+use Rattle.std.proofs.Common.{◌≡◌, ◌⊎◌, ℕ, ◌^◌, ◌<◌, ◌+◌, List, length, Option, None, Some, Result, Ok, Err, IsOk, IfOk, true, false, not, inl, inr, refl, sym, ap, subst, ◌∙◌, w64, true≢false, bytes_eq}
+use Rattle.minisign.proofs.Common.{bytes_eq-Decides, to_le_bytes, LacksByte, Fault, Named, OutOfMemory, WorkTooHigh, numbers, sealing_limits, Numbers}
 use Rattle.std.proofs.lemmas.Nat.{from_le_bytes-to_le_bytes_8}
-use Rattle.minisign_base.specs.Fault.{Fault, Named}
-use Rattle.minisign_base.specs.declared.faults.NamedFault.TheVariants.{OutOfMemory, WorkTooHigh}
-use Rattle.minisign_base.specs.Limits.{numbers, sealing_limits}
-use Rattle.minisign_kdf.specs.Params.{Numbers}
 use Rattle.minisign.specs.Generation.{key_to_seal, unsealed_key}
 use Rattle.minisign.specs.Making.{IsMadePublicText, IsMadeText, IsOfParts}
 use Rattle.minisign.specs.PublicKeyText.{commented_public_key_text, read_public_key}
 use Rattle.minisign.specs.Records.{PublicKeyRecord, SecretKeyRecord, own_public_key}
-use Rattle.minisign.specs.Sealing.{allowed_work, checksum_of, is_within, key_limits, key_numbers, key_xor, open_sealed, scrypt_kdf, sealed_by_scrypt, unencrypted_key, xored_key}
+use Rattle.minisign.specs.Sealing.{allowed_work, checksum_of, is_within, key_limits, key_xor, open_sealed, scrypt_kdf, sealed_by_scrypt, unencrypted_key, xored_key}
 use Rattle.minisign.specs.SecretKeyText.{read_secret_key, secret_key_text}
-use Rattle.minisign.specs.OpenedTexts.{OpensTo, open_key}
+use Rattle.minisign.specs.Opening.{OpensTo, open_key}
 use Rattle.minisign.specs.declared.making.Sealing.{Sealing}
 use Rattle.minisign.proofs.SealingLimits.{sealing_numbers}
 use Rattle.minisign.specs.Texts.{and_then, require}
@@ -34,12 +26,12 @@ unbounded : (r : Result Numbers Fault) → and_then r (λ v. Ok v) ≡ r
 unbounded (Ok v) = refl
 unbounded (Err e) = refl
 
-pub work_allowed : (k : SecretKeyRecord) (l : Result Numbers Fault) → key_limits k ≡ l → allowed_work k None ≡ Ok (key_numbers k) → IsOk l
-work_allowed k l same h = subst IsOk (sym h ∙ unbounded (key_limits k) ∙ same) refl
+pub work_allowed : (k : SecretKeyRecord) (l : Result Numbers Fault) → key_limits k ≡ l → IsOk (allowed_work k None) → IsOk l
+work_allowed k l same h = subst IsOk (unbounded (key_limits k) ∙ same) h
 
 -- why no stream was applied
 pub stream_fault : (k : SecretKeyRecord) (l : Result Numbers Fault) (e : Fault) → key_limits k ≡ l
-    → ((e ≡ Named OutOfMemory) × (allowed_work k None ≡ Ok (key_numbers k))) ⊎ (allowed_work k None ≡ Err e)
+    → ((e ≡ Named OutOfMemory) × IsOk (allowed_work k None)) ⊎ (allowed_work k None ≡ Err e)
     → ((e ≡ Named OutOfMemory) × IsOk l) ⊎ (l ≡ Err e)
 stream_fault k l e same (inl (memory, allowed)) = inl (memory, work_allowed k l same allowed)
 stream_fault k l e same (inr refused) = inr (sym same ∙ sym (unbounded (key_limits k)) ∙ refused)

@@ -1,21 +1,18 @@
 -- What a secret key opens to, and when a text gives a key: the functions and the relations agree.
-use Rattle.std.proofs.Common.{◌≡◌, ℕ, Bool, true, false, not, ◌&&◌, bytes_eq, List, Option, refl, sym, ap, subst, ◌∙◌, inl, inr}
-use Rattle.std.specs.declared.result.Result.{Result}
-use Rattle.std.specs.declared.result.Result.TheVariants.{Ok, Err}
-use Rattle.std.proofs.lemmas.Slice.Eq.{bytes_eq-Decides}
-use Rattle.minisign_base.specs.Fault.{Fault}
-use Rattle.minisign_base.specs.Steps.{without_value}
-use Rattle.minisign_base.specs.declared.faults.NamedFault.{NamedFault}
-use Rattle.minisign_base.specs.declared.faults.NamedFault.TheVariants.{CorruptedKey, KeyMightBeEncrypted, KeyNotEncrypted, UnsupportedEncryptionAlgorithm, WorkTooHigh, WrongPassword}
-use Rattle.minisign_kdf.specs.Params.{Numbers}
+use Rattle.std.proofs.Common.{◌≡◌, ℕ, Bool, true, false, not, ◌&&◌, bytes_eq, List, Option, None, refl, sym, ap, subst, ◌∙◌, is_ok, true≢false, Result, Ok, Err, IsOk}
+use Rattle.minisign.proofs.Common.{result_err, bytes_eq-Decides, Fault, without_value, NamedFault, CorruptedKey, KeyMightBeEncrypted, KeyNotEncrypted, UnsupportedEncryptionAlgorithm, WorkTooHigh, WrongPassword, Numbers}
 use Rattle.minisign.specs.Records.{SecretKeyRecord}
 use Rattle.minisign.specs.SecretKeyText.{read_secret_key}
-use Rattle.minisign.specs.Sealing.{allowed_work, checksum_of, is_encrypted, is_within, key_limits, key_numbers, no_kdf, open_sealed, restored_key, scrypt_kdf, sealed_by_scrypt, unencrypted_key, xored_key}
-use Rattle.minisign.specs.OpenedTexts.{IsOpened, IsUnencryptedText, open_key, read_sealed_key, read_unencrypted_key}
-use Rattle.minisign.specs.Texts.{IsReadOrNoMemory, IsReading, and_then, require}
+use Rattle.minisign.specs.Sealing.{allowed_work, checksum_of, is_encrypted, is_within, key_limits, no_kdf, open_sealed, restored_key, scrypt_kdf, sealed_by_scrypt, unencrypted_key, xored_key}
+use Rattle.minisign.specs.Opening.{IsOpened, IsUnencryptedText, open_key, read_unencrypted_key}
+use Rattle.minisign.specs.Texts.{IsReading, and_then, require}
 use Rattle.minisign.proofs.ReadTexts.{is_reading, passed, read_before, same_end, same_value}
-use Rattle.minisign.proofs.SealingLimits.{allowed_numbers}
 use Rattle.minisign.proofs.SecretKeyTexts.{read_as}
+
+-- what is a value is no fault
+pub no_fault : {V : Type 0} (r : Result V Fault) → IsOk r → result_err r ≡ None
+no_fault (Ok v) ok = refl
+no_fault (Err e) ok = absurd (true≢false (sym ok))
 
 -- a key is taken as sealed by scrypt exactly where it names scrypt
 sealed_held : (k l : SecretKeyRecord) → sealed_by_scrypt k ≡ Ok l → (k ≡ l) × (k.kdf ≡ scrypt_kdf)
@@ -39,14 +36,6 @@ sealed_passed k h = both_passed (not (bytes_eq k.kdf no_kdf)) (bytes_eq k.kdf sc
 pub unencrypted_passed : (k : SecretKeyRecord) → Ok tt ≡ without_value (unencrypted_key k) → unencrypted_key k ≡ Ok k
 unencrypted_passed k h = both_passed (bytes_eq k.kdf no_kdf) (bytes_eq k.checksum (checksum_of k)) KeyMightBeEncrypted CorruptedKey k h
 
--- limits that are allowed, and a parallelization within the bound
-work_held : (k : SecretKeyRecord) (bound : Option ℕ) (w : Numbers) → allowed_work k bound ≡ Ok w
-    → (key_limits k ≡ Ok (key_numbers k)) × (is_within bound (key_numbers k).p ≡ true)
-work_held k bound w h =
-    let (v, limits, within) = read_before (key_limits k) (λ v. require (is_within bound v.p) WorkTooHigh (Ok v)) w h in
-    let numbers : key_numbers k ≡ v = allowed_numbers k v limits in
-    (limits ∙ ap (λ (n : Numbers). Ok n) (sym numbers), ap (λ (n : Numbers). is_within bound n.p) numbers ∙ (passed (is_within bound v.p) WorkTooHigh (Ok v) w within).0)
-
 -- a checksum that is restored
 restored_held : (k v : SecretKeyRecord) → restored_key k ≡ Ok v → (k ≡ v) × (k.checksum ≡ checksum_of k)
 restored_held k v h =
@@ -55,12 +44,11 @@ restored_held k v h =
 
 -- a sealed key opens exactly where the conditions hold
 opening_held : (k v : SecretKeyRecord) (password : List ℕ) (bound : Option ℕ) → open_sealed k password bound ≡ Ok v
-    → (key_limits k ≡ Ok (key_numbers k)) × (is_within bound (key_numbers k).p ≡ true) × (xored_key k password ≡ v) × (v.checksum ≡ checksum_of v)
+    → IsOk (allowed_work k bound) × (xored_key k password ≡ v) × (v.checksum ≡ checksum_of v)
 opening_held k v password bound h =
     let (w, work, restored) = read_before (allowed_work k bound) (λ _. restored_key (xored_key k password)) v h in
-    let (allowed, within) = work_held k bound w work in
     let (is, checksum) = restored_held (xored_key k password) v restored in
-    (allowed, within, is, subst (λ (l : SecretKeyRecord). l.checksum ≡ checksum_of l) is checksum)
+    (ap is_ok work, is, subst (λ (l : SecretKeyRecord). l.checksum ≡ checksum_of l) is checksum)
 
 -- and it opens within each bound that its parallelization is within
 pub opened_within : (k : SecretKeyRecord) (password : List ℕ) (bound : Option ℕ) (v : Numbers) → key_limits k ≡ Ok v
@@ -86,39 +74,43 @@ neither false b h = refl
 
 pub opened_key_is_open : (k v : SecretKeyRecord) (password : List ℕ) (bound : Option ℕ) → open_sealed k password bound ≡ Ok v → is_encrypted v ≡ false
 opened_key_is_open k v password bound h =
-    let (allowed, within, is, restored) = opening_held k v password bound h in
+    let (allowed, is, restored) = opening_held k v password bound h in
     neither _ _ ((bytes_eq-Decides v.checksum (checksum_of v)).1 restored)
 
 -- the key of a text
-pub sealed_text : (text : List ℕ) (k : SecretKeyRecord) (r : Result SecretKeyRecord Fault) → read_secret_key text ≡ Ok k → sealed_by_scrypt k ≡ r → read_sealed_key text ≡ r
+pub sealed_text : (text : List ℕ) (k : SecretKeyRecord) (r : Result SecretKeyRecord Fault) → read_secret_key text ≡ Ok k → sealed_by_scrypt k ≡ r → and_then (read_secret_key text) sealed_by_scrypt ≡ r
 sealed_text text k r read of_key = ap (λ x. and_then x sealed_by_scrypt) read ∙ of_key
 
-pub unread_text : (text : List ℕ) (e : Fault) → read_secret_key text ≡ Err e → read_sealed_key text ≡ Err e
+pub unread_text : (text : List ℕ) (e : Fault) → read_secret_key text ≡ Err e → and_then (read_secret_key text) sealed_by_scrypt ≡ Err e
 unread_text text e read = ap (λ x. and_then x sealed_by_scrypt) read
 
-pub open_text : (text password : List ℕ) (bound : Option ℕ) (k : SecretKeyRecord) → read_sealed_key text ≡ Ok k → open_key text password bound ≡ open_sealed k password bound
+pub open_text : (text password : List ℕ) (bound : Option ℕ) (k : SecretKeyRecord) → and_then (read_secret_key text) sealed_by_scrypt ≡ Ok k → open_key text password bound ≡ open_sealed k password bound
 unfolding open_key
 open_text text password bound k read = ap (λ x. and_then x (λ l. open_sealed l password bound)) read
 
-pub unopened_text : (text password : List ℕ) (bound : Option ℕ) (e : Fault) → read_sealed_key text ≡ Err e → open_key text password bound ≡ Err e
+pub unopened_text : (text password : List ℕ) (bound : Option ℕ) (e : Fault) → and_then (read_secret_key text) sealed_by_scrypt ≡ Err e → open_key text password bound ≡ Err e
 unfolding open_key
 unopened_text text password bound e read = ap (λ x. and_then x (λ l. open_sealed l password bound)) read
 
 text_opens : (text password : List ℕ) (bound : Option ℕ) (v : SecretKeyRecord) → open_key text password bound ≡ Ok v → IsOpened text password bound v
 unfolding open_key
 text_opens text password bound v h =
-    let (k, sealed, opened) = read_before (read_sealed_key text) (λ l. open_sealed l password bound) v h in
+    let (k, sealed, opened) = read_before (and_then (read_secret_key text) sealed_by_scrypt) (λ l. open_sealed l password bound) v h in
     let (l, read, taken) = read_before (read_secret_key text) sealed_by_scrypt k sealed in
     let (same, kdf) = sealed_held l k taken in
-    let (allowed, bounded, is, restored) = opening_held l v password bound (ap (λ m. open_sealed m password bound) same ∙ opened) in
-    record { sealed = l; read = ((read_as text).value l).0 read; kdf = kdf; allowed = allowed; bounded = bounded; key = sym is; restored = restored }
+    let (allowed, is, restored) = opening_held l v password bound (ap (λ m. open_sealed m password bound) same ∙ opened) in
+    record { sealed = l; read = ((read_as text).value l).0 read; kdf = kdf; allowed = allowed; key = sym is; restored = restored }
+
+some_work : (r : Result Numbers Fault) → IsOk r → (w : Numbers) × (r ≡ Ok w)
+some_work (Ok w) ok = (w, refl)
+some_work (Err e) ok = absurd (true≢false (sym ok))
 
 opens_text : (text password : List ℕ) (bound : Option ℕ) (v : SecretKeyRecord) → IsOpened text password bound v → open_key text password bound ≡ Ok v
 opens_text text password bound v h =
     let read : read_secret_key text ≡ Ok h.sealed = ((read_as text).value h.sealed).1 h.read in
-    let restored = subst (λ (l : SecretKeyRecord). l.checksum ≡ checksum_of l) h.key h.restored in
+    let (w, work) = some_work (allowed_work h.sealed bound) h.allowed in
     open_text text password bound h.sealed (sealed_text text h.sealed _ read (sealed_taken h.sealed h.kdf))
-    ∙ opened_within h.sealed password bound _ h.allowed restored ∙ rw h.bounded (ap (λ x. Ok x) (sym h.key))
+    ∙ opened_so h.sealed v password bound w h.key work (rw ((bytes_eq-Decides v.checksum (checksum_of v)).1 h.restored) refl)
 
 pub opened_as : (text password : List ℕ) (bound : Option ℕ) → IsReading (IsOpened text password bound) (open_key text password bound)
 opened_as text password bound =
@@ -163,13 +155,9 @@ unencrypted_as text = is_reading (IsUnencryptedText text) (read_unencrypted_key 
 ))
 
 -- how taking a key ends that was never sealed
-module _ (text : List ℕ) (k : SecretKeyRecord) where
-  pub unencrypted_refused : (e : Fault) → read_secret_key text ≡ Ok k → Err e ≡ without_value (unencrypted_key k) → IsReadOrNoMemory (Err e) (read_unencrypted_key text)
-  unencrypted_refused e read h = inl (sym (unencrypted_text text k _ read (same_end _ e h)))
+module _ (text : List ℕ) (k : SecretKeyRecord) (read : Ok k ≡ read_secret_key text) where
+  pub unencrypted_refused : (e : Fault) → Err e ≡ without_value (unencrypted_key k) → Err e ≡ read_unencrypted_key text
+  unencrypted_refused e h = sym (unencrypted_text text k _ (sym read) (same_end _ e h))
 
-  pub unencrypted_value : read_secret_key text ≡ Ok k → Ok tt ≡ without_value (unencrypted_key k) → IsReadOrNoMemory (Ok k) (read_unencrypted_key text)
-  unencrypted_value read h = inl (sym (unencrypted_text text k _ read (unencrypted_passed k h)))
-
-pub unread_outcome : (text : List ℕ) (e : Fault) → IsReadOrNoMemory (Err e) (read_secret_key text) → IsReadOrNoMemory (Err e) (read_unencrypted_key text)
-unread_outcome text e (inl read) = inl (sym (unread_unencrypted text e (sym read)))
-unread_outcome text e (inr memory) = inr memory
+  pub unencrypted_value : Ok tt ≡ without_value (unencrypted_key k) → Ok k ≡ read_unencrypted_key text
+  unencrypted_value h = sym (unencrypted_text text k _ (sym read) (unencrypted_passed k h))

@@ -1,31 +1,146 @@
--- The steps of verifying, as the calls that take them make them, and what is read off them.
-use Rattle.std.proofs.Common.{◌≡◌, ◌≢◌, ◌⊎◌, ℕ, Bool, true, false, Vec, List, [], ◌∷◌, ◌++◌, Option, None, Some, IfErr, IfSome, IsSome, OnOk, IsTrue, inl, inr, ⊎_elim, refl, sym, ap, subst, ◌∙◌}
-use Rattle.std.proofs.lemmas.Bool.{and_parts, true≢false}
-use Rattle.std.proofs.lemmas.Slice.Eq.{bytes_eq-Decides}
-use Rattle.std.specs.Prelude.{◌&&◌, ⊤}
-use Rattle.std.specs.Io.KnownBytes.{Appends, IsAtEnd}
-use Rattle.std.specs.declared.result.Result.{Result}
-use Rattle.std.specs.declared.result.Result.TheVariants.{Ok, Err}
-use Rattle.minisign_hash.specs.Blake2b.{blake2b_digest}
-use Rattle.minisign_base.specs.Devices.{Rose, HasGiven}
-use Rattle.minisign_base.specs.Fault.{Fault, Named}
-use Rattle.minisign_base.specs.declared.faults.NamedFault.TheVariants.{GoingBackFailed, OutOfMemory}
+-- The steps of verifying: where they do not use the status, or the output, they end alike beside any other sink; how the calls
+-- that take them make them; and what is read off them.
+use Rattle.std.proofs.Common.{◌≡◌, ◌≢◌, ◌⊎◌, ℕ, Bool, true, false, Vec, List, [], ◌∷◌, ◌++◌, Option, None, Some, IfErr, IfSome, IsSome, OnOk, IsTrue, inl, inr, ⊎_elim, refl, sym, ap, subst, ◌∙◌, Result, Ok, Err, true≢false, ◌&&◌}
+use Rattle.minisign.proofs.Common.{and_parts, bytes_eq-Decides, ⊤, Appends, IsAtEnd, blake2b_digest, Rose, HasGiven, Fault, Named, GoingBackFailed, OutOfMemory, IsFlushed, IsSteady, IsUnflushed, IsWritingFault, Marks, RereaderCall, SinkCall, SinkFails, SinkHasNoNewFault, SourceFails, SourceHasNoNewFault, Takes, TakesFront, rereader_call, sink_call, unused, first_stopped, second_ends, StepsEnd, AllByRecursion}
 use Rattle.minisign_base.specs.Members.{SinkOf, SourceOf}
-use Rattle.minisign_base.specs.DeviceCalls.{IsFlushed, IsSteady, IsUnflushed, IsWritingFault, Marks, RereaderCall, SinkCall, SinkFails, SinkHasNoNewFault, SourceFails, SourceHasNoNewFault, Takes, TakesFront, rereader_call, sink_call, unused}
-use Rattle.minisign_base.proofs.Laws.{first_stopped, second_ends}
-use Rattle.minisign_base.specs.Steps.{StepsEnd}
 use Rattle.minisign.specs.declared.signed_data.SignedData.{SignedData}
 use Rattle.minisign.specs.declared.signed_data.SignedData.TheVariants.{Digest, Kept, Unkept}
 use Rattle.minisign.specs.Reading.{IsAhead, IsReadFault, ReadingFails, ReadsWhole}
 use Rattle.minisign.specs.Records.{PublicKeyRecord, SignatureBoxRecord, is_prehashed, prehashed_algorithm}
-use Rattle.minisign.specs.Acceptance.{Verifier, Vouches, judge, signed_bytes}
-use Rattle.minisign.specs.SignedData.{HoldsSigned, held_copy_stages, held_bytes}
-use Rattle.minisign.specs.Stages.{Devices, StagesEnd, Flush, Judge, Put, Stage, StageEnds, copying_stages, second_copy_stages, is_reread, reading_stages, reporting_stages}
+use Rattle.minisign.specs.Acceptance.{Verifier, Vouches, judge, signed_bytes, options_of, status_lines}
+use Rattle.minisign.specs.Stages.{HoldsSigned, held_copy_stages, held_bytes, Devices, StagesEnd, Flush, Judge, Put, Stage, StageEnds, copying_stages, second_copy_stages, is_reread, reading_stages, reporting_stages, Compare, Copy, Mark, Read, Report, Return}
 use Rattle.minisign.specs.Verifying.{ReadsTwice, VerifyingFails, VerifyingSucceeds, wanted_status}
-use Rattle.minisign.proofs.VerifyingLaws.{OneEnds, UseNoOutput, UseNoStatus, begun, beside_output, beside_status, ended}
 use Rattle.minisign.specs.Texts.{IsReadOrNoMemory}
 use Rattle.minisign.proofs.Copies.{all_kept}
 use Rattle.minisign.proofs.Verdicts.{AreSigned, vouches_judged}
+
+-- the stages do not use the status
+abbrev IsUnsaid : Stage → Type 0
+IsUnsaid (Report text) = ⊥
+IsUnsaid _ = ⊤
+
+abbrev pub UseNoStatus : List Stage → Type 0
+UseNoStatus stages = AllByRecursion IsUnsaid stages
+
+-- the stages do not use the output
+abbrev IsUncopied : Stage → Type 0
+IsUncopied (Copy second) = ⊥
+IsUncopied (Put bytes) = ⊥
+IsUncopied Flush = ⊥
+IsUncopied _ = ⊤
+
+abbrev pub UseNoOutput : List Stage → Type 0
+UseNoOutput stages = AllByRecursion IsUncopied stages
+
+-- steps that end so end so beside other devices, where each step does
+steps_beside : {Step D F E : Type 0} (Ends : Step → D → D → Result ⊤ E → Type 0) (Others : Step → F → F → Result ⊤ E → Type 0) (other : D → F) (Uses : Step → Type 0)
+    → ((step : Step) (old new : D) (answer : Result ⊤ E) → Uses step → Ends step old new answer → Others step (other old) (other new) answer)
+    → (steps : List Step) (old new : D) (answer : Result ⊤ E) → AllByRecursion Uses steps → StepsEnd Ends steps old new answer
+    → StepsEnd Others steps (other old) (other new) answer
+steps_beside Ends Others other Uses one [] old new (Ok _) u same = ap other same
+steps_beside Ends Others other Uses one [] old new (Err e) u h = absurd h
+steps_beside Ends Others other Uses one (step ∷ later) old new (Ok _) (u, us) (d, done, ran) =
+    (other d, one step old d (Ok tt) u done, steps_beside Ends Others other Uses one later d new (Ok tt) us ran)
+steps_beside Ends Others other Uses one (step ∷ later) old new (Err e) (u, us) (inl h) = inl (one step old new (Err e) u h)
+steps_beside Ends Others other Uses one (step ∷ later) old new (Err e) (u, us) (inr (d, done, h)) =
+    inr (other d, one step old d (Ok tt) u done, steps_beside Ends Others other Uses one later d new (Err e) us h)
+
+module _ {R W O : Type 0} (reader : RereaderCall R) (status : SinkCall W) (out : SinkCall O) where
+  -- how a stage ends between two states of the devices
+  abbrev pub OneEnds : Stage → Devices R W O → Devices R W O → Result ⊤ Fault → Type 0
+  OneEnds stage old new =
+      StageEnds (record reader { old = old.reader; new = new.reader }) (record status { old = old.status; new = new.status })
+      (record out { old = old.out; new = new.out }) stage
+
+  -- the devices at the begin and in the end
+  abbrev pub begun : Devices R W O
+  begun = record { reader = reader.old; status = status.old; out = out.old }
+
+  abbrev pub ended : Devices R W O
+  ended = record { reader = reader.new; status = status.new; out = out.new }
+
+module _ {R W O V : Type 0} (sink : SinkOf V) (v : V) where
+  one_beside_status : (reader : RereaderCall R) (status : SinkCall W) (out : SinkCall O) (stage : Stage) (answer : Result ⊤ Fault) → IsUnsaid stage
+      → StageEnds reader status out stage answer → StageEnds reader (sink_call sink v v) out stage answer
+  one_beside_status reader status out Mark answer u (h, s, o) = (h, refl, o)
+  one_beside_status reader status out (Read message) answer u (h, s, o) = (h, refl, o)
+  one_beside_status reader status out (Judge accepts pk x legacy message) answer u (h, r, s, o) = (h, r, refl, o)
+  one_beside_status reader status out (Report text) answer u h = absurd u
+  one_beside_status reader status out Return answer u (h, s, o) = (h, refl, o)
+  one_beside_status reader status out (Copy second) answer u (h, s) = (h, refl)
+  one_beside_status reader status out (Compare digest second) answer u (h, r, s, o) = (h, r, refl, o)
+  one_beside_status reader status out (Put bytes) answer u (h, r, s) = (h, r, refl)
+  one_beside_status reader status out Flush answer u (h, r, s) = (h, r, refl)
+
+  one_beside_output : (reader : RereaderCall R) (status : SinkCall W) (out : SinkCall O) (stage : Stage) (answer : Result ⊤ Fault) → IsUncopied stage
+      → StageEnds reader status out stage answer → StageEnds reader status (sink_call sink v v) stage answer
+  one_beside_output reader status out Mark answer u (h, s, o) = (h, s, refl)
+  one_beside_output reader status out (Read message) answer u (h, s, o) = (h, s, refl)
+  one_beside_output reader status out (Judge accepts pk x legacy message) answer u (h, r, s, o) = (h, r, s, refl)
+  one_beside_output reader status out (Report text) answer u (h, r, o) = (h, r, refl)
+  one_beside_output reader status out Return answer u (h, s, o) = (h, s, refl)
+  one_beside_output reader status out (Copy second) answer u h = absurd u
+  one_beside_output reader status out (Compare digest second) answer u (h, r, s, o) = (h, r, s, refl)
+  one_beside_output reader status out (Put bytes) answer u h = absurd u
+  one_beside_output reader status out Flush answer u h = absurd u
+
+  module _ (reader : RereaderCall R) (status : SinkCall W) (out : SinkCall O) (stages : List Stage) (answer : Result ⊤ Fault) where
+    pub beside_status : UseNoStatus stages → StagesEnd reader status out stages answer → StagesEnd reader (sink_call sink v v) out stages answer
+    beside_status =
+        steps_beside (OneEnds reader status out) (OneEnds reader (sink_call sink v v) out) (λ d. record { reader = d.reader; status = v; out = d.out }) IsUnsaid
+        (λ stage old new. one_beside_status (record reader { old = old.reader; new = new.reader }) (record status { old = old.status; new = new.status }) (record out { old = old.out; new = new.out }) stage)
+        stages (begun reader status out) (ended reader status out) answer
+
+    pub beside_output : UseNoOutput stages → StagesEnd reader status out stages answer → StagesEnd reader status (sink_call sink v v) stages answer
+    beside_output =
+        steps_beside (OneEnds reader status out) (OneEnds reader status (sink_call sink v v)) (λ d. record { reader = d.reader; status = d.status; out = v }) IsUncopied
+        (λ stage old new. one_beside_output (record reader { old = old.reader; new = new.reader }) (record status { old = old.status; new = new.status }) (record out { old = old.out; new = new.out }) stage)
+        stages (begun reader status out) (ended reader status out) answer
+
+-- verifying that says something and copies nothing does not use the output
+pub fails_without_output : {R W O : Type 0} (accepts : Verifier) (pk : PublicKeyRecord) (x : SignatureBoxRecord) (legacy : Bool)
+    (reader : RereaderCall R) (status : SinkCall W) (out : SinkCall O) (e : Fault)
+    → VerifyingFails accepts pk x (options_of false false legacy) reader status out e
+    → VerifyingFails accepts pk x (options_of false false legacy) reader status unused e
+fails_without_output accepts pk x legacy reader status out e (message, second, h) = (
+  message,
+  second,
+  beside_output unused.sink tt reader status out (Read message ∷ Judge accepts pk x legacy message ∷ Report (status_lines x) ∷ []) (Err e) (tt, (tt, (tt, tt))) h,
+)
+
+-- the stages of verifying that says nothing do not use the status
+quiet_stages : (accepts : Verifier) (pk : PublicKeyRecord) (x : SignatureBoxRecord) (legacy again output hashed : Bool) (message second : List ℕ)
+    → UseNoStatus (reading_stages again message ++ (Judge accepts pk x legacy message ∷ (reporting_stages true x ++ copying_stages output hashed message second)))
+quiet_stages accepts pk x legacy true false hashed message second = (tt, (tt, (tt, tt)))
+quiet_stages accepts pk x legacy true true true message second = (tt, (tt, (tt, (tt, (tt, (tt, (tt, tt)))))))
+quiet_stages accepts pk x legacy true true false message second = (tt, (tt, (tt, (tt, (tt, tt)))))
+quiet_stages accepts pk x legacy false false hashed message second = (tt, (tt, tt))
+quiet_stages accepts pk x legacy false true true message second = (tt, (tt, (tt, (tt, (tt, (tt, tt))))))
+quiet_stages accepts pk x legacy false true false message second = (tt, (tt, (tt, (tt, tt))))
+
+pub fails_without_status : {R W O : Type 0} (accepts : Verifier) (pk : PublicKeyRecord) (x : SignatureBoxRecord) (output legacy : Bool)
+    (reader : RereaderCall R) (status : SinkCall W) (out : SinkCall O) (e : Fault)
+    → VerifyingFails accepts pk x (options_of true output legacy) reader status out e
+    → VerifyingFails accepts pk x (options_of true output legacy) reader unused out e
+fails_without_status accepts pk x output legacy reader status out e (message, second, h) = (
+  message,
+  second,
+  beside_status unused.sink tt reader status out
+      (reading_stages (is_reread output x) message ++ (Judge accepts pk x legacy message ∷ (reporting_stages true x ++ copying_stages output (is_prehashed x.signature) message second))) (Err e)
+      (quiet_stages accepts pk x legacy (is_reread output x) output (is_prehashed x.signature) message second) h,
+)
+
+-- verifying that says and copies nothing uses neither sink
+pub fails_without_sinks : {R W O : Type 0} (accepts : Verifier) (pk : PublicKeyRecord) (x : SignatureBoxRecord) (legacy : Bool)
+    (reader : RereaderCall R) (status : SinkCall W) (out : SinkCall O) (e : Fault)
+    → VerifyingFails accepts pk x (options_of true false legacy) reader status out e
+    → VerifyingFails accepts pk x (options_of true false legacy) reader unused unused e
+fails_without_sinks accepts pk x legacy reader status out e h =
+    let (message, second, stages) = fails_without_status accepts pk x false legacy reader status out e h in (
+      message,
+      second,
+      beside_output unused.sink tt reader unused out (Read message ∷ Judge accepts pk x legacy message ∷ []) (Err e) (tt, (tt, tt)) stages,
+    )
 
 -- what is ahead after going back to where this was ahead
 what_was_marked : (first behind returned : Option (List ℕ)) (second : List ℕ) → behind ≡ first → IfSome behind (λ xs. returned ≡ Some xs) → IsAhead returned second
@@ -102,8 +217,7 @@ module _ {R W O : Type 0} (reader : RereaderCall R) (status : SinkCall W) (out :
   last_stage stage (Err e) stopped = inl stopped
 
   stopped_in_either : (first second : List Stage) (e : Fault) → StagesEnd reader status out (first ++ second) (Err e)
-      → StagesEnd reader status out first (Err e)
-      ⊎ ((d : Devices R W O)
+      → StagesEnd reader status out first (Err e) ⊎ ((d : Devices R W O)
       × StagesEnd (record reader { new = d.reader }) (record status { new = d.status }) (record out { new = d.out }) first (Ok tt)
       × StagesEnd (record reader { old = d.reader }) (record status { old = d.status }) (record out { old = d.out }) second (Err e))
   stopped_in_either first second e h = stopped_in (OneEnds reader status out) first second (begun reader status out) (ended reader status out) e h
@@ -228,8 +342,7 @@ module _ {R W O : Type 0} (accepts : Verifier) (pk : PublicKeyRecord) (x : Signa
     (old mid new : R) (said_before said : W) (out_before out : O) (e : Fault) where
   -- how verifying fails, by the state of the three devices in the end
   abbrev Fails : R → W → O → Type 0
-  Fails r w o =
-      VerifyingFails accepts pk x (record { quiet = quiet; output = output; legacy = legacy })
+  Fails r w o = VerifyingFails accepts pk x (options_of quiet output legacy)
       (rereader_call source steady old r) (sink_call status_sink said_before w) (sink_call out_sink out_before o) e
 
   -- reading, beside the sinks
@@ -377,7 +490,7 @@ module _ {R W O : Type 0} (accepts : Verifier) (pk : PublicKeyRecord) (x : Signa
       → FirstPass (is_reread output x) (rereader_call source steady old mid) message
       → Vouches accepts pk x message legacy → Takes status (wanted_status quiet x) → SinkHasNoNewFault status → IsUnflushed status
       → (second : List ℕ) → StagesEnd (rereader_call source steady mid new) unused out (held_copy_stages output signed second) (Ok tt)
-      → VerifyingSucceeds accepts pk x (record { quiet = quiet; output = output; legacy = legacy }) (rereader_call source steady old new) status out
+      → VerifyingSucceeds accepts pk x (options_of quiet output legacy) (rereader_call source steady old new) status out
   copied false signed holds read pass vouches said status_no_new_fault status_unflushed second same = record {
     message = message;
     given = pass.given;
@@ -456,7 +569,7 @@ module _ {R W O : Type 0} (accepts : Verifier) (pk : PublicKeyRecord) (x : Signa
       (vouches : Vouches accepts pk x message legacy) (said : Takes status (wanted_status quiet x)) where
     pub copying_succeeds : (r : Result ⊤ Fault) → SinkHasNoNewFault status → IsUnflushed status
         → (second : List ℕ) × StagesEnd (rereader_call source steady mid new) unused out (held_copy_stages output signed second) r
-        → OnOk r (VerifyingSucceeds accepts pk x (record { quiet = quiet; output = output; legacy = legacy }) (rereader_call source steady old new) status out)
+        → OnOk r (VerifyingSucceeds accepts pk x (options_of quiet output legacy) (rereader_call source steady old new) status out)
     copying_succeeds (Ok v) status_no_new_fault status_unflushed (second, run) = copied output signed holds read pass vouches said status_no_new_fault status_unflushed second run
     copying_succeeds (Err e) status_no_new_fault status_unflushed run = tt
 
@@ -474,13 +587,10 @@ pub record IsOther {R : Type 0} (reader : RereaderCall R) (message : List ℕ) :
 -- why verifying fails: memory ran out; the place could not be marked; the data could not be read; the box is refused;
 -- the status failed; or the copying did, for which the source failed, the output did, or the data is another one
 abbrev pub IsReason : {R W O : Type 0} → Verifier → PublicKeyRecord → SignatureBoxRecord → Bool → Bool → Bool → RereaderCall R → SinkCall W → SinkCall O → Fault → Type 0
-IsReason accepts pk x quiet output legacy reader status out e =
-    (e ≡ Named OutOfMemory)
-    ⊎ ((output ≡ true) × SourceFails reader)
-    ⊎ ReadingFails reader.source reader.old reader.new e
+IsReason accepts pk x quiet output legacy reader status out e = (e ≡ Named OutOfMemory)
+    ⊎ ((output ≡ true) × SourceFails reader) ⊎ ReadingFails reader.source reader.old reader.new e
     ⊎ ((message : List ℕ) × IsAhead (reader.source.ahead reader.old) message × (judge accepts pk x message legacy ≡ Err e))
-    ⊎ ((quiet ≡ false) × SinkFails status)
-    ⊎ ((output ≡ true) × SinkFails out)
+    ⊎ ((quiet ≡ false) × SinkFails status) ⊎ ((output ≡ true) × SinkFails out)
     ⊎ ((output ≡ true) × ((message : List ℕ) × IsAhead (reader.source.ahead reader.old) message × IsOther reader message))
 
 module _ {R W O : Type 0} (accepts : Verifier) (pk : PublicKeyRecord) (x : SignatureBoxRecord) (quiet output legacy : Bool)
@@ -569,7 +679,7 @@ module _ {R W O : Type 0} (accepts : Verifier) (pk : PublicKeyRecord) (x : Signa
       (stopped_in_either (record reader { old = d2.reader }) (record status { old = d2.status }) (record out { old = d2.out })
       (reporting_stages quiet x) (copying_stages output hashed message second) e h)
 
-  pub why_it_fails : VerifyingFails accepts pk x (record { quiet = quiet; output = output; legacy = legacy }) reader status out e → Why
+  pub why_it_fails : VerifyingFails accepts pk x (options_of quiet output legacy) reader status out e → Why
   why_it_fails (message, second, h) =
       ⊎_elim (why_unread (is_reread output x) message (λ both. (and_parts output (is_prehashed x.signature) both).0))
       (λ (d, read, h2).

@@ -1,24 +1,12 @@
 -- Texts of public keys: the function that reads them and the relation agree, and a written text reads as its key.
-use Rattle.std.proofs.Common.{◌≡◌, ◌≢◌, ℕ, ◌≤◌, true, List, [], ◌∷◌, ◌++◌, length, take, drop, codes, refl, sym, ap, subst, ◌∙◌, arith, ◌==◌}
-use Rattle.std.specs.declared.result.Result.TheVariants.{Ok, Err}
-use Rattle.std.specs.Str.{trim}
-use Rattle.std.specs.Str.Lines.{lines}
-use Rattle.std.proofs.Math.Dec.{leb}
-use Rattle.std.proofs.lemmas.Bool.{eq-eqb, eqb-true, ne_eqb, le-leb, leb-true}
-use Rattle.std.proofs.lemmas.List.{append_assoc, length-append, length-take-le, length-drop, take-append-drop}
-use Rattle.base64.specs.GeneralPurpose.{IsBytes}
-use Rattle.base64.proofs.EngineFacts.{front_bytes}
-use Rattle.minisign_base.specs.Fault.{Named}
-use Rattle.minisign_base.specs.Identifiers.{identifier_text}
-use Rattle.minisign_base.specs.declared.faults.NamedFault.{NamedFault}
-use Rattle.minisign_base.specs.declared.faults.NamedFault.TheVariants.{PublicKeyLineLength, PublicKeyLineNotBase64, BarePublicKeyLength, BarePublicKeyNotBase64, RecordTooShort}
+use Rattle.std.proofs.Common.{◌≡◌, ◌≢◌, ℕ, ◌≤◌, true, List, [], ◌∷◌, ◌++◌, length, take, drop, codes, refl, sym, ap, subst, ◌∙◌, arith, ◌==◌, Ok, Err, leb, eq-eqb, eqb-true, append_assoc, ne_eqb, le-leb, leb-true, length-append, length-take-le, length-drop, take-append-drop}
+use Rattle.minisign.proofs.Common.{trim, lines, IsBytes, front_bytes, Named, identifier_text, NamedFault, PublicKeyLineLength, PublicKeyLineNotBase64, BarePublicKeyLength, BarePublicKeyNotBase64, RecordTooShort}
 use Rattle.minisign.specs.Records.{PublicKeyRecord, ReadsPublicKey, public_key_bytes}
 use Rattle.minisign.specs.Texts.{IsBase64Of, IsReading, base64_of, base64_bytes, is_base64, untrusted_comment_label}
 use Rattle.minisign.specs.PublicKeyText.{EncodesPublicKey, PublicKeyText, BarePublicKey, decoded_key, key_in_lines, public_key_label, public_key_text, read_bare_public_key, read_public_key}
 use Rattle.minisign.proofs.Base64Texts.{bytes_read, is_read, reads}
-use Rattle.minisign.proofs.Letters.{AllGraphic, graphic_base64, graphic_identifier, trim_graphic}
+use Rattle.minisign.proofs.WrittenLines.{AllGraphic, graphic_base64, graphic_identifier, trim_graphic, IsOneLine, AllShown, lines_line, lines_last, shown_append, shown_codes, shown_graphic, shown_one_line, length_base64_key}
 use Rattle.minisign.proofs.ReadTexts.{is_reading, passed}
-use Rattle.minisign.proofs.WrittenLines.{IsOneLine, AllShown, lines_line, lines_last, shown_append, shown_codes, shown_graphic, shown_one_line, length_base64_key}
 use Rattle.minisign.proofs.RecordFields.{joined_fields, one_public_key}
 
 -- bytes that a key is read from

@@ -1,12 +1,6 @@
 -- What a reading call answers, from what is read.
-use Rattle.std.proofs.Common.{◌≡◌, ◌↔◌, Bool, true, false, refl, sym, ◌∙◌, inl, inr}
-use Rattle.std.specs.declared.option.Option.{Option}
-use Rattle.std.specs.declared.option.Option.TheVariants.{None, Some}
-use Rattle.std.specs.declared.result.Result.{Result}
-use Rattle.std.specs.declared.result.Result.TheVariants.{Ok, Err}
-use Rattle.minisign_base.specs.Fault.{Fault}
-use Rattle.minisign_base.specs.Steps.{without_value}
-use Rattle.minisign_base.specs.declared.faults.NamedFault.{NamedFault}
+use Rattle.std.proofs.Common.{◌≡◌, ◌↔◌, Bool, true, false, refl, sym, ◌∙◌, inl, inr, Result, Ok, Err}
+use Rattle.minisign.proofs.Common.{Fault, without_value, NamedFault}
 use Rattle.minisign.specs.Texts.{IsReadOrNoMemory, IsReading, and_then, require}
 
 -- what is read is one value at most

@@ -1,9 +1,6 @@
 -- Fields at the front of bytes.
-use Rattle.std.proofs.Common.{◌≡◌, ℕ, ◌≤◌, List, [], ◌++◌, length, take, drop, arith, append-nil, append_assoc, sym, ap, ◌∙◌, true, not, inl, inr}
-use Rattle.std.proofs.Math.Seq.{take-append_seam, drop-append_seam}
-use Rattle.std.proofs.lemmas.List.{length-append}
-use Rattle.std.specs.Str.{bytes_eq}
-use Rattle.std.proofs.lemmas.Slice.Eq.{bytes_eq-Decides}
+use Rattle.std.proofs.Common.{◌≡◌, ℕ, ◌≤◌, List, [], ◌++◌, length, take, drop, arith, append-nil, append_assoc, sym, ap, ◌∙◌, true, not, inl, inr, bytes_eq, length-append}
+use Rattle.minisign.proofs.Common.{take-append_seam, drop-append_seam, bytes_eq-Decides}
 use Rattle.minisign.specs.Records.{PublicKeyRecord, ReadsPublicKey, SecretKeyRecord, ReadsSecretKey, SignatureRecord, ReadsSignature, IsKnownAlgorithm, legacy_algorithm, prehashed_algorithm}
 
 -- fields that were taken off one by one, as their concatenation

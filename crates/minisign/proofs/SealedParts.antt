@@ -1,12 +1,9 @@
 -- The last three fields of a secret key, as one list that is xored with a stream.
-use Rattle.std.proofs.Common.{◌≡◌, ℕ, List, ◌++◌, length, take, drop, bit_xor, refl, sym, ap, ◌∙◌, arith, append_assoc}
-use Rattle.std.proofs.Math.Seq.{take-append_seam, drop-append_seam}
-use Rattle.std.proofs.lemmas.List.{length-append, length-drop, length-take-le, take-append-drop, take_all}
-use Rattle.std.proofs.lemmas.Simd.{length-zip2}
-use Rattle.std.specs.Simd.Lanes.{zip2}
+use Rattle.std.proofs.Common.{◌≡◌, ℕ, List, ◌++◌, length, take, drop, bit_xor, refl, sym, ap, ◌∙◌, arith, append_assoc, length-append, length-drop, length-take-le, take-append-drop, take_all}
+use Rattle.minisign.proofs.Common.{take-append_seam, drop-append_seam, length-zip2, zip2}
 use Rattle.minisign.proofs.Xor.{xor_halves, xor_twice}
 use Rattle.minisign.specs.Records.{SecretKeyRecord}
-use Rattle.minisign.specs.Sealing.{key_numbers, key_xor, stream_of, xored_key}
+use Rattle.minisign.specs.Sealing.{key_xor, stream_of, xored_key}
 
 -- the fields that are sealed have their lengths
 pub record HasSealedLengths (k : SecretKeyRecord) : Type 0 where
@@ -52,8 +49,7 @@ xored_fields k a b c len la lb lc =
 
 -- a stream cut where the fields are
 pub cut_stream : (stream : List ℕ) → take 8 stream ++ take 64 (drop 8 stream) ++ drop 64 (drop 8 stream) ≡ stream
-cut_stream stream =
-    append_assoc (take 8 stream) (take 64 (drop 8 stream)) (drop 64 (drop 8 stream))
+cut_stream stream = append_assoc (take 8 stream) (take 64 (drop 8 stream)) (drop 64 (drop 8 stream))
     ∙ ap (λ (l : List ℕ). take 8 stream ++ l) (take-append-drop 64 (drop 8 stream)) ∙ take-append-drop 8 stream
 
 -- xoring once more with the same fields
@@ -97,7 +93,7 @@ xored_twice k stream len whole =
 
 -- the stream does not depend on what is sealed
 pub same_stream : (k : SecretKeyRecord) (stream password : List ℕ) → stream_of (key_xor k stream) password ≡ stream_of k password
-unfolding key_xor stream_of key_numbers
+unfolding key_xor stream_of
 same_stream k stream password = refl
 
 -- opening what was sealed under the same password, and sealing what was opened

@@ -1,13 +1,9 @@
 -- The limits of a sealed key.
-use Rattle.std.proofs.Common.{◌≡◌, ℕ, ◌^◌, Bool, true, false, if◌then◌else◌, List, length, take, Result, Ok, Err, sym, ap, ◌∙◌, arith}
-use Rattle.std.proofs.lemmas.List.{take_all}
-use Rattle.std.specs.Int.{w64, from_le_bytes}
-use Rattle.minisign_base.specs.Fault.{Fault}
-use Rattle.minisign_kdf.specs.Params.{Numbers}
-use Rattle.minisign_base.specs.Limits.{numbers, limits, sealing_limits}
-use Rattle.minisign.specs.Records.{SecretKeyRecord}
-use Rattle.minisign.specs.Sealing.{key_limits, key_numbers, stream_of}
+use Rattle.std.proofs.Common.{◌≡◌, ℕ, ◌^◌, Bool, true, false, if◌then◌else◌, List, length, take, Result, Ok, Err, sym, ap, ◌∙◌, arith, take_all, w64}
+use Rattle.minisign.proofs.Common.{from_le_bytes, Fault, Numbers, numbers, limits, sealing_limits}
 use Rattle.minisign_kdf.specs.Scrypt.{scrypt}
+use Rattle.minisign.specs.Records.{SecretKeyRecord}
+use Rattle.minisign.specs.Sealing.{key_limits, stream_of}
 
 -- two tests passed
 both_passed : (a b : Bool) (v w : Numbers) (e f : Fault) → (if a then Err e else (if b then Ok v else Err f)) ≡ Ok w → v ≡ w
@@ -19,16 +15,17 @@ one_passed : (a : Bool) (r : Result Numbers Fault) (w : Numbers) (e : Fault) →
 one_passed true r w e h = absurd (cc)
 one_passed false r w e h = h
 
-limits_numbers : (memlimit opslimit n : ℕ) (v : Numbers) → limits memlimit opslimit n ≡ Ok v → numbers memlimit opslimit ≡ v
+limits_numbers : (n : ℕ) (w v : Numbers) → limits w n ≡ Ok v → w ≡ v
 unfolding limits
-limits_numbers memlimit opslimit n v h = both_passed _ _ _ v _ _ h
+limits_numbers n w v h = both_passed _ _ _ v _ _ h
 
 pub sealing_numbers : (memlimit opslimit : ℕ) (v : Numbers) → sealing_limits memlimit opslimit ≡ Ok v → numbers memlimit opslimit ≡ v
-sealing_numbers memlimit opslimit v h = limits_numbers memlimit opslimit 20 v (one_passed _ _ v _ h)
+sealing_numbers memlimit opslimit v h = limits_numbers 20 _ v (one_passed _ _ v _ h)
 
 -- the limits that are allowed are the numbers that they lead to
-pub allowed_numbers : (k : SecretKeyRecord) (v : Numbers) → key_limits k ≡ Ok v → key_numbers k ≡ v
-unfolding key_limits key_numbers
+pub allowed_numbers : (k : SecretKeyRecord) (v : Numbers) → key_limits k ≡ Ok v
+    → numbers (from_le_bytes w64 k.memory_limit) (from_le_bytes w64 k.operations_limit) ≡ v
+unfolding key_limits
 allowed_numbers k v h = sealing_numbers _ _ v h
 
 -- the limits of a key, as numbers that were read
@@ -42,7 +39,8 @@ read_limits k memory operations memory_length operations_length read_memory read
     λ i. sealing_limits (same_memory i) (same_operations i)
 
 -- the stream, as it was derived
-pub derived_stream : (k : SecretKeyRecord) (v : Numbers) (password salt out : List ℕ) (len : ℕ) → key_numbers k ≡ v → salt ≡ k.salt → len ≡ 104
+pub derived_stream : (k : SecretKeyRecord) (v : Numbers) (password salt out : List ℕ) (len : ℕ)
+    → numbers (from_le_bytes w64 k.memory_limit) (from_le_bytes w64 k.operations_limit) ≡ v → salt ≡ k.salt → len ≡ 104
     → out ≡ scrypt password salt (2 ^ v.n_log2) v.r v.p len → out ≡ stream_of k password
 unfolding stream_of
 derived_stream k v password salt out len same_numbers same_salt whole derived =

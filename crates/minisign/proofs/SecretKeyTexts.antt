@@ -1,14 +1,9 @@
 -- Texts of secret keys: the function that reads them and the relation agree.
-use Rattle.std.proofs.Common.{◌≡◌, ℕ, ◌+◌, ◌≤◌, true, List, [], ◌∷◌, ◌++◌, length, take, drop, refl, sym, ap, subst, ◌∙◌, arith}
-use Rattle.std.specs.declared.result.Result.TheVariants.{Ok}
-use Rattle.std.proofs.Math.Dec.{leb}
-use Rattle.std.proofs.lemmas.Bool.{le-leb, leb-true}
-use Rattle.std.proofs.lemmas.List.{drop-drop, length-append, length-take-le, length-drop, take-append-drop}
-use Rattle.std.specs.Str.Lines.{lines}
-use Rattle.minisign_base.specs.declared.faults.NamedFault.TheVariants.{SecretKeyNotBase64, RecordTooShort}
+use Rattle.std.proofs.Common.{◌≡◌, ℕ, ◌+◌, ◌≤◌, true, List, [], ◌∷◌, ◌++◌, length, take, drop, refl, sym, ap, subst, ◌∙◌, arith, le-leb, leb-true, drop-drop, length-append, length-take-le, length-drop, take-append-drop, Ok, leb}
+use Rattle.minisign.proofs.Common.{lines, SecretKeyNotBase64, RecordTooShort}
 use Rattle.minisign.specs.Records.{SecretKeyRecord, ReadsSecretKey}
-use Rattle.minisign.specs.SecretKeyText.{SecretKeyText, read_secret_key, read_secret_key_bytes, secret_key_in_line, secret_key_in_lines, secret_key_of_bytes}
-use Rattle.minisign.specs.Texts.{IsBase64Of, IsReading, base64_bytes, is_base64}
+use Rattle.minisign.specs.SecretKeyText.{SecretKeyText, read_secret_key, read_secret_key_bytes, secret_key_in_lines, secret_key_of_bytes}
+use Rattle.minisign.specs.Texts.{IsBase64Of, IsReading, base64_bytes, is_base64, require}
 use Rattle.minisign.proofs.Base64Texts.{bytes_read, is_read, reads}
 use Rattle.minisign.proofs.ReadTexts.{is_reading, passed, same_value}
 use Rattle.minisign.proofs.RecordFields.{joined_fields, one_secret_key}
@@ -60,7 +55,8 @@ pub bytes_read_as : (bytes : List ℕ) → IsReading (ReadsSecretKey bytes) (rea
 bytes_read_as bytes = is_reading (ReadsSecretKey bytes) (read_secret_key_bytes bytes) (λ k. (read_bytes bytes k, bytes_are_read bytes k))
 
 -- a line is read by the bytes that it is the base64 of
-pub line_is_read : (line bytes : List ℕ) → IsBase64Of line bytes → secret_key_in_line line ≡ read_secret_key_bytes bytes
+pub line_is_read : (line bytes : List ℕ) → IsBase64Of line bytes
+    → require (is_base64 line) SecretKeyNotBase64 (read_secret_key_bytes (base64_bytes line)) ≡ read_secret_key_bytes bytes
 line_is_read line bytes base64 = rw (is_read line bytes base64, bytes_read line bytes base64) refl
 
 -- a text is read by its lines

@@ -1,28 +1,16 @@
--- Texts of signatures: the function that reads them and the relation agree, and a written text reads as its box.
-use Rattle.std.proofs.Common.{◌≡◌, ◌≢◌, ℕ, ◌<◌, ◌≤◌, true, false, List, [], ◌∷◌, ◌++◌, length, take, drop, codes, Ok, Err, refl, sym, ap, subst, ◌∙◌, arith, inl, inr}
-use Rattle.std.specs.declared.option.Option.TheVariants.{Some}
-use Rattle.std.specs.List.{starts_with}
-use Rattle.std.specs.Str.{trim}
-use Rattle.std.specs.Str.Lines.{lines, strip_carriage_return}
-use Rattle.std.proofs.Math.Dec.{eqb, leb, lit<}
-use Rattle.std.proofs.lemmas.Bool.{false_from_ne_true, le-leb, leb-true, lt-leb, or_cases, or_left, or_right}
-use Rattle.std.proofs.lemmas.Bool.Decides.{Decides-eqb}
-use Rattle.std.proofs.Math.Seq.{drop-append_seam}
-use Rattle.std.proofs.lemmas.List.{append_assoc, length-take-le, length-drop, take-append-drop}
-use Rattle.std.proofs.lemmas.Slice.Eq.{starts_is, bytes_eq-Decides}
-use Rattle.minisign_base.specs.Fault.{Named}
-use Rattle.minisign_base.specs.declared.faults.NamedFault.TheVariants.{UntrustedCommentPrefix, SignatureNotBase64, RecordTooShort, TrustedCommentPrefix, UnsupportedSignatureAlgorithm}
-use Rattle.minisign.specs.Records.{CommentsRecord, SignatureRecord, ReadsSignature, IsKnownAlgorithm, signature_bytes, legacy_algorithm, prehashed_algorithm}
-use Rattle.minisign.specs.Texts.{IsBase64Of, IsReading, base64_of, base64_bytes, is_base64, map_ok, untrusted_comment_label}
-use Rattle.minisign.specs.SignatureText.{AreOneLine, AreReadBack, EncodesSignature, SignatureText, SignatureTextRecord, box_of, comments_read_back, is_known_algorithm, read_signature, read_signature_box, signature_in_four, signature_in_lines, signature_text, trusted_comment_label}
-use Rattle.minisign.proofs.Base64Texts.{bytes_read, is_read, reads}
-use Rattle.base64.specs.GeneralPurpose.{IsBytes}
-use Rattle.base64.proofs.EngineFacts.{front_bytes}
-use Rattle.minisign.specs.Lines.{line}
-use Rattle.minisign.proofs.Letters.{AllGraphic, graphic_base64, trim_graphic}
-use Rattle.minisign.proofs.WrittenLines.{AllShown, labelled, labelled_one_line, lines_labelled, lines_line, lines_last, shown_codes, shown_graphic, shown_one_line, strip_none, trimmed_end}
+-- Texts of signatures: the function that reads them and the relation agree, and a written text reads as its box; and texts that
+-- are read where they lie.
+use Rattle.std.proofs.Common.{◌≡◌, ◌≢◌, ◌||◌, Bool, bytes_eq, ℕ, ◌<◌, ◌≤◌, true, false, List, [], ◌∷◌, ◌++◌, length, take, drop, codes, Ok, Err, refl, sym, ap, subst, ◌∙◌, arith, inl, inr, Some, eqb, leb, lit<, append_assoc, take-take, min, MatchResult, None, Result, ⊎_elim, le-leb, leb-true, cond, length-take-le, length-drop, take-append-drop}
+use Rattle.minisign.proofs.Common.{starts_with, trim, lines, strip_carriage_return, false_from_ne_true, lt-leb, or_cases, or_left, or_right, cases_lt, Decides-eqb, drop-append_seam, starts_is, bytes_eq-Decides, Named, Fault, UntrustedCommentPrefix, SignatureNotBase64, RecordTooShort, TrustedCommentPrefix, UnsupportedSignatureAlgorithm, IsBytes, front_bytes, NamedFault}
+use Rattle.minisign.specs.Records.{CommentsRecord, SignatureRecord, ReadsSignature, IsKnownAlgorithm, signature_bytes, legacy_algorithm, prehashed_algorithm, PublicKeyRecord, ReadsPublicKey, public_key_bytes}
+use Rattle.minisign.specs.Texts.{IsBase64Of, IsReading, base64_of, base64_bytes, is_base64, map_ok, untrusted_comment_label, line}
+use Rattle.minisign.specs.SignatureText.{AreOneLine, AreReadBack, EncodesSignature, SignatureText, SignatureTextRecord, box_of, comments_read_back, read_signature, read_signature_box, signature_in_lines, signature_text, trusted_comment_label, first_64}
+use Rattle.minisign.proofs.Base64Texts.{bytes_read, is_read, reads, short_of, length_base64}
+use Rattle.minisign.proofs.WrittenLines.{AllGraphic, graphic_base64, trim_graphic, AllShown, labelled, labelled_one_line, lines_labelled, lines_line, lines_last, shown_codes, shown_graphic, shown_one_line, strip_none, trimmed_end}
 use Rattle.minisign.proofs.ReadTexts.{is_reading, passed}
 use Rattle.minisign.proofs.RecordFields.{joined_fields, one_signature, stored_algorithm, stored_length}
+use Rattle.minisign.specs.PublicKeyText.{EncodesPublicKey, decoded_key}
+use Rattle.minisign.proofs.PublicKeyTexts.{encoded_is_decoded}
 
 -- a line that begins with a label
 pub begins : (line label rest : List ℕ) → line ≡ label ++ rest → starts_with eqb line label ≡ true
@@ -35,6 +23,9 @@ pub begins_not : (line label : List ℕ) → ((rest : List ℕ) → line ≢ lab
 begins_not line label h = false_from_ne_true _ (λ t. h _ (begins_with line label t))
 
 -- the algorithms that are known
+abbrev is_known_algorithm : List ℕ → Bool
+is_known_algorithm a = bytes_eq a legacy_algorithm || bytes_eq a prehashed_algorithm
+
 pub known : (a : List ℕ) → IsKnownAlgorithm a → is_known_algorithm a ≡ true
 known a (inl e) = or_left _ _ ((bytes_eq-Decides a legacy_algorithm).1 e)
 known a (inr e) = or_right _ _ ((bytes_eq-Decides a prehashed_algorithm).1 e)
@@ -77,37 +68,37 @@ decoded_signature text s h =
 
 -- what is read of four lines
 module _ (a b c d : List ℕ) where
-  pub other_label : starts_with eqb a untrusted_comment_label ≡ false → signature_in_four a b c d ≡ Err (Named UntrustedCommentPrefix)
+  pub other_label : starts_with eqb a untrusted_comment_label ≡ false → signature_in_lines (a ∷ b ∷ c ∷ d ∷ []) ≡ Err (Named UntrustedCommentPrefix)
   other_label label = rw label refl
 
   module _ (label : starts_with eqb a untrusted_comment_label ≡ true) where
-    pub no_base64 : is_base64 (trim b) ≡ false → signature_in_four a b c d ≡ Err (Named SignatureNotBase64)
+    pub no_base64 : is_base64 (trim b) ≡ false → signature_in_lines (a ∷ b ∷ c ∷ d ∷ []) ≡ Err (Named SignatureNotBase64)
     no_base64 other = rw (label, other) refl
 
-    pub too_short : is_base64 (trim b) ≡ true → length (base64_bytes (trim b)) < 74 → signature_in_four a b c d ≡ Err (Named RecordTooShort)
+    pub too_short : is_base64 (trim b) ≡ true → length (base64_bytes (trim b)) < 74 → signature_in_lines (a ∷ b ∷ c ∷ d ∷ []) ≡ Err (Named RecordTooShort)
     too_short base64 short = rw (label, base64, lt-leb 74 _ short) refl
 
     module _ (s : SignatureRecord) (encodes : EncodesSignature (trim b) s) where
-      pub other_trusted_label : starts_with eqb c trusted_comment_label ≡ false → signature_in_four a b c d ≡ Err (Named TrustedCommentPrefix)
+      pub other_trusted_label : starts_with eqb c trusted_comment_label ≡ false → signature_in_lines (a ∷ b ∷ c ∷ d ∷ []) ≡ Err (Named TrustedCommentPrefix)
       other_trusted_label trusted =
           let signature = encodes_tests (trim b) s encodes in
           rw (label, signature.0, signature.1, trusted) refl
 
       module _ (trusted : starts_with eqb c trusted_comment_label ≡ true) where
-        pub unknown : is_known_algorithm s.algorithm ≡ false → signature_in_four a b c d ≡ Err (Named UnsupportedSignatureAlgorithm)
+        pub unknown : is_known_algorithm s.algorithm ≡ false → signature_in_lines (a ∷ b ∷ c ∷ d ∷ []) ≡ Err (Named UnsupportedSignatureAlgorithm)
         unknown other =
             let signature = encodes_tests (trim b) s encodes in
             rw (label, signature.0, signature.1, trusted, signature.2, other) refl
 
         module _ (algorithm : is_known_algorithm s.algorithm ≡ true) where
-          pub no_comment_base64 : is_base64 (trim d) ≡ false → signature_in_four a b c d ≡ Err (Named SignatureNotBase64)
+          pub no_comment_base64 : is_base64 (trim d) ≡ false → signature_in_lines (a ∷ b ∷ c ∷ d ∷ []) ≡ Err (Named SignatureNotBase64)
           no_comment_base64 other =
               let signature = encodes_tests (trim b) s encodes in
               rw (label, signature.0, signature.1, trusted, signature.2, algorithm, other) refl
 
           pub all_passed : (u t g : List ℕ) → is_base64 (trim d) ≡ true → drop (length untrusted_comment_label) a ≡ u
               → trim (drop (length trusted_comment_label) c) ≡ t → base64_bytes (trim d) ≡ g
-              → signature_in_four a b c d ≡ Ok (record { signature = s; comments = record { untrusted = u; trusted = t; signature = g } })
+              → signature_in_lines (a ∷ b ∷ c ∷ d ∷ []) ≡ Ok (record { signature = s; comments = record { untrusted = u; trusted = t; signature = g } })
           all_passed u t g signed is_untrusted is_trusted is_signed =
               let signature = encodes_tests (trim b) s encodes in
               let same = decoded_signature (trim b) s encodes in
@@ -239,3 +230,72 @@ module _ (s : SignatureRecord) (c : CommentsRecord) (encodes : EncodesSignature 
 -- nothing goes of comments that are read back as they were written
 pub same_comments : (c : CommentsRecord) → AreReadBack c.untrusted c.trusted → comments_read_back c ≡ c
 same_comments c keeps = ap (λ (u : List ℕ). record c { untrusted = u }) (strip_none c.untrusted keeps.untrusted_end)
+
+-- a record that the front of bytes begins with, the bytes begin with
+longer : (bytes record_bytes rest : List ℕ) (n : ℕ) → take n bytes ≡ record_bytes ++ rest → bytes ≡ record_bytes ++ (rest ++ drop n bytes)
+longer bytes record_bytes rest n front =
+    sym (take-append-drop n bytes) ∙ ap (λ (x : List ℕ). x ++ drop n bytes) front ∙ append_assoc record_bytes rest (drop n bytes)
+
+-- what the front of the decoded bytes is read as
+module _ (text room bytes : List ℕ) (n : ℕ) (base64 : IsBase64Of text bytes) (front : take n room ≡ take n bytes) where
+  encoded_key : (k : PublicKeyRecord) → ReadsPublicKey (take n room) k → EncodesPublicKey text k
+  encoded_key k h = record {
+    bytes = bytes;
+    base64 = base64;
+    reads = record {
+      algorithm_length = h.algorithm_length;
+      keynum_length = h.keynum_length;
+      key_length = h.key_length;
+      front = (h.front.0 ++ drop n bytes, longer bytes (public_key_bytes k) h.front.0 n (sym front ∙ h.front.1));
+    };
+  }
+
+  pub encoded_signature : (s : SignatureRecord) → ReadsSignature (take n room) s → EncodesSignature text s
+  encoded_signature s h = record {
+    bytes = bytes;
+    base64 = base64;
+    reads = record {
+      algorithm_length = h.algorithm_length;
+      keynum_length = h.keynum_length;
+      signature_length = h.signature_length;
+      front = (h.front.0 ++ drop n bytes, longer bytes (signature_bytes s) h.front.0 n (sym front ∙ h.front.1));
+    };
+  }
+
+-- a front that is too short is all of the bytes
+pub short_front : (text room bytes : List ℕ) (n cap m : ℕ) → IsBase64Of text bytes → n ≡ min (length bytes) cap → n ≤ length room → m ≤ cap → length (take n room) < m
+    → (is_base64 text ≡ true) × (length (base64_bytes text) < m)
+short_front text room bytes n cap m base64 count fits least short =
+    let same : length (take n room) ≡ n = length-take-le n room fits in
+    let few : length bytes < m = omega (arith, same, count, short) in
+    short_of text bytes bytes m base64 refl few
+
+-- the front of the decoded bytes is read as all of them
+pub front_read : (fault : NamedFault) (text room bytes : List ℕ) (n : ℕ) (r : Result PublicKeyRecord Fault) → IsBase64Of text bytes → n ≡ min (length bytes) 42
+    → n ≤ length room → take n room ≡ take n bytes → MatchResult r (ReadsPublicKey (take n room)) (λ e. (e ≡ Named RecordTooShort) × (length (take n room) < 42))
+    → r ≡ decoded_key fault text
+front_read fault text room bytes n (Ok k) base64 count fits front reads =
+    sym (encoded_is_decoded fault text k (encoded_key text room bytes n base64 front k reads))
+front_read fault text room bytes n (Err e) base64 count fits front refused =
+    let short = short_front text room bytes n 42 42 base64 count fits (omega arith) refused.1 in
+    rw (short.0, lt-leb 42 _ short.1) (ap Err refused.0)
+
+-- the first 64 bytes
+few_bytes : (bytes : List ℕ) → length bytes < 64 → first_64 bytes ≡ None
+few_bytes bytes few = ap (λ b. cond b (Some (take 64 bytes)) None) (lt-leb 64 (length bytes) few)
+
+enough_bytes : (bytes : List ℕ) → 64 ≤ length bytes → first_64 bytes ≡ Some (take 64 bytes)
+enough_bytes bytes enough = ap (λ b. cond b (Some (take 64 bytes)) None) (le-leb 64 (length bytes) enough)
+
+pub front_64 : (bytes room : List ℕ) (n : ℕ) → n ≡ min (length bytes) 66 → n ≤ length room → take n room ≡ take n bytes → first_64 (take n room) ≡ first_64 bytes
+front_64 bytes room n count fits front =
+    let same : length (take n room) ≡ n = length-take-le n room fits in
+    ⊎_elim
+    (λ few. few_bytes (take n room) (omega (arith, same, count)) ∙ sym (few_bytes bytes few))
+    (λ enough. enough_bytes (take n room) (omega (arith, same, count)) ∙ ap (λ (x : List ℕ). Some (take 64 x)) front
+    ∙ ap (λ (x : List ℕ). Some x) (take-take 64 n bytes (omega (arith, count))) ∙ sym (enough_bytes bytes enough))
+    (cases_lt (length bytes) 64)
+
+-- the base64 of a signature is longer than the signature
+pub long_enough : (text : List ℕ) (s : SignatureRecord) → EncodesSignature text s → 64 ≤ length text
+long_enough text s h = omega (arith, stored_length h.bytes s h.reads, ap length h.base64.encoded, length_base64 h.bytes)

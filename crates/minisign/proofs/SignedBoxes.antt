@@ -1,17 +1,12 @@
 -- The box that signing makes, and why it is accepted.
-use Rattle.std.proofs.Common.{◌≡◌, ℕ, true, false, List, ◌++◌, length, Option, None, Some, inl, refl, sym, ◌∙◌, arith}
-use Rattle.std.proofs.lemmas.List.{take_all}
-use Rattle.std.specs.Option.{IsSomeAnd}
-use Rattle.minisign_hash.specs.Blake2b.{blake2b_digest}
-use Rattle.minisign_base.specs.DeviceCalls.{RandomCall, SourceCall}
-use Rattle.minisign_base.specs.Fault.{Fault, Named}
-use Rattle.minisign_base.specs.declared.faults.NamedFault.TheVariants.{RefusedByGivenKey}
-use Rattle.minisign_base.specs.Scheme.{IsBytes, AreRandomBytes}
+use Rattle.std.proofs.Common.{◌≡◌, ℕ, true, false, List, ◌++◌, length, Option, None, Some, inl, refl, sym, ◌∙◌, arith, take_all, IsSomeAnd}
+use Rattle.minisign.proofs.Common.{blake2b_digest, RandomCall, SourceCall, Fault, Named, RefusedByGivenKey}
+use Rattle.minisign_base.specs.Scheme.{AreRandomBytes, IsBytes}
 use Rattle.minisign.specs.Records.{PublicKeyRecord, SecretKeyRecord, SignatureBoxRecord, prehashed_algorithm}
-use Rattle.minisign.specs.Acceptance.{Verifier, accepts_comments}
+use Rattle.minisign.specs.Acceptance.{Verifier, VouchesUnderEachKey, accepts_comments}
 use Rattle.minisign.specs.Reading.{ReadsWhole}
 use Rattle.minisign.specs.Sealing.{is_encrypted}
-use Rattle.minisign.specs.Signing.{Signer, ChosenComments, IsSigned, RefusesSigned, signed_box, VouchesWhereGenuine}
+use Rattle.minisign.specs.Signing.{Signer, ChosenComments, IsGenuine, IsSigned, signed_box}
 use Rattle.minisign.proofs.Verdicts.{vouches_judged}
 
 -- a box of these parts
@@ -40,7 +35,8 @@ pub genuine_box : (accepts : Verifier) (sign : Signer) (public_of : List ℕ →
     → keynum ≡ sk.keynum → signature ≡ sign (blake2b_digest 64 message) sk.secret (Some first)
     → global ≡ sign (signature ++ chosen.trusted) sk.secret (Some second)
     → IsBytes (blake2b_digest 64 message) → IsBytes (signature ++ chosen.trusted) → AreRandomBytes (Some first) → AreRandomBytes (Some second)
-    → length global ≡ 64 → VouchesWhereGenuine accepts public_of sk message (box_of keynum signature chosen global)
+    → length global ≡ 64 → (seed : List ℕ) → IsGenuine public_of sk seed
+    → VouchesUnderEachKey accepts (public_of seed) sk.keynum message (box_of keynum signature chosen global)
 genuine_box accepts sign public_of own sk message chosen first second keynum signature global
     same_keynum same_signature same_global digest_bytes signed_bytes first_random second_random long seed genuine pk legacy key identifier =
     let digest_accepted = own seed (blake2b_digest 64 message) (Some first) genuine.seed_bytes genuine.seed_length digest_bytes first_random in
@@ -57,7 +53,9 @@ pub refused_by_given : {R Z : Type 0} (accepts : Verifier) (sign : Signer) (pk :
     (chosen : ChosenComments) (r : SourceCall R) (z : RandomCall Z) (x : SignatureBoxRecord) (e : Fault) → is_encrypted sk ≡ false
     → ReadsWhole r.source r.old r.new message → IsSigned sign sk message chosen z x
     → IsSomeAnd pk (λ p. (e ≡ Named (RefusedByGivenKey p.keynum)) × (accepts_comments accepts p x ≡ false))
-    → IsSomeAnd pk (λ p. (e ≡ Named (RefusedByGivenKey p.keynum)) × RefusesSigned accepts sign p sk chosen r z)
+    → IsSomeAnd pk (λ p. (message : List ℕ) × (made : SignatureBoxRecord) × (e ≡ Named (RefusedByGivenKey p.keynum))
+    × (is_encrypted sk ≡ false) × ReadsWhole r.source r.old r.new message × IsSigned sign sk message chosen z made
+    × (accepts_comments accepts p made ≡ false))
 refused_by_given accepts sign None sk message chosen r z x e opened read signed refused = absurd refused
 refused_by_given accepts sign (Some p) sk message chosen r z x e opened read signed (fault, refused) =
-    (fault, record { opened = opened; message = message; read = read; made = x; signed = signed; refused = refused })
+    (message, x, fault, opened, read, signed, refused)

@@ -1,7 +1,6 @@
 -- The text of a box that signing made: it is written, and read back as a box that vouches for the same.
 use Rattle.std.proofs.Common.{◌≡◌, ℕ, List, Option, Some, Result, Ok, Err, IfOk, IfSome, MatchOption, MatchResult, sym, subst}
-use Rattle.minisign_base.specs.Fault.{Fault, Named}
-use Rattle.minisign_base.specs.declared.faults.NamedFault.TheVariants.{OutOfMemory, SignatureBoxIncomplete}
+use Rattle.minisign.proofs.Common.{Fault, Named, OutOfMemory, SignatureBoxIncomplete}
 use Rattle.minisign.specs.Records.{CommentsRecord, SignatureBoxRecord}
 use Rattle.minisign.specs.SignatureText.{AreOneLine, box_read_back, read_signature_box, signature_text}
 use Rattle.minisign.specs.Acceptance.{Verifier, VouchesUnderEachKey, judge}

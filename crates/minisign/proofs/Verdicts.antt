@@ -1,22 +1,14 @@
--- The judge and the verdict are functions, and acceptance a record of conditions: they agree.
-use Rattle.std.proofs.Common.{◌≡◌, ◌↔◌, ◌||◌, ℕ, Bool, true, false, List, length, refl, sym, ap, subst, ◌∙◌, inl, inr, ⊎_elim, [], Option, None, Some, IfOk, IfSome, MatchOption, MatchResult, bytes_eq}
-use Rattle.std.specs.Prelude.{⊤}
-use Rattle.std.specs.Option.{option_map_or}
-use Rattle.std.specs.declared.result.Result.{Result}
-use Rattle.std.specs.declared.result.Result.TheVariants.{Ok, Err}
-use Rattle.std.proofs.lemmas.Bool.{and_parts, le-leb, leb-true, or_cases, or_left, or_right}
-use Rattle.std.proofs.lemmas.Slice.Eq.{bytes_eq-Decides}
-use Rattle.minisign_base.specs.Fault.{Fault, Named}
-use Rattle.minisign_base.specs.declared.faults.NamedFault.{NamedFault}
-use Rattle.minisign_base.specs.declared.faults.NamedFault.TheVariants.{OutOfMemory, TrustedCommentAbsent}
-use Rattle.minisign.specs.Acceptance.{CommentIsSigned, Verifier, Vouches, accepts_comment, accepts_comments, judge, judge_answers, judge_key, signed_bytes}
+-- The judge and the verdict are functions, acceptance a record of conditions: they agree. And what a verdict does not depend on.
+use Rattle.std.proofs.Common.{◌≡◌, ◌↔◌, ◌||◌, ℕ, Bool, true, false, List, length, refl, sym, ap, subst, ◌∙◌, inl, inr, ⊎_elim, [], Option, None, Some, IfOk, IfSome, MatchOption, MatchResult, bytes_eq, take, min, nat_le, arith, Result, Ok, Err, length-take, option_map, le-leb, leb-true}
+use Rattle.minisign.proofs.Common.{⊤, option_map_or, and_parts, or_cases, or_left, or_right, bytes_eq-Decides, Fault, Named, NamedFault, OutOfMemory, TrustedCommentAbsent, nat_tests}
+use Rattle.minisign.specs.Acceptance.{CommentIsSigned, Verifier, Vouches, accepts_comments, judge, judge_answers, judge_key, signed_bytes, judged_parts}
 use Rattle.minisign.specs.Calls.{TextsVouchWith}
 use Rattle.minisign.specs.Headline.{TextsVouchFor, verdict}
 use Rattle.minisign.specs.PublicKeyText.{read_public_key}
 use Rattle.minisign.specs.Records.{CommentsRecord, PublicKeyRecord, SignatureBoxRecord, SignatureRecord, is_prehashed, prehashed_algorithm}
 use Rattle.minisign.specs.SignatureText.{SignatureTextRecord, box_of, read_signature, read_signature_box}
 use Rattle.minisign.specs.Texts.{IsReadOrNoMemory, IsReading, and_then, map_ok, require}
-use Rattle.minisign.specs.VerifyingTexts.{read_texts}
+use Rattle.minisign.specs.Verifying.{read_texts}
 use Rattle.minisign.proofs.ReadTexts.{is_reading, passed, read_before, read_value}
 
 -- == What is read one after the other ==
@@ -32,14 +24,14 @@ unmapped f (Err d) e h = cc h
 -- == The judge ==
 
 comment_signed : (accepts : Verifier) (pk : PublicKeyRecord) (s : SignatureRecord) (c : Option CommentsRecord)
-    → option_map_or (accepts_comment accepts pk s) c true ≡ true → IfSome c (CommentIsSigned accepts pk s)
+    → accepts_comments accepts pk (record { signature = s; comments = c }) ≡ true → IfSome c (CommentIsSigned accepts pk s)
 comment_signed accepts pk s None h = tt
 comment_signed accepts pk s (Some c) h =
     let (long, signed) = and_parts _ _ h in
     record { long_enough = leb-true 64 (length c.signature) long; signed = signed }
 
 comment_accepted : (accepts : Verifier) (pk : PublicKeyRecord) (s : SignatureRecord) (c : Option CommentsRecord)
-    → IfSome c (CommentIsSigned accepts pk s) → option_map_or (accepts_comment accepts pk s) c true ≡ true
+    → IfSome c (CommentIsSigned accepts pk s) → accepts_comments accepts pk (record { signature = s; comments = c }) ≡ true
 comment_accepted accepts pk s None h = refl
 comment_accepted accepts pk s (Some c) h = rw (le-leb 64 (length c.signature) h.long_enough) h.signed
 
@@ -234,3 +226,38 @@ module _ (accepts : Verifier) (pk_text sig_text message : List ℕ) (legacy : Bo
         both = ap (λ x. x.comments) (sym same);
         trusted = let told = sym (ap (map_ok trusted_of) signature_read) ∙ said in cc told;
       }
+
+-- whether a number is at least 64 shows in its smaller one with 64
+at_least : (m n : ℕ) → min 64 n ≡ min 64 m → nat_le 64 n ≡ nat_le 64 m
+at_least m n same = grind (arith, nat_tests)
+
+-- whether there are 64 bytes shows in the first 64
+long_enough : (a b : List ℕ) → take 64 b ≡ take 64 a → nat_le 64 (length b) ≡ nat_le 64 (length a)
+long_enough a b same = let lengths : min 64 (length b) ≡ min 64 (length a) = sym (length-take 64 b) ∙ ap length same ∙ length-take 64 a in at_least (length a) (length b) lengths
+
+-- what is judged of comments
+abbrev judged_comment : CommentsRecord → List ℕ × List ℕ
+judged_comment c = (c.trusted, take 64 c.signature)
+
+same_comments : (accepts : Verifier) (pk other : PublicKeyRecord) (s t : SignatureRecord) (c d : Option CommentsRecord)
+    → other.key ≡ pk.key → t ≡ s → option_map judged_comment d ≡ option_map judged_comment c
+    → accepts_comments accepts other (record { signature = t; comments = d }) ≡ accepts_comments accepts pk (record { signature = s; comments = c })
+same_comments accepts pk other s t None None key signature same = refl
+same_comments accepts pk other s t None (Some d) key signature same = cc same
+same_comments accepts pk other s t (Some c) None key signature same = cc same
+same_comments accepts pk other s t (Some c) (Some d) key signature same =
+    let both : judged_comment d ≡ judged_comment c = cc same in
+    let trusted : d.trusted ≡ c.trusted = ap (λ (p : List ℕ × List ℕ). p.0) both in
+    let front : take 64 d.signature ≡ take 64 c.signature = ap (λ (p : List ℕ × List ℕ). p.1) both in
+    rw (signature, key, long_enough c.signature d.signature front, trusted, front) refl
+
+abbrev Parts : Type 0
+Parts = List ℕ × List ℕ × SignatureRecord × Option (List ℕ × List ℕ)
+
+pub unvouched_same : (accepts : Verifier) (pk other : PublicKeyRecord) (x y : SignatureBoxRecord) (message : List ℕ) (legacy : Bool)
+    → judged_parts other y ≡ judged_parts pk x → judge accepts other y message legacy ≡ judge accepts pk x message legacy
+unvouched_same accepts pk other x y message legacy same =
+    let keynum : other.keynum ≡ pk.keynum = ap (λ (p : Parts). p.0) same in
+    let key : other.key ≡ pk.key = ap (λ (p : Parts). p.1) same in
+    let signature : y.signature ≡ x.signature = ap (λ (p : Parts). p.2) same in
+    rw (same_comments accepts pk other x.signature y.signature x.comments y.comments key signature (ap (λ (p : Parts). p.3) same), signature, keynum, key) refl

@@ -1,22 +1,13 @@
 -- Texts of keys that are written and read back, and their sizes.
-use Rattle.std.proofs.Common.{◌≡◌, ℕ, ◌-◌, ◌+◌, List, [], ◌∷◌, ◌++◌, length, Some, Ok, refl, ap, sym, subst, ◌∙◌, inl, inr, arith, false}
-use Rattle.std.proofs.Math.Dec.{eqb}
-use Rattle.std.proofs.Math.Seq.{get_or-append_right}
-use Rattle.std.proofs.lemmas.Bool.{cases_lt, ne_eqb}
-use Rattle.std.proofs.lemmas.List.{append_assoc, get_or_append_left, get_or_default, length-append}
-use Rattle.std.specs.List.{All}
-use Rattle.std.specs.Str.Iter.{LacksByte}
-use Rattle.std.specs.Str.Lines.{lines, strip_carriage_return}
-use Rattle.minisign.specs.Lines.{line}
+use Rattle.std.proofs.Common.{◌≡◌, ℕ, ◌-◌, ◌+◌, List, [], ◌∷◌, ◌++◌, length, Some, Ok, refl, ap, sym, subst, ◌∙◌, inl, inr, arith, false, ne_eqb, length-append, All, eqb, append_assoc}
+use Rattle.minisign.proofs.Common.{get_or-append_right, cases_lt, get_or_append_left, get_or_default, LacksByte, lines, strip_carriage_return}
+use Rattle.minisign.specs.Texts.{line, IsBase64Of, base64_of, untrusted_comment_label}
 use Rattle.minisign.specs.Records.{PublicKeyRecord, SecretKeyRecord, ReadsSecretKey, public_key_bytes, secret_key_bytes}
 use Rattle.minisign.specs.SecretKeyText.{default_secret_key_comment, read_secret_key, secret_key_text}
-use Rattle.minisign.specs.Texts.{IsBase64Of, base64_of, untrusted_comment_label}
 use Rattle.minisign.specs.PublicKeyText.{BarePublicKey, EncodesPublicKey, commented_public_key_text, read_public_key}
 use Rattle.minisign.proofs.PublicKeyTexts.{graphic, stays, text_is_read}
-use Rattle.minisign.proofs.FirstLine.{lines-cut}
-use Rattle.minisign.proofs.Letters.{graphic_base64}
+use Rattle.minisign.proofs.WrittenLines.{lines-cut, graphic_base64, IsOneLine, length_base64_secret, lines_last, shown_codes, shown_graphic, shown_one_line}
 use Rattle.minisign.proofs.SecretKeyTexts.{bytes_are_read, line_is_read, of_lines}
-use Rattle.minisign.proofs.WrittenLines.{IsOneLine, length_base64_secret, lines_last, shown_codes, shown_graphic, shown_one_line}
 
 -- two lists without line feeds
 both_lack : (a b : List ℕ) → LacksByte 10 a → LacksByte 10 b → LacksByte 10 (a ++ b)
@@ -70,8 +61,7 @@ unfolding untrusted_comment_label
 label_size = refl
 
 two_lines : (a b : List ℕ) → length (line (untrusted_comment_label ++ a) ++ line b) ≡ length a + length b + 21
-two_lines a b =
-    length-append (line (untrusted_comment_label ++ a)) (line b)
+two_lines a b = length-append (line (untrusted_comment_label ++ a)) (line b)
     ∙ omega (arith, length-append (untrusted_comment_label ++ a) (10 ∷ []), length-append untrusted_comment_label a, length-append b (10 ∷ []), label_size)
 
 -- the sizes of the texts of keys

@@ -1,25 +1,180 @@
--- Lines that are written and read back.
-use Rattle.std.proofs.Common.{◌≡◌, ◌≢◌, ◌==◌, subst, ℕ, zero, suc, ◌+◌, ◌-◌, ◌<◌, ◌≤◌, Bool, true, false, ◌&&◌, List, [], ◌∷◌, ◌++◌, length, take, slice_index, refl, sym, ap, ◌∙◌, arith}
-use Rattle.std.proofs.Math.Dec.{eqb, leb}
-use Rattle.std.proofs.Math.Bool.{cond}
-use Rattle.std.proofs.lemmas.Bool.{and_parts, cases_lt, ne_eqb, leb-true}
-use Rattle.std.proofs.Math.Logic.{⊎_elim}
+-- Lines as they are written and read back: first lines, letters that are shown, and lines with labels.
+use Rattle.std.proofs.Common.{◌≡◌, ◌≢◌, ◌==◌, subst, ℕ, zero, suc, ◌+◌, ◌-◌, ◌<◌, ◌≤◌, Bool, true, false, ◌&&◌, List, [], ◌∷◌, ◌++◌, length, take, slice_index, refl, sym, ap, ◌∙◌, arith, eqb, leb, ⊎_elim, ◌^◌, ◌*◌, ◌/◌, ◌%◌, replicate, nat_lt, drop, get_or, inl, inr, lit<, cond, ne_eqb, leb-true, length-append, get_or-append-add, take_all, take-append-drop, length-drop, encode_utf8, encode_utf8_all, IsAscii, All, w64, eq-eqb, eqb-true, append-nil, append_assoc}
+use Rattle.minisign.proofs.Common.{and_parts, cases_lt, get_or-append_right, take-append-add, length-replicate, get_or_default, nil_from_length, chars, drop_trailing_whitespace, trim, trim_end, trim_start, chars_after, skip_leading_whitespace, NoCharPasses, LacksByte, AllByRecursion, slice_split, lines, strip_carriage_return, lines_of_parts, StripsCarriageReturn, IsFirstLine, standard, unpadded_len, padding_len, encode_symbols, length-encode_symbols, IsInRange, from_le_bytes, before_digits, digit_glyph, digits, digits_onto, format_spec, number_padding, padded_integral, common_steps, IsBytes, identifier_text}
 use Rattle.std.proofs.Math.ListN.{get_or-append}
-use Rattle.std.proofs.Math.Seq.{get_or-append_right, take-append-add}
-use Rattle.std.proofs.lemmas.List.{append-nil, append_assoc, length-append, length-replicate, get_or_default, get_or-append-add}
-use Rattle.std.proofs.lemmas.Str.{inside_one, len_utf8_bounds, length-encode, length-le-encodes}
-use Rattle.std.specs.Char.{encode_utf8, is_whitespace}
-use Rattle.std.specs.Str.{chars, drop_trailing_whitespace, encode_utf8_all, trim, trim_end, trim_start}
-use Rattle.std.specs.Str.Iter.{LacksByte}
-use Rattle.std.specs.List.{All, AllByRecursion}
-use Rattle.std.specs.Str.Lines.{lines, strip_carriage_return}
-use Rattle.base64.specs.Engines.{standard}
-use Rattle.base64.specs.Rfc4648.{unpadded_len, padding_len}
-use Rattle.base64.proofs.RoundTrip.{length-encode_symbols}
-use Rattle.minisign.specs.Lines.{line}
-use Rattle.minisign.specs.Texts.{base64_of}
-use Rattle.minisign.proofs.FirstLine.{lines-cut}
-use Rattle.minisign.proofs.Letters.{AllGraphic}
+use Rattle.std.proofs.lemmas.Str.{inside_one, len_utf8_bounds, length-encode, length-le-encodes, encodes-IsAscii, encode_ascii}
+use Rattle.std.specs.Char.{is_whitespace, is_newline}
+use Rattle.base64.specs.Tables.{all_below}
+use Rattle.base64.proofs.Tables.{all_below_at}
+use Rattle.std.proofs.lemmas.List.Splits.{slice_split_at, length-slice_split, slice_split_none}
+use Rattle.std.proofs.lemmas.Str.Pattern.{NoCharPasses-char}
+use borrow.Author.Tests.{tests}
+use Rattle.minisign.specs.Texts.{line, base64_of}
+
+-- no byte of such a text is a line feed
+no_newline : (bs : List ℕ) → NoCharPasses is_newline bs → All (λ b. eqb b 10 ≡ false) bs
+no_newline bs h k d l = ne_eqb _ 10 (λ z. NoCharPasses-char 10 bs k h (lit< tt) l (get_or_default bs k 0 d l ∙ z))
+
+stripped : (l x : List ℕ) → StripsCarriageReturn l x → strip_carriage_return l ≡ x
+stripped [] x (inl h) = sym h.0
+stripped (b ∷ l) x (inl h) = ap (λ t. cond t (take (length (b ∷ l) - 1) (b ∷ l)) (b ∷ l)) (ne_eqb _ 13 (h.1 (omega arith))) ∙ sym h.0
+stripped l x (inr e) =
+    let last : get_or l (length l - 1) 0 ≡ 13 = grind (arith, common_steps) in
+    let front : take (length l - 1) l ≡ x = grind (arith, common_steps) in
+    ap (λ t. cond t (take (length l - 1) l) l) (eq-eqb _ 13 last) ∙ front
+
+lines_of_parts-cons : (x : List ℕ) (parts : List (List ℕ)) → 0 < length parts → lines_of_parts (x ∷ parts) ≡ strip_carriage_return x ∷ lines_of_parts parts
+lines_of_parts-cons x [] l = absurd (omega arith)
+lines_of_parts-cons x (y ∷ more) l = refl
+
+-- the first line of a text, and the lines of what follows it
+pub lines_first : (w x rest : List ℕ) → 0 < length w → IsFirstLine w x rest → lines w ≡ x ∷ lines rest
+lines_first w x rest some h =
+    let n : ℕ = h.0 in
+    let p = λ (b : ℕ). eqb b 10 in
+    let front : All (λ b. eqb b 10 ≡ false) (take n w) = no_newline (take n w) h.1 in
+    ⊎_elim
+    (λ l. let o = h.2 (omega (arith, length-drop n w)) in
+    let after : drop n w ≡ 10 ∷ rest = o.2 ∙ ap (λ d. encode_utf8 d ++ rest) (eqb-true o.0 10 o.1) ∙ ap (λ v. v ++ rest) (encode_ascii 10 (lit< tt)) in
+    ap lines (sym (take-append-drop n w) ∙ ap (λ v. take n w ++ v) after) ∙ ap lines_of_parts (slice_split_at p (take n w) 10 rest front refl)
+    ∙ lines_of_parts-cons (take n w) (slice_split p rest) (omega (arith, length-slice_split p rest)) ∙ ap (λ v. v ∷ lines rest) (stripped (take n w) x (h.5 l)))
+    (λ l. let fits : n + length rest ≤ length w = h.3 in
+    ap lines_of_parts (slice_split_none p w (subst (All (λ b. eqb b 10 ≡ false)) (take_all n w l) front)) ∙ ap (λ t. cond t [] (w ∷ [])) (ne_eqb (length w) 0 (λ z. omega arith))
+    ∙ (λ i. sym (h.4 (omega arith)) i ∷ lines (sym (nil_from_length rest (omega arith)) i)))
+    (cases_lt n (length w))
+
+-- a line that a line feed ends
+pub lines-cut : (x rest : List ℕ) → All (λ b. eqb b 10 ≡ false) x → lines (x ++ (10 ∷ rest)) ≡ strip_carriage_return x ∷ lines rest
+lines-cut x rest front =
+    ap lines_of_parts (slice_split_at (λ b. eqb b 10) x 10 rest front refl) ∙ lines_of_parts-cons x (slice_split (λ b. eqb b 10) rest) (omega (arith, length-slice_split (λ b. eqb b 10) rest))
+
+-- a graphic letter of ASCII: neither a line feed nor white space
+abbrev pub IsGraphic : ℕ → Type 0
+IsGraphic c = IsInRange 33 126 c
+
+abbrev pub AllGraphic : List ℕ → Type 0
+AllGraphic xs = AllByRecursion IsGraphic xs
+
+pub all_append : (xs ys : List ℕ) → AllGraphic xs → AllGraphic ys → AllGraphic (xs ++ ys)
+all_append [] ys h k = k
+all_append (x ∷ xs) ys h k = (h.0, all_append xs ys h.1 k)
+
+-- the 64 letters
+abbrev letters : List ℕ
+letters = standard.encode_table
+
+abbrev is_graphic_letter : ℕ → Bool
+is_graphic_letter i = leb 33 (slice_index letters i) && leb (slice_index letters i) 126
+
+graphic_table : all_below is_graphic_letter 64 ≡ true
+graphic_table = refl
+
+graphic_from : (c : ℕ) → leb 33 c && leb c 126 ≡ true → IsGraphic c
+graphic_from c h = grind (arith, common_steps)
+
+letter : (i : ℕ) → i < 64 → IsGraphic (slice_index letters i)
+letter i l = graphic_from _ (all_below_at is_graphic_letter 64 i graphic_table l)
+
+graphic_symbols : (m : List ℕ) → IsBytes m → AllGraphic (encode_symbols letters m)
+unfolding encode_symbols
+graphic_symbols [] h = tt
+graphic_symbols (a ∷ []) h =
+    let la : a < 256 = h 0 in
+    (letter (a / 4) (omega arith), (letter (a % 4 * 16) (omega arith), tt))
+graphic_symbols (a ∷ b ∷ []) h =
+    let la : a < 256 = h 0 in
+    let lb : b < 256 = h 1 in
+    (letter (a / 4) (omega arith), (letter (a % 4 * 16 + b / 16) (omega arith), (letter (b % 16 * 4) (omega arith), tt)))
+graphic_symbols (a ∷ b ∷ c ∷ rest) h =
+    let la : a < 256 = h 0 in
+    let lb : b < 256 = h 1 in
+    let lc : c < 256 = h 2 in (
+      letter (a / 4) (omega arith),
+      (
+        letter (a % 4 * 16 + b / 16) (omega arith),
+        (
+          letter (b % 16 * 4 + c / 64) (omega arith),
+          (
+            letter (c % 64) (omega arith),
+            graphic_symbols rest (λ i. h (suc (suc (suc i)))),
+          ),
+        ),
+      ),
+    )
+
+graphic_padding : (n : ℕ) → AllGraphic (replicate n 61)
+graphic_padding zero = tt
+graphic_padding (suc n) = ((omega arith, omega arith), graphic_padding n)
+
+-- no letter of base64 is a line feed or white space
+pub graphic_base64 : (m : List ℕ) → IsBytes m → AllGraphic (base64_of m)
+unfolding base64_of
+graphic_base64 m h = all_append _ _ (graphic_symbols m h) (graphic_padding _)
+
+-- so are the digits of an identifier
+graphic_digit : (d : ℕ) → d < 16 → IsGraphic (digit_glyph true d)
+graphic_digit d l = grind (arith, common_steps)
+
+graphic_digits : (k n : ℕ) (acc : List ℕ) → AllGraphic acc → AllGraphic (digits_onto k 16 true n acc)
+graphic_digits zero n acc h = h
+graphic_digits (suc k) n acc h =
+    let digit : IsGraphic (digit_glyph true (n % 16)) = graphic_digit (n % 16) (omega arith) in
+    elim (n / 16 == 0) as (λ b. AllGraphic (cond b (digit_glyph true (n % 16) ∷ acc) (digits_onto k 16 true (n / 16) (digit_glyph true (n % 16) ∷ acc)))) [
+      | true ↦ (digit, h)
+      | false ↦ graphic_digits k (n / 16) _ (digit, h)
+    ]
+
+graphic_zeros : (n : ℕ) → AllGraphic (replicate n 48)
+graphic_zeros zero = tt
+graphic_zeros (suc n) = ((omega arith, omega arith), graphic_zeros n)
+
+-- as 16 digits are written, with zeros in front
+graphic_padded : (numeral : List ℕ) → AllGraphic numeral → AllGraphic (padded_integral (format_spec 32 0 4 16 (2 ^ 64 - 1)) false [] numeral)
+unfolding padded_integral
+graphic_padded numeral h =
+    let sixteen = format_spec 32 0 4 16 (2 ^ 64 - 1) in
+    all_append (before_digits sixteen false [] (length numeral)) (numeral ++ []) (graphic_zeros (number_padding sixteen false [] (length numeral)))
+    (all_append numeral [] h tt)
+
+pub graphic_identifier : (id : List ℕ) → AllGraphic (identifier_text id)
+unfolding identifier_text digits
+graphic_identifier id = graphic_padded (digits 16 true (from_le_bytes w64 id)) (graphic_digits 64 (from_le_bytes w64 id) [] tt)
+
+-- trimming leaves graphic letters as they are
+dark : (c : ℕ) → IsGraphic c → is_whitespace c ≡ false
+dark c h = grind (arith, common_steps, tests)
+
+all_ascii : (xs : List ℕ) → AllGraphic xs → IsAscii xs
+all_ascii [] h i = omega arith
+all_ascii (x ∷ xs) h zero = omega (arith, h.0.1)
+all_ascii (x ∷ xs) h (suc i) = all_ascii xs h.1 i
+
+spelled_after : (c : ℕ) (xs : List ℕ) → AllGraphic xs → chars_after 0 c xs ≡ c ∷ xs
+spelled_after c [] h = refl
+spelled_after c (x ∷ xs) h =
+    let low : nat_lt x 128 ≡ true = grind (arith, common_steps, tests) in
+    ap (λ (l : List ℕ). c ∷ l) (rw low (spelled_after x xs h.1))
+
+spelled : (xs : List ℕ) → AllGraphic xs → chars xs ≡ xs
+unfolding chars
+spelled [] h = refl
+spelled (x ∷ xs) h =
+    let low : nat_lt x 128 ≡ true = grind (arith, common_steps, tests) in
+    rw low (spelled_after x xs h.1)
+
+front_stays : (xs : List ℕ) → AllGraphic xs → skip_leading_whitespace xs ≡ xs
+front_stays [] h = refl
+front_stays (x ∷ xs) h = rw (dark x h.0) refl
+
+back_stays : (xs : List ℕ) → AllGraphic xs → drop_trailing_whitespace xs ≡ xs
+back_stays [] h = refl
+back_stays (x ∷ xs) h = rw (dark x h.0) (ap (λ (l : List ℕ). x ∷ l) (back_stays xs h.1))
+
+pub trim_graphic : (xs : List ℕ) → AllGraphic xs → trim xs ≡ xs
+unfolding trim_start trim_end
+trim_graphic xs h =
+    let written : encode_utf8_all xs ≡ xs = encodes-IsAscii xs (all_ascii xs h) in
+    rw (spelled xs h, front_stays xs h, written, spelled xs h, back_stays xs h, written) refl
 
 -- a line that is one: no line feed in it, and no carriage return at its end
 pub record IsOneLine (x : List ℕ) : Type 0 where
@@ -31,8 +186,7 @@ no_feeds x h k d l = ne_eqb _ 10 (λ z. h k l (get_or_default x k 0 d l ∙ z))
 
 -- a line, and the lines behind it
 pub lines_line : (x rest : List ℕ) → IsOneLine x → lines (line x ++ rest) ≡ x ∷ lines rest
-lines_line x rest h =
-    ap lines (append_assoc x (10 ∷ []) rest) ∙ lines-cut x rest (no_feeds x h.no_feed)
+lines_line x rest h = ap lines (append_assoc x (10 ∷ []) rest) ∙ lines-cut x rest (no_feeds x h.no_feed)
     ∙ ap (λ (b : List ℕ). b ∷ lines rest) (ap (λ t. cond t (take (length x - 1) x) x) (ne_eqb _ 13 h.no_return))
 
 -- the last line

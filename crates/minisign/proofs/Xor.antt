@@ -1,9 +1,7 @@
 -- Xor of two lists of bytes.
 use Rattle.std.proofs.Common.{◌≡◌, ℕ, ◌+◌, ◌<◌, List, [], ◌∷◌, ◌++◌, length, take, slice_index, slice_set, bit_xor, refl, sym, ap, ◌∙◌, arith}
-use Rattle.std.proofs.lemmas.List.{take_more, take_more_set}
-use Rattle.std.proofs.lemmas.Simd.{get_or-zip2, length-zip2}
+use Rattle.minisign.proofs.Common.{take_more, take_more_set, get_or-zip2, length-zip2, zip2}
 use Rattle.std.specs.Int.Bits.{xor_assoc, xor_self, xor_zero_r}
-use Rattle.std.specs.Simd.Lanes.{zip2}
 
 -- one more byte of an xor, in a list whose rest is still as it was
 pub xored_next : (x y out : List ℕ) (i : ℕ) → take i out ≡ take i (zip2 bit_xor x y) → slice_index out i ≡ slice_index x i

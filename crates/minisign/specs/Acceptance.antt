@@ -1,29 +1,18 @@
 -- When a signature box vouches for data under a public key: as a record of conditions, and as a function that gives the
 -- first one that fails. And what is said where it does.
-use Rattle.std.specs.Prelude.{◌≡◌, ⊤, ℕ, ◌≤◌, Bool, true, IsTrue, ◌⊎◌, ◌||◌, ◌&&◌, if◌then◌else◌, nat_le, List, []}
-use Rattle.std.specs.Prelude.{◌++◌, length, take, Option, None, Some, IfSome, Result, Ok, codes, bytes_eq}
-use Rattle.std.specs.Option.{option_map, option_map_or}
-use Rattle.minisign_hash.specs.Blake2b.{blake2b_digest}
-use Rattle.minisign_base.specs.Fault.{Fault}
-use Rattle.minisign_base.specs.declared.faults.NamedFault.TheVariants.{DifferentKeyIds, LegacyNotAccepted}
-use Rattle.minisign_base.specs.declared.faults.NamedFault.TheVariants.{SignatureRefused, CommentSignatureRefused}
-use Rattle.minisign.specs.Lines.{line}
-use Rattle.minisign.specs.Records.{PublicKeyRecord, SignatureRecord, CommentsRecord, SignatureBoxRecord, is_prehashed}
-use Rattle.minisign.specs.Records.{prehashed_algorithm}
-use Rattle.minisign.specs.Texts.{and_then, require}
+use Rattle.std.specs.Prelude.{◌≡◌, ⊤, ℕ, ◌≤◌, Bool, true, IsTrue, ◌⊎◌, ◌||◌, ◌&&◌, if◌then◌else◌, nat_le, List, [], ◌++◌, length, take, Option, IfSome, Result, Ok, codes, bytes_eq, option_map}
+use Rattle.minisign.specs.Common.{option_map_or, blake2b_digest, Fault, DifferentKeyIds, LegacyNotAccepted, SignatureRefused, CommentSignatureRefused}
+use Rattle.minisign.specs.Texts.{line, and_then, require}
+use Rattle.minisign.specs.declared.options.VerifyOptions.{VerifyOptions}
+use Rattle.minisign.specs.Records.{PublicKeyRecord, SignatureRecord, CommentsRecord, SignatureBoxRecord, is_prehashed, prehashed_algorithm}
 
 -- what a scheme accepts: a message, a public key and a signature
 abbrev pub Verifier : Type 0
 Verifier = List ℕ → List ℕ → List ℕ → Bool
 
--- the three flags of a call: say nothing, copy the data, accept signatures over the data itself
-pub record Flags : Type 0 where
-  pub quiet : Bool
-  pub output : Bool
-  pub legacy : Bool
-
-abbrev pub flags_of : Bool → Bool → Bool → Flags
-flags_of quiet output legacy = record { quiet = quiet; output = output; legacy = legacy }
+-- options of these three flags: say nothing, copy the data, accept signatures over the data itself
+abbrev pub options_of : Bool → Bool → Bool → VerifyOptions
+options_of quiet output legacy = record { quiet = quiet; output = output; allow_legacy = legacy }
 
 -- what the signature is over: the Blake2b digest of the message, which has 64 bytes, or the message itself
 abbrev pub signed_bytes : SignatureBoxRecord → List ℕ → List ℕ
@@ -36,8 +25,7 @@ pub record CommentIsSigned (accepts : Verifier) (pk : PublicKeyRecord) (s : Sign
   pub long_enough : 64 ≤ length c.signature
   pub signed : IsTrue (accepts (s.signature ++ c.trusted) pk.key (take 64 c.signature))
 
--- the box vouches for the message under the public key; legacy says whether a signature over the
--- message itself will do
+-- the box vouches for the message under the public key; legacy says whether a signature over the message itself will do
 pub record Vouches (accepts : Verifier) (pk : PublicKeyRecord) (x : SignatureBoxRecord) (message : List ℕ)
     (legacy : Bool) : Type 0 where
   pub same_key : x.signature.keynum ≡ pk.keynum
@@ -45,14 +33,11 @@ pub record Vouches (accepts : Verifier) (pk : PublicKeyRecord) (x : SignatureBox
   pub signed : IsTrue (accepts (signed_bytes x message) pk.key x.signature.signature)
   pub comment_signed : IfSome x.comments (CommentIsSigned accepts pk x.signature)
 
--- the test of the comment signature
-abbrev pub accepts_comment : Verifier → PublicKeyRecord → SignatureRecord → CommentsRecord → Bool
-accepts_comment accepts pk s c =
-    nat_le 64 (length c.signature) && accepts (s.signature ++ c.trusted) pk.key (take 64 c.signature)
-
--- the test of the comments of a box; a bare signature has none to test
+-- the test of the comments of a box: the comment signature has 64 bytes, and the first 64 are accepted; a bare
+-- signature has none to test
 abbrev pub accepts_comments : Verifier → PublicKeyRecord → SignatureBoxRecord → Bool
-accepts_comments accepts pk x = option_map_or (accepts_comment accepts pk x.signature) x.comments true
+accepts_comments accepts pk x = option_map_or (λ c. nat_le 64 (length c.signature)
+    && accepts (x.signature.signature ++ c.trusted) pk.key (take 64 c.signature)) x.comments true
 
 -- what key and signature alone decide, in this order: the signature is made by the key of this key ID, and it is over
 -- the digest of the data, where one over the data itself will not do
@@ -92,11 +77,6 @@ verified_text = codes "Signature and comment signature verified"
 unfoldable pub trusted_comment_text : List ℕ
 trusted_comment_text = codes "Trusted comment: "
 
--- the line that shows the trusted comment
-abbrev pub comment_line : Option CommentsRecord → List ℕ
-comment_line None = []
-comment_line (Some c) = line (trusted_comment_text ++ c.trusted)
-
--- what is said of a box that was accepted
+-- what is said of a box that was accepted: that it was, and the trusted comment where there is one
 abbrev pub status_lines : SignatureBoxRecord → List ℕ
-status_lines x = line verified_text ++ comment_line x.comments
+status_lines x = line verified_text ++ option_map_or (λ c. line (trusted_comment_text ++ c.trusted)) x.comments []

@@ -1,19 +1,14 @@
 -- What the calls for callers promise: data is vouched for and this is the comment that was signed with it, or the
 -- first reason why it is not; and why bytes are not signed, and no pair is made.
-use Rattle.std.specs.Prelude.{◌≡◌, ℕ, ◌<◌, ◌≤◌, Bool, true, false, ◌⊎◌, List, length, Some, Err, IfSome}
-use Rattle.std.specs.declared.result.Result.{Result}
-use Rattle.minisign_base.specs.Fault.{Fault, Named}
-use Rattle.minisign_base.specs.declared.faults.NamedFault.TheVariants.{EncryptedKeyRefused, OutOfMemory}
-use Rattle.minisign_base.specs.declared.faults.NamedFault.TheVariants.{PasswordTooLong, ReadingFailed}
-use Rattle.minisign_base.specs.DeviceCalls.{IsFlushed, IsSteady, RandomCall, RereaderCall, SinkCall, Takes}
+use Rattle.std.specs.Prelude.{◌≡◌, ℕ, ◌<◌, ◌≤◌, Bool, true, false, ◌⊎◌, List, length, Some, IfSome, Result}
+use Rattle.minisign.specs.Common.{Fault, Named, EncryptedKeyRefused, OutOfMemory, PasswordTooLong, ReadingFailed, IsFlushed, IsSteady, RandomCall, RereaderCall, SinkCall, Takes}
 use Rattle.minisign.specs.Records.{CommentsRecord, SecretKeyRecord}
-use Rattle.minisign.specs.declared.options.VerifyOptions.{VerifyOptions}
-use Rattle.minisign.specs.Acceptance.{Flags, Verifier, flags_of}
+use Rattle.minisign.specs.Acceptance.{Verifier}
 use Rattle.minisign.specs.Generation.{AllDrawn}
 use Rattle.minisign.specs.Headline.{TextsVouchFor, verdict}
 use Rattle.minisign.specs.Sealing.{is_encrypted}
 use Rattle.minisign.specs.Signing.{DrawFails, RunsOutDrawing}
-use Rattle.minisign.specs.TextFiles.{IsTextFileFault}
+use Rattle.minisign.specs.Reading.{IsReadFromFile}
 use Rattle.minisign.specs.Verifying.{ReadsTwice}
 
 -- the texts vouch for the message, and this is the comment that was signed with it
@@ -28,8 +23,7 @@ pub record TextsVouchWith (accepts : Verifier) (pk_text sig_text message : List 
 -- is known, so that these are those of the named files is not said
 abbrev pub IsFileVerdict : Verifier → List ℕ → Result (List ℕ) Fault → Type 0
 IsFileVerdict accepts pk_text r =
-    ((sig_text : List ℕ) × (message : List ℕ) × (r ≡ verdict accepts pk_text sig_text message false))
-    ⊎ ((e : Fault) × (r ≡ Err e) × IsTextFileFault e)
+    (message : List ℕ) × IsReadFromFile (λ sig_text. verdict accepts pk_text sig_text message false) r
 
 -- what the output took and flushed is vouched for, and this is the comment that was signed with it; a second reading
 -- gave it, with the digest of the first; it is what was ahead, of a steady source, where that is known
@@ -43,23 +37,10 @@ pub record CopyIsVouchedWith {R O : Type 0} (accepts : Verifier) (pk_text sig_te
   pub read_twice : ReadsTwice reader out message copy
   pub same : IsSteady reader → IfSome (reader.source.ahead reader.old) (λ xs. copy ≡ xs)
 
--- the flags in options with names
-abbrev pub flags_in : VerifyOptions → Flags
-flags_in options = flags_of options.quiet options.output options.allow_legacy
-
--- nothing is said or copied, and legacy signatures are refused
-abbrev pub only_reads : Flags
-only_reads = flags_of true false false
-
--- nothing is said, the data is copied, and legacy signatures are refused
-abbrev pub only_copies : Flags
-only_copies = flags_of true true false
-
 -- signing bytes with a key fails: the key is sealed, with nothing drawn; or it is opened, and memory runs out or
 -- the random source fails
 abbrev pub BytesSigningFails : {Z : Type 0} → SecretKeyRecord → RandomCall Z → Fault → Type 0
-BytesSigningFails sk z e =
-    ((e ≡ Named EncryptedKeyRefused) × (is_encrypted sk ≡ true) × (z.new ≡ z.old))
+BytesSigningFails sk z e = ((e ≡ Named EncryptedKeyRefused) × (is_encrypted sk ≡ true) × (z.new ≡ z.old))
     ⊎ ((is_encrypted sk ≡ false) × (RunsOutDrawing z e ⊎ DrawFails z e))
 
 -- signing the data of a file fails: as signing bytes does; or the key is opened, and the file could not be opened
@@ -71,6 +52,5 @@ PathSigningFails sk z e =
 -- no pair is made under the password: it has more than 1024 bytes, with nothing drawn; or it does not, and the
 -- random source failed, or all was drawn and memory ran out
 abbrev pub PasswordPairFails : {Z : Type 0} → List ℕ → RandomCall Z → Fault → Type 0
-PasswordPairFails password z e =
-    ((e ≡ Named PasswordTooLong) × (1024 < length password) × (z.new ≡ z.old))
+PasswordPairFails password z e = ((e ≡ Named PasswordTooLong) × (1024 < length password) × (z.new ≡ z.old))
     ⊎ ((length password ≤ 1024) × (DrawFails z e ⊎ (AllDrawn z × (e ≡ Named OutOfMemory))))

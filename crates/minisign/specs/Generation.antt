@@ -1,28 +1,14 @@
 -- The pairs of keys that generation makes, from which random bytes, and what the sinks of a pair take.
 use Rattle.std.specs.Prelude.{◌≡◌, ℕ, ◌⊎◌, List, ◌++◌, length, replicate, Option, None, Ok, Err, codes}
-use Rattle.std.specs.Int.{w64, to_le_bytes}
-use Rattle.minisign_hash.specs.Blake2b.{blake2b_digest}
-use Rattle.minisign_base.specs.DeviceCalls.{FailsAtPart, PromptCall, RandomCall, SinkCall, TakesPart}
-use Rattle.minisign_base.specs.Fault.{Fault, Named}
-use Rattle.minisign_base.specs.declared.faults.NamedFault.TheVariants.{OutOfMemory, WritingFailed}
-use Rattle.minisign_base.specs.Scheme.{IsBytes}
+use Rattle.minisign.specs.Common.{w64, to_le_bytes, blake2b_digest, FailsAtPart, PromptCall, RandomCall, SinkCall, TakesPart, Fault, Named, OutOfMemory, WritingFailed, IsBytes}
 use Rattle.minisign.specs.NewPassword.{IsSealing}
 use Rattle.minisign.specs.PublicKeyText.{public_key_text}
-use Rattle.minisign.specs.Records.{PublicKeyRecord, SecretKeyRecord, legacy_algorithm, public_key_bytes}
-use Rattle.minisign.specs.Records.{secret_key_bytes}
+use Rattle.minisign.specs.Records.{PublicKeyRecord, SecretKeyRecord, legacy_algorithm, public_key_bytes, secret_key_bytes}
 use Rattle.minisign.specs.Sealing.{no_kdf, open_sealed, scrypt_kdf, sealed_by_scrypt, xored_key}
 use Rattle.minisign.specs.SecretKeyText.{read_secret_key, secret_key_text}
 use Rattle.minisign.specs.Signing.{DrawFails, HasDrawn, IsGenuine, RandomHasNoNewFault}
-use Rattle.minisign.specs.OpenedTexts.{OpensTo}
+use Rattle.minisign.specs.Opening.{OpensTo}
 use Rattle.minisign.specs.Texts.{and_then}
-
--- the operations limit of a key that is sealed
-abbrev pub sealing_operations : ℕ
-sealing_operations = 1048576
-
--- the memory limit of a key that is sealed, in bytes
-abbrev pub sealing_memory : ℕ
-sealing_memory = 33554432
 
 -- the public key of a seed under a key ID
 abbrev pub public_key_of : (List ℕ → List ℕ) → List ℕ → List ℕ → PublicKeyRecord
@@ -55,12 +41,11 @@ key_to_seal keynum secret salt operations memory = record (unsealed_key keynum s
   memory_limit = to_le_bytes w64 memory;
 }
 
--- the same with the limits by default
+-- the same with the limits by default, 1048576 operations and 33554432 bytes
 abbrev pub opened_key : List ℕ → List ℕ → List ℕ → SecretKeyRecord
-opened_key keynum secret salt = key_to_seal keynum secret salt sealing_operations sealing_memory
+opened_key keynum secret salt = key_to_seal keynum secret salt 1048576 33554432
 
--- the keys belong together: the secret key is a genuine one, and the public key is that of its seed under
--- its key ID
+-- the keys belong together: the secret key is a genuine one, and the public key is that of its seed and key ID
 pub record IsGenuinePair (public_of : List ℕ → List ℕ) (pk : PublicKeyRecord) (sk : SecretKeyRecord) : Type 0 where
   pub seed : List ℕ
   pub genuine : IsGenuine public_of sk seed
@@ -88,11 +73,10 @@ pub record IsUnsealedPair {Z : Type 0} (public_of : List ℕ → List ℕ) (z : 
 pub record IsSealedOf (public_of : List ℕ → List ℕ) (seed keynum salt password : List ℕ)
     (pk : PublicKeyRecord) (sk : SecretKeyRecord) : Type 0 where
   pub public : pk ≡ public_key_of public_of seed keynum
-  -- the xor of sealing is that of opening, which gives the key as it was
   pub secret : sk ≡ xored_key (opened_key keynum (secret_of public_of seed) salt) password
   pub opened : xored_key sk password ≡ opened_key keynum (secret_of public_of seed) salt
 
--- the sealed pair of random bytes that were drawn: those of the other pair, and then 32 of a salt
+-- the sealed pair of random bytes that were drawn: as those of the other pair, and then 32 of a salt
 pub record IsSealedPair {Z : Type 0} (public_of : List ℕ → List ℕ) (password : List ℕ) (z : RandomCall Z)
     (pk : PublicKeyRecord) (sk : SecretKeyRecord) : Type 0 where
   pub seed : List ℕ
@@ -103,36 +87,29 @@ pub record IsSealedPair {Z : Type 0} (public_of : List ℕ → List ℕ) (passwo
   pub drawn : HasDrawn z (seed ++ keynum ++ salt)
   pub sealed : IsSealedOf public_of seed keynum salt password pk sk
 
--- the text opens under the password, with a parallelization of 1, to this key and to no other
-abbrev pub OpensOnlyTo : List ℕ → List ℕ → SecretKeyRecord → Type 0
-OpensOnlyTo text password key = OpensTo text password 1 key
-
--- the secret key opens under the password, and then belongs to the public key; so does each text that reads
--- as it
+-- the secret key opens under the password, and then belongs to the public key; so does each text that reads as it, with
+-- a parallelization of 1, and opens to no other key
 pub record OpensToPair (public_of : List ℕ → List ℕ) (password : List ℕ)
     (pk : PublicKeyRecord) (sk : SecretKeyRecord) : Type 0 where
   pub opens : and_then (sealed_by_scrypt sk) (λ k. open_sealed k password None) ≡ Ok (xored_key sk password)
   pub pair : IsGenuinePair public_of pk (xored_key sk password)
-  pub texts : (text : List ℕ) → read_secret_key text ≡ Ok sk → OpensOnlyTo text password (xored_key sk password)
+  pub texts : (text : List ℕ) → read_secret_key text ≡ Ok sk → OpensTo text password 1 (xored_key sk password)
 
 -- both sinks are as they were
 abbrev pub AreUnwritten : {P K : Type 0} → SinkCall P → SinkCall K → Type 0
 AreUnwritten pk_sink sk_sink = (pk_sink.new ≡ pk_sink.old) × (sk_sink.new ≡ sk_sink.old)
 
--- a pair's parts are not written: memory ran out for them, with both sinks as they were; or the public sink failed at the
--- public part, with the secret sink as it was, or took and flushed it, and the secret sink failed at the secret part
+-- a pair's parts are not written: memory ran out, with both sinks as they were; or the public sink failed, with the
+-- secret one as it was, or took and flushed its part, and the secret sink failed
 abbrev pub PartsFail : {P K : Type 0} → SinkCall P → SinkCall K → List ℕ → List ℕ → Fault → Type 0
-PartsFail pk_sink sk_sink public secret e =
-    ((e ≡ Named OutOfMemory) × AreUnwritten pk_sink sk_sink)
-    ⊎ ((e ≡ Named WritingFailed)
-    × ((FailsAtPart pk_sink public × (sk_sink.new ≡ sk_sink.old))
+PartsFail pk_sink sk_sink public secret e = ((e ≡ Named OutOfMemory) × AreUnwritten pk_sink sk_sink)
+    ⊎ ((e ≡ Named WritingFailed) × ((FailsAtPart pk_sink public × (sk_sink.new ≡ sk_sink.old))
     ⊎ (TakesPart pk_sink public × FailsAtPart sk_sink secret)))
 
--- a pair that is not sealed is not written as raw bytes: the random source failed, and both sinks are as they
--- were, or it did not, and a pair was made whose parts were not written
+-- a pair that is not sealed is not written as raw bytes: the random source failed, with both sinks as they were, or a
+-- pair was made whose parts were not written
 abbrev pub RawPairFails : {Z P K : Type 0} → (List ℕ → List ℕ) → RandomCall Z → SinkCall P → SinkCall K → Fault → Type 0
-RawPairFails public_of z pk_sink sk_sink e =
-    (DrawFails z e × AreUnwritten pk_sink sk_sink)
+RawPairFails public_of z pk_sink sk_sink e = (DrawFails z e × AreUnwritten pk_sink sk_sink)
     ⊎ ((pk : PublicKeyRecord) × (sk : SecretKeyRecord) × IsUnsealedPair public_of z pk sk × RandomHasNoNewFault z
     × PartsFail pk_sink sk_sink (public_key_bytes pk) (secret_key_bytes sk) e)
 
@@ -145,8 +122,7 @@ pub record AllDrawn {Z : Type 0} (z : RandomCall Z) : Type 0 where
 
 -- a sealed pair is not made: the random source failed, before anything was asked, or else no key was sealed
 abbrev pub SealedPairFails : {Z R W : Type 0} → RandomCall Z → PromptCall R W → Option (List ℕ) → Fault → Type 0
-SealedPairFails z p password e =
-    (DrawFails z e × (p.new ≡ p.old)) ⊎ (AllDrawn z × IsSealing p password (Err e))
+SealedPairFails z p password e = (DrawFails z e × (p.new ≡ p.old)) ⊎ (AllDrawn z × IsSealing p password (Err e))
 
 -- a sealed pair was made, under the password that was passed in or typed
 pub record HasSealed {Z R W : Type 0} (public_of : List ℕ → List ℕ) (z : RandomCall Z) (p : PromptCall R W)
@@ -156,8 +132,7 @@ pub record HasSealed {Z R W : Type 0} (public_of : List ℕ → List ℕ) (z : R
   pub pair : IsSealedPair public_of password z pk sk
   pub opens : OpensToPair public_of password pk sk
 
--- a sealed pair is not written as texts: it was not made, and both sinks are as they were, or it was, with no new fault
--- of the random source, and its parts were not written
+-- a sealed pair is not written as texts: it was not made, with both sinks as they were, or its parts were not written
 abbrev pub SealedTextsFail : {Z R W P K : Type 0} → (List ℕ → List ℕ) → RandomCall Z → PromptCall R W → Option (List ℕ)
     → SinkCall P → SinkCall K → Option (List ℕ) → Fault → Type 0
 SealedTextsFail public_of z p password pk_sink sk_sink comment e =

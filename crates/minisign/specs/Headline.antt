@@ -2,13 +2,11 @@
 -- message, and which case fails first where they do not. Opening: when a sealed key opens under a password.
 -- Signing: what the text of a signature is worth. The sentence is in docs/PROMISES.md; docs/TRUSTED.md explains the
 -- notation, such as x.now, and that a key or a box of the code stands here for its record or its text.
-use Rattle.std.specs.Prelude.{◌≡◌, ℕ, Bool, true, List, Option, Some, Ok, IfSome}
-use Rattle.std.specs.declared.result.Result.{Result}
-use Rattle.minisign_base.specs.Fault.{Fault}
-use Rattle.minisign_base.specs.DeviceCalls.{IsFlushed, IsSteady, RereaderCall, SinkFails, SinkCall, SourceFails, Takes}
+use Rattle.std.specs.Prelude.{◌≡◌, ℕ, Bool, true, List, Option, Some, Ok, IfSome, Result}
+use Rattle.minisign.specs.Common.{Fault, IsFlushed, IsSteady, RereaderCall, SinkFails, SinkCall, SourceFails, Takes}
 use Rattle.minisign.specs.Records.{PublicKeyRecord, SecretKeyRecord, SignatureBoxRecord}
 use Rattle.minisign.specs.Acceptance.{Verifier, Vouches, VouchesUnderEachKey, judge}
-use Rattle.minisign.specs.OpenedTexts.{open_key}
+use Rattle.minisign.specs.Opening.{open_key}
 use Rattle.minisign.specs.Signing.{ChosenComments, IsGenuine}
 use Rattle.minisign.specs.PublicKeyText.{read_public_key}
 use Rattle.minisign.specs.SignatureText.{AreOneLine, box_of, read_signature, read_signature_box}

@@ -1,17 +1,14 @@
 -- Keys that are made of their parts, and the texts of both: 64 secret bytes, of a seed and of its public key,
 -- under a key ID.
 use Rattle.std.specs.Prelude.{◌≡◌, ◌⊎◌, ◌+◌, ℕ, List, length, false, Option, None, Some, IsOk, Ok, Err}
-use Rattle.std.specs.Str.Iter.{LacksByte}
-use Rattle.minisign_base.specs.Fault.{Fault, Named}
-use Rattle.minisign_base.specs.declared.faults.NamedFault.TheVariants.{OutOfMemory}
-use Rattle.minisign_base.specs.Limits.{numbers, sealing_limits}
+use Rattle.minisign.specs.Common.{LacksByte, Fault, Named, OutOfMemory, numbers, sealing_limits}
 use Rattle.minisign.specs.Generation.{key_to_seal, unsealed_key}
 use Rattle.minisign.specs.PublicKeyText.{read_public_key, commented_public_key_text}
 use Rattle.minisign.specs.Records.{SecretKeyRecord, legacy_algorithm, own_public_key}
 use Rattle.minisign.specs.Sealing.{is_encrypted, xored_key}
 use Rattle.minisign.specs.SecretKeyText.{secret_key_text}
 use Rattle.minisign.specs.declared.making.Sealing.{Sealing}
-use Rattle.minisign.specs.OpenedTexts.{OpensTo, read_unencrypted_key}
+use Rattle.minisign.specs.Opening.{OpensTo, read_unencrypted_key}
 
 -- the secret key of these parts, open
 pub record IsOfParts (keynum secret : List ℕ) (key : SecretKeyRecord) : Type 0 where
@@ -28,12 +25,11 @@ made_key keynum secret (Some password) s =
     xored_key (key_to_seal keynum secret s.salt s.operations_limit s.memory_limit) password
 
 -- the text gives back the key of these parts: without a password it reads as this key, which was never sealed; under
--- the password it opens to this key, whatever bound its parallelization is within, and to no other
+-- the password it opens to this key, within each bound that its parallelization is within, and to no other
 abbrev pub GivesParts : List ℕ → Option (List ℕ) → List ℕ → List ℕ → Sealing → Type 0
 GivesParts text None keynum secret s =
     (key : SecretKeyRecord) × IsOfParts keynum secret key × (read_unencrypted_key text ≡ Ok key)
-GivesParts text (Some password) keynum secret s =
-    (key : SecretKeyRecord) × IsOfParts keynum secret key
+GivesParts text (Some password) keynum secret s = (key : SecretKeyRecord) × IsOfParts keynum secret key
     × OpensTo text password (numbers s.memory_limit s.operations_limit).p key
 
 -- the text of the secret key that is made of these parts: a line of comment, and a line of base64
@@ -46,8 +42,7 @@ pub record IsMadeText (keynum secret : List ℕ) (password : Option (List ℕ)) 
 -- no secret key is made: with a password the limits are refused, or else memory ran out
 abbrev pub IsMakingFault : Option (List ℕ) → Sealing → Fault → Type 0
 IsMakingFault None s e = e ≡ Named OutOfMemory
-IsMakingFault (Some password) s e =
-    ((e ≡ Named OutOfMemory) × IsOk (sealing_limits s.memory_limit s.operations_limit))
+IsMakingFault (Some password) s e = ((e ≡ Named OutOfMemory) × IsOk (sealing_limits s.memory_limit s.operations_limit))
     ⊎ (sealing_limits s.memory_limit s.operations_limit ≡ Err e)
 
 -- the text of the public key of these parts: it reads as the public key of the secret key that they make

@@ -1,18 +1,11 @@
 -- Texts of public keys: what a text reads as, key or first fault; the same as a relation; and the text that is written
 -- for a key.
 use Rattle.std.specs.Prelude.{◌≡◌, ◌==◌, ℕ, List, [], ◌∷◌, ◌++◌, length, take, drop, nat_le, Result, Ok, Err, codes}
-use Rattle.std.specs.Str.{trim}
-use Rattle.std.specs.Str.Lines.{lines}
-use Rattle.minisign_base.specs.Fault.{Fault, Named}
-use Rattle.minisign_base.specs.declared.faults.NamedFault.{NamedFault}
-use Rattle.minisign_base.specs.declared.faults.NamedFault.TheVariants.{MissingPublicKeyComment, MissingEncodedPublicKey}
-use Rattle.minisign_base.specs.declared.faults.NamedFault.TheVariants.{PublicKeyLineLength, PublicKeyLineNotBase64}
-use Rattle.minisign_base.specs.declared.faults.NamedFault.TheVariants.{BarePublicKeyLength, BarePublicKeyNotBase64}
-use Rattle.minisign_base.specs.declared.faults.NamedFault.TheVariants.{RecordTooShort}
+use Rattle.minisign.specs.Common.{trim, lines, Fault, Named, NamedFault}
 use Rattle.minisign_base.specs.Identifiers.{identifier_text}
-use Rattle.minisign.specs.Lines.{line}
+use Rattle.minisign.specs.Texts.{line, IsBase64Of, base64_of, base64_bytes, is_base64, require, untrusted_comment_label}
 use Rattle.minisign.specs.Records.{PublicKeyRecord, ReadsPublicKey, public_key_bytes}
-use Rattle.minisign.specs.Texts.{IsBase64Of, base64_of, base64_bytes, is_base64, require, untrusted_comment_label}
+use Rattle.minisign_base.specs.declared.faults.NamedFault.TheVariants as named
 
 -- == Reading ==
 
@@ -21,16 +14,16 @@ abbrev pub decoded_key : NamedFault → List ℕ → Result PublicKeyRecord Faul
 decoded_key not_base64 text =
     let bytes = base64_bytes text in
     require (is_base64 text) not_base64
-    (require (nat_le 42 (length bytes)) RecordTooShort
+    (require (nat_le 42 (length bytes)) named.RecordTooShort
     (Ok (record { algorithm = take 2 bytes; keynum = take 8 (drop 2 bytes); key = take 32 (drop 8 (drop 2 bytes)) })))
 
 -- the first line may be anything, and the second, of 56 bytes, is, trimmed, the base64 of the key; later lines do not
 -- matter
 abbrev pub key_in_lines : List (List ℕ) → Result PublicKeyRecord Fault
-key_in_lines [] = Err (Named MissingPublicKeyComment)
-key_in_lines (comment ∷ []) = Err (Named MissingEncodedPublicKey)
+key_in_lines [] = Err (Named named.MissingPublicKeyComment)
+key_in_lines (comment ∷ []) = Err (Named named.MissingEncodedPublicKey)
 key_in_lines (comment ∷ encoded ∷ later) =
-    require (length encoded == 56) PublicKeyLineLength (decoded_key PublicKeyLineNotBase64 (trim encoded))
+    require (length encoded == 56) named.PublicKeyLineLength (decoded_key named.PublicKeyLineNotBase64 (trim encoded))
 
 -- what a text reads as
 unfoldable pub read_public_key : List ℕ → Result PublicKeyRecord Fault
@@ -39,7 +32,7 @@ read_public_key text = key_in_lines (lines text)
 -- what the bare base64 of a key reads as: trimmed it has 56 bytes, and it is base64 as it stands
 unfoldable pub read_bare_public_key : List ℕ → Result PublicKeyRecord Fault
 read_bare_public_key text =
-    require (length (trim text) == 56) BarePublicKeyLength (decoded_key BarePublicKeyNotBase64 text)
+    require (length (trim text) == 56) named.BarePublicKeyLength (decoded_key named.BarePublicKeyNotBase64 text)
 
 -- == The grammar as a relation ==
 
@@ -71,8 +64,7 @@ public_key_label = codes "minisign public key: "
 
 -- the text that is written for a key: its key ID, and its record in base64
 abbrev pub public_key_text : PublicKeyRecord → List ℕ
-public_key_text k =
-    line (untrusted_comment_label ++ public_key_label ++ identifier_text k.keynum)
+public_key_text k = line (untrusted_comment_label ++ public_key_label ++ identifier_text k.keynum)
     ++ line (base64_of (public_key_bytes k))
 
 -- the text that is written with a comment of the caller's

@@ -1,10 +1,7 @@
 -- The records that keys and signatures are stored as: fields of fixed lengths, joined in their order.
-use Rattle.std.specs.Prelude.{◌≡◌, ℕ, Bool, ◌<◌, ◌≤◌, List, ◌++◌, length, take, drop, Option, ◌⊎◌, codes, bytes_eq}
-use Rattle.std.specs.Prelude.{false}
+use Rattle.std.specs.Prelude.{◌≡◌, ℕ, Bool, ◌<◌, ◌≤◌, List, ◌++◌, length, take, drop, Option, ◌⊎◌, codes, bytes_eq, false, flat_map}
+use Rattle.minisign.specs.Common.{Fault, Named, RecordTooShort, UnsupportedSignatureAlgorithm}
 use Rattle.std.specs.Fmt.{digits}
-use Rattle.std.specs.List.{flat_map}
-use Rattle.minisign_base.specs.Fault.{Fault, Named}
-use Rattle.minisign_base.specs.declared.faults.NamedFault.TheVariants.{RecordTooShort, UnsupportedSignatureAlgorithm}
 
 -- a public key: 2 bytes of algorithm, 8 of key ID, 32 of key
 pub record PublicKeyRecord : Type 0 where
@@ -54,8 +51,7 @@ IsKnownAlgorithm a = (a ≡ legacy_algorithm) ⊎ (a ≡ prehashed_algorithm)
 
 -- a bare signature is refused: the bytes are too few, or else the algorithm is not known
 abbrev pub IsBonesFault : List ℕ → Fault → Type 0
-IsBonesFault bytes e =
-    ((e ≡ Named RecordTooShort) × (length bytes < 74))
+IsBonesFault bytes e = ((e ≡ Named RecordTooShort) × (length bytes < 74))
     ⊎ ((e ≡ Named UnsupportedSignatureAlgorithm) × (74 ≤ length bytes) × ¬ (IsKnownAlgorithm (take 2 bytes)))
 
 -- the signature is over the digest of the data
@@ -89,9 +85,7 @@ pub record SecretKeyRecord : Type 0 where
 
 -- the 158 bytes of a secret key; the last three fields, 104 bytes, are those that are sealed
 abbrev pub secret_key_bytes : SecretKeyRecord → List ℕ
-secret_key_bytes k =
-    (k.algorithm ++ k.kdf ++ k.checksum_algorithm)
-    ++ (k.salt ++ k.operations_limit ++ k.memory_limit)
+secret_key_bytes k = (k.algorithm ++ k.kdf ++ k.checksum_algorithm) ++ (k.salt ++ k.operations_limit ++ k.memory_limit)
     ++ (k.keynum ++ k.secret ++ k.checksum)
 
 -- the bytes begin with the record of the key; what follows it does not matter

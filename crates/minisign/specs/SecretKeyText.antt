@@ -1,14 +1,10 @@
 -- Texts of secret keys: what a text reads as, key or first fault; the same as a relation; and the text that is written
 -- for a key.
-use Rattle.std.specs.Prelude.{◌≡◌, ℕ, List, [], ◌∷◌, ◌++◌, length, take, drop, nat_le, Option, Result, Ok, Err, codes}
-use Rattle.std.specs.Option.{unwrap_or}
-use Rattle.std.specs.Str.Lines.{lines}
-use Rattle.minisign_base.specs.Fault.{Fault, Named}
-use Rattle.minisign_base.specs.declared.faults.NamedFault.TheVariants.{MissingSecretKeyComment, MissingEncodedSecretKey}
-use Rattle.minisign_base.specs.declared.faults.NamedFault.TheVariants.{SecretKeyNotBase64, RecordTooShort}
-use Rattle.minisign.specs.Lines.{line}
+use Rattle.std.specs.Prelude.{◌≡◌, ℕ, List, [], ◌∷◌, ◌++◌, length, take, drop, nat_le, Option, Result, Ok, Err, codes, unwrap_or}
+use Rattle.minisign.specs.Common.{lines, Fault, Named}
+use Rattle.minisign.specs.Texts.{line, IsBase64Of, base64_of, base64_bytes, is_base64, require, untrusted_comment_label}
 use Rattle.minisign.specs.Records.{SecretKeyRecord, ReadsSecretKey, secret_key_bytes}
-use Rattle.minisign.specs.Texts.{IsBase64Of, base64_of, base64_bytes, is_base64, require, untrusted_comment_label}
+use Rattle.minisign_base.specs.declared.faults.NamedFault.TheVariants as fault
 
 -- == Reading ==
 
@@ -28,18 +24,14 @@ secret_key_of_bytes bytes = record {
 
 -- the key in the first 158 bytes
 abbrev pub read_secret_key_bytes : List ℕ → Result SecretKeyRecord Fault
-read_secret_key_bytes bytes = require (nat_le 158 (length bytes)) RecordTooShort (Ok (secret_key_of_bytes bytes))
+read_secret_key_bytes bytes = require (nat_le 158 (length bytes)) fault.RecordTooShort (Ok (secret_key_of_bytes bytes))
 
--- the key in a line that is base64 as it stands
-abbrev pub secret_key_in_line : List ℕ → Result SecretKeyRecord Fault
-secret_key_in_line encoded =
-    require (is_base64 encoded) SecretKeyNotBase64 (read_secret_key_bytes (base64_bytes encoded))
-
--- the first line may be anything, and the second has the key; later lines do not matter
+-- the first line may be anything, and the second is, as it stands, the base64 of the key; later lines do not matter
 abbrev pub secret_key_in_lines : List (List ℕ) → Result SecretKeyRecord Fault
-secret_key_in_lines [] = Err (Named MissingSecretKeyComment)
-secret_key_in_lines (comment ∷ []) = Err (Named MissingEncodedSecretKey)
-secret_key_in_lines (comment ∷ encoded ∷ later) = secret_key_in_line encoded
+secret_key_in_lines [] = Err (Named fault.MissingSecretKeyComment)
+secret_key_in_lines (comment ∷ []) = Err (Named fault.MissingEncodedSecretKey)
+secret_key_in_lines (comment ∷ encoded ∷ later) =
+    require (is_base64 encoded) fault.SecretKeyNotBase64 (read_secret_key_bytes (base64_bytes encoded))
 
 -- what a text reads as
 unfoldable pub read_secret_key : List ℕ → Result SecretKeyRecord Fault
@@ -65,6 +57,5 @@ default_secret_key_comment = codes "rsign encrypted secret key"
 
 -- the text that is written, with the comment that is given or else the default
 unfoldable pub secret_key_text : Option (List ℕ) → SecretKeyRecord → List ℕ
-secret_key_text comment k =
-    line (untrusted_comment_label ++ unwrap_or comment default_secret_key_comment)
+secret_key_text comment k = line (untrusted_comment_label ++ unwrap_or comment default_secret_key_comment)
     ++ line (base64_of (secret_key_bytes k))

@@ -1,23 +1,11 @@
 -- Texts of signatures: what a text reads as, signature and comments or first fault; the same as a relation; and the
 -- text that is written for a box.
-use Rattle.std.specs.Prelude.{◌≡◌, ◌≢◌, ◌||◌, ◌-◌, ℕ, Bool, List, [], ◌∷◌, ◌++◌, length, take, drop, slice_index}
-use Rattle.std.specs.Prelude.{nat_eq, nat_le, bytes_eq, Some, Result, Ok, Err, codes}
+use Rattle.std.specs.Prelude.{◌≡◌, ◌≢◌, ◌||◌, ◌-◌, ℕ, List, [], ◌∷◌, ◌++◌, length, take, drop, slice_index, nat_eq, nat_le, bytes_eq, Some, Result, Ok, Err, codes, if◌then◌else◌, Option, None, option_map}
+use Rattle.minisign.specs.Common.{trim, LacksByte, lines, strip_carriage_return, Fault, Named}
 use Rattle.std.specs.List.{starts_with}
-use Rattle.std.specs.Option.{option_map}
-use Rattle.std.specs.Str.{trim}
-use Rattle.std.specs.Str.Iter.{LacksByte}
-use Rattle.std.specs.Str.Lines.{lines, strip_carriage_return}
-use Rattle.minisign_base.specs.Fault.{Fault, Named}
-use Rattle.minisign_base.specs.declared.faults.NamedFault.TheVariants.{MissingUntrustedComment, MissingSignature}
-use Rattle.minisign_base.specs.declared.faults.NamedFault.TheVariants.{MissingTrustedComment, MissingGlobalSignature}
-use Rattle.minisign_base.specs.declared.faults.NamedFault.TheVariants.{UntrustedCommentPrefix, SignatureNotBase64}
-use Rattle.minisign_base.specs.declared.faults.NamedFault.TheVariants.{RecordTooShort, TrustedCommentPrefix}
-use Rattle.minisign_base.specs.declared.faults.NamedFault.TheVariants.{UnsupportedSignatureAlgorithm}
-use Rattle.minisign.specs.Lines.{line}
-use Rattle.minisign.specs.Records.{CommentsRecord, SignatureRecord, SignatureBoxRecord, ReadsSignature}
-use Rattle.minisign.specs.Records.{IsKnownAlgorithm, signature_bytes, legacy_algorithm, prehashed_algorithm}
-use Rattle.minisign.specs.Texts.{IsBase64Of, base64_of, base64_bytes, is_base64, map_ok, require}
-use Rattle.minisign.specs.Texts.{untrusted_comment_label}
+use Rattle.minisign.specs.Texts.{line, IsBase64Of, base64_of, base64_bytes, is_base64, map_ok, require, untrusted_comment_label}
+use Rattle.minisign.specs.Records.{CommentsRecord, SignatureRecord, SignatureBoxRecord, ReadsSignature, IsKnownAlgorithm, signature_bytes, legacy_algorithm, prehashed_algorithm}
+use Rattle.minisign_base.specs.declared.faults.NamedFault.TheVariants as named
 
 unfoldable pub trusted_comment_label : List ℕ
 trusted_comment_label = codes "trusted comment: "
@@ -33,24 +21,27 @@ pub record SignatureTextRecord : Type 0 where
 abbrev pub box_of : SignatureTextRecord → SignatureBoxRecord
 box_of t = record { signature = t.signature; comments = Some t.comments }
 
--- the test of an algorithm
-abbrev pub is_known_algorithm : List ℕ → Bool
-is_known_algorithm a = bytes_eq a legacy_algorithm || bytes_eq a prehashed_algorithm
-
--- the first and the third line are a label and a comment, the trusted one trimmed; the second and the fourth, trimmed,
--- are base64, the second of bytes that begin with the 74 of the signature
-abbrev pub signature_in_four : List ℕ → List ℕ → List ℕ → List ℕ → Result SignatureTextRecord Fault
-signature_in_four first second third fourth =
+-- there are four lines; later ones do not matter; the first and the third line are a label and a comment, the trusted
+-- one trimmed; the second and the fourth, trimmed, are base64, the second of bytes that begin with the 74 of the
+-- signature, of an algorithm that is known
+abbrev pub signature_in_lines : List (List ℕ) → Result SignatureTextRecord Fault
+signature_in_lines [] = Err (Named named.MissingUntrustedComment)
+signature_in_lines (first ∷ []) = Err (Named named.MissingSignature)
+signature_in_lines (first ∷ second ∷ []) = Err (Named named.MissingTrustedComment)
+signature_in_lines (first ∷ second ∷ third ∷ []) = Err (Named named.MissingGlobalSignature)
+signature_in_lines (first ∷ second ∷ third ∷ fourth ∷ later) =
     let bytes = base64_bytes (trim second) in
-    require (starts_with nat_eq first untrusted_comment_label) UntrustedCommentPrefix
-    (require (is_base64 (trim second)) SignatureNotBase64
-    (require (nat_le 74 (length bytes)) RecordTooShort
-    (require (starts_with nat_eq third trusted_comment_label) TrustedCommentPrefix
-    (require (is_known_algorithm (take 2 bytes)) UnsupportedSignatureAlgorithm
-    (require (is_base64 (trim fourth)) SignatureNotBase64
+    let algorithm = take 2 bytes in
+    require (starts_with nat_eq first untrusted_comment_label) named.UntrustedCommentPrefix
+    (require (is_base64 (trim second)) named.SignatureNotBase64
+    (require (nat_le 74 (length bytes)) named.RecordTooShort
+    (require (starts_with nat_eq third trusted_comment_label) named.TrustedCommentPrefix
+    (require (bytes_eq algorithm legacy_algorithm || bytes_eq algorithm prehashed_algorithm)
+    named.UnsupportedSignatureAlgorithm
+    (require (is_base64 (trim fourth)) named.SignatureNotBase64
     (Ok (record {
       signature = record {
-        algorithm = take 2 bytes;
+        algorithm = algorithm;
         keynum = take 8 (drop 2 bytes);
         signature = take 64 (drop 8 (drop 2 bytes));
       };
@@ -60,14 +51,6 @@ signature_in_four first second third fourth =
         signature = base64_bytes (trim fourth);
       };
     })))))))
-
--- there are four lines; later ones do not matter
-abbrev pub signature_in_lines : List (List ℕ) → Result SignatureTextRecord Fault
-signature_in_lines [] = Err (Named MissingUntrustedComment)
-signature_in_lines (first ∷ []) = Err (Named MissingSignature)
-signature_in_lines (first ∷ second ∷ []) = Err (Named MissingTrustedComment)
-signature_in_lines (first ∷ second ∷ third ∷ []) = Err (Named MissingGlobalSignature)
-signature_in_lines (first ∷ second ∷ third ∷ fourth ∷ later) = signature_in_four first second third fourth
 
 -- what a text reads as
 unfoldable pub read_signature : List ℕ → Result SignatureTextRecord Fault
@@ -105,8 +88,7 @@ pub record SignatureText (text : List ℕ) (t : SignatureTextRecord) : Type 0 wh
 
 -- the text that is written for a signature with comments
 abbrev pub signature_text : SignatureRecord → CommentsRecord → List ℕ
-signature_text s c =
-    line (untrusted_comment_label ++ c.untrusted) ++ (line (base64_of (signature_bytes s))
+signature_text s c = line (untrusted_comment_label ++ c.untrusted) ++ (line (base64_of (signature_bytes s))
     ++ (line (trusted_comment_label ++ c.trusted) ++ line (base64_of c.signature)))
 
 -- comments that each stand in a line of their own, and a trusted one that is trimmed
@@ -126,3 +108,23 @@ box_read_back x = record x { comments = option_map comments_read_back x.comments
 pub record AreReadBack (untrusted trusted : List ℕ) : Type 0 where
   pub one_line : AreOneLine untrusted trusted
   pub untrusted_end : slice_index untrusted (length untrusted - 1) ≢ 13
+
+-- the first 64 bytes, where there are so many
+abbrev pub first_64 : List ℕ → Option (List ℕ)
+first_64 bytes = if nat_le 64 (length bytes) then Some (take 64 bytes) else None
+
+-- the signature, both comments, and of the comment signature the first 64 bytes, where it has so many
+pub record SignatureViewRecord : Type 0 where
+  pub signature : SignatureRecord
+  pub untrusted : List ℕ
+  pub trusted : List ℕ
+  pub comment_signature : Option (List ℕ)
+
+-- what a view tells of what a text reads as
+abbrev pub view_of : SignatureTextRecord → SignatureViewRecord
+view_of t = record {
+  signature = t.signature;
+  untrusted = t.comments.untrusted;
+  trusted = t.comments.trusted;
+  comment_signature = first_64 t.comments.signature;
+}

@@ -1,23 +1,13 @@
 -- The box that signing makes.
-use Rattle.std.specs.Prelude.{◌≡◌, ℕ, true, false, List, [], ◌++◌, length, Option, Some, ◌⊎◌, IsSomeAnd, codes}
+use Rattle.std.specs.Prelude.{◌≡◌, ℕ, true, false, List, ◌++◌, length, Option, Some, ◌⊎◌, IsSomeAnd, codes, option_copied, unwrap_or, decimal}
+use Rattle.minisign.specs.Common.{Consumes, blake2b_digest, Rose, RandomCall, SourceCall, Fault, Named, SchemeOf, IsBytes, AreRandomBytes}
 use denote.Ref.{Bor}
-use Rattle.std.specs.Option.{option_copied, option_map_or, unwrap_or}
-use Rattle.std.specs.Fmt.{decimal}
-use Rattle.std.specs.Io.KnownBytes.{Consumes}
-use Rattle.minisign_hash.specs.Blake2b.{blake2b_digest}
-use Rattle.minisign_base.specs.Devices.{Rose}
-use Rattle.minisign_base.specs.DeviceCalls.{RandomCall, SourceCall}
-use Rattle.minisign_base.specs.Fault.{Fault, Named}
-use Rattle.minisign_base.specs.declared.faults.NamedFault.TheVariants.{OutOfMemory, RandomSourceFailed}
-use Rattle.minisign_base.specs.declared.faults.NamedFault.TheVariants.{EncryptedKeyRefused, RefusedByGivenKey}
-use Rattle.minisign_base.specs.Members.{SchemeOf}
-use Rattle.minisign_base.specs.Scheme.{IsBytes, AreRandomBytes}
 use Rattle.minisign.specs.Records.{PublicKeyRecord, SecretKeyRecord, SignatureBoxRecord, prehashed_algorithm}
 use Rattle.minisign.specs.Acceptance.{Verifier, VouchesUnderEachKey, accepts_comments}
 use Rattle.minisign.specs.Reading.{ReadsWhole, ReadingFails}
 use Rattle.minisign.specs.Sealing.{is_encrypted}
 use Rattle.minisign.specs.SignatureText.{AreReadBack}
-use Rattle.minisign.specs.declared.signing.GivenComments.{GivenComments}
+use Rattle.minisign_base.specs.declared.faults.NamedFault.TheVariants as named
 
 -- what a scheme signs: a message, with a secret key of 64 bytes and 64 random bytes or none
 abbrev pub Signer : Type 0
@@ -35,20 +25,12 @@ pub record ChosenComments : Type 0 where
   pub trusted : List ℕ
   pub untrusted : List ℕ
 
--- the comments that are given, or else the defaults: the moment as the trusted one
-abbrev pub comments_or_defaults : Option (List ℕ) → Option (List ℕ) → ℕ → ChosenComments
-comments_or_defaults trusted untrusted moment = record {
-  trusted = unwrap_or trusted (default_trusted_comment moment);
-  untrusted = unwrap_or untrusted default_untrusted_comment;
-}
-
--- the comments that a caller hands over, or else the defaults
+-- the comments that a caller hands over, or else the defaults: the moment as the trusted one
 abbrev pub given_comments : Option (Bor (List ℕ)) → Option (Bor (List ℕ)) → ℕ → ChosenComments
-given_comments trusted untrusted moment = comments_or_defaults (option_copied trusted) (option_copied untrusted) moment
-
--- the same, of comments that are handed on together
-abbrev pub chosen_of : GivenComments → ChosenComments
-chosen_of comments = given_comments comments.trusted comments.untrusted comments.moment
+given_comments trusted untrusted moment = record {
+  trusted = unwrap_or (option_copied trusted) (default_trusted_comment moment);
+  untrusted = unwrap_or (option_copied untrusted) default_untrusted_comment;
+}
 
 -- the box that signing makes of the message: a signature of its digest, which has 64 bytes, with the first random
 -- bytes, and a signature of that signature and the trusted comment with the second
@@ -66,8 +48,7 @@ signed_box sign sk message chosen z1 z2 =
 abbrev pub HasDrawn : {Z : Type 0} → RandomCall Z → List ℕ → Type 0
 HasDrawn z bytes = Consumes (z.random.random_ahead z.old) (z.random.random_ahead z.new) bytes
 
--- the box is the one that signing makes of the message with random bytes that were drawn: 64 for the
--- signature and then 64 for the comment signature
+-- the box is the one that signing makes of the message with random bytes that were drawn: 64 for each signature
 pub record IsSigned {Z : Type 0} (sign : Signer) (sk : SecretKeyRecord) (message : List ℕ) (chosen : ChosenComments)
     (z : RandomCall Z) (x : SignatureBoxRecord) : Type 0 where
   pub first : List ℕ
@@ -77,10 +58,6 @@ pub record IsSigned {Z : Type 0} (sign : Signer) (sk : SecretKeyRecord) (message
   pub drawn : HasDrawn z (first ++ second)
   pub box : x ≡ signed_box sign sk message chosen first second
 
--- the comment that nothing vouches for; a bare signature has none
-abbrev pub untrusted_comment_of : SignatureBoxRecord → List ℕ
-untrusted_comment_of x = option_map_or (λ c. c.untrusted) x.comments []
-
 -- an opened key whose secret is a seed and the seed's public key
 pub record IsGenuine (public_of : List ℕ → List ℕ) (sk : SecretKeyRecord) (seed : List ℕ) : Type 0 where
   pub seed_length : length seed ≡ 32
@@ -88,17 +65,12 @@ pub record IsGenuine (public_of : List ℕ → List ℕ) (sk : SecretKeyRecord) 
   pub secret : sk.secret ≡ seed ++ public_of seed
   pub opened : is_encrypted sk ≡ false
 
--- where the key is genuine, the box is accepted under its own public key
-abbrev pub VouchesWhereGenuine : Verifier → (List ℕ → List ℕ) → SecretKeyRecord → List ℕ → SignatureBoxRecord → Type 0
-VouchesWhereGenuine accepts public_of sk message x =
-    (seed : List ℕ) → IsGenuine public_of sk seed → VouchesUnderEachKey accepts (public_of seed) sk.keynum message x
-
--- the box is signed with the key, and where that is genuine it is accepted
+-- the box is signed with the key, and where that is genuine it is accepted under its own public key
 abbrev pub HasSignedBox : {S Z : Type 0} → SchemeOf S → S → SecretKeyRecord → List ℕ → ChosenComments → RandomCall Z
     → SignatureBoxRecord → Type 0
-HasSignedBox s scheme sk message chosen z x =
-    IsSigned (s.signature_of scheme) sk message chosen z x
-    × VouchesWhereGenuine (s.accepts scheme) (s.public_of scheme) sk message x
+HasSignedBox s scheme sk message chosen z x = IsSigned (s.signature_of scheme) sk message chosen z x
+    × ((seed : List ℕ) → IsGenuine (s.public_of scheme) sk seed
+    → VouchesUnderEachKey (s.accepts scheme) (s.public_of scheme seed) sk.keynum message x)
 
 -- the chosen comments are read back as they were written
 abbrev pub AreChosenReadBack : ChosenComments → Type 0
@@ -106,7 +78,7 @@ AreChosenReadBack chosen = AreReadBack chosen.untrusted chosen.trusted
 
 -- the random source failed
 pub record DrawFails {Z : Type 0} (z : RandomCall Z) (e : Fault) : Type 0 where
-  pub fault : e ≡ Named RandomSourceFailed
+  pub fault : e ≡ Named named.RandomSourceFailed
   pub rose : Rose (z.random.random_faults z.old) (z.random.random_faults z.new)
 
 -- the random source did not fail
@@ -115,36 +87,27 @@ RandomHasNoNewFault z = z.random.random_faults z.new ≡ z.random.random_faults 
 
 -- memory ran out, with no new fault of the random source
 abbrev pub RunsOutDrawing : {Z : Type 0} → RandomCall Z → Fault → Type 0
-RunsOutDrawing z e = (e ≡ Named OutOfMemory) × RandomHasNoNewFault z
+RunsOutDrawing z e = (e ≡ Named named.OutOfMemory) × RandomHasNoNewFault z
 
 -- signing with an opened key fails: memory runs out, with no new fault of either; the data fails, with nothing drawn;
 -- or all of it was read, and the random source fails
 abbrev pub OpenedSigningFails : {R Z : Type 0} → SourceCall R → RandomCall Z → Fault → Type 0
-OpenedSigningFails r z e =
-    (RunsOutDrawing z e × (r.source.faults r.new ≡ r.source.faults r.old))
+OpenedSigningFails r z e = (RunsOutDrawing z e × (r.source.faults r.new ≡ r.source.faults r.old))
     ⊎ (ReadingFails r.source r.old r.new e × (z.new ≡ z.old))
     ⊎ ((message : List ℕ) × ReadsWhole r.source r.old r.new message × DrawFails z e)
 
 -- signing with a key fails: it is sealed, with nothing read or drawn; or it is opened, and signing with it fails
 abbrev pub KeySigningFails : {R Z : Type 0} → SecretKeyRecord → SourceCall R → RandomCall Z → Fault → Type 0
 KeySigningFails sk r z e =
-    ((e ≡ Named EncryptedKeyRefused) × (is_encrypted sk ≡ true) × (r.new ≡ r.old) × (z.new ≡ z.old))
+    ((e ≡ Named named.EncryptedKeyRefused) × (is_encrypted sk ≡ true) × (r.new ≡ r.old) × (z.new ≡ z.old))
     ⊎ ((is_encrypted sk ≡ false) × OpenedSigningFails r z e)
 
--- all the data was read, and a public key does not accept the comment signature of the box that an opened key made of
--- it
-pub record RefusesSigned {R Z : Type 0} (accepts : Verifier) (sign : Signer) (pk : PublicKeyRecord)
-    (sk : SecretKeyRecord) (chosen : ChosenComments) (r : SourceCall R) (z : RandomCall Z) : Type 0 where
-  pub opened : is_encrypted sk ≡ false
-  pub message : List ℕ
-  pub read : ReadsWhole r.source r.old r.new message
-  pub made : SignatureBoxRecord
-  pub signed : IsSigned sign sk message chosen z made
-  pub refused : accepts_comments accepts pk made ≡ false
-
--- signing fails: with the key; or the public key that was given refuses what was signed
+-- signing fails: with the key; or all the data was read, and the public key that was given does not accept the comment
+-- signature of the box that the opened key made of it
 abbrev pub SigningFails : {R Z : Type 0} → Verifier → Signer → Option PublicKeyRecord → SecretKeyRecord → ChosenComments
     → SourceCall R → RandomCall Z → Fault → Type 0
-SigningFails accepts sign pk sk chosen r z e =
-    KeySigningFails sk r z e
-    ⊎ IsSomeAnd pk (λ p. (e ≡ Named (RefusedByGivenKey p.keynum)) × RefusesSigned accepts sign p sk chosen r z)
+SigningFails accepts sign pk sk chosen r z e = KeySigningFails sk r z e
+    ⊎ IsSomeAnd pk (λ p. (message : List ℕ) × (made : SignatureBoxRecord)
+    × (e ≡ Named (named.RefusedByGivenKey p.keynum)) × (is_encrypted sk ≡ false)
+    × ReadsWhole r.source r.old r.new message × IsSigned sign sk message chosen z made
+    × (accepts_comments accepts p made ≡ false))

@@ -1,15 +1,12 @@
 -- Signing with the text of a secret key: which key the text gives, and what is returned.
 use Rattle.std.specs.Prelude.{◌≡◌, ◌⊎◌, ℕ, Bool, true, false, List, Option, None, Some, Result, Ok, Err}
-use Rattle.minisign_base.specs.Fault.{Fault}
-use Rattle.minisign_base.specs.DeviceCalls.{PromptCall, RandomCall, SourceCall}
-use Rattle.minisign_base.specs.Members.{SchemeOf}
+use Rattle.minisign.specs.Common.{Fault, PromptCall, RandomCall, SourceCall, SchemeOf}
 use Rattle.minisign.specs.Headline.{SigningHeadline}
+use Rattle.minisign.specs.Reading.{ReadsWhole}
 use Rattle.minisign.specs.Records.{CommentsRecord, SecretKeyRecord, SignatureBoxRecord}
 use Rattle.minisign.specs.SignatureText.{signature_text}
 use Rattle.minisign.specs.Signing.{ChosenComments, IsSigned, OpenedSigningFails, Signer}
-use Rattle.minisign.specs.Opening.{IsOpening}
-use Rattle.minisign.specs.OpenedTexts.{is_sealed_text, key_with_password, read_unencrypted_key}
-use Rattle.minisign.specs.Texts.{IsReadOrNoMemory}
+use Rattle.minisign.specs.Opening.{IsOpening, is_sealed_text, key_with_password, read_unencrypted_key}
 
 -- the text is that of this key, which it gives under some password
 abbrev pub IsKeyOf : List ℕ → SecretKeyRecord → Type 0
@@ -20,7 +17,7 @@ IsKeyOf text key = (password : List ℕ) × (key_with_password text password ≡
 abbrev pub GivesKeyOf : {R W : Type 0} → Bool → PromptCall R W → Option (List ℕ) → List ℕ
     → Result SecretKeyRecord Fault → Type 0
 GivesKeyOf true p password text answer = IsOpening p password text None answer
-GivesKeyOf false p password text answer = (p.new ≡ p.old) × IsReadOrNoMemory answer (read_unencrypted_key text)
+GivesKeyOf false p password text answer = (p.new ≡ p.old) × (answer ≡ read_unencrypted_key text)
 
 abbrev pub GivesKey : {R W : Type 0} → PromptCall R W → Option (List ℕ) → List ℕ → Result SecretKeyRecord Fault → Type 0
 GivesKey p password text answer = GivesKeyOf (is_sealed_text text) p password text answer
@@ -37,13 +34,18 @@ pub record IsSignedText {Z : Type 0} (sign : Signer) (sk : SecretKeyRecord) (mes
 -- the text is that of a box that is signed with the key, and where that is genuine it is read back as one that vouches
 abbrev pub HasSignedText : {S Z : Type 0} → SchemeOf S → S → SecretKeyRecord → List ℕ → ChosenComments → RandomCall Z
     → List ℕ → Type 0
-HasSignedText s scheme sk message chosen z text =
-    IsSignedText (s.signature_of scheme) sk message chosen z text
+HasSignedText s scheme sk message chosen z text = IsSignedText (s.signature_of scheme) sk message chosen z text
     × SigningHeadline (s.accepts scheme) (s.public_of scheme) sk message chosen text
+
+-- the text of a secret key gave a key, all the data was read, and this is the text of a signature that is made so
+abbrev pub HasSignedWithText : {S P Q R Z : Type 0} → SchemeOf S → S → PromptCall P Q → Option (List ℕ) → List ℕ
+    → SourceCall R → ChosenComments → RandomCall Z → List ℕ → Type 0
+HasSignedWithText s scheme p password sk_text r chosen z text =
+    (sk : SecretKeyRecord) × (message : List ℕ) × GivesKey p password sk_text (Ok sk)
+    × ReadsWhole r.source r.old r.new message × HasSignedText s scheme sk message chosen z text
 
 -- signing with a text fails: it gives no key, with nothing read or drawn, or signing with its key fails
 abbrev pub TextSigningFails : {P Q R Z : Type 0} → PromptCall P Q → Option (List ℕ) → List ℕ → SourceCall R
     → RandomCall Z → Fault → Type 0
-TextSigningFails p password text r z e =
-    (GivesKey p password text (Err e) × (r.new ≡ r.old) × (z.new ≡ z.old))
+TextSigningFails p password text r z e = (GivesKey p password text (Err e) × (r.new ≡ r.old) × (z.new ≡ z.old))
     ⊎ ((key : SecretKeyRecord) × GivesKey p password text (Ok key) × OpenedSigningFails r z e)

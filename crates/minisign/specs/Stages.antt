@@ -1,17 +1,14 @@
 -- What verifying does stage by stage, and how each stage ends. The devices are the source of the data, the status, and
 -- the output.
-use Rattle.std.specs.Prelude.{◌≡◌, ◌≢◌, ◌⊎◌, ⊤, ℕ, Bool, true, false, ◌&&◌, List, [], ◌∷◌, ◌++◌, Result, Ok, Err}
-use Rattle.std.specs.Prelude.{IsErrAnd}
-use Rattle.minisign_hash.specs.Blake2b.{blake2b_digest}
-use Rattle.minisign_base.specs.Fault.{Fault, Named}
-use Rattle.minisign_base.specs.DeviceCalls.{Flushes, GoesBack, Marks, Puts, RereaderCall, SinkCall}
-use Rattle.minisign_base.specs.Steps.{EndsWith, StepsEnd}
-use Rattle.minisign_base.specs.declared.faults.NamedFault.TheVariants.{DataChanged, GoingBackFailed, OutOfMemory}
-use Rattle.minisign_base.specs.declared.faults.NamedFault.TheVariants.{WritingFailed}
-use Rattle.minisign.specs.Acceptance.{Flags, Verifier, judge, status_lines}
+use Rattle.std.specs.Prelude.{◌≡◌, ◌≢◌, ◌⊎◌, ⊤, ℕ, Bool, true, false, ◌&&◌, List, [], ◌∷◌, ◌++◌, Result, Ok, Err, IsErrAnd}
+use Rattle.minisign.specs.Common.{blake2b_digest, Fault, Named, Flushes, GoesBack, Marks, Puts, RereaderCall, SinkCall, EndsWith, StepsEnd, DataChanged, GoingBackFailed, OutOfMemory, WritingFailed}
+use Rattle.minisign.specs.Acceptance.{Verifier, judge, status_lines}
 use Rattle.minisign.specs.Reading.{Copies, Reads}
 use Rattle.minisign.specs.Records.{PublicKeyRecord, SignatureBoxRecord, is_prehashed}
 use Rattle.minisign.specs.Texts.{IsReadOrNoMemory}
+use Rattle.minisign.specs.declared.options.VerifyOptions.{VerifyOptions}
+use Rattle.minisign.specs.declared.signed_data.SignedData.{SignedData}
+use Rattle.minisign.specs.declared.signed_data.SignedData.TheVariants.{Digest, Kept, Unkept}
 
 -- a stage: the place is marked; the data is read to its end, which gives these bytes; the box is judged for this
 -- message; the status gets a text; the mark is gone back to; the data is read to its end, and what that gives is put to
@@ -36,26 +33,22 @@ pub record Devices (R W O : Type 0) : Type 0 where
 module _ {R W O : Type 0} (reader : RereaderCall R) (status : SinkCall W) (out : SinkCall O) where
   -- how a stage ends; the devices that it does not use stay as they were
   abbrev pub StageEnds : Stage → Result ⊤ Fault → Type 0
-  StageEnds Mark answer =
-      EndsWith (Marks reader (Ok tt)) GoingBackFailed (Marks reader (Err tt)) answer
+  StageEnds Mark answer = EndsWith (Marks reader (Ok tt)) GoingBackFailed (Marks reader (Err tt)) answer
       × (status.new ≡ status.old) × (out.new ≡ out.old)
   StageEnds (Read message) answer = Reads reader message answer × (status.new ≡ status.old) × (out.new ≡ out.old)
-  StageEnds (Judge accepts pk x legacy message) answer =
-      IsReadOrNoMemory answer (judge accepts pk x message legacy)
+  StageEnds (Judge accepts pk x legacy message) answer = IsReadOrNoMemory answer (judge accepts pk x message legacy)
       × (reader.new ≡ reader.old) × (status.new ≡ status.old) × (out.new ≡ out.old)
   StageEnds (Report text) answer =
       ((IsErrAnd answer (λ e. e ≡ Named OutOfMemory) × (status.new ≡ status.old)) ⊎ Puts status text answer)
       × (reader.new ≡ reader.old) × (out.new ≡ out.old)
-  StageEnds Return answer =
-      EndsWith (GoesBack reader (Ok tt)) GoingBackFailed (GoesBack reader (Err tt)) answer
+  StageEnds Return answer = EndsWith (GoesBack reader (Ok tt)) GoingBackFailed (GoesBack reader (Err tt)) answer
       × (status.new ≡ status.old) × (out.new ≡ out.old)
   StageEnds (Copy second) answer = Copies reader out second answer × (status.new ≡ status.old)
   StageEnds (Compare digest second) answer =
       EndsWith (blake2b_digest 64 second ≡ digest) DataChanged (blake2b_digest 64 second ≢ digest) answer
       × (reader.new ≡ reader.old) × (status.new ≡ status.old) × (out.new ≡ out.old)
   StageEnds (Put bytes) answer = Puts out bytes answer × (reader.new ≡ reader.old) × (status.new ≡ status.old)
-  StageEnds Flush answer =
-      EndsWith (Flushes out (Ok tt)) WritingFailed (Flushes out (Err tt)) answer
+  StageEnds Flush answer = EndsWith (Flushes out (Ok tt)) WritingFailed (Flushes out (Err tt)) answer
       × (reader.new ≡ reader.old) × (status.new ≡ status.old)
 
 module _ {R W O : Type 0} (reader : RereaderCall R) (status : SinkCall W) (out : SinkCall O) where
@@ -93,8 +86,29 @@ abbrev pub is_reread : Bool → SignatureBoxRecord → Bool
 is_reread output x = output && is_prehashed x.signature
 
 -- verifying: the data is read, the box is judged, and that is reported; then the data is copied
-abbrev pub verifying_stages : Verifier → PublicKeyRecord → SignatureBoxRecord → Flags → List ℕ → List ℕ → List Stage
-verifying_stages accepts pk x flags message second =
-    reading_stages (is_reread flags.output x) message
-    ++ (Judge accepts pk x flags.legacy message
-    ∷ (reporting_stages flags.quiet x ++ copying_stages flags.output (is_prehashed x.signature) message second))
+abbrev pub verifying_stages : Verifier → PublicKeyRecord → SignatureBoxRecord → VerifyOptions → List ℕ → List ℕ
+    → List Stage
+verifying_stages accepts pk x options message second = reading_stages (is_reread options.output x) message
+    ++ (Judge accepts pk x options.allow_legacy message
+    ∷ (reporting_stages options.quiet x ++ copying_stages options.output (is_prehashed x.signature) message second))
+
+-- the bytes that are held
+abbrev pub held_bytes : SignedData → List ℕ
+held_bytes (Digest digest) = digest
+held_bytes (Kept bytes) = bytes.items
+held_bytes Unkept = []
+
+-- for a prehashed box the digest of the message is held; for another the message where that is allowed, and
+-- nothing where it is not
+abbrev pub HoldsSigned : SignedData → SignatureBoxRecord → Bool → List ℕ → Type 0
+HoldsSigned (Digest digest) x legacy message = (is_prehashed x.signature ≡ true) × (digest ≡ blake2b_digest 64 message)
+HoldsSigned (Kept bytes) x legacy message =
+    (is_prehashed x.signature ≡ false) × (bytes.items ≡ message) × (legacy ≡ true)
+HoldsSigned Unkept x legacy message = (is_prehashed x.signature ≡ false) × (legacy ≡ false)
+
+-- what is copied of data that was read
+abbrev pub held_copy_stages : Bool → SignedData → List ℕ → List Stage
+held_copy_stages false signed second = []
+held_copy_stages true (Digest digest) second = second_copy_stages digest second
+held_copy_stages true (Kept bytes) second = Put bytes.items ∷ Flush ∷ []
+held_copy_stages true Unkept second = []

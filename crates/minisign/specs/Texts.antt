@@ -1,12 +1,12 @@
--- What texts of keys and signatures are made of: lines, base64 as RFC 4648 section 4 has it, and tests
--- in an order.
-use Rattle.std.specs.Prelude.{◌≡◌, ◌↔◌, ◌⊎◌, ℕ, ◌%◌, Bool, if◌then◌else◌, bytes_eq, map, List}
-use Rattle.std.specs.Prelude.{Result, Ok, Err, codes}
+-- What texts of keys and signatures are made of: lines, base64 as RFC 4648 section 4 has it, and tests in an order.
+use Rattle.std.specs.Prelude.{◌≡◌, ◌↔◌, ◌⊎◌, ℕ, ◌%◌, Bool, if◌then◌else◌, bytes_eq, map, List, Result, Ok, Err, codes, [], ◌∷◌, ◌++◌}
+use Rattle.minisign.specs.Common.{Fault, Named, NamedFault, OutOfMemory}
 use Rattle.base64.specs.Engines.{standard}
-use Rattle.base64.specs.GeneralPurpose.{IsBytes, encode_of, decoded_bytes_of}
-use Rattle.minisign_base.specs.Fault.{Fault, Named}
-use Rattle.minisign_base.specs.declared.faults.NamedFault.{NamedFault}
-use Rattle.minisign_base.specs.declared.faults.NamedFault.TheVariants.{OutOfMemory}
+use Rattle.base64.specs.GeneralPurpose.{encode_of, decoded_bytes_of, IsBytes}
+
+-- a text and a line feed
+abbrev pub line : List ℕ → List ℕ
+line text = text ++ 10 ∷ []
 
 -- the base64 of bytes, padded
 unfoldable pub base64_of : List ℕ → List ℕ

@@ -5,13 +5,14 @@ ghost use Rattle.minisign_base.specs.Fault.{Named};
 ghost use Rattle.minisign_base.specs.declared.faults.NamedFault.TheVariants.{OutOfMemory};
 ghost use Rattle.minisign_base.specs.DeviceCalls.{rereader_call, sink_call, unused};
 ghost use Rattle.minisign_base.specs.Devices.{HasGiven};
-ghost use Rattle.minisign.specs.Calls.{CopyIsVouchedWith, IsFileVerdict, TextsVouchWith, flags_in, only_copies, only_reads};
+ghost use Rattle.minisign.specs.Calls.{CopyIsVouchedWith, IsFileVerdict, TextsVouchWith};
+ghost use Rattle.minisign.specs.Acceptance.{options_of};
 ghost use Rattle.minisign.specs.Headline.{WhereNothingFails, verdict};
 ghost use Rattle.minisign.specs.Reading.{IsAhead, ReadingFails, ReadsWhole};
 ghost use Rattle.minisign.specs.Texts.{IsReadOrNoMemory, map_ok};
 ghost use Rattle.minisign.specs.Records.{PublicKeyRecord, SignatureBoxRecord};
 ghost use Rattle.minisign.specs.SignatureText.{read_signature};
-ghost use Rattle.minisign.specs.VerifyingTexts.{VerifyingTextsFails, VerifyingTextsSucceeds, read_texts};
+ghost use Rattle.minisign.specs.Verifying.{VerifyingTextsFails, VerifyingTextsSucceeds, read_texts};
 
 use crate::in_place::{read_public_key, read_signature};
 use crate::judging::judge_view;
@@ -49,17 +50,17 @@ pub fn verify_with<S: Scheme, R: Rereader, W: Sink, O: Sink>(
     // verdict, a function of the two texts, the data and the flag, or out of memory.
     ensures headline { WhereNothingFails options.output (rereader_call R.Source R.steady data_reader.old data_reader.new)
         (sink_call W.Sink status.old status.new) (sink_call O.Sink out.old out.new) (map_ok string_bytes result)
-        (λ message. verdict (S.accepts scheme.now) pk_text.now sig_text.now message options.allow_legacy) }
+        (λ bytes. verdict (S.accepts scheme.now) pk_text.now sig_text.now bytes options.allow_legacy) }
 
     // What is returned is the comment that the signature text holds.
     ensures comment { IfOk result (λ t. map_ok (λ s. s.comments.trusted) (read_signature sig_text.now) ≡ Ok (string_bytes t)) }
 
     // What is said of success and of a refusal is what the clauses `accepted` and `refused` of
     // `verify_texts` say.
-    ensures accepted { OnOk result (VerifyingTextsSucceeds (S.accepts scheme.now) pk_text.now sig_text.now (flags_in options)
+    ensures accepted { OnOk result (VerifyingTextsSucceeds (S.accepts scheme.now) pk_text.now sig_text.now options
         (rereader_call R.Source R.steady data_reader.old data_reader.new)
         (sink_call W.Sink status.old status.new) (sink_call O.Sink out.old out.new)) }
-    ensures refused { IfErr result (VerifyingTextsFails (S.accepts scheme.now) pk_text.now sig_text.now (flags_in options)
+    ensures refused { IfErr result (VerifyingTextsFails (S.accepts scheme.now) pk_text.now sig_text.now options
         (rereader_call R.Source R.steady data_reader.old data_reader.new)
         (sink_call W.Sink status.old status.new) (sink_call O.Sink out.old out.new)) }
 
@@ -235,7 +236,7 @@ pub fn verify_reader<S: Scheme, R: Rereader>(
     // After a refusal a text was refused, or memory ran out for one, with the reader as it was; or
     // it failed at one of the stages of `verify`: at the reading, where memory ran out or the reader
     // failed, or at the judging, which comes once all was read to its end without a fault.
-    ensures failed { IfErr result (VerifyingTextsFails (S.accepts scheme.now) pk_text.now sig_text.now only_reads
+    ensures failed { IfErr result (VerifyingTextsFails (S.accepts scheme.now) pk_text.now sig_text.now (options_of true false false)
         (rereader_call R.Source R.steady data_reader.old data_reader.new) unused unused) }
 
     // Whatever the result, the reader lost at most some bytes at its front.
@@ -306,7 +307,7 @@ pub fn copy_verified<S: Scheme, R: Rereader, O: Sink>(
     // stages of `verify`. So nothing was copied, or the texts vouch for what was read first, and
     // going back, memory, the second reading or the output failed, or the second reading had
     // another digest.
-    ensures refused { IfErr result (VerifyingTextsFails (S.accepts scheme.now) pk_text.now sig_text.now only_copies
+    ensures refused { IfErr result (VerifyingTextsFails (S.accepts scheme.now) pk_text.now sig_text.now (options_of true true false)
         (rereader_call R.Source R.steady data_reader.old data_reader.new) unused (sink_call O.Sink out.old out.new)) }
 {
     verify_with(

@@ -1,9 +1,9 @@
 //! Whether the comment signature of a box is accepted, which signing and verifying both ask.
 
-ghost use Rattle.std.specs.Prelude.{◌≡◌, MatchResult};
+ghost use Rattle.std.specs.Prelude.{◌≡◌, Some, MatchResult};
 ghost use Rattle.minisign_base.specs.Fault.{Named};
 ghost use Rattle.minisign_base.specs.declared.faults.NamedFault.TheVariants.{OutOfMemory};
-ghost use Rattle.minisign.specs.Acceptance.{accepts_comment, accepts_comments};
+ghost use Rattle.minisign.specs.Acceptance.{accepts_comments};
 
 use crate::public_key::PublicKey;
 use crate::signature::Signature;
@@ -40,7 +40,7 @@ fn accepts_comment<S: Scheme>(
     comments: &Comments,
 ) -> Result<bool>
     ensures { MatchResult result
-        (λ b. b ≡ accepts_comment (S.accepts scheme.now) pk.now signature.now comments.now)
+        (λ b. b ≡ accepts_comments (S.accepts scheme.now) pk.now (record { signature = signature.now; comments = Some comments.now }))
         (λ e. e ≡ Named OutOfMemory) }
 {
     if comments.global_sig.len() < 64 {

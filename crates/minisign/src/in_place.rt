@@ -1,14 +1,13 @@
 //! Reading the texts of public keys and signatures where they lie, without memory: what is decoded stands in arrays,
 //! and the comments stay in the text.
 
-ghost use Rattle.std.specs.Prelude.{◌≡◌, ◌==◌, ◌⊎◌, ◌+◌, ◌≤◌, ◌<◌, true, false, Ok, Err, length, MatchResult, IfOk, IfErr};
+ghost use Rattle.std.specs.Prelude.{◌≡◌, ◌==◌, ◌⊎◌, ◌+◌, ◌≤◌, ◌<◌, [], ◌∷◌, true, false, Ok, Err, length, MatchResult, IfOk, IfErr};
 ghost use Rattle.std.specs.Str.{trim};
 ghost use Rattle.minisign_base.specs.Fault.{Named};
 ghost use Rattle.minisign_base.specs.declared.faults.NamedFault.TheVariants.{PublicKeyLineLength, PublicKeyLineNotBase64, RecordTooShort, SignatureNotBase64};
-ghost use Rattle.minisign.specs.InPlace.{first_64, view_of};
+ghost use Rattle.minisign.specs.SignatureText.{first_64, view_of, EncodesSignature, read_signature, signature_in_lines};
 ghost use Rattle.minisign.specs.PublicKeyText.{decoded_key, read_bare_public_key, read_public_key};
 ghost use Rattle.minisign.specs.Records.{IsKnownAlgorithm, is_prehashed};
-ghost use Rattle.minisign.specs.SignatureText.{EncodesSignature, read_signature, signature_in_four};
 ghost use Rattle.minisign.specs.Texts.{base64_bytes, is_base64, map_ok, require};
 
 use crate::base64_front::{decode_front, is_base64};
@@ -34,7 +33,7 @@ pub struct SignatureView<'a> {
 }
 
 impl<'a> Model for SignatureView<'a> {
-    ghost use Rattle.minisign.specs.InPlace.{SignatureViewRecord};
+    ghost use Rattle.minisign.specs.SignatureText.{SignatureViewRecord};
 
     ghost Value = { SignatureViewRecord };
 
@@ -204,7 +203,7 @@ fn read_lines<'a>(
     third: &'a str,
     fourth: &'a str,
 ) -> Result<SignatureParts<'a>>
-    ensures read { IfOk result (λ p. signature_in_four first.now second.now third.now fourth.now ≡ Ok (record {
+    ensures read { IfOk result (λ p. signature_in_lines (first.now ∷ second.now ∷ third.now ∷ fourth.now ∷ []) ≡ Ok (record {
       signature = p.signature;
       comments = record {
         untrusted = p.untrusted_comment.now;
@@ -214,7 +213,7 @@ fn read_lines<'a>(
     })) }
     ensures parts { IfOk result (λ p. (is_base64 p.comment_signature.now ≡ true) × IsKnownAlgorithm p.signature.algorithm
         × (64 + length p.trusted_comment.now ≤ length second.now + length third.now)) }
-    ensures refused { IfErr result (λ e. signature_in_four first.now second.now third.now fourth.now ≡ Err e) }
+    ensures refused { IfErr result (λ e. signature_in_lines (first.now ∷ second.now ∷ third.now ∷ fourth.now ∷ []) ≡ Err e) }
 {
     let untrusted_comment = untrusted_comment_in(first)?;
     let signature = decode_signature(second.trim())?;

@@ -3,10 +3,9 @@
 
 ghost use Rattle.std.specs.Prelude.{◌≡◌, ◌+◌, ◌≤◌, ◌++◌, if◌then◌else◌, length, take};
 ghost use Rattle.minisign_hash.specs.Blake2b.{blake2b_digest};
-ghost use Rattle.minisign.specs.Acceptance.{accepts_comment, judge, judge_key};
-ghost use Rattle.minisign.specs.InPlace.{view_of};
+ghost use Rattle.minisign.specs.Acceptance.{accepts_comments, judge, judge_key};
+ghost use Rattle.minisign.specs.SignatureText.{view_of, SignatureTextRecord, box_of};
 ghost use Rattle.minisign.specs.Records.{is_prehashed};
-ghost use Rattle.minisign.specs.SignatureText.{SignatureTextRecord, box_of};
 
 use crate::constants::SIGALG_PREHASHED;
 use crate::in_place::SignatureView;
@@ -89,7 +88,7 @@ fn accepts_told_comment<S: Scheme>(
 ) -> bool
     requires { 64 + length view.now.trusted ≤ length room.old }
     ensures { (t : SignatureTextRecord) → view.now ≡ view_of t
-        → result ≡ accepts_comment (S.accepts scheme.now) pk.now t.signature t.comments }
+        → result ≡ accepts_comments (S.accepts scheme.now) pk.now (box_of t) }
 {
     match view.comment_signature() {
         Some(comment_signature) => {

@@ -12,9 +12,9 @@ ghost use Rattle.minisign.specs.Generation.{IsSealedPair, OpensToPair};
 ghost use Rattle.minisign.specs.Headline.{SigningHeadline};
 ghost use Rattle.minisign.specs.Reading.{ReadsWhole};
 ghost use Rattle.minisign.specs.Sealing.{is_encrypted};
-ghost use Rattle.minisign.specs.Signing.{KeySigningFails, chosen_of, given_comments};
+ghost use Rattle.minisign.specs.Signing.{KeySigningFails, given_comments};
 ghost use Rattle.minisign.specs.SigningTexts.{HasSignedText, IsSignedText};
-ghost use Rattle.minisign.specs.OpenedTexts.{key_with_password};
+ghost use Rattle.minisign.specs.Opening.{key_with_password};
 ghost use Rattle.minisign.specs.Texts.{IsReadOrNoMemory};
 
 use crate::keypair::{KeyPair, draw_with_salt, make_sealed_pair};
@@ -283,7 +283,8 @@ fn sign_opened_file<S: Scheme, R: Source, Z: RandomSource>(
 ) -> Result<String>
     requires { is_encrypted sk.now ≡ false }
     ensures signed { IfOk result (λ t. (message : List ℕ)
-        × HasSignedText S.Scheme scheme.now sk.now message (chosen_of comments.entry)
+        × HasSignedText S.Scheme scheme.now sk.now message
+        (given_comments comments.entry.trusted comments.entry.untrusted comments.entry.moment)
         (random_call Z.RandomSource random.old random.new) (string_bytes t)) }
     ensures random_no_new_fault { OnOk result (Z.random_faults random.new ≡ Z.random_faults random.old) }
     ensures refused { IfErr result (PathSigningFails sk.now (random_call Z.RandomSource random.old random.new)) }

@@ -1,4 +1,4 @@
-//! A key's bytes beside its identifier.
+//! A key's bytes beside its key ID.
 
 ghost use Rattle.std.specs.Prelude.{◌≡◌, ◌&&◌, Some, bytes_eq};
 ghost use Rattle.std.specs.Cmp.{on_per, on_equiv, and_per, and_equiv, partial_equiv_from_equiv};
@@ -8,16 +8,16 @@ ghost use Rattle.minisign.specs.Records.{secret_text};
 use minisign_hash::util::fixed_time_eq;
 use std::fmt;
 
-/// A public key: an identifier of 8 bytes, and the 32 bytes of the key.
+/// A public key: a key ID of 8 bytes, and the 32 bytes of the key.
 #[derive(Clone, Debug, Drop)]
 pub struct KeynumPK {
-    /// The identifier, which a signature repeats.
+    /// The key ID, which a signature repeats.
     pub keynum: [u8; 8],
     /// The bytes of the key.
     pub pk: [u8; 32],
 }
 
-/// The identifier and the key bytes count. This is an equivalence.
+/// The key ID and the key bytes count. This is an equivalence.
 impl PartialEq for KeynumPK {
     ghost eq = { λ a b. bytes_eq a.keynum b.keynum && bytes_eq a.pk b.pk };
 
@@ -32,11 +32,11 @@ impl Eq for KeynumPK {
     ghost laws = { and_equiv (on_equiv (λ k. k.keynum) nat_list_eq_equiv) (on_equiv (λ k. k.pk) nat_list_eq_equiv) };
 }
 
-/// A secret key: an identifier of 8 bytes, the 64 secret bytes, which are those of a seed and of
+/// A secret key: a key ID of 8 bytes, the 64 secret bytes, which are those of a seed and of
 /// its public key, and a checksum of 32.
 #[derive(Clone, Drop)]
 pub struct KeynumSK {
-    /// The identifier, which a signature repeats.
+    /// The key ID, which a signature repeats.
     pub keynum: [u8; 8],
     /// The secret bytes.
     pub sk: [u8; 64],
@@ -66,7 +66,7 @@ impl fmt::Debug for KeynumSK {
     }
 }
 
-/// The identifier and the secret bytes count, and not the checksum.
+/// The key ID and the secret bytes count, and not the checksum.
 impl PartialEq for KeynumSK {
     ghost eq = { λ a b. bytes_eq a.keynum b.keynum && bytes_eq a.sk b.sk };
 

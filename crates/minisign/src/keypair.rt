@@ -15,8 +15,8 @@ ghost use Rattle.minisign_base.specs.Passwords.{password_of};
 ghost use Rattle.minisign.specs.NewPassword.{IsSealing, choosing_steps, sealing_steps};
 ghost use Rattle.minisign.specs.PublicKeyText.{public_key_text};
 ghost use Rattle.minisign.specs.SecretKeyText.{read_secret_key, secret_key_text};
-ghost use Rattle.minisign.specs.Generation.{AreSeedAndKeynum, HasSealed, IsGenuinePair, IsSealedOf, IsUnsealedPair, OpensOnlyTo, OpensToPair, PartsFail, RawPairFails, SealedPairFails, SealedTextsFail, public_key_of, secret_of, unsealed_key};
-ghost use Rattle.minisign.specs.OpenedTexts.{read_unencrypted_key};
+ghost use Rattle.minisign.specs.Generation.{AreSeedAndKeynum, HasSealed, IsGenuinePair, IsSealedOf, IsUnsealedPair, OpensToPair, PartsFail, RawPairFails, SealedPairFails, SealedTextsFail, public_key_of, secret_of, unsealed_key};
+ghost use Rattle.minisign.specs.Opening.{OpensTo, read_unencrypted_key};
 
 use crate::constants::{MEMLIMIT, OPSLIMIT, SIGALG};
 use crate::drawing::{draw, draw_two};
@@ -237,7 +237,7 @@ impl KeyPair {
         ensures opens_again { IfSome comment.entry (λ s. LacksByte 10 s.now)
             → IfOk result (λ pair. (typed : List ℕ) →
             OpensToPair (S.public_of scheme.now) typed pair.pk pair.sk →
-            OpensOnlyTo (secret_key_text (option_copied comment.entry) pair.sk) typed
+            OpensTo (secret_key_text (option_copied comment.entry) pair.sk) typed 1
             (xored_key pair.sk typed)) }
 
         // On success the random source did not fail.
@@ -306,7 +306,7 @@ fn ask_and_seal<S: Scheme, R: Source, W: Sink>(
 }
 
 // Says what a password is for, and asks for it twice.
-#[tactic(auto, unfolding(crate::specs::PromptTexts::purpose_line, crate::specs::PromptTexts::asking_text, crate::specs::PromptTexts::second_question))]
+#[tactic(auto, unfolding(crate::specs::Opening::purpose_line, crate::specs::Opening::asking_text, crate::specs::Opening::second_question))]
 fn choose_password<R: Source, W: Sink>(alloc: Global, prompt: &mut Prompt<R, W>) -> Result<String>
     ensures chosen { IfOk result (λ password. (first : List ℕ) × (second : List ℕ)
         × (password_of first ≡ Ok (string_bytes password))
@@ -326,7 +326,7 @@ fn choose_password<R: Source, W: Sink>(alloc: Global, prompt: &mut Prompt<R, W>)
 }
 
 // Seals a pair under a password, and tells of it.
-#[tactic(auto, unfolding(crate::specs::PromptTexts::sealing_text, crate::specs::PromptTexts::done_text))]
+#[tactic(auto, unfolding(crate::specs::Opening::sealing_text, crate::specs::Opening::done_text))]
 fn seal_aloud<S: Scheme, R: Source, W: Sink>(
     alloc: Global,
     scheme: &S,

@@ -1,19 +1,19 @@
 //! The key of a text: opened with a password where it is sealed.
 
-ghost use Rattle.std.specs.Prelude.{◌≡◌, ◌≤◌, ◌⊎◌, ℕ, List, None, Some, Ok, Err, false, string_bytes, IfOk, IfErr, IsErrAnd, MatchResult, OnOk};
+ghost use Rattle.std.specs.Prelude.{◌≡◌, ◌≤◌, ◌⊎◌, ◌∷◌, [], ℕ, List, None, Some, Ok, Err, false, string_bytes, IfOk, IfErr, IsOk, IsErrAnd, MatchResult, OnOk};
 ghost use Rattle.std.specs.Option.{option_map};
+ghost use Rattle.std.specs.Result.{result_err};
 ghost use Rattle.minisign.specs.Headline.{OpeningHeadline};
-ghost use Rattle.minisign.specs.Sealing.{is_encrypted, open_sealed, restored_key, sealed_by_scrypt};
-ghost use Rattle.minisign.specs.Opening.{IsOpening, ending_steps, opening_steps, telling_steps};
-ghost use Rattle.minisign.specs.PromptTexts.{asking_text, deriving_text, done_text};
+ghost use Rattle.minisign.specs.Sealing.{allowed_work, is_encrypted, open_sealed, restored_key, sealed_by_scrypt};
+ghost use Rattle.minisign.specs.Opening.{IsOpening, opening_steps, telling_steps, asking_text, deriving_text, done_text, read_unencrypted_key};
+ghost use Rattle.minisign_base.specs.Fault.{Named};
+ghost use Rattle.minisign_base.specs.declared.faults.NamedFault.TheVariants.{OutOfMemory};
 ghost use Rattle.minisign_base.specs.DeviceCalls.{prompt_call};
-ghost use Rattle.minisign_base.specs.Prompts.{ConversationEnds, Say, StepEnds, asking_steps};
+ghost use Rattle.minisign_base.specs.Prompts.{ConversationEnds, Say, StepEnds, Test, asking_steps};
 ghost use Rattle.minisign_base.specs.Passwords.{password_of};
 ghost use Rattle.minisign_base.specs.Steps.{without_value};
-ghost use Rattle.minisign.specs.OpenedTexts.{read_unencrypted_key};
 ghost use Rattle.minisign.specs.SecretKeyText.{read_secret_key};
-ghost use Rattle.minisign.specs.TextFiles.{IsTextFileFault};
-ghost use Rattle.minisign.specs.Texts.{IsReadOrNoMemory};
+ghost use Rattle.minisign.specs.Reading.{IsTextFileFault};
 
 use crate::constants::{KDF_ALG, KDF_NONE};
 use crate::reading::read_text_file;
@@ -47,11 +47,11 @@ impl SecretKeyBox {
     }
 
     /// The key, where it was never sealed: `SecretKey::from_unencrypted_box`.
-    pub fn into_unencrypted_secret_key(self, alloc: Global) -> Result<SecretKey>
+    pub fn into_unencrypted_secret_key(self) -> Result<SecretKey>
         // The text that it holds is read, and refused, as `SecretKey::from_unencrypted_box` says.
-        ensures { IsReadOrNoMemory result (read_unencrypted_key self) }
+        ensures { result ≡ read_unencrypted_key self }
     {
-        SecretKey::from_unencrypted_box(alloc, self)
+        SecretKey::from_unencrypted_box(self)
     }
 }
 
@@ -153,9 +153,9 @@ impl SecretKey {
         // or first fault, or out of memory. The prompt is left untouched.
         //
         // With a password that is asked for: what was typed opens the key so, and the prompt wrote
-        // what docs/FORMATS.md says; a text that no password opens, and running out of
-        // memory for it, leave the prompt untouched; then come the prompt's faults, and what
-        // refuses the key with the password, each with what was written by then (`StepEnds`).
+        // what docs/FORMATS.md says; a text that no password opens leaves the prompt untouched;
+        // then come the prompt's faults, and what refuses the key with the password, each with
+        // what was written by then (`StepEnds`).
         ensures opens { IsOpening (prompt_call R.Source W.Sink prompt.old prompt.new)
             (option_map string_bytes password) sk_box (Some max_p) result }
 
@@ -205,13 +205,13 @@ impl SecretKey {
     ///
     /// Refused are, in this order: a text without a first line, without a second one, with a second
     /// line that is not base64, or of fewer than 158 bytes; a key derivation other than two zero
-    /// bytes; a checksum that does not match.
-    pub fn from_unencrypted_box(alloc: Global, sk_box: SecretKeyBox) -> Result<SecretKey>
+    /// bytes; a checksum that does not match. Does not allocate.
+    pub fn from_unencrypted_box(sk_box: SecretKeyBox) -> Result<SecretKey>
         // A key that was never sealed is read exactly when its text reads as a key, names no key
-        // derivation and has a matching checksum; otherwise it is the first fault, or out of memory.
-        ensures { IsReadOrNoMemory result (read_unencrypted_key sk_box) }
+        // derivation and has a matching checksum; otherwise it is the first fault.
+        ensures { result ≡ read_unencrypted_key sk_box }
     {
-        let sk = SecretKey::from_text(alloc, sk_box.as_str())?;
+        let sk = SecretKey::from_text(sk_box.as_str())?;
         sk.test_unencrypted()?;
         Ok(sk)
     }
@@ -230,7 +230,7 @@ impl SecretKey {
         ensures headline { OpeningHeadline
             (option_map string_bytes password) sk_box derivation.bound result }
     {
-        let sk = SecretKey::from_text(alloc, sk_box.as_str())?;
+        let sk = SecretKey::from_text(sk_box.as_str())?;
         sk.open(alloc, password, prompt, derivation)
     }
 
@@ -311,7 +311,8 @@ impl SecretKey {
 
     // Says that the key was derived, and only then tests that opening restored the checksum.
     fn finish_telling<R: Source, W: Sink>(&self, prompt: &mut Prompt<R, W>) -> Result<()>
-        ensures ended { ConversationEnds (prompt_call R.Source W.Sink prompt.old prompt.new) (ending_steps self.now) result }
+        ensures ended { ConversationEnds (prompt_call R.Source W.Sink prompt.old prompt.new)
+            (Say done_text ∷ Test (result_err (restored_key self.now)) ∷ []) result }
         ensures restored { OnOk result (restored_key self.now ≡ Ok self.now) }
     {
         say_done(prompt)?;
@@ -326,7 +327,8 @@ impl SecretKey {
         derivation: Derivation,
     ) -> Result<SecretKey>
         requires { 1 ≤ derivation.k }
-        ensures { IsReadOrNoMemory result (open_sealed self password.now derivation.bound) }
+        ensures { (result ≡ open_sealed self password.now derivation.bound)
+            ⊎ ((result ≡ Err (Named OutOfMemory)) × IsOk (allowed_work self derivation.bound)) }
     {
         let mut sk = self;
         sk.apply_stream(alloc, password, derivation)?;
@@ -346,7 +348,7 @@ impl SecretKey {
 }
 
 // Asks for the password.
-#[tactic(auto, unfolding(crate::specs::PromptTexts::asking_text))]
+#[tactic(auto, unfolding(crate::specs::Opening::asking_text))]
 fn ask_password<R: Source, W: Sink>(alloc: Global, prompt: &mut Prompt<R, W>) -> Result<String>
     ensures asked { IfOk result (λ password. (bytes : List ℕ)
         × (password_of bytes ≡ Ok (string_bytes password))
@@ -360,7 +362,7 @@ fn ask_password<R: Source, W: Sink>(alloc: Global, prompt: &mut Prompt<R, W>) ->
 }
 
 // Says that the key is being derived.
-#[tactic(auto, unfolding(crate::specs::PromptTexts::deriving_text))]
+#[tactic(auto, unfolding(crate::specs::Opening::deriving_text))]
 fn say_deriving<R: Source, W: Sink>(prompt: &mut Prompt<R, W>) -> Result<()>
     ensures ended { StepEnds (prompt_call R.Source W.Sink prompt.old prompt.new)
         (Say deriving_text) result }
@@ -369,7 +371,7 @@ fn say_deriving<R: Source, W: Sink>(prompt: &mut Prompt<R, W>) -> Result<()>
 }
 
 // Says that the key was derived.
-#[tactic(auto, unfolding(crate::specs::PromptTexts::done_text))]
+#[tactic(auto, unfolding(crate::specs::Opening::done_text))]
 fn say_done<R: Source, W: Sink>(prompt: &mut Prompt<R, W>) -> Result<()>
     ensures ended { StepEnds (prompt_call R.Source W.Sink prompt.old prompt.new)
         (Say done_text) result }

@@ -1,13 +1,12 @@
 //! The parts of keys and boxes that a caller needs whose signature scheme stands outside.
 
-ghost use Rattle.std.specs.Prelude.{◌≡◌, ◌≤◌, ◌+◌, ◌++◌, None, Some, IfOk, IfErr, MatchOption, IsSomeAnd, length, take};
+ghost use Rattle.std.specs.Prelude.{◌≡◌, ◌≤◌, ◌+◌, ◌++◌, ◌⊎◌, None, Some, Err, IsOk, IfOk, IfErr, MatchOption, IsSomeAnd, length, take};
 ghost use Rattle.minisign_base.specs.Fault.{Named};
 ghost use Rattle.minisign_base.specs.declared.faults.NamedFault.TheVariants.{OutOfMemory};
 ghost use Rattle.minisign.specs.Records.{prehashed_algorithm};
 ghost use Rattle.minisign_base.specs.Steps.{without_value};
-ghost use Rattle.minisign.specs.OpeningWork.{opening_work, wants_password};
-ghost use Rattle.minisign.specs.Sealing.{open_sealed, sealed_by_scrypt, unencrypted_key};
-ghost use Rattle.minisign.specs.Texts.{IsReadOrNoMemory, and_then};
+ghost use Rattle.minisign.specs.Sealing.{allowed_work, open_sealed, opening_work, sealed_by_scrypt, unencrypted_key, wants_password};
+ghost use Rattle.minisign.specs.Texts.{and_then};
 
 use crate::constants::{KDF_NONE, SIGALG_PREHASHED};
 use crate::public_key::PublicKey;
@@ -107,7 +106,8 @@ impl SecretKey {
     ///
     /// Refused are, in this order: a key that was never sealed, `KeyNotEncrypted`; one that is not sealed by scrypt,
     /// `UnsupportedEncryptionAlgorithm`; limits, with `ParametersTooHigh` or `InvalidParameters`; p above `max_p`,
-    /// `WorkTooHigh`; a checksum that opening does not restore, `WrongPassword`. It may run out of memory for the rows.
+    /// `WorkTooHigh`; a checksum that opening does not restore, `WrongPassword`. It may run out of memory for the rows,
+    /// where all of these but the last let it derive.
     pub fn open_keeping_within(
         self,
         alloc: Global,
@@ -118,9 +118,11 @@ impl SecretKey {
         requires kept { 1 ≤ k }
 
         // A key that was read opens under the password as its text does, whatever number of rows is kept: it is the key
-        // opened, or the first fault, or out of memory.
-        ensures { IsReadOrNoMemory result (and_then (sealed_by_scrypt self)
-            (λ sealed. open_sealed sealed password.now (Some max_p))) }
+        // opened, or the first fault. Only a key that is sealed by scrypt, with limits that are allowed and p within the
+        // bound, may meet out of memory.
+        ensures { (result ≡ and_then (sealed_by_scrypt self) (λ sealed. open_sealed sealed password.now (Some max_p)))
+            ⊎ ((result ≡ Err (Named OutOfMemory))
+            × IsOk (and_then (sealed_by_scrypt self) (λ sealed. allowed_work sealed (Some max_p)))) }
     {
         self.test_sealed()?;
         let bound = Some(max_p);

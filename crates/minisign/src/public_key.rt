@@ -9,7 +9,7 @@ ghost use Rattle.minisign.specs.Texts.{base64_of};
 ghost use Rattle.minisign.specs.Records.{own_public_key};
 ghost use Rattle.minisign.specs.PublicKeyText.{commented_public_key_text, public_key_text, read_bare_public_key, read_public_key};
 ghost use Rattle.std.specs.Str.Iter.{LacksByte};
-ghost use Rattle.minisign.specs.TextFiles.{IsReadFromFile};
+ghost use Rattle.minisign.specs.Reading.{IsReadFromFile};
 
 use crate::constants::COMMENT_PREFIX;
 use crate::fields::{push_three, split_three};
@@ -183,12 +183,10 @@ impl PublicKey {
 
     /// The 42 bytes that `from_bytes` reads as this key. Only running out of memory is refused.
     pub fn to_bytes(&self, alloc: Global) -> Result<Vec<u8>>
-        // The bytes are those of the record, and are read as this record and no other; the only
-        // refusal is out of memory.
+        // The bytes are those of the record, and are read as this record, and by the law `texts_are_decided` as no
+        // other; the only refusal is out of memory.
         ensures bytes { IfOk result (λ v. v.items ≡ public_key_bytes self.now) }
         ensures reads_back { IfOk result (λ v. ReadsPublicKey v.items self.now) }
-        ensures one_reading { IfOk result
-            (λ v. (other : PublicKeyRecord) → ReadsPublicKey v.items other → other ≡ self.now) }
         ensures refused { IfErr result (λ e. e ≡ Named OutOfMemory) }
     {
         let mut bytes = Vec::with_capacity(alloc, 42)?;

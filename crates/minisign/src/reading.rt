@@ -6,8 +6,7 @@ ghost use Rattle.minisign_hash.specs.Fed.{IsFed, has_finalized, output_length};
 ghost use Rattle.minisign_base.specs.Devices.{Rose, HasGiven};
 ghost use Rattle.minisign_base.specs.Fault.{Named};
 ghost use Rattle.minisign_base.specs.declared.faults.NamedFault.TheVariants.{OutOfMemory};
-ghost use Rattle.minisign.specs.Reading.{IsReadFault, ReadsWhole};
-ghost use Rattle.minisign.specs.TextFiles.{IsTextFault, IsTextFileFault};
+ghost use Rattle.minisign.specs.Reading.{IsReadFault, ReadsWhole, IsTextFault, IsTextFileFault};
 
 use minisign_base::devices::DeviceFault;
 use minisign_base::devices::sources::{ReaderSource, Source};

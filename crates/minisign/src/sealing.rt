@@ -1,12 +1,13 @@
 //! Sealing and opening: the last 104 bytes of a secret key are xored with a stream of scrypt.
 
-ghost use Rattle.std.specs.Prelude.{◌≡◌, ◌≤◌, ◌⊎◌, ℕ, List, None, Some, Ok, Err, length, bit_xor, MatchResult, IfOk, IfErr, OnOk, OnErr};
-ghost use Rattle.std.specs.Int.{to_le_bytes, w64};
+ghost use Rattle.std.specs.Prelude.{◌≡◌, ◌≤◌, ◌⊎◌, ℕ, List, None, Some, Ok, Err, length, bit_xor, IsOk, MatchResult, IfOk, IfErr, OnOk, OnErr};
+ghost use Rattle.std.specs.Int.{from_le_bytes, to_le_bytes, w64};
 ghost use Rattle.std.specs.Simd.Lanes.{zip2};
 ghost use Rattle.minisign_base.specs.Fault.{Named};
+ghost use Rattle.minisign_base.specs.Limits.{numbers};
 ghost use Rattle.minisign_base.specs.declared.faults.NamedFault.TheVariants.{OutOfMemory};
 ghost use Rattle.minisign.specs.Generation.{key_to_seal, unsealed_key};
-ghost use Rattle.minisign.specs.Sealing.{allowed_work, key_limits, key_numbers, key_xor, stream_of, xored_key};
+ghost use Rattle.minisign.specs.Sealing.{allowed_work, key_limits, key_xor, stream_of, xored_key};
 
 use crate::constants::KDF_ALG;
 use crate::secret_key::SecretKey;
@@ -59,9 +60,9 @@ impl SecretKey {
         requires { 1 ≤ derivation.k }
         ensures xored { OnOk result (self.new ≡ xored_key self.old password.now) }
         ensures restores { OnOk result (xored_key self.new password.now ≡ self.old) }
-        ensures allowed { OnOk result (allowed_work self.old derivation.bound ≡ Ok (key_numbers self.old)) }
+        ensures allowed { OnOk result (IsOk (allowed_work self.old derivation.bound)) }
         ensures refused { IfErr result (λ e.
-            ((e ≡ Named OutOfMemory) × (allowed_work self.old derivation.bound ≡ Ok (key_numbers self.old)))
+            ((e ≡ Named OutOfMemory) × IsOk (allowed_work self.old derivation.bound))
             ⊎ (allowed_work self.old derivation.bound ≡ Err e)) }
         ensures same { OnErr result (self.new ≡ self.old) }
     {
@@ -104,9 +105,9 @@ fn derive_stream(
 ) -> Result<[u8; 104]>
     requires { 1 ≤ derivation.k }
     ensures stream { IfOk result (λ s. s ≡ stream_of sk.now password.now) }
-    ensures allowed { OnOk result (allowed_work sk.now derivation.bound ≡ Ok (key_numbers sk.now)) }
+    ensures allowed { OnOk result (IsOk (allowed_work sk.now derivation.bound)) }
     ensures refused { IfErr result (λ e.
-        ((e ≡ Named OutOfMemory) × (allowed_work sk.now derivation.bound ≡ Ok (key_numbers sk.now)))
+        ((e ≡ Named OutOfMemory) × IsOk (allowed_work sk.now derivation.bound))
         ⊎ (allowed_work sk.now derivation.bound ≡ Err e)) }
 {
     let params = bounded_params(sk, derivation.bound)?;
@@ -127,7 +128,8 @@ fn derive_stream(
 #[tactic(auto, using(crate::proofs::SealingLimits::allowed_numbers))]
 fn bounded_params(sk: &SecretKey, bound: Option<u32>) -> Result<Params>
     ensures { MatchResult result
-        (λ v. (key_numbers sk.now ≡ v) × (allowed_work sk.now bound ≡ Ok v))
+        (λ v. (numbers (from_le_bytes w64 sk.now.memory_limit) (from_le_bytes w64 sk.now.operations_limit) ≡ v)
+        × (allowed_work sk.now bound ≡ Ok v))
         (λ e. allowed_work sk.now bound ≡ Err e) }
 {
     let params = key_params(sk)?;

@@ -1,15 +1,16 @@
 //! Reading the text of a secret key where it lies, without memory.
 
 ghost use Rattle.std.specs.Prelude.{◌≡◌};
-ghost use Rattle.minisign.specs.SecretKeyText.{read_secret_key, secret_key_in_line, secret_key_of_bytes};
-ghost use Rattle.minisign.specs.Texts.{map_ok};
+ghost use Rattle.minisign_base.specs.declared.faults.NamedFault.TheVariants.{SecretKeyNotBase64};
+ghost use Rattle.minisign.specs.SecretKeyText.{read_secret_key, read_secret_key_bytes, secret_key_of_bytes};
+ghost use Rattle.minisign.specs.Texts.{base64_bytes, is_base64, map_ok, require};
 
 use crate::base64_front::decode_front;
 use crate::texts::next_line;
 use minisign_base::{NamedFault, Result};
 
-/// Reads the text of a secret key as it stands, of a sealed key the sealed bytes, as `SecretKey::from_text` does: the
-/// 158 bytes of the key's record, which `SecretKey::from_bytes` reads.
+/// Reads the text of a secret key as it stands, of a sealed key the sealed bytes: the 158 bytes of the key's
+/// record, which `SecretKey::from_bytes` reads.
 ///
 /// Refused are, in this order: a text without a first line, without a second one, with a second line that is not
 /// base64, or of fewer than 158 bytes. Does not allocate.
@@ -30,7 +31,8 @@ pub fn read_secret_key(text: &str) -> Result<[u8; 158]>
 
 // The record that the second line of a text is the base64 of, whatever stands behind it.
 fn decode_record(encoded: &str) -> Result<[u8; 158]>
-    ensures { secret_key_in_line encoded.now ≡ map_ok secret_key_of_bytes result }
+    ensures { require (is_base64 encoded.now) SecretKeyNotBase64 (read_secret_key_bytes (base64_bytes encoded.now))
+        ≡ map_ok secret_key_of_bytes result }
 {
     let mut decoded = [0u8; 159];
     let Some(count) = decode_front(encoded.as_bytes(), &mut decoded) else {

@@ -5,14 +5,14 @@ ghost use Rattle.std.specs.Str.Iter.{LacksByte};
 ghost use Rattle.std.specs.Option.{option_copied};
 ghost use Rattle.minisign_base.specs.Fault.{Named};
 ghost use Rattle.minisign_base.specs.declared.faults.NamedFault.TheVariants.{OutOfMemory};
-ghost use Rattle.minisign.specs.SecretKeyText.{read_secret_key, secret_key_in_line, secret_key_text};
-ghost use Rattle.minisign.specs.Texts.{IsReadOrNoMemory};
+ghost use Rattle.minisign.specs.SecretKeyText.{read_secret_key, secret_key_text};
 
 use crate::constants::{COMMENT_PREFIX, SECRETKEY_DEFAULT_COMMENT};
 use crate::secret_key::SecretKey;
 use crate::secret_key_box::SecretKeyBox;
-use crate::texts::{decode, encode, next_line, push_line};
-use minisign_base::{NamedFault, Result};
+use crate::secret_key_in_place::read_secret_key;
+use crate::texts::{encode, push_line};
+use minisign_base::Result;
 use std::alloc::Global;
 
 impl SecretKey {
@@ -21,31 +21,14 @@ impl SecretKey {
     /// not looked at; later bytes and later lines are ignored.
     ///
     /// Refused are, in this order: a text without a first line, without a second one, with a second
-    /// line that is not base64, or of fewer than 158 bytes. It may run out of memory at any time.
-    pub fn from_text(alloc: Global, text: &str) -> Result<SecretKey>
+    /// line that is not base64, or of fewer than 158 bytes. Does not allocate.
+    pub fn from_text(text: &str) -> Result<SecretKey>
         // What the text reads as, by the function of its grammar: the key, sealed or not, or the
-        // first fault; or out of memory.
-        ensures { IsReadOrNoMemory result (read_secret_key text.now) }
+        // first fault.
+        ensures { result ≡ read_secret_key text.now }
     {
-        let mut lines = text.lines();
-        let Some(_comment) = next_line(&mut lines) else {
-            return Err(NamedFault::MissingSecretKeyComment.into());
-        };
-        let Some(encoded) = next_line(&mut lines) else {
-            return Err(NamedFault::MissingEncodedSecretKey.into());
-        };
-        SecretKey::from_line(alloc, encoded)
-    }
-
-    // Reads the second line of a text.
-    #[tactic(auto, using(crate::proofs::SecretKeyTexts::line_is_read))]
-    fn from_line(alloc: Global, encoded: &str) -> Result<SecretKey>
-        ensures { IsReadOrNoMemory result (secret_key_in_line encoded.now) }
-    {
-        let Some(bytes) = decode(alloc, encoded)? else {
-            return Err(NamedFault::SecretKeyNotBase64.into());
-        };
-        SecretKey::from_bytes(&bytes)
+        let record = read_secret_key(text)?;
+        SecretKey::from_bytes(&record)
     }
 
     /// Writes the key as a text: `untrusted comment: ` and the comment, or

@@ -59,12 +59,10 @@ impl SignatureBones {
     /// The 74 bytes that `from_bytes` reads as this signature. Only running out of memory is
     /// refused.
     pub fn to_bytes(&self, alloc: Global) -> Result<Vec<u8>>
-        // The bytes are those of the record, and are read as this record and no other; the only
-        // refusal is out of memory.
+        // The bytes are those of the record, and are read as this record, and by the law `texts_are_decided` as no
+        // other; the only refusal is out of memory.
         ensures bytes { IfOk result (λ v. v.items ≡ signature_bytes self.now) }
         ensures reads_back { IfOk result (λ v. ReadsSignature v.items self.now) }
-        ensures one_reading { IfOk result
-            (λ v. (other : SignatureRecord) → ReadsSignature v.items other → other ≡ self.now) }
         ensures len { IfOk result (λ v. vec_len v ≡ Self.BYTES) }
         ensures refused { IfErr result (λ e. e ≡ Named OutOfMemory) }
     {

@@ -1,11 +1,11 @@
 //! A signature with its comments.
 
-ghost use Rattle.std.specs.Prelude.{◌≡◌, ◌≢◌, ◌+◌, ◌≤◌, ◌++◌, List, ℕ, false, None, Some, Ok, Err, length, string_bytes, MatchOption, MatchResult, IfOk, IfErr, IfSome};
+ghost use Rattle.std.specs.Prelude.{◌≡◌, ◌≢◌, ◌||◌, ◌+◌, ◌≤◌, [], ◌∷◌, ◌++◌, List, ℕ, bytes_eq, false, None, Some, Ok, Err, length, string_bytes, MatchOption, MatchResult, IfOk, IfErr, IfSome};
 ghost use Rattle.minisign_base.specs.Fault.{Named};
 ghost use Rattle.minisign_base.specs.declared.faults.NamedFault.TheVariants.{OutOfMemory, SignatureBoxIncomplete, TrustedCommentAbsent, TrustedCommentPrefix, UnsupportedSignatureAlgorithm, UntrustedCommentPrefix};
-ghost use Rattle.minisign.specs.Records.{CommentsRecord, SignatureBoxRecord, IsKnownAlgorithm};
-ghost use Rattle.minisign.specs.SignatureText.{AreOneLine, AreReadBack, box_read_back, comments_read_back, is_known_algorithm, read_signature, read_signature_box, signature_in_four, signature_text, trusted_comment_label};
-ghost use Rattle.minisign.specs.TextFiles.{IsReadFromFile};
+ghost use Rattle.minisign.specs.Records.{CommentsRecord, SignatureBoxRecord, IsKnownAlgorithm, legacy_algorithm, prehashed_algorithm};
+ghost use Rattle.minisign.specs.SignatureText.{AreOneLine, AreReadBack, box_read_back, comments_read_back, read_signature, read_signature_box, signature_in_lines, signature_text, trusted_comment_label};
+ghost use Rattle.minisign.specs.Reading.{IsReadFromFile};
 ghost use Rattle.minisign.specs.Texts.{IsReadOrNoMemory, untrusted_comment_label};
 
 use crate::constants::{SIGALG, SIGALG_PREHASHED};
@@ -60,8 +60,8 @@ impl Model for SignatureBox {
 }
 
 impl SignatureBox {
+    ghost use Rattle.std.specs.Option.{option_map_or};
     ghost use Rattle.minisign.specs.Records.{is_prehashed};
-    ghost use Rattle.minisign.specs.Signing.{untrusted_comment_of};
 
     /// A box with no comments. Takes no memory.
     pub fn from_bones(bones: SignatureBones) -> SignatureBox
@@ -200,7 +200,7 @@ impl SignatureBox {
     pub fn untrusted_comment(&self, alloc: Global) -> Result<String>
         // The untrusted comment, which of a bare signature is empty; the only refusal is out of
         // memory.
-        ensures comment { IfOk result (λ t. string_bytes t ≡ untrusted_comment_of self.now) }
+        ensures comment { IfOk result (λ t. string_bytes t ≡ option_map_or (λ c. c.untrusted) self.now.comments []) }
         ensures refused { IfErr result (λ e. e ≡ Named OutOfMemory) }
     {
         match &self.comments {
@@ -293,7 +293,7 @@ fn read_text(alloc: Global, text: &str) -> Result<SignatureBox>
 // The first four lines of a text.
 pub(crate) fn four_lines(text: &str) -> Result<TextLines<'_>>
     ensures { MatchResult result
-        (λ l. (read_signature text.now ≡ signature_in_four l.untrusted_comment.now l.signature.now l.trusted_comment.now l.global_sig.now)
+        (λ l. (read_signature text.now ≡ signature_in_lines (l.untrusted_comment.now ∷ l.signature.now ∷ l.trusted_comment.now ∷ l.global_sig.now ∷ []))
         × (length l.signature.now + length l.trusted_comment.now ≤ length text.now))
         (λ e. read_signature text.now ≡ Err e) }
 {
@@ -348,7 +348,7 @@ pub(crate) fn trusted_comment_in(line: &str) -> Result<&str>
 pub(crate) fn known(signature: Signature) -> Result<Signature>
     ensures { MatchResult result
         (λ s. (s ≡ signature) × IsKnownAlgorithm s.algorithm)
-        (λ e. (e ≡ Named UnsupportedSignatureAlgorithm) × (is_known_algorithm signature.algorithm ≡ false)) }
+        (λ e. (e ≡ Named UnsupportedSignatureAlgorithm) × ((bytes_eq signature.algorithm legacy_algorithm || bytes_eq signature.algorithm prehashed_algorithm) ≡ false)) }
 {
     if signature.sig_alg != SIGALG && signature.sig_alg != SIGALG_PREHASHED {
         return Err(NamedFault::UnsupportedSignatureAlgorithm.into());

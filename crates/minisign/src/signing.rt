@@ -10,7 +10,7 @@ ghost use Rattle.minisign_base.specs.declared.faults.NamedFault.TheVariants.{Out
 ghost use Rattle.minisign.specs.Reading.{ReadsWhole};
 ghost use Rattle.minisign.specs.Sealing.{is_encrypted};
 ghost use Rattle.minisign.specs.Acceptance.{accepts_comments};
-ghost use Rattle.minisign.specs.Signing.{AreChosenReadBack, DrawFails, HasSignedBox, OpenedSigningFails, RunsOutDrawing, SigningFails, chosen_of, comments_or_defaults, default_trusted_comment, default_untrusted_comment, given_comments};
+ghost use Rattle.minisign.specs.Signing.{AreChosenReadBack, DrawFails, HasSignedBox, OpenedSigningFails, RunsOutDrawing, SigningFails, default_trusted_comment, default_untrusted_comment, given_comments};
 
 use crate::comment_signature::accepts_comments;
 use crate::constants::{DEFAULT_COMMENT, SIGALG_PREHASHED};
@@ -61,7 +61,7 @@ pub fn sign<S: Scheme, R: Source, Z: RandomSource>(
 ) -> Result<SignatureBox>
     // The box is made from all the bytes that were ahead, the comments or their defaults, and two
     // times 64 random bytes. What a genuine key signed is accepted under its own public key with
-    // the same key ID, whatever the comments (`VouchesWhereGenuine`).
+    // the same key ID, whatever the comments (`HasSignedBox`).
     ensures signed { IfOk result
         (λ x. (message : List ℕ) × ReadsWhole R.Source data_reader.old data_reader.new message
         × HasSignedBox S.Scheme scheme.now sk.now message
@@ -83,7 +83,7 @@ pub fn sign<S: Scheme, R: Source, Z: RandomSource>(
     // (`KeySigningFails`). `reading failed` comes only if the source's count of faults rose, with
     // nothing drawn; `random source failed` only if that source's count did, once all the data was
     // read; out of memory only if neither count rose (`OpenedSigningFails`); a given public key is
-    // refused exactly when its 32 bytes do not accept the comment signature (`RefusesSigned`).
+    // refused exactly when its 32 bytes do not accept the comment signature (`SigningFails`).
     ensures refused { IfErr result
         (SigningFails (S.accepts scheme.now) (S.signature_of scheme.now)
         (option_copied pk.entry) sk.now
@@ -112,7 +112,7 @@ pub fn sign<S: Scheme, R: Source, Z: RandomSource>(
 /// what the headlines ask of comments, whatever the moment is.
 pub fn default_comments_are_read_back(moment: u64)
     // The default comments are read back as they were written.
-    ensures { AreChosenReadBack (comments_or_defaults None None moment) }
+    ensures { AreChosenReadBack (given_comments None None moment) }
 {}
 
 // Signs all the data ahead with an opened key.
@@ -126,7 +126,8 @@ pub(crate) fn sign_data<S: Scheme, R: Source, Z: RandomSource>(
 ) -> Result<SignatureBox>
     ensures signed { IfOk result
         (λ x. (message : List ℕ) × ReadsWhole R.Source data_reader.old data_reader.new message
-        × HasSignedBox S.Scheme scheme.now sk.now message (chosen_of comments.entry)
+        × HasSignedBox S.Scheme scheme.now sk.now message
+        (given_comments comments.entry.trusted comments.entry.untrusted comments.entry.moment)
         (random_call Z.RandomSource random.old random.new) x) }
     ensures no_new_fault { OnOk result (Z.random_faults random.new ≡ Z.random_faults random.old) }
     ensures refused { IfErr result

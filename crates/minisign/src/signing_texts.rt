@@ -7,9 +7,9 @@ ghost use Rattle.minisign_base.specs.DeviceCalls.{prompt_call, random_call, sour
 ghost use Rattle.minisign.specs.Records.{SecretKeyRecord};
 ghost use Rattle.minisign.specs.Reading.{IsAhead, ReadsWhole};
 ghost use Rattle.minisign.specs.Sealing.{is_encrypted};
-ghost use Rattle.minisign.specs.Signing.{OpenedSigningFails, chosen_of, given_comments};
+ghost use Rattle.minisign.specs.Signing.{OpenedSigningFails, given_comments};
 ghost use Rattle.minisign.specs.Headline.{SigningHeadline};
-ghost use Rattle.minisign.specs.SigningTexts.{GivesKey, HasSignedText, IsKeyOf, IsSignedText, TextSigningFails};
+ghost use Rattle.minisign.specs.SigningTexts.{GivesKey, HasSignedText, HasSignedWithText, IsKeyOf, TextSigningFails};
 
 use crate::constants::KDF_NONE;
 use crate::sealing::Derivation;
@@ -64,15 +64,11 @@ pub fn sign_texts<S: Scheme, P: Source, Q: Sink, R: Source, Z: RandomSource>(
     // typed; and the result is the text of the box that signing makes with this key from all the
     // data. Where this very key is genuine, the text is read back as clause `headline` says: so who
     // signs with a sealed key and its password gets a text that verifies.
-    ensures signed { IfOk result (λ t. (sk : SecretKeyRecord) × (message : List ℕ)
-        × GivesKey (prompt_call P.Source Q.Sink prompt.old prompt.new)
-        (option_map string_bytes password) sk_text.now (Ok sk)
-        × ReadsWhole R.Source data_reader.old data_reader.new message
-        × IsSignedText (S.signature_of scheme.now) sk message
+    ensures signed { IfOk result (λ t. HasSignedWithText S.Scheme scheme.now
+        (prompt_call P.Source Q.Sink prompt.old prompt.new) (option_map string_bytes password) sk_text.now
+        (source_call R.Source data_reader.old data_reader.new)
         (given_comments trusted_comment.entry untrusted_comment.entry moment)
-        (random_call Z.RandomSource random.old random.new) (string_bytes t)
-        × SigningHeadline (S.accepts scheme.now) (S.public_of scheme.now) sk message
-        (given_comments trusted_comment.entry untrusted_comment.entry moment) (string_bytes t)) }
+        (random_call Z.RandomSource random.old random.new) (string_bytes t)) }
 
     // On success the random source did not fail.
     ensures random_no_new_fault { OnOk result (Z.random_faults random.new ≡ Z.random_faults random.old) }
@@ -115,7 +111,8 @@ pub(crate) fn sign_opened<S: Scheme, R: Source, Z: RandomSource>(
     requires { is_encrypted sk.now ≡ false }
     ensures signed { IfOk result
         (λ t. (message : List ℕ) × ReadsWhole R.Source data_reader.old data_reader.new message
-        × HasSignedText S.Scheme scheme.now sk.now message (chosen_of comments.entry)
+        × HasSignedText S.Scheme scheme.now sk.now message
+        (given_comments comments.entry.trusted comments.entry.untrusted comments.entry.moment)
         (random_call Z.RandomSource random.old random.new) (string_bytes t)) }
     ensures random_no_new_fault { OnOk result (Z.random_faults random.new ≡ Z.random_faults random.old) }
     ensures refused { IfErr result
@@ -140,7 +137,7 @@ pub(crate) fn key_of_text<P: Source, Q: Sink>(
         (option_map string_bytes password) text.now result }
     ensures untouched { IfSome password (λ _. prompt.new ≡ prompt.old) }
 {
-    let sk = SecretKey::from_text(alloc, text)?;
+    let sk = SecretKey::from_text(text)?;
     if sk.kdf_alg == KDF_NONE {
         sk.test_unencrypted()?;
         return Ok(sk);

@@ -5,13 +5,12 @@ ghost use Rattle.std.specs.Str.Lines.{lines};
 ghost use Rattle.std.specs.Str.Iter.{lines_rest};
 ghost use Rattle.minisign_base.specs.Fault.{Named};
 ghost use Rattle.minisign_base.specs.declared.faults.NamedFault.TheVariants.{OutOfMemory};
-ghost use Rattle.minisign.specs.Lines.{line};
+ghost use Rattle.minisign.specs.Texts.{line, IsBase64Of, IsReading, base64_of, is_base64};
 ghost use Rattle.minisign.specs.PublicKeyText.{BarePublicKey, PublicKeyText, read_bare_public_key, read_public_key};
-ghost use Rattle.minisign.specs.OpenedTexts.{IsOpened, IsUnencryptedText, open_key, read_unencrypted_key};
-ghost use Rattle.minisign.specs.Records.{ReadsSecretKey};
+ghost use Rattle.minisign.specs.Opening.{IsOpened, IsUnencryptedText, open_key, read_unencrypted_key};
+ghost use Rattle.minisign.specs.Records.{PublicKeyRecord, ReadsPublicKey, ReadsSecretKey, ReadsSignature, SignatureRecord};
 ghost use Rattle.minisign.specs.SecretKeyText.{SecretKeyText, read_secret_key, read_secret_key_bytes};
 ghost use Rattle.minisign.specs.SignatureText.{SignatureText, read_signature};
-ghost use Rattle.minisign.specs.Texts.{IsBase64Of, IsReading, base64_of, is_base64};
 
 use base64::DecodeAllocError;
 use base64::engine::general_purpose::STANDARD;
@@ -31,6 +30,12 @@ pub fn texts_are_decided()
     ensures signature { (text : List ℕ) → IsReading (SignatureText text) (read_signature text) }
     ensures secret_key { (text : List ℕ) → IsReading (SecretKeyText text) (read_secret_key text) }
     ensures secret_key_bytes { (bytes : List ℕ) → IsReading (ReadsSecretKey bytes) (read_secret_key_bytes bytes) }
+
+    // The records of public keys and signatures are each the front of the bytes in one way at most.
+    ensures public_key_bytes { (bytes : List ℕ) (k other : PublicKeyRecord)
+        → ReadsPublicKey bytes k → ReadsPublicKey bytes other → k ≡ other }
+    ensures signature_bytes { (bytes : List ℕ) (s other : SignatureRecord)
+        → ReadsSignature bytes s → ReadsSignature bytes other → s ≡ other }
 
     // A text opens under a password to a key exactly where it reads as a key that is sealed by scrypt, whose limits are
     // allowed and within the bound and whose checksum the stream under the password restores, and this is the key

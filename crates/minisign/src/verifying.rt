@@ -6,11 +6,10 @@ ghost use Rattle.minisign_base.specs.Fault.{Named};
 ghost use Rattle.minisign_base.specs.declared.faults.NamedFault.TheVariants.{GoingBackFailed, OutOfMemory};
 ghost use Rattle.minisign_base.specs.DeviceCalls.{IsWritingFault, Marks, Takes, TakesFront, rereader_call, sink_call, unused};
 ghost use Rattle.minisign.specs.Records.{PublicKeyRecord, SignatureBoxRecord};
-ghost use Rattle.minisign.specs.Acceptance.{Verifier, Vouches, accepts_comments, flags_of, judge, judge_answers, judge_key, judged_parts, status_lines};
+ghost use Rattle.minisign.specs.Acceptance.{Verifier, Vouches, accepts_comments, options_of, judge, judge_answers, judge_key, judged_parts, status_lines};
 ghost use Rattle.minisign.specs.Calls.{TextsVouchWith};
 ghost use Rattle.minisign.specs.Headline.{WhereNothingFails, verdict};
-ghost use Rattle.minisign.specs.SignedData.{HoldsSigned};
-ghost use Rattle.minisign.specs.Stages.{StagesEnd, is_reread, reading_stages};
+ghost use Rattle.minisign.specs.Stages.{HoldsSigned, StagesEnd, is_reread, reading_stages};
 ghost use Rattle.minisign.specs.Texts.{IsReadOrNoMemory, IsReading, and_then};
 ghost use Rattle.minisign.specs.Verifying.{VerifyingFails, VerifyingSucceeds, wanted_status};
 
@@ -86,7 +85,7 @@ pub fn verify<S: Scheme, R: Rereader, W: Sink, O: Sink>(
     //
     // The copy is flushed on success (`flushed` of `HasCopy`), and by clause `refused` (`unflushed`
     // of `Copies`) on no refusal before the digests are compared.
-    ensures accepted { OnOk result (VerifyingSucceeds (S.accepts scheme.now) pk.now signature_box.now (flags_of quiet output allow_legacy)
+    ensures accepted { OnOk result (VerifyingSucceeds (S.accepts scheme.now) pk.now signature_box.now (options_of quiet output allow_legacy)
         (rereader_call R.Source R.steady data_reader.old data_reader.new)
         (sink_call W.Sink status.old status.new) (sink_call O.Sink out.old out.new)) }
 
@@ -125,7 +124,7 @@ pub fn verify<S: Scheme, R: Rereader, W: Sink, O: Sink>(
     // A reading takes at most some bytes off the front of what the source has ahead; going back
     // puts those ahead that the mark keeps, which are what was ahead at first if it is steady
     // (`Read`, `Copy`, `Return`, `Mark`).
-    ensures refused { IfErr result (VerifyingFails (S.accepts scheme.now) pk.now signature_box.now (flags_of quiet output allow_legacy)
+    ensures refused { IfErr result (VerifyingFails (S.accepts scheme.now) pk.now signature_box.now (options_of quiet output allow_legacy)
         (rereader_call R.Source R.steady data_reader.old data_reader.new)
         (sink_call W.Sink status.old status.new) (sink_call O.Sink out.old out.new)) }
 
@@ -156,7 +155,7 @@ pub fn verify<S: Scheme, R: Rereader, W: Sink, O: Sink>(
 }
 
 /// A law, for which nothing is done: what a verdict does not depend on, whatever the scheme accepts.
-#[tactic(auto, using(crate::proofs::Unvouched::unvouched_same))]
+#[tactic(auto, using(crate::proofs::Verdicts::unvouched_same))]
 pub fn unvouched_parts_change_no_verdict()
     // The verdict does not depend on the untrusted comment, the key's algorithm bytes, or bytes
     // past the 64th of the comment signature.

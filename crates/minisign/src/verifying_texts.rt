@@ -3,11 +3,10 @@
 ghost use Rattle.std.specs.Prelude.{◌≡◌, ◌⊎◌, true, false, Ok, IfErr, OnOk, OnErr};
 ghost use Rattle.minisign_base.specs.Devices.{HasGiven};
 ghost use Rattle.minisign_base.specs.DeviceCalls.{TakesFront, rereader_call, sink_call};
-ghost use Rattle.minisign.specs.Acceptance.{flags_of};
+ghost use Rattle.minisign.specs.Acceptance.{options_of};
 ghost use Rattle.minisign.specs.Records.{PublicKeyRecord, SignatureBoxRecord};
-ghost use Rattle.minisign.specs.Verifying.{wanted_status};
+ghost use Rattle.minisign.specs.Verifying.{wanted_status, VerifyingTextsFails, VerifyingTextsSucceeds, read_texts};
 ghost use Rattle.minisign.specs.Texts.{IsReadOrNoMemory, map_ok};
-ghost use Rattle.minisign.specs.VerifyingTexts.{VerifyingTextsFails, VerifyingTextsSucceeds, read_texts};
 ghost use Rattle.minisign.specs.Headline.{CopyIsVouchedFor, WhereNothingFails, verdict};
 
 use crate::in_place::read_public_key;
@@ -47,7 +46,7 @@ pub fn verify_texts<S: Scheme, R: Rereader, W: Sink, O: Sink>(
 
     // On success both texts were read by the grammar, as a key and a box for which everything holds
     // that `verify` promises on success.
-    ensures accepted { OnOk result (VerifyingTextsSucceeds (S.accepts scheme.now) pk_text.now sig_text.now (flags_of quiet output allow_legacy)
+    ensures accepted { OnOk result (VerifyingTextsSucceeds (S.accepts scheme.now) pk_text.now sig_text.now (options_of quiet output allow_legacy)
         (rereader_call R.Source R.steady data_reader.old data_reader.new)
         (sink_call W.Sink status.old status.new) (sink_call O.Sink out.old out.new)) }
 
@@ -61,7 +60,7 @@ pub fn verify_texts<S: Scheme, R: Rereader, W: Sink, O: Sink>(
     //
     // Otherwise verifying fails as `verify` does, with the key and the box that the texts read as
     // (`VerifyingFails`).
-    ensures refused { IfErr result (VerifyingTextsFails (S.accepts scheme.now) pk_text.now sig_text.now (flags_of quiet output allow_legacy)
+    ensures refused { IfErr result (VerifyingTextsFails (S.accepts scheme.now) pk_text.now sig_text.now (options_of quiet output allow_legacy)
         (rereader_call R.Source R.steady data_reader.old data_reader.new)
         (sink_call W.Sink status.old status.new) (sink_call O.Sink out.old out.new)) }
 

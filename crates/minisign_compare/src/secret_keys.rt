@@ -45,7 +45,7 @@ fn from_file(rt: &HostRuntime, line: &str, reply: &mut Reply) -> Result<(), Refu
 
 fn plain(alloc: Global, line: &str, reply: &mut Reply) -> Result<(), Refusal> {
     let key_box = box_of(alloc, word(line, 1))?;
-    let key = key_box.into_unencrypted_secret_key(alloc)?;
+    let key = key_box.into_unencrypted_secret_key()?;
     show(alloc, &key, &mut reply.fields)
 }
 

@@ -1,12 +1,14 @@
 -- Which key a sealed text gives to who has its password.
-use Rattle.std.proofs.Common.{◌≡◌, ◌⊎◌, ℕ, Bool, true, false, not, bytes_eq, List, None, inl, inr, refl, sym, ◌∙◌}
+use Rattle.std.proofs.Common.{◌≡◌, ℕ, Bool, true, false, not, bytes_eq, List, None, inl, inr, refl, ◌∙◌}
+use Rattle.std.specs.Option.{option_map_or}
+use Rattle.std.specs.Result.{result_ok}
 use Rattle.std.specs.declared.result.Result.{Result}
 use Rattle.std.specs.declared.result.Result.TheVariants.{Ok, Err}
 use Rattle.minisign.specs.Fault.{Fault, Named}
 use Rattle.minisign.specs.NamedFaults.{KeyNotEncrypted, OutOfMemory, UnsupportedEncryptionAlgorithm}
-use Rattle.minisign.specs.OpenedTexts.{is_sealed_text, key_with_password, names_kdf, open_key}
+use Rattle.minisign.specs.Opening.{is_sealed_text, key_with_password, open_key}
 use Rattle.minisign.specs.Records.{SecretKeyRecord}
-use Rattle.minisign.specs.Sealing.{no_kdf, open_sealed, scrypt_kdf, sealed_by_scrypt}
+use Rattle.minisign.specs.Sealing.{no_kdf, open_sealed, scrypt_kdf, sealed_by_scrypt, wants_password}
 use Rattle.minisign.specs.SecretKeyText.{read_secret_key}
 use Rattle.minisign.specs.Texts.{IsReadOrNoMemory, and_then, require}
 
@@ -21,7 +23,8 @@ sealed_text text password key h = of (read_secret_key text) h
     of_kdf k true h = cc h
     of_kdf k false h = refl
 
-    of : (r : Result SecretKeyRecord Fault) → and_then (and_then r sealed_by_scrypt) (λ l. open_sealed l password None) ≡ Ok key → names_kdf r ≡ true
+    of : (r : Result SecretKeyRecord Fault) → and_then (and_then r sealed_by_scrypt) (λ l. open_sealed l password None) ≡ Ok key
+        → option_map_or wants_password (result_ok r) false ≡ true
     of (Ok k) h = of_kdf k (bytes_eq k.kdf no_kdf) h
     of (Err e) h = cc h
 

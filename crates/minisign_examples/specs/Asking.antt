@@ -1,17 +1,25 @@
 -- How opening a key ends that asks for the password again where it was wrong.
-use Rattle.std.specs.Prelude.{◌≢◌, ◌⊎◌, ℕ, zero, suc, List, None, Result, Err}
+use Rattle.std.specs.Prelude.{◌≡◌, ◌≢◌, ◌⊎◌, ℕ, zero, suc, List, None, Result, Err}
 use Rattle.minisign.specs.Fault.{Fault, Named}
 use Rattle.minisign.specs.Members.{SinkOf, SourceOf}
 use Rattle.minisign.specs.DeviceCalls.{prompt_call}
-use Rattle.minisign.specs.NamedFaults.{WrongPassword}
+use Rattle.minisign.specs.NamedFaults.{OutOfMemory, WrongPassword}
 use Rattle.minisign.specs.Prompt.{Prompt}
 use Rattle.minisign.specs.Opening.{IsOpening}
 use Rattle.minisign.specs.Records.{SecretKeyRecord}
 
+-- the prompt was asked once; or memory ran out for a copy of the text, with the prompt as it was
+abbrev pub IsOpeningOnce : {R W : Type 0} → SourceOf R → SinkOf W → Prompt R W → Prompt R W → List ℕ
+    → Result SecretKeyRecord Fault → Type 0
+IsOpeningOnce source sink old new text answer =
+    IsOpening (prompt_call source sink old new) None text None answer
+    ⊎ ((answer ≡ Err (Named OutOfMemory)) × (new ≡ old))
+
 -- the prompt was asked once, and again, up to so many times more, only where the password was wrong
-abbrev pub IsOpeningAgain : {R W : Type 0} → SourceOf R → SinkOf W → ℕ → Prompt R W → Prompt R W → List ℕ → Result SecretKeyRecord Fault → Type 0
-IsOpeningAgain source sink zero old new text answer = IsOpening (prompt_call source sink old new) None text None answer
+abbrev pub IsOpeningAgain : {R W : Type 0} → SourceOf R → SinkOf W → ℕ → Prompt R W → Prompt R W → List ℕ
+    → Result SecretKeyRecord Fault → Type 0
+IsOpeningAgain source sink zero old new text answer = IsOpeningOnce source sink old new text answer
 IsOpeningAgain {R = R} {W = W} source sink (suc more) old new text answer =
-    (IsOpening (prompt_call source sink old new) None text None answer × (answer ≢ Err (Named WrongPassword)))
+    (IsOpeningOnce source sink old new text answer × (answer ≢ Err (Named WrongPassword)))
     ⊎ ((asked : Prompt R W) × IsOpening (prompt_call source sink old asked) None text None (Err (Named WrongPassword))
     × IsOpeningAgain source sink more asked new text answer)

@@ -4,12 +4,14 @@ use Rattle.minisign.specs.Fault.{Fault, Named}
 use Rattle.minisign.specs.NamedFaults.{OutOfMemory, PasswordTooLong, RandomSourceFailed}
 use Rattle.minisign.specs.Records.{PublicKeyRecord, SecretKeyRecord}
 use Rattle.minisign.specs.PublicKeyText.{read_public_key}
-use Rattle.minisign.specs.Generation.{IsGenuinePair, OpensOnlyTo}
+use Rattle.minisign.specs.Generation.{IsGenuinePair}
+use Rattle.minisign.specs.Opening.{OpensTo}
 
 -- one text reads as a public key, and the other opens under the password to the secret key that belongs to it
-pub record ArePairTexts (public_of : List ℕ → List ℕ) (password pk_text sk_text : List ℕ) (pk : PublicKeyRecord) (sk : SecretKeyRecord) : Type 0 where
+pub record ArePairTexts (public_of : List ℕ → List ℕ) (password pk_text sk_text : List ℕ) (pk : PublicKeyRecord)
+    (sk : SecretKeyRecord) : Type 0 where
   pub public : read_public_key pk_text ≡ Ok pk
-  pub secret : OpensOnlyTo sk_text password sk
+  pub secret : OpensTo sk_text password 1 sk
   pub pair : IsGenuinePair public_of pk sk
 
 -- it ran out of memory, or the random source failed; no text and no signature was refused

@@ -14,4 +14,5 @@ another_name = Worded Verify (codes "the update has another name")
 abbrev pub RefusesUpdate : Verifier → List ℕ → List ℕ → List ℕ → List ℕ → Fault → Type 0
 RefusesUpdate accepts pk_text sig_text update name e =
     (verdict accepts pk_text sig_text update false ≡ Err e)
-    ⊎ ((e ≡ another_name) × ((comment : List ℕ) × (comment ≢ name) × (verdict accepts pk_text sig_text update false ≡ Ok comment)))
+    ⊎ ((e ≡ another_name) × ((comment : List ℕ) × (comment ≢ name)
+    × (verdict accepts pk_text sig_text update false ≡ Ok comment)))

@@ -6,7 +6,7 @@ ghost use Rattle.minisign.specs.NamedFaults.{OutOfMemory, RandomSourceFailed};
 ghost use Rattle.minisign.specs.DeviceCalls.{random_call};
 ghost use Rattle.minisign.specs.Headline.{TextsVouchFor};
 ghost use Rattle.minisign.specs.PublicKeyText.{public_key_text};
-ghost use Rattle.minisign.specs.Signing.{IsGenuine, comments_or_defaults};
+ghost use Rattle.minisign.specs.Signing.{IsGenuine, given_comments};
 ghost use Rattle.minisign.specs.SigningTexts.{IsSignedText};
 
 use minisign::{
@@ -30,7 +30,7 @@ pub fn sign_and_verify<S: Scheme, Z: RandomSource>(
     moment: u64,
 ) -> Result<String>
     // The text is that of the box that signing makes of the message.
-    ensures signed { IfOk result (λ t. IsSignedText (S.signature_of scheme.now) secret_key.now message.now (comments_or_defaults None None moment)
+    ensures signed { IfOk result (λ t. IsSignedText (S.signature_of scheme.now) secret_key.now message.now (given_comments None None moment)
         (random_call Z.RandomSource random.old random.new) (string_bytes t)) }
 
     // It vouches for the message under the public key.

@@ -1,7 +1,7 @@
 //! A caller that opens a sealed key where memory is scarce.
 
 ghost use Rattle.std.specs.Prelude.{None};
-ghost use Rattle.minisign.specs.OpenedTexts.{open_key};
+ghost use Rattle.minisign.specs.Opening.{open_key};
 ghost use Rattle.minisign.specs.Texts.{IsReadOrNoMemory};
 
 use minisign::{Prompt, Result, SecretKey, SecretKeyBox};

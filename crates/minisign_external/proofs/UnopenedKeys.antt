@@ -4,7 +4,7 @@ use Rattle.std.specs.Str.{is_utf8}
 use Rattle.minisign_base.specs.Fault.{Fault}
 use Rattle.minisign_base.specs.declared.faults.NamedFault.{NamedFault}
 use Rattle.minisign_base.specs.declared.faults.NamedFault.TheVariants.{NotUtf8}
-use Rattle.minisign.specs.OpenedTexts.{open_key}
+use Rattle.minisign.specs.Opening.{open_key}
 use Rattle.minisign.specs.Records.{SecretKeyRecord}
 use Rattle.minisign.specs.Sealing.{open_sealed, sealed_by_scrypt}
 use Rattle.minisign.specs.SecretKeyText.{read_secret_key}

@@ -9,7 +9,7 @@ use Rattle.minisign_base.specs.Fault.{Fault, Named}
 use Rattle.minisign_base.specs.declared.faults.NamedFault.{NamedFault}
 use Rattle.minisign_base.specs.declared.faults.NamedFault.TheVariants.{CommentSignatureRefused, DifferentKeyIds, LegacyNotAccepted, NotUtf8, SignatureRefused}
 use Rattle.minisign.specs.Records.{CommentsRecord, PublicKeyRecord, SignatureBoxRecord, SignatureRecord, is_prehashed, prehashed_algorithm}
-use Rattle.minisign.specs.Acceptance.{Verifier, Vouches, accepts_comment, judge_answers, judge_key, signed_bytes}
+use Rattle.minisign.specs.Acceptance.{Verifier, Vouches, accepts_comments, judge_answers, judge_key, signed_bytes}
 use Rattle.minisign.specs.Headline.{TextsVouchFor, verdict}
 use Rattle.minisign.specs.PublicKeyText.{read_public_key}
 use Rattle.minisign.specs.SignatureText.{SignatureTextRecord, box_of, read_signature, read_signature_box}
@@ -93,7 +93,7 @@ module _ (accepts : Verifier) (key : PublicKeyRecord) (t : SignatureTextRecord) 
   is_signed = accepts (signed_bytes (box_of t) message) key.key t.signature.signature
 
   abbrev is_comment_signed : Bool
-  is_comment_signed = accepts_comment accepts (key_of (value_of key)) t.signature t.comments
+  is_comment_signed = accepts_comments accepts (key_of (value_of key)) (box_of t)
 
   abbrev tested : Result (List ℕ) Fault
   tested = tests is_same is_allowed is_signed is_comment_signed (DifferentKeyIds t.signature.keynum key.keynum) t t.comments.trusted
@@ -130,7 +130,7 @@ module _ (accepts : Verifier) (pk_text sig_text message : List ℕ) (legacy : Bo
   as_tested t read = rw (sym as_read ∙ read)
       (chained (judge_key (key_of (value_of key)) t.signature legacy) t
       (λ (s : SignatureTextRecord). and_then (judge_answers (accepts (signed_bytes (box_of s) message) key.key s.signature.signature)
-      (accepts_comment accepts (key_of (value_of key)) s.signature s.comments)) (λ _. Ok s.comments.trusted)))
+      (accepts_comments accepts (key_of (value_of key)) (box_of s))) (λ _. Ok s.comments.trusted)))
 
   unread : (e f : Fault) → read_signature sig_text ≡ Err f → verdict_under accepts (value_of key) sig_text message legacy ≡ Err e → f ≡ e
   unread e f read h =
@@ -187,7 +187,7 @@ same_and false x y h = refl
 -- what the second answer says is whether the comment signature is accepted
 pub comment_answer : (accepts : Verifier) (v : PublicKeyValue) (t : SignatureTextRecord) (whole second : Bool) → whole ≡ has_whole_signature t.comments
     → (IsTrue (has_whole_signature t.comments) → accepts (t.signature.signature ++ t.comments.trusted) v.key (take 64 t.comments.signature) ≡ second)
-    → accepts_comment accepts (key_of v) t.signature t.comments ≡ (whole && second)
+    → accepts_comments accepts (key_of v) (box_of t) ≡ (whole && second)
 comment_answer accepts v t whole second is answer =
     same_and (has_whole_signature t.comments) _ second answer ∙ ap (λ w. w && second) (sym is)
 
@@ -198,7 +198,7 @@ pub decided : (accepts : Verifier) (v : PublicKeyValue) (sig_text message : List
 decided accepts v sig_text message legacy t whole first second opens is answers =
     let (utf8, read) = opened_text v legacy sig_text t opens in
     rw opens
-    (ap (λ (x : Bool). and_then (judge_answers x (accepts_comment accepts (key_of v) t.signature t.comments)) (λ _. Ok t.comments.trusted)) (answers.to_first t read)
+    (ap (λ (x : Bool). and_then (judge_answers x (accepts_comments accepts (key_of v) (box_of t))) (λ _. Ok t.comments.trusted)) (answers.to_first t read)
     ∙ ap (λ (x : Bool). and_then (judge_answers first x) (λ _. Ok t.comments.trusted)) (comment_answer accepts v t whole second is (answers.to_second t read)))
 
 -- == What asking refuses ==

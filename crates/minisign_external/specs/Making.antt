@@ -29,7 +29,8 @@ abbrev pub IsKeyComment : List ℕ → Type 0
 IsKeyComment comment = LacksByte 10 comment × IsReadInKey comment
 
 -- the text of the secret key of these parts stands at the front of a buffer, in so many bytes: it gives back the key
-pub record HoldsSecretKey (keynum secret : List ℕ) (password : Option (List ℕ)) (s : Sealing) (comment bytes : List ℕ) (len : ℕ) : Type 0 where
+pub record HoldsSecretKey (keynum secret : List ℕ) (password : Option (List ℕ)) (s : Sealing) (comment bytes : List ℕ)
+    (len : ℕ) : Type 0 where
   pub fits : len ≤ length bytes
   pub size : len ≡ length comment + 233
   pub written : take len bytes ≡ secret_key_text (Some comment) (made_key keynum secret password s)
@@ -40,7 +41,8 @@ pub record HoldsPublicKey (keynum secret comment bytes : List ℕ) (len : ℕ) :
   pub fits : len ≤ length bytes
   pub size : len ≡ length comment + 77
   pub written : take len bytes ≡ commented_public_key_text comment (own_public_key (unsealed_key keynum secret))
-  pub reads : (key : SecretKeyRecord) → IsOfParts keynum secret key → read_public_key (take len bytes) ≡ Ok (own_public_key key)
+  pub reads : (key : SecretKeyRecord) → IsOfParts keynum secret key
+      → read_public_key (take len bytes) ≡ Ok (own_public_key key)
 
 -- a text with a comment, longer by so many bytes, was not written to a buffer: the comment is not on one line, or else
 -- none that Minisign reads, or else there is no room
@@ -75,10 +77,12 @@ IsMakingRefusal v password s comment bytes r =
 -- the text of a public key was not written, in the same order
 abbrev pub IsPublicKeyRefusal : SecretKeyValue → List ℕ → List ℕ → Refusal → Type 0
 IsPublicKeyRefusal v comment bytes (WrongUse m) =
-    ((m ≡ KeyNotOpened) × (is_opened v ≡ false)) ⊎ ((is_opened v ≡ true) × IsUtf8 comment × IsUnwritable comment 77 bytes m)
+    ((m ≡ KeyNotOpened) × (is_opened v ≡ false))
+    ⊎ ((is_opened v ≡ true) × IsUtf8 comment × IsUnwritable comment 77 bytes m)
 IsPublicKeyRefusal v comment bytes (Refused e) =
     (is_opened v ≡ true)
-    × (((e ≡ Named NotUtf8) × ¬ (IsUtf8 comment)) ⊎ (IsUtf8 comment × IsWritable comment 77 bytes × (e ≡ Named OutOfMemory)))
+    × (((e ≡ Named NotUtf8) × ¬ (IsUtf8 comment))
+    ⊎ (IsUtf8 comment × IsWritable comment 77 bytes × (e ≡ Named OutOfMemory)))
 
 -- the numbers of these refusals
 abbrev pub IsMakingNumber : SecretKeyValue → Option (List ℕ) → ℕ → Sealing → List ℕ → List ℕ → ℕ → Type 0

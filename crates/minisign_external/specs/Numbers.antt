@@ -71,4 +71,5 @@ pub record IsMeaning (n : ℕ) (text : List ℕ) : Type 0 where
 -- the text, or as much of it as there is room for, and then a 0; where there is no byte nothing is written
 abbrev pub WritesCut : List ℕ → List ℕ → List ℕ → Type 0
 WritesCut text old new =
-    (length new ≡ length old) × (0 < length old → take (1 + min (length text) (length old - 1)) new ≡ take (length old - 1) text ++ 0 ∷ [])
+    (length new ≡ length old) × (0 < length old → take (1 + min (length text) (length old - 1)) new ≡ take
+    (length old - 1) text ++ 0 ∷ [])

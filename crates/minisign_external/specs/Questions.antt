@@ -4,7 +4,7 @@ use Rattle.std.specs.Prelude.{◌≡◌, ◌≤◌, ⊤, ℕ, ◌||◌, Bool, Is
 use Rattle.minisign_base.specs.Fault.{Fault}
 use Rattle.minisign_base.specs.declared.faults.NamedFault.TheVariants.{CommentSignatureRefused}
 use Rattle.minisign.specs.Records.{PublicKeyRecord, SignatureRecord, SignatureBoxRecord, CommentsRecord, is_prehashed}
-use Rattle.minisign.specs.Acceptance.{Verifier, accepts_comment, judge_answers, judge_key, signed_bytes}
+use Rattle.minisign.specs.Acceptance.{Verifier, accepts_comments, judge_answers, judge_key, signed_bytes}
 use Rattle.minisign.specs.PublicKeyText.{read_public_key}
 use Rattle.minisign.specs.SignatureText.{SignatureTextRecord, box_of, read_signature, read_signature_box}
 use Rattle.minisign.specs.Texts.{and_then, require}
@@ -27,14 +27,14 @@ abbrev pub verdict_under : Verifier → PublicKeyValue → List ℕ → List ℕ
 verdict_under accepts v sig_text message legacy =
     and_then (read_under v legacy sig_text) (λ t.
     and_then (judge_answers (accepts (signed_bytes (box_of t) message) v.key t.signature.signature)
-    (accepts_comment accepts (key_of v) t.signature t.comments)) (λ _.
+    (accepts_comments accepts (key_of v) (box_of t))) (λ _.
     Ok t.comments.trusted))
 
 -- what the second answer decides by itself: the trusted comment, which was signed together with the first signature
 abbrev pub comment_verdict_under : Verifier → PublicKeyValue → List ℕ → Bool → Result (List ℕ) Fault
 comment_verdict_under accepts v sig_text legacy =
     and_then (read_under v legacy sig_text) (λ t.
-    require (accepts_comment accepts (key_of v) t.signature t.comments) CommentSignatureRefused
+    require (accepts_comments accepts (key_of v) (box_of t)) CommentSignatureRefused
     (Ok t.comments.trusted))
 
 -- == The questions ==
@@ -56,16 +56,19 @@ AnswersFirst accepts v t message first = accepts (signed_bytes (box_of t) messag
 -- by the trusted comment
 abbrev pub AnswersSecond : Verifier → PublicKeyValue → SignatureTextRecord → Bool → Type 0
 AnswersSecond accepts v t second =
-    IsTrue (has_whole_signature t.comments) → accepts (t.signature.signature ++ t.comments.trusted) v.key (take 64 t.comments.signature) ≡ second
+    IsTrue (has_whole_signature t.comments)
+    → accepts (t.signature.signature ++ t.comments.trusted) v.key (take 64 t.comments.signature) ≡ second
 
 -- the scheme answers the questions of the key and the text so
-pub record Answers (accepts : Verifier) (v : PublicKeyValue) (sig_text message : List ℕ) (first second : Bool) : Type 0 where
+pub record Answers (accepts : Verifier) (v : PublicKeyValue) (sig_text message : List ℕ)
+    (first second : Bool) : Type 0 where
   pub to_first : (t : SignatureTextRecord) → read_signature sig_text ≡ Ok t → AnswersFirst accepts v t message first
   pub to_second : (t : SignatureTextRecord) → read_signature sig_text ≡ Ok t → AnswersSecond accepts v t second
 
 -- the same of the second question alone
 abbrev pub AnswersComment : Verifier → PublicKeyValue → List ℕ → Bool → Type 0
-AnswersComment accepts v sig_text second = (t : SignatureTextRecord) → read_signature sig_text ≡ Ok t → AnswersSecond accepts v t second
+AnswersComment accepts v sig_text second =
+    (t : SignatureTextRecord) → read_signature sig_text ≡ Ok t → AnswersSecond accepts v t second
 
 -- the bytes begin with the message of the second question, which has this length
 pub record HoldsMessage (s : SignatureRecord) (trusted : List ℕ) (bytes : List ℕ) (len : ℕ) : Type 0 where

@@ -1,13 +1,14 @@
 -- A secret key as a value: what a text reads as, which is not opened yet; what opening that gives; and a key that was
 -- opened or taken in.
-use Rattle.std.specs.Prelude.{◌≡◌, ◌==◌, ◌⊎◌, ◌<◌, ◌&&◌, ℕ, Bool, true, false, if◌then◌else◌, bytes_eq, List, drop, Option, None, Some, Result, Ok, Err, IfNone, IfSome, replicate}
+use Rattle.std.specs.Prelude.{◌≡◌, ◌==◌, ◌⊎◌, ◌<◌, ◌&&◌, ℕ, Bool, true, false, if◌then◌else◌, bytes_eq, List, drop}
+use Rattle.std.specs.Prelude.{Option, None, Some, Result, Ok, Err, IfNone, IfSome, IsOk, replicate}
 use Rattle.std.specs.Str.{IsUtf8}
 use Rattle.minisign_base.specs.Fault.{Fault, Named}
 use Rattle.minisign_base.specs.declared.faults.NamedFault.TheVariants.{OutOfMemory, NotUtf8}
-use Rattle.minisign.specs.OpenedTexts.{open_key}
-use Rattle.minisign.specs.OpeningWork.{opening_work, wants_password}
+use Rattle.minisign.specs.Opening.{open_key}
 use Rattle.minisign.specs.Records.{SecretKeyRecord}
-use Rattle.minisign.specs.Sealing.{no_kdf, open_sealed, sealed_by_scrypt, unencrypted_key}
+use Rattle.minisign.specs.Sealing.{allowed_work, no_kdf, open_sealed, opening_work, sealed_by_scrypt, unencrypted_key}
+use Rattle.minisign.specs.Sealing.{wants_password}
 use Rattle.minisign.specs.SecretKeyText.{read_secret_key, secret_key_of_bytes}
 use Rattle.minisign.specs.Texts.{and_then}
 use Rattle.minisign_external.specs.Numbers.{fault_number, misuse_number, refusal_number}
@@ -64,7 +65,8 @@ open_unsealed k = if lacks_checksum k then Ok k else unencrypted_key k
 -- within the greatest work
 abbrev pub open_read_key : SecretKeyRecord → Option (List ℕ) → ℕ → Result SecretKeyRecord Fault
 open_read_key k None greatest_work = open_unsealed k
-open_read_key k (Some password) greatest_work = and_then (sealed_by_scrypt k) (λ s. open_sealed s password (Some greatest_work))
+open_read_key k (Some password) greatest_work =
+    and_then (sealed_by_scrypt k) (λ s. open_sealed s password (Some greatest_work))
 
 -- what a text gives: the same of the key that it reads as
 abbrev pub read_key_to_sign : List ℕ → Option (List ℕ) → ℕ → Result SecretKeyRecord Fault
@@ -74,19 +76,23 @@ read_key_to_sign text (Some password) greatest_work = open_key text password (So
 -- opening the value gives what its text gives, under each password and within each bound on the work
 abbrev pub OpensAs : UnopenedKeyValue → List ℕ → Type 0
 OpensAs v text =
-    (password : Option (List ℕ)) (greatest_work : ℕ) → open_read_key (unopened_record v) password greatest_work ≡ read_key_to_sign text password greatest_work
+    (password : Option (List ℕ)) (greatest_work : ℕ)
+    → open_read_key (unopened_record v) password greatest_work ≡ read_key_to_sign text password greatest_work
 
--- a key that was read was not opened: the password is not UTF-8; or memory ran out, which no key takes without a
--- password; or it gives no key
+-- a key that was read was not opened: the password is not UTF-8; or memory ran out, with a password, for a derivation,
+-- which a key takes that is sealed by scrypt, with limits that are allowed and within the work; or it gives no key
 abbrev pub IsOpeningFault : SecretKeyRecord → Option (List ℕ) → ℕ → Fault → Type 0
 IsOpeningFault k password greatest_work e =
     ((e ≡ Named NotUtf8) × ¬ (IfSome password IsUtf8))
-    ⊎ (IfSome password IsUtf8 × (((e ≡ Named OutOfMemory) × IfNone password ⊥) ⊎ (open_read_key k password greatest_work ≡ Err e)))
+    ⊎ (IfSome password IsUtf8 × (((e ≡ Named OutOfMemory) × IfNone password ⊥
+    × IsOk (and_then (sealed_by_scrypt k) (λ s. allowed_work s (Some greatest_work))))
+    ⊎ (open_read_key k password greatest_work ≡ Err e)))
 
 -- opening was refused: the key was not read, or else as above
 abbrev pub IsOpeningRefusal : UnopenedKeyValue → Option (List ℕ) → ℕ → Refusal → Type 0
 IsOpeningRefusal v password greatest_work (WrongUse m) = (m ≡ KeyNotRead) × (is_read v ≡ false)
-IsOpeningRefusal v password greatest_work (Refused e) = (is_read v ≡ true) × IsOpeningFault (unopened_record v) password greatest_work e
+IsOpeningRefusal v password greatest_work (Refused e) =
+    (is_read v ≡ true) × IsOpeningFault (unopened_record v) password greatest_work e
 
 -- the number of such a refusal: a number that is no flag, with nothing looked at, and only then the other reasons
 abbrev pub IsOpeningNumber : UnopenedKeyValue → Option (List ℕ) → ℕ → ℕ → ℕ → Type 0

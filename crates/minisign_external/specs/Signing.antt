@@ -47,11 +47,16 @@ pub record IsAnsweredText (key_id : List ℕ) (chosen : ChosenComments) (first s
   pub written : text ≡ signature_text (answered_signature key_id first) (answered_comments chosen second)
   pub read_back : read_signature_box text ≡ Ok (answered_box key_id chosen first second)
   pub signed : (sign : Signer) (key : SecretKeyRecord) (message z1 z2 : List ℕ) → key_id ≡ key.keynum
-      → SignsSo sign key message chosen.trusted z1 z2 first second → read_signature_box text ≡ Ok (signed_box sign key message chosen z1 z2)
-  pub vouched : (accepts : Verifier) (public message : List ℕ) → AcceptsAnswers accepts public message chosen.trusted first second
-      → (x : SignatureBoxRecord) × (read_signature_box text ≡ Ok x) × VouchesUnderEachKey accepts public key_id message x
-  pub headline : (accepts : Verifier) (public_of : List ℕ → List ℕ) (key : SecretKeyRecord) (message : List ℕ) → key_id ≡ key.keynum
-      → ((seed : List ℕ) → IsGenuine public_of key seed → AcceptsAnswers accepts (public_of seed) message chosen.trusted first second)
+      → SignsSo sign key message chosen.trusted z1 z2 first second
+      → read_signature_box text ≡ Ok (signed_box sign key message chosen z1 z2)
+  pub vouched : (accepts : Verifier) (public message : List ℕ)
+      → AcceptsAnswers accepts public message chosen.trusted first second
+      → (x : SignatureBoxRecord) × (read_signature_box text ≡ Ok x)
+      × VouchesUnderEachKey accepts public key_id message x
+  pub headline : (accepts : Verifier) (public_of : List ℕ → List ℕ) (key : SecretKeyRecord) (message : List ℕ)
+      → key_id ≡ key.keynum
+      → ((seed : List ℕ) → IsGenuine public_of key seed
+      → AcceptsAnswers accepts (public_of seed) message chosen.trusted first second)
       → SigningHeadline accepts public_of key message chosen text
 
 -- the two comments, by their names
@@ -73,7 +78,8 @@ pub record AreReadByMinisign (chosen : ChosenComments) : Type 0 where
 -- program
 abbrev pub IsCommentMisuse : ChosenComments → Misuse → Type 0
 IsCommentMisuse chosen m =
-    ((m ≡ BadComment) × ¬ (AreChosenReadBack chosen)) ⊎ ((m ≡ UnreadableComment) × AreChosenReadBack chosen × ¬ (AreReadByMinisign chosen))
+    ((m ≡ BadComment) × ¬ (AreChosenReadBack chosen))
+    ⊎ ((m ≡ UnreadableComment) × AreChosenReadBack chosen × ¬ (AreReadByMinisign chosen))
 
 -- both comments are UTF-8
 abbrev pub AreUtf8 : ChosenComments → Type 0
@@ -95,11 +101,14 @@ abbrev pub IsWritingRefusal : SecretKeyValue → ChosenComments → List ℕ →
 IsWritingRefusal v chosen first second bytes (WrongUse m) =
     ((m ≡ KeyNotOpened) × (is_opened v ≡ false))
     ⊎ ((is_opened v ≡ true) × AreUtf8 chosen × IsCommentMisuse chosen m)
-    ⊎ ((m ≡ NoRoom) × (is_opened v ≡ true) × AreUtf8 chosen × AreChosenReadBack chosen × AreReadByMinisign chosen × HasNoRoom v.key_id chosen first second bytes)
+    ⊎ ((m ≡ NoRoom) × (is_opened v ≡ true) × AreUtf8 chosen × AreChosenReadBack chosen × AreReadByMinisign chosen
+    × HasNoRoom v.key_id chosen first second bytes)
 IsWritingRefusal v chosen first second bytes (Refused e) =
     (is_opened v ≡ true)
-    × (((e ≡ Named OutOfMemory) × AreUtf8 chosen × AreChosenReadBack chosen × AreReadByMinisign chosen) ⊎ ((e ≡ Named NotUtf8) × ¬ (AreUtf8 chosen)))
+    × (((e ≡ Named OutOfMemory) × AreUtf8 chosen × AreChosenReadBack chosen × AreReadByMinisign chosen)
+    ⊎ ((e ≡ Named NotUtf8) × ¬ (AreUtf8 chosen)))
 
 -- the number of a refusal of writing a text
 abbrev pub IsWritingNumber : SecretKeyValue → ChosenComments → List ℕ → List ℕ → List ℕ → ℕ → Type 0
-IsWritingNumber v chosen first second bytes n = (r : Refusal) × (n ≡ refusal_number r) × IsWritingRefusal v chosen first second bytes r
+IsWritingNumber v chosen first second bytes n =
+    (r : Refusal) × (n ≡ refusal_number r) × IsWritingRefusal v chosen first second bytes r

@@ -8,7 +8,7 @@ use Rattle.minisign.specs.Records.{is_prehashed}
 use Rattle.minisign.specs.Acceptance.{Verifier}
 use Rattle.minisign.specs.Headline.{TextsVouchFor, verdict}
 use Rattle.minisign.specs.SignatureText.{SignatureTextRecord}
-use Rattle.minisign_external.specs.Questions.{HoldsMessage, IsKeyText, has_whole_signature, read_under, told_signature}
+use Rattle.minisign_external.specs.Questions.{Answers, AnswersTexts, HoldsMessage, IsKeyText, has_whole_signature, read_under, told_signature}
 use Rattle.minisign_external.specs.Numbers.{IsAnswer, answer_yes, fault_number, misuse_number, refusal_number}
 use Rattle.minisign_external.specs.declared.public_keys.PublicKeyValue.{PublicKeyValue}
 use Rattle.minisign_external.specs.declared.state.Misuse.{Misuse}
@@ -114,6 +114,10 @@ pub record AreQuestions (q : Questions) (bytes : List ℕ) (v : PublicKeyValue) 
   pub questions : q ≡ record (questions_of v t) { digest = q.digest }
   pub message : HoldsMessage t.signature t.comments.trusted bytes q.message_len
 
+-- the same with zeros for the digest
+abbrev pub AreAsked : Questions → List ℕ → PublicKeyValue → SignatureTextRecord → Type 0
+AreAsked q bytes v t = (q ≡ questions_of v t) × HoldsMessage t.signature t.comments.trusted bytes q.message_len
+
 -- what asking answers, with room for so many bytes of the message: a state that is not being fed or was asked before is
 -- refused first, then what the text of the signature is refused for under the key, and then too little room
 abbrev pub room_for : SignatureTextRecord → ℕ → Result Unit Refusal
@@ -156,18 +160,36 @@ IsAskFedRefusal s v sig_text legacy room r =
 abbrev pub IsTextRefusal : PublicKeyValue → List ℕ → Bool → Refusal → Type 0
 IsTextRefusal v sig_text legacy (WrongUse m) = ⊤
 IsTextRefusal v sig_text legacy (Refused e) =
-    IsUtf8 sig_text → (pk_text message : List ℕ) (accepts : Verifier) → IsKeyText pk_text v → verdict accepts pk_text sig_text message legacy ≡ Err e
+    IsUtf8 sig_text → (pk_text message : List ℕ) (accepts : Verifier) → IsKeyText pk_text v
+    → verdict accepts pk_text sig_text message legacy ≡ Err e
 
 -- the verdict on the texts and the message: success exactly where they vouch for it, otherwise the first case that
 -- fails
 abbrev pub GivesVerdict : {T : Type 0} → Verifier → List ℕ → List ℕ → List ℕ → Bool → Result T Refusal → Type 0
 GivesVerdict accepts pk_text sig_text message legacy r =
-    MatchResult r (λ _. TextsVouchFor accepts pk_text sig_text message legacy) (IsFaultOf (λ e. verdict accepts pk_text sig_text message legacy ≡ Err e))
+    MatchResult r (λ _. TextsVouchFor accepts pk_text sig_text message legacy)
+    (IsFaultOf (λ e. verdict accepts pk_text sig_text message legacy ≡ Err e))
 
 -- a verdict, of which the trusted comment is known already
 abbrev pub given_verdict : Result (List ℕ) Fault → Result Unit Refusal
 given_verdict (Ok trusted) = Ok tt
 given_verdict (Err e) = Err (Refused e)
+
+-- the state has asked about the key and the text of the signature and has told its digest, both numbers are answers,
+-- and the scheme answers so
+pub record IsAnswered (s : State) (accepts : Verifier) (v : PublicKeyValue) (sig_text message : List ℕ) (legacy : Bool)
+    (first second : ℕ) : Type 0 where
+  pub asked : HasAsked s v sig_text legacy
+  pub told : IsMarkedTold s
+  pub first_known : IsAnswer first
+  pub second_known : IsAnswer second
+  pub answers : Answers accepts v sig_text message (first == answer_yes) (second == answer_yes)
+
+-- both numbers are answers, and the scheme answers the questions of the two texts so
+abbrev pub AnswersTextsBy : Verifier → List ℕ → List ℕ → List ℕ → ℕ → ℕ → Type 0
+AnswersTextsBy accepts pk_text sig_text message first second =
+    IsAnswer first × IsAnswer second
+    × AnswersTexts accepts pk_text sig_text message (first == answer_yes) (second == answer_yes)
 
 -- a state that had asked and told its digest was ended
 pub record HasEnded (old new : State) : Type 0 where
@@ -184,7 +206,8 @@ IsCommentRefusal s (Refused e) = (e ≡ Named CommentSignatureRefused) × (is_as
 -- no success: where the state has not asked or not told its digest, it stays as it was; where it has, the first
 -- question was answered by no, or else the second
 abbrev pub IsVerdictRefusal : State → State → Bool → Refusal → Type 0
-IsVerdictRefusal old new first (WrongUse m) = (m ≡ verdict_misuse old) × (new ≡ old) × ((is_asked old && (old.mark == told_mark)) ≡ false)
+IsVerdictRefusal old new first (WrongUse m) =
+    (m ≡ verdict_misuse old) × (new ≡ old) × ((is_asked old && (old.mark == told_mark)) ≡ false)
 IsVerdictRefusal old new first (Refused e) =
     HasEnded old new × (e ≡ (if first then Named CommentSignatureRefused else Named SignatureRefused))
 
@@ -205,12 +228,14 @@ GivesNumber accepts pk_text sig_text message legacy n =
 -- the number of what the second answer is not worth: it is no answer, or it is one
 abbrev pub IsCommentVerdictNumber : State → ℕ → ℕ → Type 0
 IsCommentVerdictNumber s second n =
-    ((n ≡ misuse_number BadAnswer) × ¬ (IsAnswer second)) ⊎ (IsAnswer second × (r : Refusal) × (n ≡ refusal_number r) × IsCommentRefusal s r)
+    ((n ≡ misuse_number BadAnswer) × ¬ (IsAnswer second))
+    ⊎ (IsAnswer second × (r : Refusal) × (n ≡ refusal_number r) × IsCommentRefusal s r)
 
 -- a number that is no flag is refused, and only then the other reasons come
 abbrev pub asking_number : State → PublicKeyValue → List ℕ → ℕ → ℕ → ℕ
 asking_number s v sig_text legacy room =
-    if nat_le 2 legacy then misuse_number BadLegacyFlag else result_number (asking_result s v sig_text (legacy == 1) room)
+    if nat_le 2 legacy then misuse_number BadLegacyFlag else result_number
+    (asking_result s v sig_text (legacy == 1) room)
 
 -- the number of a verdict: 0, or that of the first case that fails
 abbrev pub verdict_number : Result (List ℕ) Fault → ℕ
@@ -222,4 +247,5 @@ verdict_number (Err e) = fault_number e
 abbrev pub IsVerdictNumber : State → State → ℕ → ℕ → ℕ → Type 0
 IsVerdictNumber old new first second n =
     ((n ≡ misuse_number BadAnswer) × (¬ (IsAnswer first) ⊎ ¬ (IsAnswer second)) × (new ≡ old))
-    ⊎ (IsAnswer first × IsAnswer second × (r : Refusal) × (n ≡ refusal_number r) × IsVerdictRefusal old new (first == answer_yes) r)
+    ⊎ (IsAnswer first × IsAnswer second × (r : Refusal) × (n ≡ refusal_number r)
+    × IsVerdictRefusal old new (first == answer_yes) r)

@@ -1,13 +1,12 @@
 //! Asking, and the verdict, over the state that a program in another language holds.
 
-ghost use Rattle.std.specs.Prelude.{◌≡◌, ◌⊎◌, ◌<◌, ◌≤◌, ◌+◌, ℕ, Bool, List, Ok, true, false, OnOk, OnErr, IfOk, IfErr, MatchResult, length};
+ghost use Rattle.std.specs.Prelude.{◌≡◌, ◌⊎◌, ◌<◌, ◌≤◌, ◌+◌, ℕ, Bool, List, Ok, true, false, OnOk, OnErr, IfOk, IfErr, length};
 ghost use Rattle.minisign_hash.specs.Blake2b.{blake2b_digest};
 ghost use Rattle.minisign.specs.Acceptance.{Verifier};
-ghost use Rattle.minisign.specs.InPlace.{view_of};
-ghost use Rattle.minisign.specs.SignatureText.{SignatureTextRecord, read_signature};
+ghost use Rattle.minisign.specs.SignatureText.{view_of, SignatureTextRecord, read_signature};
 ghost use Rattle.minisign_external.specs.PublicKeys.{read_utf8};
-ghost use Rattle.minisign_external.specs.Questions.{Answers, AnswersComment, HoldsMessage, IsKeyText, comment_verdict_under, has_whole_signature, read_under, verdict_under};
-ghost use Rattle.minisign_external.specs.States.{AreQuestions, GivesVerdict, HasAsked, HasEnded, HasToldDigest, IsAskFedRefusal, IsCommentRefusal, IsFedState, IsMarkedFed, IsMarkedTold, IsTextRefusal, IsVerdictRefusal, asked_of, asking_misuse, asking_result, fed_mark, given_verdict, is_asked, is_begun, questions_of, verdict_misuse};
+ghost use Rattle.minisign_external.specs.Questions.{Answers, AnswersComment, IsKeyText, comment_verdict_under, has_whole_signature, read_under, verdict_under};
+ghost use Rattle.minisign_external.specs.States.{AreAsked, AreQuestions, GivesVerdict, HasAsked, HasEnded, HasToldDigest, IsAskFedRefusal, IsCommentRefusal, IsFedState, IsMarkedFed, IsMarkedTold, IsTextRefusal, IsVerdictRefusal, asked_of, asking_misuse, asking_result, fed_mark, given_verdict, is_asked, is_begun, questions_of, verdict_misuse};
 ghost use Rattle.minisign_external.specs.declared.public_keys.PublicKeyValue.{PublicKeyValue};
 ghost use Rattle.minisign_external.specs.declared.state.Misuse.TheVariants.{NoRoom};
 ghost use Rattle.minisign_external.specs.declared.state.Refusal.TheVariants.{WrongUse};
@@ -43,7 +42,7 @@ impl State {
         // The questions are those of the key and of what the text reads as, with zeros for the digest; the message of
         // the second stands at the front of the buffer. They are then asked; what was fed stays.
         ensures asked { OnOk result ((t : SignatureTextRecord) × (read_under key.now allow_legacy sig_text.now ≡ Ok t)
-            × (questions.new ≡ questions_of key.now t) × HoldsMessage t.signature t.comments.trusted message.new questions.new.message_len) }
+            × AreAsked questions.new message.new key.now t) }
         ensures asking { OnOk result (HasAsked self.new key.now sig_text.now allow_legacy) }
         ensures fed { (m : List ℕ) → IsFedState self.old m → IsFedState self.new m }
 
@@ -119,7 +118,7 @@ impl State {
         message: &mut [u8],
     ) -> Result<&'a str, Refusal>
         ensures asked { IfOk result (λ c. (t : SignatureTextRecord) × (read_under key.now allow_legacy sig_text.now ≡ Ok t)
-            × (questions.new ≡ questions_of key.now t) × HoldsMessage t.signature t.comments.trusted message.new questions.new.message_len
+            × AreAsked questions.new message.new key.now t
             × (c.now ≡ t.comments.trusted) × (64 + length t.comments.trusted ≤ length message.old)) }
         ensures asking { OnOk result (HasAsked self.new key.now sig_text.now allow_legacy) }
         ensures fed { (m : List ℕ) → IsFedState self.old m → IsFedState self.new m }
@@ -226,10 +225,10 @@ fn write_questions(
     message: &mut [u8],
 ) -> Result<bool, Misuse>
     ensures questions { (t : SignatureTextRecord) → signature.now ≡ view_of t
-        → MatchResult result
-        (λ whole. (64 + length t.comments.trusted ≤ length message.old) × (questions.new ≡ questions_of key.now t)
-        × HoldsMessage t.signature t.comments.trusted message.new questions.new.message_len × (whole ≡ has_whole_signature t.comments))
-        (λ m. (m ≡ NoRoom) × (length message.old < 64 + length t.comments.trusted)) }
+        → IfOk result (λ whole. (64 + length t.comments.trusted ≤ length message.old)
+        × AreAsked questions.new message.new key.now t × (whole ≡ has_whole_signature t.comments)) }
+    ensures room { (t : SignatureTextRecord) → signature.now ≡ view_of t
+        → IfErr result (λ m. (m ≡ NoRoom) × (length message.old < 64 + length t.comments.trusted)) }
     ensures kept { OnErr result ((message.new ≡ message.old) × (questions.new ≡ questions.old)) }
 {
     let trusted = signature.trusted_comment().as_bytes();

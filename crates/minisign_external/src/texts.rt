@@ -3,9 +3,8 @@
 
 ghost use Rattle.std.specs.Prelude.{◌≡◌, if◌then◌else◌, ◌≤◌, ◌+◌, ℕ, List, Ok, Err, length, IfOk, IfErr};
 ghost use Rattle.minisign.specs.Acceptance.{judge_key};
-ghost use Rattle.minisign.specs.InPlace.{first_64, view_of};
+ghost use Rattle.minisign.specs.SignatureText.{first_64, view_of, SignatureTextRecord, read_signature};
 ghost use Rattle.minisign.specs.Records.{CommentsRecord, is_prehashed};
-ghost use Rattle.minisign.specs.SignatureText.{SignatureTextRecord, read_signature};
 ghost use Rattle.minisign_external.specs.PublicKeys.{key_of, read_utf8};
 ghost use Rattle.minisign_external.specs.Questions.{has_whole_signature, told_signature};
 

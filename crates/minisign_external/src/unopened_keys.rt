@@ -3,7 +3,7 @@
 ghost use Rattle.std.specs.Prelude.{◌≡◌, if◌then◌else◌, true, Some, Ok, OnOk, OnErr, IfOk, IfErr};
 ghost use Rattle.std.specs.Option.{option_map};
 ghost use Rattle.minisign_base.specs.Steps.{without_value};
-ghost use Rattle.minisign.specs.OpeningWork.{opening_work, wants_password};
+ghost use Rattle.minisign.specs.Sealing.{opening_work, wants_password};
 ghost use Rattle.minisign.specs.Records.{SecretKeyRecord};
 ghost use Rattle.minisign.specs.SecretKeyText.{read_secret_key, secret_key_of_bytes};
 ghost use Rattle.minisign.specs.Texts.{map_ok};
@@ -159,8 +159,9 @@ pub fn open_secret_key(
 
     // What is refused comes in this order: a key that was not read; a password that is not UTF-8; and the first reason for
     // which the key that was read gives none within the greatest work, as `SecretKey::from_unencrypted_box` says without
-    // a password, but for a key without a checksum, and `SecretKey::from_box_keeping_within` with one. Only with a
-    // password may memory run out. The value is then as it was.
+    // a password, but for a key without a checksum, and `SecretKey::from_box_keeping_within` with one. Memory runs out
+    // only with a password, for a key that is sealed by scrypt, whose limits are allowed and within the work. The value
+    // is then as it was.
     ensures refused { IfErr result (IsOpeningRefusal unopened.now (option_map (λ p. p.now) password.entry) greatest_work) }
     ensures kept { OnErr result (value.new ≡ value.old) }
 {

@@ -9,10 +9,10 @@ ghost use Rattle.minisign_hash.specs.Blake2b.{blake2b_digest};
 ghost use Rattle.minisign.specs.PublicKeyText.{read_bare_public_key, read_public_key};
 ghost use Rattle.minisign.specs.SignatureText.{SignatureTextRecord, read_signature};
 ghost use Rattle.minisign.specs.Acceptance.{Verifier};
-ghost use Rattle.minisign_external.specs.Questions.{Answers, HoldsMessage, IsKeyText, read_under, verdict_under};
-ghost use Rattle.minisign_external.specs.Numbers.{IsAnswer, IsMeaning, WritesCut, answer_yes, misuse_number, refusal_number};
+ghost use Rattle.minisign_external.specs.Questions.{HoldsMessage, IsKeyText, read_under, verdict_under};
+ghost use Rattle.minisign_external.specs.Numbers.{IsAnswer, IsMeaning, WritesCut, misuse_number, refusal_number};
 ghost use Rattle.minisign_external.specs.PublicKeys.{read_utf8, told_key_number};
-ghost use Rattle.minisign_external.specs.States.{GivesNumber, HasAsked, HasEnded, HasToldDigest, IsBlank, IsFedState, IsMarkedFed, IsMarkedTold, IsVerdictNumber, KeepsAsked, asking_number, feeding_misuse, is_asked, questions_of, verdict_number};
+ghost use Rattle.minisign_external.specs.States.{GivesNumber, HasAsked, HasEnded, HasToldDigest, IsAnswered, IsBlank, IsFedState, IsMarkedFed, IsMarkedTold, IsVerdictNumber, KeepsAsked, asking_number, feeding_misuse, is_asked, questions_of, verdict_number};
 ghost use Rattle.minisign_external.specs.declared.public_keys.PublicKeyValue.{PublicKeyValue};
 
 use minisign_external::numbers::{ANSWER_YES, is_answer, write_error_text};
@@ -125,12 +125,10 @@ pub extern "C" fn page_ask(
 #[unsafe(no_mangle)]
 pub extern "C" fn page_verdict(state: &mut State, first: u32, second: u32) -> u32
     ensures verdict { (v : PublicKeyValue) (sig_text message : List ℕ) (legacy : Bool) (accepts : Verifier)
-        → HasAsked state.old v sig_text legacy → IsMarkedTold state.old → IsAnswer first → IsAnswer second
-        → Answers accepts v sig_text message (first == answer_yes) (second == answer_yes)
+        → IsAnswered state.old accepts v sig_text message legacy first second
         → result ≡ verdict_number (verdict_under accepts v sig_text message legacy) }
     ensures texts { (v : PublicKeyValue) (pk_text sig_text message : List ℕ) (legacy : Bool) (accepts : Verifier)
-        → HasAsked state.old v sig_text legacy → IsMarkedTold state.old → IsKeyText pk_text v → IsAnswer first → IsAnswer second
-        → Answers accepts v sig_text message (first == answer_yes) (second == answer_yes)
+        → IsAnswered state.old accepts v sig_text message legacy first second → IsKeyText pk_text v
         → GivesNumber accepts pk_text sig_text message legacy result }
     ensures ended { result ≡ 0 → HasEnded state.old state.new × IsAnswer first × IsAnswer second }
     ensures refused { 0 < result → IsVerdictNumber state.old state.new first second result }

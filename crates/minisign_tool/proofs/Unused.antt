@@ -4,9 +4,8 @@ use Rattle.minisign.specs.Fault.{Fault}
 use Rattle.minisign.specs.DeviceCalls.{RereaderCall, SinkCall, unused}
 use Rattle.minisign.specs.Acceptance.{Verifier}
 use Rattle.minisign.specs.Records.{PublicKeyRecord, SignatureBoxRecord}
-use Rattle.minisign.specs.Verifying.{VerifyingFails}
+use Rattle.minisign.specs.Verifying.{VerifyingFails, VerifyingTextsFails}
 use Rattle.minisign.proofs.Laws.{fails_without_output}
-use Rattle.minisign.specs.VerifyingTexts.{VerifyingTextsFails}
 use Rattle.minisign_tool.specs.Verify.{says_only}
 
 -- an output of which no stage speaks

@@ -3,7 +3,7 @@ use Rattle.std.specs.Prelude.{◌≡◌, ℕ, ◌≤◌, List, false, ⊤}
 use Rattle.minisign.specs.Members.{SinkOf}
 use Rattle.minisign.specs.Acceptance.{Verifier, status_lines, verified_text}
 use Rattle.minisign.specs.Records.{SignatureBoxRecord}
-use Rattle.minisign.specs.Lines.{line}
+use Rattle.minisign.specs.Texts.{line}
 use Rattle.minisign.specs.Headline.{TextsVouchFor}
 use Rattle.minisign_tool.specs.Report.{EndsWithFault, SaysAfterWarning, ShowsOnlyFault, TakesOrFails, usage_line}
 use Rattle.minisign_tool.specs.Report.{warning_line}
@@ -37,8 +37,8 @@ abbrev pub SaysOnlyFaults : {S : Type 0} → SinkOf S → S → S → ℕ → Ty
 SaysOnlyFaults sink old new status =
     (status ≡ 0 → TakesOrFails sink old new warning_line) × (status ≡ 1 → ShowsOnlyFault sink old new (λ _. ⊤))
 
--- what a command says that verifies: the warning, and with status 0 the status lines of a box behind it, with 1 the line
--- of a fault at the end
+-- what a command says that verifies: the warning, and with status 0 the status lines of a box behind it, with 1 the
+-- line of a fault at the end
 abbrev pub SaysVerdict : {S : Type 0} → SinkOf S → S → S → ℕ → Type 0
 SaysVerdict sink old new status =
     (status ≡ 0 → (box : SignatureBoxRecord) × SaysAfterWarning sink old new (status_lines box))

@@ -1,8 +1,9 @@
 -- What `keygen` makes.
 use Rattle.std.specs.Prelude.{ℕ, List, None, Ok}
 use Rattle.minisign.specs.DeviceCalls.{PromptCall, RandomCall, SinkCall, TakesPart}
-use Rattle.minisign.specs.Generation.{IsGenuinePair, IsSealedPair, OpensOnlyTo}
+use Rattle.minisign.specs.Generation.{IsGenuinePair, IsSealedPair}
 use Rattle.minisign.specs.NewPassword.{IsSealing}
+use Rattle.minisign.specs.Opening.{OpensTo}
 use Rattle.minisign.specs.PublicKeyText.{public_key_text}
 use Rattle.minisign.specs.Records.{PublicKeyRecord, SecretKeyRecord}
 use Rattle.minisign.specs.Sealing.{xored_key}
@@ -20,5 +21,5 @@ pub record MakesKeys {Z R W P K : Type 0} (public_of : List ℕ → List ℕ) (z
   pub pair : IsSealedPair public_of password z pk sk
   pub public : TakesPart pk_sink (public_key_text pk)
   pub secret : TakesPart sk_sink (secret_key_text None sk)
-  pub opens : OpensOnlyTo (secret_key_text None sk) password (xored_key sk password)
+  pub opens : OpensTo (secret_key_text None sk) password 1 (xored_key sk password)
   pub belongs : IsGenuinePair public_of pk (xored_key sk password)

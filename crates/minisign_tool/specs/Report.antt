@@ -5,7 +5,7 @@ use Rattle.minisign.specs.Devices.{Rose, AppendsFront}
 use Rattle.minisign.specs.Fault.{Fault, text_of}
 use Rattle.minisign.specs.Members.{SinkOf}
 use Rattle.minisign.specs.DeviceCalls.{SinkCall, sink_call}
-use Rattle.minisign.specs.Lines.{line}
+use Rattle.minisign.specs.Texts.{line}
 
 -- the first line of every run
 unfoldable pub warning_line : List ℕ
@@ -13,7 +13,8 @@ warning_line = line (codes "warning: insecure toy scheme, for tests only")
 
 -- the arguments that there are
 unfoldable pub usage_line : List ℕ
-usage_line = line (codes "usage: minisign_tool keygen PK SK | sign SK FILE SIG | verify PK FILE SIG | verify-raw PK SIG | cat PK FILE SIG")
+usage_line =
+    line (codes "usage: minisign_tool keygen PK SK | sign SK FILE SIG | verify PK FILE SIG | verify-raw PK SIG | cat PK FILE SIG")
 
 -- how a fault is shown
 abbrev pub fault_line : Fault → List ℕ

@@ -1,20 +1,19 @@
 -- How a run that signs with a text file ends.
 use Rattle.std.specs.Prelude.{◌≡◌, ℕ, ◌⊎◌, None, Ok, List}
-use Rattle.minisign.specs.Members.{RandomOf, SinkOf, SourceOf}
+use Rattle.minisign.specs.Members.{RandomOf, SchemeOf, SinkOf, SourceOf}
 use Rattle.minisign.specs.DeviceCalls.{FailsAtPart, PromptCall, RandomCall, SinkCall, SourceCall, Takes, TakesPart}
 use Rattle.minisign.specs.DeviceCalls.{prompt_call, random_call, source_call}
 use Rattle.minisign.specs.Fault.{Fault, Named}
 use Rattle.minisign.specs.NamedFaults.{WritingFailed}
 use Rattle.minisign.specs.Records.{SecretKeyRecord, SignatureBoxRecord}
 use Rattle.minisign.specs.Acceptance.{Verifier, VouchesUnderEachKey}
-use Rattle.minisign.specs.Reading.{IsAhead, ReadsWhole}
+use Rattle.minisign.specs.Reading.{IsAhead, ReadsWhole, IsTextFault}
 use Rattle.minisign.specs.SignatureText.{read_signature_box}
-use Rattle.minisign.specs.Signing.{IsGenuine, Signer, comments_or_defaults}
+use Rattle.minisign.specs.Signing.{IsGenuine, given_comments}
 use Rattle.minisign.specs.SigningTexts.{GivesKey, IsKeyOf, IsSignedText, TextSigningFails}
-use Rattle.minisign.specs.TextFiles.{IsTextFault}
 use Rattle.minisign_tool.specs.declared.sign.SigningDevices.{SigningDevices}
 
--- where the key is genuine, the text reads as a box that every public key of the same seed and identifier
+-- where the key is genuine, the text reads as a box that every public key of the same seed and key ID
 -- vouches with
 abbrev pub ReadsBackWhereGenuine : Verifier → (List ℕ → List ℕ) → SecretKeyRecord → List ℕ → List ℕ → Type 0
 ReadsBackWhereGenuine accepts public_of sk message text =
@@ -39,36 +38,26 @@ signing_call sk_file data_reader random reader writer old new = record {
   prompt = prompt_call reader writer old.prompt new.prompt;
 }
 
--- a scheme: what its keys sign, what it accepts, and the public key of a seed
-pub record SchemeOf : Type 0 where
-  pub sign : Signer
-  pub accepts : Verifier
-  pub public_of : List ℕ → List ℕ
-
--- the same as a clause writes it
-abbrev pub scheme_of : Signer → Verifier → (List ℕ → List ℕ) → SchemeOf
-scheme_of sign accepts public_of = record { sign = sign; accepts = accepts; public_of = public_of }
-
 -- the key's text gave a key, with a password that was asked for where it is sealed; all the data was read,
 -- and this is the text of the box that the key signs it with, the comments being those by default; where the key is
 -- genuine, the text is read back as a box that vouches for the data
-pub record SignsText {K R Z A B : Type 0} (scheme : SchemeOf) (d : SigningCall K R Z A B) (sk_text : List ℕ)
-    (moment : ℕ) (text : List ℕ) : Type 0 where
+pub record SignsText {S K R Z A B : Type 0} (s : SchemeOf S) (scheme : S) (d : SigningCall K R Z A B)
+    (sk_text : List ℕ) (moment : ℕ) (text : List ℕ) : Type 0 where
   pub key : SecretKeyRecord
   pub message : List ℕ
   pub given : GivesKey d.prompt None sk_text (Ok key)
   pub read : ReadsWhole d.data_reader.source d.data_reader.old d.data_reader.new message
-  pub signed : IsSignedText scheme.sign key message (comments_or_defaults None None moment) d.random text
-  pub vouched : ReadsBackWhereGenuine scheme.accepts scheme.public_of key message text
+  pub signed : IsSignedText (s.signature_of scheme) key message (given_comments None None moment) d.random text
+  pub vouched : ReadsBackWhereGenuine (s.accepts scheme) (s.public_of scheme) key message text
 
 -- the key's file was read whole, and this is the text that signing with its text gives
-pub record MakesSigned {K R Z A B : Type 0} (scheme : SchemeOf) (d : SigningCall K R Z A B) (moment : ℕ)
-    (text : List ℕ) : Type 0 where
+pub record MakesSigned {S K R Z A B : Type 0} (s : SchemeOf S) (scheme : S) (d : SigningCall K R Z A B)
+    (moment : ℕ) (text : List ℕ) : Type 0 where
   pub sk_text : List ℕ
   pub read : ReadsWhole d.sk_file.source d.sk_file.old d.sk_file.new sk_text
-  pub signs : SignsText scheme d sk_text moment text
+  pub signs : SignsText s scheme d sk_text moment text
 
--- the key's file gave the text of a key, and where that is genuine every public key of its seed and identifier
+-- the key's file gave the text of a key, and where that is genuine every public key of its seed and key ID
 -- vouches for all of the data with the text that is made
 pub record MakesVouched {K R Z A B : Type 0} (accepts : Verifier) (public_of : List ℕ → List ℕ)
     (d : SigningCall K R Z A B) (text : List ℕ) : Type 0 where
@@ -85,15 +74,16 @@ pub record WriteFails {G : Type 0} (g : SinkCall G) (text : List ℕ) (e : Fault
   pub fault : e ≡ Named WritingFailed
   pub failed : FailsAtPart g text
 
--- what a genuine key signed was written: every public key of its seed and identifier vouches for all of the
+-- what a genuine key signed was written: every public key of its seed and key ID vouches for all of the
 -- data with it
 abbrev pub HasWrittenVouched : {K R Z A B G : Type 0} → Verifier → (List ℕ → List ℕ) → SigningCall K R Z A B
     → SinkCall G → Type 0
 HasWrittenVouched accepts public_of d g = (text : List ℕ) × MakesVouched accepts public_of d text × Takes g text
 
 -- the text of the box that the definition of signing makes was written, and nothing failed
-abbrev pub HasWrittenSigned : {K R Z A B G : Type 0} → SchemeOf → SigningCall K R Z A B → SinkCall G → ℕ → Type 0
-HasWrittenSigned scheme d g moment = (text : List ℕ) × MakesSigned scheme d moment text × TakesPart g text
+abbrev pub HasWrittenSigned : {S K R Z A B G : Type 0} → SchemeOf S → S → SigningCall K R Z A B → SinkCall G → ℕ
+    → Type 0
+HasWrittenSigned s scheme d g moment = (text : List ℕ) × MakesSigned s scheme d moment text × TakesPart g text
 
 -- nothing was written: the key's file gave no text, with nothing else touched, or signing with the text failed
 abbrev pub NoSignature : {K R Z A B : Type 0} → SigningCall K R Z A B → Fault → Type 0
@@ -105,7 +95,7 @@ NoSignature d e =
 
 -- signing a file fails: there is no signature, and nothing was written, or one was made, and its text was not
 -- written whole
-abbrev pub FileSigningFails : {K R Z A B G : Type 0} → SchemeOf → SigningCall K R Z A B → SinkCall G → ℕ → Fault
-    → Type 0
-FileSigningFails scheme d g moment e =
-    (NoSignature d e × (g.new ≡ g.old)) ⊎ ((text : List ℕ) × MakesSigned scheme d moment text × WriteFails g text e)
+abbrev pub FileSigningFails : {S K R Z A B G : Type 0} → SchemeOf S → S → SigningCall K R Z A B → SinkCall G → ℕ
+    → Fault → Type 0
+FileSigningFails s scheme d g moment e =
+    (NoSignature d e × (g.new ≡ g.old)) ⊎ ((text : List ℕ) × MakesSigned s scheme d moment text × WriteFails g text e)

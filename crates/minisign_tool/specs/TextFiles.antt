@@ -2,8 +2,7 @@
 use Rattle.std.specs.Prelude.{◌≡◌, ℕ, ◌⊎◌, List}
 use Rattle.minisign.specs.Fault.{Fault}
 use Rattle.minisign.specs.DeviceCalls.{SourceCall}
-use Rattle.minisign.specs.Reading.{ReadsWhole}
-use Rattle.minisign.specs.TextFiles.{IsTextFault}
+use Rattle.minisign.specs.Reading.{ReadsWhole, IsTextFault}
 
 -- two files were read whole, and these are their texts
 pub record ReadsBoth {P Q : Type 0} (first : SourceCall P) (second : SourceCall Q)

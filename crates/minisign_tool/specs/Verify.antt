@@ -4,21 +4,21 @@ use Rattle.minisign.specs.Fault.{Fault}
 use Rattle.minisign.specs.Members.{SourceOf}
 use Rattle.minisign.specs.DeviceCalls.{RereaderCall, SinkCall, SourceCall, TakesFront, rereader_call, source_call, unused}
 use Rattle.minisign.specs.Records.{PublicKeyRecord, SignatureBoxRecord}
-use Rattle.minisign.specs.Acceptance.{Flags, Verifier, status_lines}
+use Rattle.minisign.specs.declared.options.VerifyOptions.{VerifyOptions}
+use Rattle.minisign.specs.Acceptance.{Verifier, options_of, status_lines}
 use Rattle.minisign.specs.Headline.{CopyIsVouchedFor, TextsVouchFor}
 use Rattle.minisign.specs.Reading.{IsAhead}
-use Rattle.minisign.specs.Verifying.{HasCopy}
-use Rattle.minisign.specs.VerifyingTexts.{VerifyingTextsFails, read_texts}
+use Rattle.minisign.specs.Verifying.{HasCopy, VerifyingTextsFails, read_texts}
 use Rattle.minisign_tool.specs.TextFiles.{EitherFails, ReadsBoth}
 use Rattle.minisign_tool.specs.declared.verify.VerifyingDevices.{VerifyingDevices}
 
 -- the status is said, nothing is copied, and legacy signatures are refused
-abbrev pub says_only : Flags
-says_only = record { quiet = false; output = false; legacy = false }
+abbrev pub says_only : VerifyOptions
+says_only = options_of false false false
 
 -- the status is said, the data is copied, and legacy signatures are refused
-abbrev pub says_and_copies : Flags
-says_and_copies = record { quiet = false; output = true; legacy = false }
+abbrev pub says_and_copies : VerifyOptions
+says_and_copies = options_of false true false
 
 -- the devices of verifying with two text files over a run
 pub record VerifyingCall (P Q R : Type 0) : Type 1 where
@@ -42,7 +42,8 @@ SaysFront status pk_text sig_text =
     × (read_texts pk_text sig_text ≡ Ok (key, box)) × TakesFront status (status_lines box))
 
 -- what both files held vouches for all of the data, and its status lines were said as Said says
-pub record FilesVouch {P Q R : Type 0} (accepts : Verifier) (d : VerifyingCall P Q R) (Said : List ℕ → Type 0) : Type 0 where
+pub record FilesVouch {P Q R : Type 0} (accepts : Verifier) (d : VerifyingCall P Q R)
+    (Said : List ℕ → Type 0) : Type 0 where
   pub pk_text : List ℕ
   pub sig_text : List ℕ
   pub message : List ℕ
@@ -64,11 +65,15 @@ abbrev pub FilesFail : {P Q R W : Type 0} → Verifier → VerifyingCall P Q R �
 FilesFail accepts d status e =
     (EitherFails d.pk_file d.sig_file e × (d.data_reader.new ≡ d.data_reader.old) × (status.new ≡ status.old))
     ⊎ ((pk_text sig_text : List ℕ) × ReadsBoth d.pk_file d.sig_file pk_text sig_text
-    × VerifyingTextsFails accepts pk_text sig_text says_only d.data_reader status unused e × SaysFront status pk_text sig_text)
+    × VerifyingTextsFails accepts pk_text sig_text says_only d.data_reader status unused e
+    × SaysFront status pk_text sig_text)
 
 -- a file gave no text, with no data read or copied, or verifying with the texts and copying failed
-abbrev pub FilesFailToCopy : {P Q R O W : Type 0} → Verifier → VerifyingCall P Q R → SinkCall O → SinkCall W → Fault → Type 0
+abbrev pub FilesFailToCopy : {P Q R O W : Type 0} → Verifier → VerifyingCall P Q R → SinkCall O → SinkCall W → Fault
+    → Type 0
 FilesFailToCopy accepts d out status e =
-    (EitherFails d.pk_file d.sig_file e × (d.data_reader.new ≡ d.data_reader.old) × (out.new ≡ out.old) × (status.new ≡ status.old))
+    (EitherFails d.pk_file d.sig_file e × (d.data_reader.new ≡ d.data_reader.old) × (out.new ≡ out.old)
+    × (status.new ≡ status.old))
     ⊎ ((pk_text sig_text : List ℕ) × ReadsBoth d.pk_file d.sig_file pk_text sig_text
-    × VerifyingTextsFails accepts pk_text sig_text says_and_copies d.data_reader status out e × SaysFront status pk_text sig_text)
+    × VerifyingTextsFails accepts pk_text sig_text says_and_copies d.data_reader status out e
+    × SaysFront status pk_text sig_text)

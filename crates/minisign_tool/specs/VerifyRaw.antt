@@ -5,14 +5,15 @@ use Rattle.minisign.specs.NamedFaults.{RecordTooShort}
 use Rattle.minisign.specs.DeviceCalls.{RereaderCall, SinkCall, SourceCall, TakesFront, unused}
 use Rattle.minisign.specs.Records.{PublicKeyRecord, SignatureRecord, SignatureBoxRecord, ReadsPublicKey, ReadsSignature, IsKnownAlgorithm, IsBonesFault}
 use Rattle.minisign.specs.Acceptance.{Verifier, Vouches, verified_text}
-use Rattle.minisign.specs.Lines.{line}
+use Rattle.minisign.specs.Texts.{line}
 use Rattle.minisign.specs.Reading.{IsReadFault, ReadsWhole}
 use Rattle.minisign.specs.Verifying.{VerifyingFails}
 use Rattle.minisign_tool.specs.TextFiles.{ReadsBoth}
 use Rattle.minisign_tool.specs.Verify.{says_only}
 
 -- the two files hold this public key and this bare signature
-pub record HoldsRaw (key_file signature_file : List ℕ) (key : PublicKeyRecord) (signature : SignatureRecord) : Type 0 where
+pub record HoldsRaw (key_file signature_file : List ℕ) (key : PublicKeyRecord)
+    (signature : SignatureRecord) : Type 0 where
   pub reads_key : ReadsPublicKey key_file key
   pub reads_signature : ReadsSignature signature_file signature
   pub known : IsKnownAlgorithm signature.algorithm
@@ -65,7 +66,8 @@ pub record RawFilesVouch {P Q R : Type 0} (accepts : Verifier) (pk_file : Source
   pub said : Said (line verified_text)
 
 -- a file was not read whole, with no data read, or verifying with the bytes of both failed
-abbrev pub RawFilesFail : {P Q R W : Type 0} → Verifier → SourceCall P → SourceCall Q → RereaderCall R → SinkCall W → Fault → Type 0
+abbrev pub RawFilesFail : {P Q R W : Type 0} → Verifier → SourceCall P → SourceCall Q → RereaderCall R → SinkCall W
+    → Fault → Type 0
 RawFilesFail accepts pk_file sig_file reader status e =
     (EitherIsUnread pk_file sig_file e × (reader.new ≡ reader.old) × (status.new ≡ status.old))
     ⊎ ((key_file signature_file : List ℕ) × ReadsBoth pk_file sig_file key_file signature_file

@@ -4,7 +4,7 @@
 ghost use Rattle.std.specs.Prelude.{◌≡◌, ◌++◌, codes, MatchResult, OnOk, OnErr};
 ghost use Rattle.std.specs.Io.KnownBytes.{Appends};
 ghost use Rattle.minisign.specs.Devices.{Rose, AppendsFront};
-ghost use Rattle.minisign.specs.Lines.{line};
+ghost use Rattle.minisign.specs.Texts.{line};
 ghost use Rattle.minisign_tool.specs.Report.{TakesOrFails, ShowsFault, usage_line, warning_line};
 
 use minisign::base::devices::DeviceFault;

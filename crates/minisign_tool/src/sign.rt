@@ -5,7 +5,7 @@ ghost use Rattle.std.specs.Prelude.{◌≡◌, ◌≤◌, string_bytes, IfOk, If
 ghost use Rattle.minisign.specs.Devices.{HasGiven};
 ghost use Rattle.minisign.specs.DeviceCalls.{TakesPart, sink_call};
 ghost use Rattle.minisign_tool.specs.Report.{ShowsOnlyFault, TakesOrFails, warning_line};
-ghost use Rattle.minisign_tool.specs.Sign.{FileSigningFails, HasWrittenSigned, HasWrittenVouched, MakesSigned, MakesVouched, NoSignature, WriteFails, scheme_of, signing_call};
+ghost use Rattle.minisign_tool.specs.Sign.{FileSigningFails, HasWrittenSigned, HasWrittenVouched, MakesSigned, MakesVouched, NoSignature, WriteFails, signing_call};
 
 use crate::report::{report, warn};
 use minisign::base::NamedFault;
@@ -66,7 +66,7 @@ pub fn run_sign<
     // That is the text that `sign_texts` says, with the default comments, of what was read, behind
     // the warning: of the key that the file's text gives, under the password that was typed where it
     // is sealed; and where this very key is genuine, the text is read back as above.
-    ensures signed { result ≡ 0 → HasWrittenSigned (scheme_of (S.signature_of scheme.now) (S.accepts scheme.now) (S.public_of scheme.now))
+    ensures signed { result ≡ 0 → HasWrittenSigned S.Scheme scheme.now
         (signing_call K.Source R.Source Z.RandomSource A.Source B.Sink devices.old devices.new)
         (sink_call G.Sink signature.old signature.new) moment }
     ensures said { result ≡ 0 → TakesOrFails W.Sink errors.old errors.new warning_line }
@@ -74,7 +74,7 @@ pub fn run_sign<
     // The exit status is 1 only because the key's file gave no text, with nothing else touched, or
     // signing failed, with nothing written, or the text was not written whole.
     ensures refused { result ≡ 1 → ShowsOnlyFault W.Sink errors.old errors.new
-        (FileSigningFails (scheme_of (S.signature_of scheme.now) (S.accepts scheme.now) (S.public_of scheme.now))
+        (FileSigningFails S.Scheme scheme.now
         (signing_call K.Source R.Source Z.RandomSource A.Source B.Sink devices.old devices.new)
         (sink_call G.Sink signature.old signature.new) moment) }
 
@@ -100,10 +100,10 @@ fn write_signature<S: Scheme, K: Source, R: Source, Z: RandomSource, A: Source, 
     ensures headline { OnOk result (HasWrittenVouched (S.accepts scheme.now) (S.public_of scheme.now)
         (signing_call K.Source R.Source Z.RandomSource A.Source B.Sink devices.old devices.new)
         (sink_call G.Sink signature.old signature.new)) }
-    ensures signed { OnOk result (HasWrittenSigned (scheme_of (S.signature_of scheme.now) (S.accepts scheme.now) (S.public_of scheme.now))
+    ensures signed { OnOk result (HasWrittenSigned S.Scheme scheme.now
         (signing_call K.Source R.Source Z.RandomSource A.Source B.Sink devices.old devices.new)
         (sink_call G.Sink signature.old signature.new) moment) }
-    ensures refused { IfErr result (FileSigningFails (scheme_of (S.signature_of scheme.now) (S.accepts scheme.now) (S.public_of scheme.now))
+    ensures refused { IfErr result (FileSigningFails S.Scheme scheme.now
         (signing_call K.Source R.Source Z.RandomSource A.Source B.Sink devices.old devices.new)
         (sink_call G.Sink signature.old signature.new) moment) }
     ensures given { HasGiven (R.ahead devices.old.data_reader) (R.ahead devices.new.data_reader) }
@@ -123,7 +123,7 @@ fn make_text<S: Scheme, K: Source, R: Source, Z: RandomSource, A: Source, B: Sin
 ) -> Result<String>
     ensures headline { IfOk result (λ t. MakesVouched (S.accepts scheme.now) (S.public_of scheme.now)
         (signing_call K.Source R.Source Z.RandomSource A.Source B.Sink devices.old devices.new) (string_bytes t)) }
-    ensures signed { IfOk result (λ t. MakesSigned (scheme_of (S.signature_of scheme.now) (S.accepts scheme.now) (S.public_of scheme.now))
+    ensures signed { IfOk result (λ t. MakesSigned S.Scheme scheme.now
         (signing_call K.Source R.Source Z.RandomSource A.Source B.Sink devices.old devices.new) moment (string_bytes t)) }
     ensures refused { IfErr result (NoSignature
         (signing_call K.Source R.Source Z.RandomSource A.Source B.Sink devices.old devices.new)) }

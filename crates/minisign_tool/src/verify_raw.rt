@@ -6,7 +6,7 @@ ghost use Rattle.std.specs.Io.KnownBytes.{Appends};
 ghost use Rattle.minisign.specs.Devices.{HasGiven};
 ghost use Rattle.minisign.specs.DeviceCalls.{Takes, rereader_call, sink_call, source_call};
 ghost use Rattle.minisign.specs.Acceptance.{verified_text};
-ghost use Rattle.minisign.specs.Lines.{line};
+ghost use Rattle.minisign.specs.Texts.{line};
 ghost use Rattle.minisign.specs.Reading.{ReadsWhole};
 ghost use Rattle.minisign_tool.specs.Report.{EndsWithFault, SaysAfterWarning};
 ghost use Rattle.minisign_tool.specs.VerifyRaw.{RawFilesFail, RawFilesVouch, SaysLineFront, VerifyRawFails, VouchesRaw};

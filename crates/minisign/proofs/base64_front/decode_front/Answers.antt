@@ -1,8 +1,6 @@
-use Rattle.std.proofs.Common.{◌≡◌, ◌%◌, ◌*◌, ◌/◌, ◌++◌, length, sym, subst, ◌∙◌, arith}
-use Rattle.std.proofs.lemmas.List.{length-append, take_at}
+use Rattle.std.proofs.Common.{◌≡◌, ◌%◌, ◌*◌, ◌/◌, ◌++◌, length, sym, subst, ◌∙◌, arith, length-append, take_at}
 use Rattle.minisign.specs.Texts.{IsBase64Of, base64_bytes}
-use Rattle.minisign.proofs.Base64Texts.{reads}
-use Rattle.minisign.proofs.Base64Pieces.{joined, piece_refused, piece_padded, rest_refused, rejoined}
+use Rattle.minisign.proofs.Base64Texts.{reads, joined, piece_refused, piece_padded, rest_refused, rejoined}
 use Rattle.minisign.proofs.base64_front.decode_front.Goals as goal
 
 pub returns-in_default : goal.returns-in_default

@@ -1,8 +1,6 @@
-use Rattle.std.proofs.Common.{length, take, drop, sym, ap, ◌∙◌, arith}
-use Rattle.std.proofs.lemmas.List.{take_at, length-append}
-use Rattle.base64.specs.Engines.{standard}
-use Rattle.base64.specs.GeneralPurpose.{decoded_bytes_of}
-use Rattle.minisign.proofs.Base64Pieces.{piece_read, piece_unread}
+use Rattle.std.proofs.Common.{length, take, drop, sym, ap, ◌∙◌, arith, take_at, length-append}
+use Rattle.minisign.proofs.Common.{standard, decoded_bytes_of}
+use Rattle.minisign.proofs.Base64Texts.{piece_read, piece_unread}
 use Rattle.minisign.proofs.base64_front.decode_piece.Goals as goal
 
 pub returns-in-Ok : goal.returns-in-Ok

@@ -1,5 +1,5 @@
 use Rattle.std.proofs.Common.{◌≡◌, ◌*◌, ◌/◌, length, sym, ◌∙◌, arith}
-use Rattle.minisign.proofs.Base64Pieces.{judged, piece_judged, piece_refused, piece_padded, rejoined}
+use Rattle.minisign.proofs.Base64Texts.{judged, piece_judged, piece_refused, piece_padded, rejoined}
 use Rattle.minisign.proofs.base64_front.is_base64.Goals as goal
 
 pub returns-in_default : goal.returns-in_default

@@ -1,7 +1,6 @@
 use Rattle.std.proofs.Common.{ap, sym, ◌∙◌, Ok, Err}
-use Rattle.std.proofs.lemmas.Result.{err_from_is_err_and}
-use Rattle.minisign.specs.InPlace.{SignatureViewRecord, view_of}
-use Rattle.minisign.specs.SignatureText.{read_signature}
+use Rattle.minisign.proofs.Common.{err_from_is_err_and}
+use Rattle.minisign.specs.SignatureText.{SignatureViewRecord, view_of, read_signature}
 use Rattle.minisign.proofs.Verdicts.{key_refused, mapped_of, read_verdict, signature_refused, unmapped}
 use Rattle.minisign.proofs.calls.verify_in_place.Goals as goal
 

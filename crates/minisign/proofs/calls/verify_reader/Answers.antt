@@ -1,6 +1,6 @@
 use Rattle.std.proofs.Common.{arith, string_bytes}
-use Rattle.minisign_base.specs.DeviceCalls.{rereader_call}
-use Rattle.minisign.proofs.Commented.{ahead_refused, ahead_vouched, reader_refused, silent}
+use Rattle.minisign.proofs.Common.{rereader_call}
+use Rattle.minisign.proofs.VouchedTexts.{ahead_refused, ahead_vouched, reader_refused, silent}
 use Rattle.minisign.proofs.calls.verify_reader.Goals as goal
 
 pub returns-clause-headline : goal.returns-clause-headline
@@ -13,13 +13,11 @@ returns-clause-vouched g c =
     c.verify_with.ensures.accepted c.verify_with.ensures.comment
 
 pub returns-clause-refused : goal.returns-clause-refused
-returns-clause-refused g c =
-    ahead_refused (g.S.Scheme.accepts c.args.scheme.now) c.args.pk_text.now c.args.sig_text.now
+returns-clause-refused g c = ahead_refused (g.S.Scheme.accepts c.args.scheme.now) c.args.pk_text.now c.args.sig_text.now
     (rereader_call g.R.Source g.R.Rereader.steady c.args.data_reader.now c.verify_with.new.data_reader) (silent _ _) (silent _ _) c.verify_with.result
     c.verify_with.ensures.refused
 
 pub returns-clause-failed : goal.returns-clause-failed
-returns-clause-failed g c =
-    reader_refused (g.S.Scheme.accepts c.args.scheme.now) c.args.pk_text.now c.args.sig_text.now
+returns-clause-failed g c = reader_refused (g.S.Scheme.accepts c.args.scheme.now) c.args.pk_text.now c.args.sig_text.now
     (rereader_call g.R.Source g.R.Rereader.steady c.args.data_reader.now c.verify_with.new.data_reader) (silent _ _) (silent _ _) c.verify_with.result
     c.verify_with.ensures.refused

@@ -1,4 +1,4 @@
-use Rattle.std.proofs.lemmas.Result.{err_from_is_err_and}
+use Rattle.minisign.proofs.Common.{err_from_is_err_and}
 use Rattle.minisign.proofs.Verdicts.{text_refused, told_refusal, told_success}
 use Rattle.minisign.proofs.ReadTexts.{read_value}
 use Rattle.minisign.proofs.calls.verify_with.Goals as goal

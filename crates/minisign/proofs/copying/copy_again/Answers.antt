@@ -1,6 +1,5 @@
 use Rattle.std.proofs.Common.{[], ◌∷◌, inl, inr, refl, sym, ◌∙◌}
-use Rattle.std.proofs.lemmas.Result.{err_from_is_err_and}
-use Rattle.minisign_base.specs.DeviceCalls.{rereader_call, sink_call, unused}
+use Rattle.minisign.proofs.Common.{err_from_is_err_and, rereader_call, sink_call, unused}
 use Rattle.minisign.specs.Stages.{Compare, Copy, Flush, Return}
 use Rattle.minisign.proofs.Copies.{different, not_different}
 use Rattle.minisign.proofs.Passes.{last_stage, next_stage}

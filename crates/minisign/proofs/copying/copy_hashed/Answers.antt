@@ -1,7 +1,7 @@
 use Rattle.std.proofs.Common.{[], refl, rules}
-use Rattle.minisign_base.proofs.Laws.{AppendsFront-keeps}
+use Rattle.minisign.proofs.Common.{AppendsFront-keeps}
 use Rattle.minisign.proofs.Beginnings.{passed_up}
-use Rattle.minisign.proofs.Copies.{front_of_given, front_of_nothing, keeps_same}
+use Rattle.minisign.proofs.Copies.{front_of_nothing, keeps_same}
 use Rattle.minisign.proofs.copying.copy_hashed.Goals as goal
 
 pub returns-in_err-buf-clause-refused : goal.returns-in_err-buf-clause-refused
@@ -18,7 +18,7 @@ returns-in_err-buf-clause-refused g c =
         ahead = ahead;
         left = search rules;
         front = front;
-        given_front = front_of_given _ _ _ [] c.requires (AppendsFront-keeps _ _ _ (keeps_same _));
+        given_front = ([], c.requires, AppendsFront-keeps _ _ _ (keeps_same _));
         marked = refl;
         unflushed = refl;
       },

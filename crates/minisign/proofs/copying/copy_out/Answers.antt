@@ -1,5 +1,5 @@
 use Rattle.std.proofs.Common.{[], ◌∷◌, Ok, refl, subst}
-use Rattle.minisign_base.specs.DeviceCalls.{Puts, rereader_call, sink_call, unused}
+use Rattle.minisign.proofs.Common.{Puts, rereader_call, sink_call, unused}
 use Rattle.minisign.specs.Stages.{Flush, Put, StagesEnd}
 use Rattle.minisign.proofs.Passes.{kept_steps, last_stage, next_stage}
 use Rattle.minisign.proofs.copying.copy_out.Goals as goal

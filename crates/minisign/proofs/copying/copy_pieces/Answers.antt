@@ -1,9 +1,7 @@
 use Rattle.std.proofs.Common.{◌∙◌, ℕ, append_assoc, inr, rules, subst}
-use Rattle.std.proofs.KnownBytes.{Appends-trans, Consumes-trans}
-use Rattle.minisign_base.specs.Devices.{Rose}
-use Rattle.minisign_base.proofs.Laws.{AppendsFront-after}
+use Rattle.minisign.proofs.Common.{Appends-trans, Consumes-trans, Rose, AppendsFront-after}
 use Rattle.minisign.proofs.Beginnings.{consumed, passed_up}
-use Rattle.minisign.proofs.Copies.{front_of_ahead, front_of_all, front_of_given, given_more, given_still, keeps_same}
+use Rattle.minisign.proofs.Copies.{front_of_ahead, front_of_all, given_more, given_still, keeps_same}
 use Rattle.minisign.proofs.copying.copy_pieces.Goals as goal
 
 pub pieces-preserved : goal.pieces-preserved
@@ -65,7 +63,7 @@ returns-in_err-put_bytes-in-Ok-clause-refused g c =
         ahead = ahead;
         left = consumed _ _ _ more;
         front = front;
-        given_front = front_of_given _ _ _ _ (given_more _ _ _ _ since c.in-Ok.ensures.since) put;
+        given_front = (_, given_more _ _ _ _ since c.in-Ok.ensures.since, put);
         marked = c.in-Ok.ensures.marked ∙ c.pieces.invariant.marked;
         unflushed = unflushed ∙ c.pieces.invariant.unflushed;
       },

@@ -1,7 +1,6 @@
 use Rattle.std.proofs.Common.{◌≡◌, ℕ, List, ◌++◌, false}
-use Rattle.std.specs.Io.KnownBytes.{Appends, Consumes}
-use Rattle.minisign_hash.specs.Fed.{IsFed, has_finalized, output_length}
-use Rattle.minisign.specs.Reading.{WereGiven}
+use Rattle.minisign.proofs.Common.{Appends, Consumes, IsFed, has_finalized, output_length}
+use Rattle.minisign.specs.Reading.{IsAhead}
 use Rattle.minisign.proofs.copying.copy_pieces.Given as goal
 
 abbrev pub invariant-pieces : goal.invariant-pieces
@@ -16,7 +15,7 @@ invariant-pieces g l = record {
   given : (done : List ℕ) × Consumes (g.R.Source.ahead l.fn.data_reader) (g.R.Source.ahead l.data_reader) done
       × Appends (g.O.Sink.taken l.fn.out) (g.O.Sink.taken l.out) done
       × ((m : List ℕ) → IsFed l.fn.hasher m → IsFed l.hasher (m ++ done))
-      × WereGiven (g.R.Source.since l.data_reader) done;
+      × IsAhead (g.R.Source.since l.data_reader) done;
 }
 
 abbrev pub decreases-pieces : goal.decreases-pieces

@@ -1,6 +1,6 @@
 use Rattle.std.proofs.Common.{List, ℕ, subst}
 use Rattle.minisign.specs.Texts.{IsBase64Of}
-use Rattle.minisign.proofs.InPlace.{front_read}
+use Rattle.minisign.proofs.SignatureTexts.{front_read}
 use Rattle.minisign.proofs.in_place.decode_key.Goals as goal
 
 pub returns : goal.returns

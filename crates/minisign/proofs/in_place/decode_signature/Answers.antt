@@ -1,7 +1,7 @@
 use Rattle.std.proofs.Common.{List, ℕ, subst, inr, arith}
-use Rattle.std.proofs.lemmas.Result.{MatchResult-weaker}
+use Rattle.minisign.proofs.Common.{MatchResult-weaker}
 use Rattle.minisign.specs.Texts.{IsBase64Of}
-use Rattle.minisign.proofs.InPlace.{encoded_signature, short_front}
+use Rattle.minisign.proofs.SignatureTexts.{encoded_signature, short_front}
 use Rattle.minisign.proofs.in_place.decode_signature.Goals as goal
 
 pub returns : goal.returns

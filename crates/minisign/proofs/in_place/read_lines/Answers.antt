@@ -1,12 +1,9 @@
-use Rattle.std.proofs.Common.{◌≡◌, List, ℕ, ◌<◌, true, false, rules, arith, drop, length, subst, sym, ap, ◌∙◌, ⊎_elim}
-use Rattle.std.specs.Str.{trim}
-use Rattle.std.proofs.Math.Seq.{drop-append_seam}
-use Rattle.std.proofs.lemmas.List.{length-append}
-use Rattle.std.proofs.lemmas.Result.{err_from_is_err_and}
+use Rattle.std.proofs.Common.{◌≡◌, List, ℕ, ◌<◌, true, false, rules, arith, drop, length, subst, sym, ap, ◌∙◌, ⊎_elim, length-append}
+use Rattle.minisign.proofs.Common.{trim, drop-append_seam, err_from_is_err_and}
 use Rattle.minisign.specs.Records.{SignatureRecord, IsKnownAlgorithm}
 use Rattle.minisign.specs.Texts.{is_base64, base64_bytes, untrusted_comment_label}
 use Rattle.minisign.specs.SignatureText.{EncodesSignature, trusted_comment_label}
-use Rattle.minisign.proofs.InPlace.{long_enough}
+use Rattle.minisign.proofs.SignatureTexts.{long_enough}
 use Rattle.minisign.proofs.SignatureTexts as texts
 use Rattle.minisign.proofs.in_place.read_lines.Goals as goal
 

@@ -1,8 +1,8 @@
 use Rattle.std.proofs.Common.{List, ℕ, ap, subst, sym, ◌∙◌}
-use Rattle.minisign.specs.InPlace.{first_64}
+use Rattle.minisign.specs.SignatureText.{first_64}
 use Rattle.minisign.specs.Texts.{IsBase64Of}
 use Rattle.minisign.proofs.Base64Texts.{bytes_read}
-use Rattle.minisign.proofs.InPlace.{front_64}
+use Rattle.minisign.proofs.SignatureTexts.{front_64}
 use Rattle.minisign.proofs.in_place.signature_front.Goals as goal
 
 pub returns-in-Some : goal.returns-in-Some

@@ -1,5 +1,5 @@
 use Rattle.std.proofs.Common.{string_bytes, subst}
-use Rattle.minisign.specs.OpenedTexts.{key_with_password}
+use Rattle.minisign.specs.Opening.{key_with_password}
 use Rattle.minisign.specs.Texts.{IsReadOrNoMemory}
 use Rattle.minisign.proofs.GivenKeys.{with_password}
 use Rattle.minisign.proofs.key_calls.open_with_password.Goals as goal

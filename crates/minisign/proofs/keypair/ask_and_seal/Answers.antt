@@ -1,7 +1,5 @@
 use Rattle.std.proofs.Common.{Result, Ok, Err, IfOk, OnOk, string_bytes}
-use Rattle.std.proofs.lemmas.Result.{IfErr-weaker}
-use Rattle.minisign_base.specs.DeviceCalls.{prompt_call}
-use Rattle.minisign_base.proofs.Laws.{second_ended, stopped_first}
+use Rattle.minisign.proofs.Common.{IfErr-weaker, prompt_call, second_ended, stopped_first}
 use Rattle.minisign.proofs.Beginnings.{passed_up}
 use Rattle.minisign.specs.NewPassword.{choosing_steps, sealing_steps}
 use Rattle.minisign.proofs.keypair.ask_and_seal.Goals as goal

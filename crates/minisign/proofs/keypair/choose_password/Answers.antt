@@ -1,12 +1,8 @@
 use Rattle.std.proofs.Common.{Ok, Err, Bool, true, false, not, ◌≡◌, ◌∷◌, ◌++◌, [], string_bytes, sym, inl, inr, refl}
-use Rattle.std.proofs.lemmas.Slice.Eq.{bytes_eq-Decides}
-use Rattle.minisign_base.specs.DeviceCalls.{prompt_call}
-use Rattle.minisign_base.proofs.Laws.{second_ended, stopped_first, typed_is}
-use Rattle.minisign_base.specs.Prompts.{Test, asking_steps}
-use Rattle.minisign_base.specs.Passwords.{typed_password}
+use Rattle.minisign.proofs.Common.{bytes_eq-Decides, prompt_call, second_ended, stopped_first, typed_is, Test, asking_steps, typed_password}
 use Rattle.minisign.proofs.Beginnings.{passed_up}
 use Rattle.minisign.specs.NewPassword.{difference}
-use Rattle.minisign.specs.PromptTexts.{asking_text, purpose_line, second_question}
+use Rattle.minisign.specs.Opening.{asking_text, purpose_line, second_question}
 use Rattle.minisign.proofs.Choosing.{two_agree, two_differ}
 use Rattle.minisign.proofs.keypair.choose_password.Goals as goal
 

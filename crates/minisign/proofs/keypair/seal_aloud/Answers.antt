@@ -1,6 +1,6 @@
 use Rattle.std.proofs.Common.{inl, inr, refl}
 use Rattle.minisign.proofs.Beginnings.{passed_up}
-use Rattle.minisign.specs.PromptTexts.{done_text, sealing_text}
+use Rattle.minisign.specs.Opening.{done_text, sealing_text}
 use Rattle.minisign.proofs.keypair.seal_aloud.Goals as goal
 
 pub returns-in_err-pair-clause-refused : goal.returns-in_err-pair-clause-refused

@@ -1,6 +1,5 @@
 use Rattle.std.proofs.Common.{◌≡◌, ℕ, List, ◌++◌, false}
-use Rattle.std.specs.Io.KnownBytes.{Consumes}
-use Rattle.minisign_hash.specs.Fed.{IsFed, has_finalized, output_length}
+use Rattle.minisign.proofs.Common.{Consumes, IsFed, has_finalized, output_length}
 use Rattle.minisign.proofs.reading.feed.Given as goal
 
 abbrev pub invariant-pieces : goal.invariant-pieces

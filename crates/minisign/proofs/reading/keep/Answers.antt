@@ -1,5 +1,5 @@
 use Rattle.std.proofs.Common.{◌∙◌, append_assoc, refl}
-use Rattle.std.proofs.KnownBytes.{Consumes-trans}
+use Rattle.minisign.proofs.Common.{Consumes-trans}
 use Rattle.minisign.proofs.reading.keep.Goals as goal
 
 pub pieces-preserved : goal.pieces-preserved

@@ -1,5 +1,5 @@
 use Rattle.std.proofs.Common.{◌≡◌, ℕ, List, ◌++◌}
-use Rattle.std.specs.Io.KnownBytes.{Consumes}
+use Rattle.minisign.proofs.Common.{Consumes}
 use Rattle.minisign.proofs.reading.keep.Given as goal
 
 abbrev pub invariant-pieces : goal.invariant-pieces

@@ -1,6 +1,5 @@
-use Rattle.std.proofs.Common.{◌≡◌, rules, length, take, sym, ap, ◌∙◌, arith}
-use Rattle.std.specs.Int.{w64, from_le_bytes}
-use Rattle.minisign_base.specs.Limits.{sealing_limits}
+use Rattle.std.proofs.Common.{◌≡◌, rules, length, take, sym, ap, ◌∙◌, arith, w64}
+use Rattle.minisign.proofs.Common.{from_le_bytes, sealing_limits}
 use Rattle.minisign.specs.Sealing.{key_limits}
 use Rattle.minisign.proofs.SealingLimits.{read_limits}
 use Rattle.minisign.proofs.sealing.key_params.Goals as goal

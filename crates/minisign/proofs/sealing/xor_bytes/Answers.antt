@@ -1,7 +1,5 @@
-use Rattle.std.proofs.Common.{◌≡◌, ◌≢◌, length, bit_xor, sym, ◌∙◌, arith, get_or-set_other}
-use Rattle.std.proofs.lemmas.List.{take_all}
-use Rattle.std.proofs.lemmas.Simd.{length-zip2}
-use Rattle.std.specs.Simd.Lanes.{zip2}
+use Rattle.std.proofs.Common.{◌≡◌, ◌≢◌, length, bit_xor, sym, ◌∙◌, arith, get_or-set_other, take_all}
+use Rattle.minisign.proofs.Common.{length-zip2, zip2}
 use Rattle.minisign.proofs.Xor.{xored_next}
 use Rattle.minisign.proofs.sealing.xor_bytes.Goals as goal
 

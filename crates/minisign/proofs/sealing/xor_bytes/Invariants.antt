@@ -1,5 +1,5 @@
 use Rattle.std.proofs.Common.{◌≡◌, ℕ, ◌≤◌, get_or, take, bit_xor}
-use Rattle.std.specs.Simd.Lanes.{zip2}
+use Rattle.minisign.proofs.Common.{zip2}
 use Rattle.minisign.proofs.sealing.xor_bytes.Given as goal
 
 abbrev pub invariant-bytes : goal.invariant-bytes

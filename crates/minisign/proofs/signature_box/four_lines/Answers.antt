@@ -1,5 +1,5 @@
 use Rattle.std.proofs.Common.{◌∷◌, length, arith, ap, sym, ◌∙◌}
-use Rattle.std.specs.Str.Lines.{lines}
+use Rattle.minisign.proofs.Common.{lines}
 use Rattle.minisign.proofs.SignatureTexts.{of_lines}
 use Rattle.minisign.proofs.signature_box.four_lines.Goals as goal
 

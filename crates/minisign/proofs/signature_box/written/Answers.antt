@@ -7,8 +7,7 @@ use Rattle.minisign.proofs.SignatureTexts.{same_comments, spelled_text, written_
 use Rattle.minisign.proofs.signature_box.written.Goals as goal
 
 pub returns-clause-text : goal.returns-clause-text
-returns-clause-text c =
-    c.in_ok-text.ensures.ok ∙ spelled_text c.args.signature.now c.args.comments.now _ _ _ _
+returns-clause-text c = c.in_ok-text.ensures.ok ∙ spelled_text c.args.signature.now c.args.comments.now _ _ _ _
     (ap (λ (x : CommentsRecord). x.untrusted) c.comments.view_is)
     (c.in_ok-encoded.ensures.text ∙ ap base64_of (c.deref.ensures.value ∙ c.in_ok-bytes.ensures.bytes))
     (ap (λ (x : CommentsRecord). x.trusted) c.comments.view_is)

@@ -1,5 +1,4 @@
-use Rattle.std.proofs.Common.{◌≡◌, false, inl, inr}
-use Rattle.std.specs.Option.{option_copied}
+use Rattle.std.proofs.Common.{◌≡◌, false, inl, inr, option_copied}
 use Rattle.minisign.specs.Sealing.{is_encrypted}
 use Rattle.minisign.proofs.Beginnings.{passed_up}
 use Rattle.minisign.proofs.SignedBoxes.{refused_by_given}
@@ -12,5 +11,5 @@ returns-in_err-test_given_key-clause-refused g c =
     passed_up c.from_residual-in_err-test_given_key.result c.in_err-test_given_key.field-0.0 _ c.from_residual-in_err-test_given_key.ensures.1
     (elim c.in_err-test_given_key.ensures.refused [
       | inl out_of_memory ↦ inl (inr (opened, inl ((out_of_memory, c.in_ok-signature_box.ensures.no_new_fault), read.no_new_fault)))
-      | inr refused ↦ inr (refused_by_given _ _ (option_copied c.args.pk) _ message _ _ _ _ _ opened read signed refused)
+      | inr refused ↦ inr (refused_by_given (g.S.Scheme.accepts c.args.scheme.now) (g.S.Scheme.signature_of c.args.scheme.now) (option_copied c.args.pk) _ message _ _ _ _ _ opened read signed refused)
     ])

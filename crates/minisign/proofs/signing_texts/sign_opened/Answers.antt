@@ -1,5 +1,5 @@
 use Rattle.std.proofs.Common.{ap, string_bytes}
-use Rattle.std.proofs.lemmas.Result.{IfOk-weaker}
+use Rattle.minisign.proofs.Common.{IfOk-weaker}
 use Rattle.minisign.proofs.SignedTexts.{vouched_back, written_text}
 use Rattle.minisign.specs.SignatureText.{box_read_back}
 use Rattle.minisign.proofs.signing_texts.sign_opened.Goals as goal

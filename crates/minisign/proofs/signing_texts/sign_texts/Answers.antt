@@ -1,13 +1,10 @@
-use Rattle.std.proofs.Common.{string_bytes}
-use Rattle.std.specs.Option.{option_map}
-use Rattle.std.proofs.lemmas.Result.{IfOk-weaker}
-use Rattle.minisign_base.specs.DeviceCalls.{prompt_call}
+use Rattle.std.proofs.Common.{string_bytes, option_map}
+use Rattle.minisign.proofs.Common.{IfOk-weaker, prompt_call}
 use Rattle.minisign.proofs.GivenKeys.{key_of_given}
 use Rattle.minisign.proofs.signing_texts.sign_texts.Goals as goal
 
 pub returns-clause-headline : goal.returns-clause-headline
-returns-clause-headline g c =
-    IfOk-weaker c.sign_opened.result _ _
+returns-clause-headline g c = IfOk-weaker c.sign_opened.result _ _
     (λ t (message, read, (signed, headline)). (
       c.in_ok-sk.sk,
       message,
@@ -19,7 +16,6 @@ returns-clause-headline g c =
     c.sign_opened.ensures.signed
 
 pub returns-clause-signed : goal.returns-clause-signed
-returns-clause-signed g c =
-    IfOk-weaker c.sign_opened.result _ _
-    (λ t (message, read, (signed, headline)). (c.in_ok-sk.sk, message, c.in_ok-sk.ensures.gives, read, signed, headline))
+returns-clause-signed g c = IfOk-weaker c.sign_opened.result _ _
+    (λ t (message, read, (signed, headline)). (c.in_ok-sk.sk, message, c.in_ok-sk.ensures.gives, read, (signed, headline)))
     c.sign_opened.ensures.signed

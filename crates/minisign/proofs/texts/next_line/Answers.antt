@@ -1,4 +1,4 @@
-use Rattle.minisign.proofs.FirstLine.{lines_first}
+use Rattle.minisign.proofs.WrittenLines.{lines_first}
 use Rattle.minisign.proofs.texts.next_line.Goals as goal
 
 pub returns-in-Some-clause-some : goal.returns-in-Some-clause-some

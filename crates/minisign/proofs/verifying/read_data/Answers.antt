@@ -1,11 +1,10 @@
-use Rattle.std.proofs.lemmas.Result.{MatchResult-weaker}
+use Rattle.minisign.proofs.Common.{MatchResult-weaker}
 use Rattle.minisign.proofs.Beginnings.{passed_up}
 use Rattle.minisign.proofs.Passes.{mark_stops, read_runs, read_stops}
 use Rattle.minisign.proofs.verifying.read_data.Goals as goal
 
 pub returns-in_err-mark_place-clause-refused : goal.returns-in_err-mark_place-clause-refused
-returns-in_err-mark_place-clause-refused g c =
-    rw (← c.reads_again.ensures) (passed_up _ _ _ c.from_residual.ensures.1
+returns-in_err-mark_place-clause-refused g c = rw (← c.reads_again.ensures) (passed_up _ _ _ c.from_residual.ensures.1
     (mark_stops g.R.Source g.R.Rereader.steady c.args.data_reader.now c.args.data_reader.now c.mark_place.new.data_reader c.reads_again.result _ c.in_err-mark_place.ensures.refused))
 
 pub returns-clause-held : goal.returns-clause-held

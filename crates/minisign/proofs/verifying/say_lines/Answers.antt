@@ -1,6 +1,5 @@
 use Rattle.std.proofs.Common.{◌≡◌, List, ℕ, [], ◌∷◌, ◌++◌, None, Some, OnOk, OnErr, codes, ap, sym, subst, ◌∙◌, refl}
-use Rattle.std.specs.Io.KnownBytes.{Appends}
-use Rattle.minisign_base.specs.Devices.{AppendsFront}
+use Rattle.minisign.proofs.Common.{Appends, AppendsFront}
 use Rattle.minisign.specs.Records.{CommentsRecord, SignatureBoxRecord}
 use Rattle.minisign.specs.Acceptance.{verified_text, trusted_comment_text, status_lines}
 use Rattle.minisign.proofs.verifying.say_lines.Goals as goal

@@ -1,8 +1,7 @@
 use Rattle.std.proofs.Common.{List, ℕ}
-use Rattle.minisign_base.specs.DeviceCalls.{rereader_call, sink_call, unused}
-use Rattle.minisign.specs.SignedData.{held_copy_stages}
-use Rattle.minisign.specs.Stages.{StagesEnd}
-use Rattle.minisign_base.proofs.Laws.{AppendsFront-keeps}
+use Rattle.minisign.proofs.Common.{rereader_call, sink_call, unused, AppendsFront-keeps}
+use Rattle.minisign.specs.Acceptance.{options_of}
+use Rattle.minisign.specs.Stages.{held_copy_stages, StagesEnd}
 use Rattle.minisign.proofs.Beginnings.{on_err_of, passed_up}
 use Rattle.minisign.proofs.Copies.{front_of_all, keeps_same}
 use Rattle.minisign.proofs.Passes.{copying_succeeds, first_pass, judged_signed, of_fault, uncopied, unjudged, unread, unsaid}
@@ -17,8 +16,7 @@ pub returns-in_err-judge-clause-said_front : goal.returns-in_err-judge-clause-sa
 returns-in_err-judge-clause-said_front g c = on_err_of _ _ (AppendsFront-keeps _ _ _ (keeps_same _))
 
 pub returns-in_err-signed-clause-refused : goal.returns-in_err-signed-clause-refused
-returns-in_err-signed-clause-refused g c =
-    passed_up _ _ _ c.from_residual.ensures.1
+returns-in_err-signed-clause-refused g c = passed_up _ _ _ c.from_residual.ensures.1
     (unread (g.S.Scheme.accepts c.args.scheme.now) c.args.pk.now c.args.signature_box.now c.args.quiet c.args.output c.args.allow_legacy
     g.R.Source g.R.Rereader.steady g.W.Sink g.O.Sink c.args.data_reader.now c.args.data_reader.now c.read_data.new.data_reader
     c.args.status.now c.args.status.now c.args.out.now c.args.out.now _ c.in_err-signed.ensures.refused)
@@ -26,7 +24,7 @@ returns-in_err-signed-clause-refused g c =
 pub returns-in_err-signed-clause-headline : goal.returns-in_err-signed-clause-headline
 returns-in_err-signed-clause-headline g c =
     refused_exactly (g.S.Scheme.accepts c.args.scheme.now) c.args.pk.now c.args.signature_box.now
-    (record { quiet = c.args.quiet; output = c.args.output; legacy = c.args.allow_legacy })
+    (options_of c.args.quiet c.args.output c.args.allow_legacy)
     (rereader_call g.R.Source g.R.Rereader.steady c.args.data_reader.now c.read_data.new.data_reader)
     (sink_call g.W.Sink c.args.status.now c.args.status.now) (sink_call g.O.Sink c.args.out.now c.args.out.now) c.from_residual.result _ c.from_residual.ensures.1
     (returns-in_err-signed-clause-refused g c)
@@ -44,7 +42,7 @@ returns-in_err-judge-clause-refused g c =
 pub returns-in_err-judge-clause-headline : goal.returns-in_err-judge-clause-headline
 returns-in_err-judge-clause-headline g c =
     refused_exactly (g.S.Scheme.accepts c.args.scheme.now) c.args.pk.now c.args.signature_box.now
-    (record { quiet = c.args.quiet; output = c.args.output; legacy = c.args.allow_legacy })
+    (options_of c.args.quiet c.args.output c.args.allow_legacy)
     (rereader_call g.R.Source g.R.Rereader.steady c.args.data_reader.now c.read_data.new.data_reader)
     (sink_call g.W.Sink c.args.status.now c.args.status.now) (sink_call g.O.Sink c.args.out.now c.args.out.now) c.from_residual-in_err-judge.result _ c.from_residual-in_err-judge.ensures.1
     (returns-in_err-judge-clause-refused g c)
@@ -91,5 +89,5 @@ returns-clause-said_front g c =
 pub returns-clause-headline : goal.returns-clause-headline
 returns-clause-headline g c =
     judged_exactly (g.S.Scheme.accepts c.args.scheme.now) c.args.pk.now c.args.signature_box.now
-    (record { quiet = c.args.quiet; output = c.args.output; legacy = c.args.allow_legacy }) _ _ _ c.copy_out.result
+    (options_of c.args.quiet c.args.output c.args.allow_legacy) _ _ _ c.copy_out.result
     (returns-clause-accepted g c) (returns-clause-refused g c)

@@ -1,5 +1,5 @@
-use Rattle.std.proofs.lemmas.Result.{err_from_is_err_and}
-use Rattle.minisign_base.specs.DeviceCalls.{rereader_call, sink_call}
+use Rattle.minisign.proofs.Common.{err_from_is_err_and, rereader_call, sink_call}
+use Rattle.minisign.specs.Acceptance.{options_of}
 use Rattle.minisign.proofs.Verdicts.{kept_refusal, text_refused, told_nothing}
 use Rattle.minisign.proofs.VouchedTexts.{copy_vouched, fails_with, succeeds_with}
 use Rattle.minisign.proofs.ReadTexts.{read_value}
@@ -13,7 +13,7 @@ returns-in_err-pk-clause-headline g c = λ message told no_new_fault status_no_n
 pub returns-clause-accepted : goal.returns-clause-accepted
 returns-clause-accepted g c =
     succeeds_with (g.S.Scheme.accepts c.args.scheme.now) c.args.pk_text.now c.args.sig_text.now
-    (record { quiet = c.args.quiet; output = c.args.output; legacy = c.args.allow_legacy })
+    (options_of c.args.quiet c.args.output c.args.allow_legacy)
     (rereader_call g.R.Source g.R.Rereader.steady c.args.data_reader.now c.verify.new.data_reader)
     (sink_call g.W.Sink c.args.status.now c.verify.new.status) (sink_call g.O.Sink c.args.out.now c.verify.new.out)
     _ _ (read_value _ _ c.in_ok-pk.ensures) c.verify.result c.verify.ensures.accepted
@@ -21,15 +21,14 @@ returns-clause-accepted g c =
 pub returns-clause-vouched : goal.returns-clause-vouched
 returns-clause-vouched g c = λ wanted.
     copy_vouched (g.S.Scheme.accepts c.args.scheme.now) c.args.pk_text.now c.args.sig_text.now
-    (record { quiet = c.args.quiet; output = c.args.output; legacy = c.args.allow_legacy })
+    (options_of c.args.quiet c.args.output c.args.allow_legacy)
     (rereader_call g.R.Source g.R.Rereader.steady c.args.data_reader.now c.verify.new.data_reader)
     (sink_call g.W.Sink c.args.status.now c.verify.new.status) (sink_call g.O.Sink c.args.out.now c.verify.new.out)
     c.verify.result (returns-clause-accepted g c) wanted
 
 pub returns-clause-refused : goal.returns-clause-refused
-returns-clause-refused g c =
-    fails_with (g.S.Scheme.accepts c.args.scheme.now) c.args.pk_text.now c.args.sig_text.now
-    (record { quiet = c.args.quiet; output = c.args.output; legacy = c.args.allow_legacy })
+returns-clause-refused g c = fails_with (g.S.Scheme.accepts c.args.scheme.now) c.args.pk_text.now c.args.sig_text.now
+    (options_of c.args.quiet c.args.output c.args.allow_legacy)
     (rereader_call g.R.Source g.R.Rereader.steady c.args.data_reader.now c.verify.new.data_reader)
     (sink_call g.W.Sink c.args.status.now c.verify.new.status) (sink_call g.O.Sink c.args.out.now c.verify.new.out)
     _ _ (read_value _ _ c.in_ok-pk.ensures) c.verify.result c.verify.ensures.refused

@@ -1,5 +1,6 @@
-use Rattle.std.proofs.Common.{◌≡◌, Ok, None, string_bytes, false, inl, inr, subst, sym}
-use Rattle.minisign.specs.Generation.{IsGenuinePair, OpensOnlyTo}
+use Rattle.std.proofs.Common.{◌≡◌, Ok, None, string_bytes, false, inl, subst, sym}
+use Rattle.minisign.specs.Generation.{IsGenuinePair}
+use Rattle.minisign.specs.Opening.{OpensTo}
 use Rattle.minisign.specs.PublicKeyText.{read_public_key}
 use Rattle.minisign.specs.SignatureText.{read_signature_box}
 use Rattle.minisign.specs.Headline.{TextsVouchFor}
@@ -11,14 +12,14 @@ use Rattle.minisign_examples.proofs.releasing.sign_release.Goals as goal
 pub returns-in_err-sk-clause-refused : goal.returns-in_err-sk-clause-refused
 returns-in_err-sk-clause-refused g c =
     let (pk, sk, texts) = c.in_ok-pk_text.ensures.made in
-    let only = subst (λ text. OpensOnlyTo text c.args.password.now sk) (sym c.as_str.ensures.value) texts.secret in
+    let only = subst (λ text. OpensTo text c.args.password.now 1 sk) (sym c.as_str.ensures.value) texts.secret in
     passed_up c.from_residual-in_err-sk.result c.in_err-sk.field-0.0 _ c.from_residual-in_err-sk.ensures.1
     (inl (inl (refused_memory _ _ _ sk c.in_err-sk.ensures (only None))))
 
 pub returns-in_err-sig_text-clause-refused : goal.returns-in_err-sig_text-clause-refused
 returns-in_err-sig_text-clause-refused g c =
     let (pk, sk, texts) = c.in_ok-pk_text.ensures.made in
-    let only = subst (λ text. OpensOnlyTo text c.args.password.now sk) (sym c.as_str.ensures.value) texts.secret in
+    let only = subst (λ text. OpensTo text c.args.password.now 1 sk) (sym c.as_str.ensures.value) texts.secret in
     let same = same_key _ _ c.in_ok-sk.sk sk c.in_ok-sk.ensures (only None) in
     passed_up c.from_residual-in_err-sig_text.result c.in_err-sig_text.field-0.0 _ c.from_residual-in_err-sig_text.ensures.1
     (inl (c.in_err-sig_text.ensures pk (subst (λ k. IsGenuinePair (g.S.Scheme.public_of c.args.scheme.now) pk k) (sym same) texts.pair)))
@@ -26,7 +27,7 @@ returns-in_err-sig_text-clause-refused g c =
 pub returns-in_err-verify_bytes-clause-refused : goal.returns-in_err-verify_bytes-clause-refused
 returns-in_err-verify_bytes-clause-refused g c =
     let (pk, sk, texts) = c.in_ok-pk_text.ensures.made in
-    let only = subst (λ text. OpensOnlyTo text c.args.password.now sk) (sym c.as_str.ensures.value) texts.secret in
+    let only = subst (λ text. OpensTo text c.args.password.now 1 sk) (sym c.as_str.ensures.value) texts.secret in
     let same = same_key _ _ c.in_ok-sk.sk sk c.in_ok-sk.ensures (only None) in
     let (x, read, vouches) = c.in_ok-sig_text.ensures pk (subst (λ k. IsGenuinePair (g.S.Scheme.public_of c.args.scheme.now) pk k) (sym same) texts.pair) in
     passed_up c.from_residual-in_err-verify_bytes.result c.in_err-verify_bytes.field-0.0 _ c.from_residual-in_err-verify_bytes.ensures.1

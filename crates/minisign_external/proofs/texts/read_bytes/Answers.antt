@@ -1,7 +1,6 @@
 use Rattle.std.proofs.Common.{◌≡◌, Result, Ok, Err, IfOk, IfErr, refl, sym}
 use Rattle.minisign_base.specs.Fault.{Fault}
-use Rattle.minisign.specs.InPlace.{SignatureViewRecord, view_of}
-use Rattle.minisign.specs.SignatureText.{SignatureTextRecord, read_signature}
+use Rattle.minisign.specs.SignatureText.{SignatureViewRecord, view_of, SignatureTextRecord, read_signature}
 use Rattle.minisign.specs.Texts.{map_ok}
 use Rattle.minisign_external.proofs.Utf8.{no_text, of_text}
 use Rattle.minisign_external.proofs.texts.read_bytes.Goals as goal

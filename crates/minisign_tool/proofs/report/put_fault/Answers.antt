@@ -1,6 +1,6 @@
 use Rattle.std.proofs.Common.{[], ◌∷◌, codes}
 use Rattle.std.proofs.lemmas.Result.{on_err_weaker}
-use Rattle.minisign.specs.Lines.{line}
+use Rattle.minisign.specs.Texts.{line}
 use Rattle.minisign.proofs.Laws.{AppendsFront-after, AppendsFront-more}
 use Rattle.minisign_tool.proofs.Outcomes.{on_err_of}
 use Rattle.minisign_tool.proofs.report.put_fault.Goals as goal

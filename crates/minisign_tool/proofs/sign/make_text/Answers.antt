@@ -29,8 +29,8 @@ returns-clause-signed g c =
         message = h.1;
         given = h.2;
         read = h.3;
-        signed = h.4;
-        vouched = λ seed genuine. h.5 seed genuine c.default_comments_are_read_back.ensures.one_line;
+        signed = h.4.0;
+        vouched = λ seed genuine. h.4.1 seed genuine c.default_comments_are_read_back.ensures.one_line;
       };
     })
     c.sign_texts.ensures.signed

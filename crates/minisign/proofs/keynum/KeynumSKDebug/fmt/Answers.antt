@@ -1,9 +1,6 @@
-use Rattle.std.proofs.Common.{◌≡◌, ℕ, ◌+◌, ◌<◌, List, [], ◌∷◌, ◌++◌, length, take, get_or, false, arith, rules, ap, ◌∙◌, sym, append-nil}
-use Rattle.std.specs.Fmt.{digits}
-use Rattle.std.specs.List.{flat_map}
+use Rattle.std.proofs.Common.{◌≡◌, ℕ, ◌+◌, ◌<◌, List, [], ◌∷◌, ◌++◌, length, take, get_or, false, arith, rules, ap, ◌∙◌, sym, append-nil, flat_map, take_all}
+use Rattle.minisign.proofs.Common.{digits, flat_map-append, take_more}
 use Rattle.std.proofs.Output.{has_written_append, has_written_of_eq}
-use Rattle.std.proofs.lemmas.Grind.{flat_map-append}
-use Rattle.std.proofs.lemmas.List.{take_more, take_all}
 use Rattle.minisign.specs.Records.{secret_text}
 use Rattle.minisign.proofs.keynum.KeynumSKDebug.fmt.Goals as goal
 

@@ -1,5 +1,5 @@
 use Rattle.std.proofs.Common.{take}
-use Rattle.std.specs.Fmt.{HasWritten, IsPlainFormatter}
+use Rattle.minisign.proofs.Common.{HasWritten, IsPlainFormatter}
 use Rattle.minisign.specs.Records.{secret_text}
 use Rattle.minisign.proofs.keynum.KeynumSKDebug.fmt.Given as goal
 

@@ -1,7 +1,5 @@
-use Rattle.std.proofs.Common.{◌≡◌, ◌≤◌, ℕ, List, ◌++◌, length, inr, arith}
-use Rattle.std.proofs.lemmas.List.{length-append}
-use Rattle.std.proofs.lemmas.Result.{IfErr-weaker, IfOk-weaker}
-use Rattle.minisign_base.specs.DeviceCalls.{random_call}
+use Rattle.std.proofs.Common.{◌≡◌, ◌≤◌, ℕ, List, ◌++◌, length, inr, arith, length-append}
+use Rattle.minisign.proofs.Common.{IfErr-weaker, IfOk-weaker, random_call}
 use Rattle.minisign.proofs.GeneratedKeys.{sealed_pair}
 use Rattle.minisign.proofs.keypair.KeyPair.generate_with_password.Goals as goal
 

@@ -1,9 +1,5 @@
 use Rattle.std.proofs.Common.{◌≡◌, ℕ, List, [], ◌∷◌, Result, Ok, Err, MatchResult, ap, inl, inr, refl}
-use Rattle.std.specs.Prelude.{⊤}
-use Rattle.std.specs.Result.{result_err}
-use Rattle.minisign_base.specs.DeviceCalls.{PromptCall, prompt_call}
-use Rattle.minisign_base.specs.Fault.{Fault}
-use Rattle.minisign_base.specs.Prompts.{ConversationEnds, Say, StepEnds, Test}
+use Rattle.minisign.proofs.Common.{⊤, result_err, PromptCall, prompt_call, Fault, ConversationEnds, Say, StepEnds, Test}
 use Rattle.minisign.proofs.secret_key.SecretKey.finish_telling.Goals as goal
 
 -- a text was said, and then something tested

@@ -1,7 +1,5 @@
-use Rattle.std.proofs.Common.{string_bytes, refl, inr}
-use Rattle.std.specs.Option.{option_map}
-use Rattle.std.proofs.lemmas.Result.{err_from_is_err_and}
-use Rattle.minisign_base.specs.DeviceCalls.{prompt_call}
+use Rattle.std.proofs.Common.{string_bytes, refl, option_map}
+use Rattle.minisign.proofs.Common.{err_from_is_err_and, prompt_call}
 use Rattle.minisign.proofs.Asking.{asked_opening, closed_opening, given_opening}
 use Rattle.minisign.proofs.Openings.{sealed_passed, sealed_text}
 use Rattle.minisign.proofs.ReadTexts.{same_end}
@@ -12,7 +10,7 @@ returns-in_err-test_sealed-clause-opens g c = λ text read.
     let p = err_from_is_err_and c.from_residual.result c.from_residual.ensures.1 in
     rw (p.1, p.2) (closed_opening (prompt_call g.R.Source g.W.Sink c.args.prompt.now c.args.prompt.now)
     (option_map (λ s. string_bytes s) c.args.password) text c.args.derivation.bound _ refl
-    (inr (sealed_text text c.args.self _ read (same_end _ _ c.in_err-test_sealed.ensures))))
+    (sealed_text text c.args.self _ read (same_end _ _ c.in_err-test_sealed.ensures)))
 
 pub returns-in-Some-clause-opens : goal.returns-in-Some-clause-opens
 returns-in-Some-clause-opens g c = λ text read.

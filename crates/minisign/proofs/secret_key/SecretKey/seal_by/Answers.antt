@@ -1,11 +1,10 @@
 use Rattle.std.proofs.Common.{arith}
-use Rattle.std.proofs.lemmas.Result.{err_from_is_err_and}
+use Rattle.minisign.proofs.Common.{err_from_is_err_and}
 use Rattle.minisign.proofs.MadeKeys.{limits_named, stream_fault, work_allowed}
 use Rattle.minisign.proofs.secret_key.SecretKey.seal_by.Goals as goal
 
 pub returns-clause-allowed : goal.returns-clause-allowed
-returns-clause-allowed c =
-    work_allowed c.with_limits-sk.result _
+returns-clause-allowed c = work_allowed c.with_limits-sk.result _
     (limits_named c.with_limits-sk.result c.args.sealing.operations_limit c.args.sealing.memory_limit (omega arith) (omega arith) c.with_limits-sk.ensures.operations c.with_limits-sk.ensures.memory)
     c.in_ok-apply_stream.ensures.allowed
 

@@ -1,5 +1,5 @@
 use Rattle.std.proofs.Common.{arith, append-nil, []}
-use Rattle.std.proofs.lemmas.Grind.{common_steps}
+use Rattle.minisign.proofs.Common.{common_steps}
 use Rattle.minisign.proofs.SecretKeyTexts.{bytes_are_read}
 use Rattle.minisign.proofs.secret_key.SecretKey.to_bytes.Goals as goal
 

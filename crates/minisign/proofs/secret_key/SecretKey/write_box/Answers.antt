@@ -1,5 +1,5 @@
 use Rattle.std.proofs.Common.{◌≡◌, Ok, ◌∙◌, refl, subst, rules}
-use Rattle.base64.specs.GeneralPurpose.{IsBytes}
+use Rattle.minisign.proofs.Common.{IsBytes}
 use Rattle.minisign.specs.Records.{SecretKeyRecord, ReadsSecretKey, secret_key_bytes}
 use Rattle.minisign.specs.SecretKeyText.{read_secret_key_bytes, secret_key_text}
 use Rattle.minisign.specs.Texts.{IsBase64Of, base64_of, untrusted_comment_label}

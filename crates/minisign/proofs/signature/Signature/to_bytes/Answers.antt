@@ -1,6 +1,5 @@
 use Rattle.std.proofs.Common.{arith, append-nil, []}
-use Rattle.std.proofs.lemmas.Grind.{common_steps}
-use Rattle.minisign.proofs.RecordFields.{one_signature}
+use Rattle.minisign.proofs.Common.{common_steps}
 use Rattle.minisign.proofs.signature.Signature.to_bytes.Goals as goal
 
 pub returns-clause-reads_back : goal.returns-clause-reads_back
@@ -10,7 +9,3 @@ returns-clause-reads_back c = record {
   signature_length = grind (arith, common_steps);
   front = ([], rw append-nil (grind (arith, common_steps)));
 }
-
-pub returns-clause-one_reading : goal.returns-clause-one_reading
-returns-clause-one_reading c = λ other read.
-    one_signature c.push_three.new.bytes.items other c.args.self.now read (returns-clause-reads_back c)
