@@ -12,7 +12,7 @@ ghost use Rattle.minisign.specs.Records.{SecretKeyRecord};
 ghost use Rattle.minisign.specs.SecretKeyText.{read_secret_key};
 ghost use Rattle.minisign.specs.SignatureText.{SignatureTextRecord, read_signature};
 ghost use Rattle.minisign.specs.Acceptance.{Verifier};
-ghost use Rattle.minisign_external.specs.Questions.{Answers, AnswersComment, AnswersTexts, HoldsMessage, IsKeyText, comment_verdict_under, read_under, verdict_under};
+ghost use Rattle.minisign_external.specs.Questions.{AnswersComment, HoldsMessage, IsKeyText, comment_verdict_under, read_under, verdict_under};
 ghost use Rattle.minisign_external.specs.Numbers.{IsAnswer, WritesCut, answer_yes, misuse_number};
 ghost use Rattle.minisign_external.specs.PublicKeys.{read_utf8, told_key_number};
 ghost use Rattle.minisign_external.specs.Making.{HoldsPublicKey, HoldsSecretKey, IsMakingNumber, IsPublicKeyNumber};
@@ -26,10 +26,10 @@ ghost use Rattle.minisign_install.specs.HostNumbers.{IsHostMeaning, numbering_nu
 ghost use Rattle.minisign_install.specs.Hosted.{CannotBeFed, CannotFail, CannotGo, GivesUpdateNumber, CallHasFailed, HasGone, HasReadRecord, HasReadBack, IsAnswerNumber, IsAskNumber, IsAsking, IsCommentNumber, IsDue, IsUnused, due_number, due_of, numbering_of, wanted_by};
 ghost use Rattle.minisign_install.specs.Installing.{Terms};
 ghost use Rattle.minisign_install.specs.RecordTexts.{record_of};
-ghost use Rattle.minisign_install.specs.declared.order.Due.TheVariants.{Answer, Lock, ReadBack, ReadRecord, TakeRights, WriteRecord};
+ghost use Rattle.minisign_install.specs.declared.order.Due.TheVariants.{Answer, Lock, ReadBack, ReadRecord, TakePermissions, WriteRecord};
 ghost use Rattle.minisign_install.specs.declared.order.Due.TheVariants as ended;
 ghost use Rattle.minisign_install.specs.declared.order.Outcome.TheVariants.{Done, More};
-ghost use Rattle.minisign_external.specs.States.{AreQuestions, GivesNumber, HasAsked, HasEnded, HasToldDigest, IsBlank, IsCommentVerdictNumber, IsFedState, IsMarkedFed, IsMarkedTold, IsVerdictNumber, KeepsAsked, asking_number, feeding_misuse, is_asked, is_begun, questions_of, verdict_number};
+ghost use Rattle.minisign_external.specs.States.{AnswersTextsBy, AreQuestions, GivesNumber, HasAsked, HasEnded, HasToldDigest, IsAnswered, IsBlank, IsCommentVerdictNumber, IsFedState, IsMarkedFed, IsMarkedTold, IsVerdictNumber, KeepsAsked, asking_number, feeding_misuse, is_asked, is_begun, questions_of, verdict_number};
 
 use minisign::Sealing;
 use minisign_external::making::{write_public_key, write_secret_key};
@@ -197,15 +197,13 @@ pub extern "C" fn minisign_verdict(state: &mut State, first: u32, second: u32) -
     // **For every relation that answers the two questions as the caller says, and every message: the number of the
     // verdict on the key, the text of the signature and the message, 0 exactly when they vouch for it.**
     ensures verdict { (v : PublicKeyValue) (sig_text message : List ℕ) (legacy : Bool) (accepts : Verifier)
-        → HasAsked state.old v sig_text legacy → IsMarkedTold state.old → IsAnswer first → IsAnswer second
-        → Answers accepts v sig_text message (first == answer_yes) (second == answer_yes)
+        → IsAnswered state.old accepts v sig_text message legacy first second
         → result ≡ verdict_number (verdict_under accepts v sig_text message legacy) }
 
     // **So of every text that reads as the key: 0 exactly when the two texts vouch for the message, otherwise the
     // number of the first case that fails.**
     ensures texts { (v : PublicKeyValue) (pk_text sig_text message : List ℕ) (legacy : Bool) (accepts : Verifier)
-        → HasAsked state.old v sig_text legacy → IsMarkedTold state.old → IsKeyText pk_text v → IsAnswer first → IsAnswer second
-        → Answers accepts v sig_text message (first == answer_yes) (second == answer_yes)
+        → IsAnswered state.old accepts v sig_text message legacy first second → IsKeyText pk_text v
         → GivesNumber accepts pk_text sig_text message legacy result }
 
     // An answer is 7955827 for yes or 28271 for no, and no other number is taken; a verdict ends the state, and a wrong
@@ -619,13 +617,12 @@ pub extern "C" fn minisign_install_answer(
     // that was signed with it names the file, has not expired at the moment of asking, and has the number n, which is
     // not below the kept one. Otherwise the stage is to be removed, for the first reason, whose number is answered.**
     ensures answer { (terms : Terms) (kept : ℕ) (message : List ℕ) (accepts : Verifier)
-        → IsAsking installation.old terms kept → IsAnswer first → IsAnswer second
-        → AnswersTexts accepts terms.pk_text terms.sig_text message (first == answer_yes) (second == answer_yes)
+        → IsAsking installation.old terms kept → AnswersTextsBy accepts terms.pk_text terms.sig_text message first second
         → GivesUpdateNumber accepts terms kept message installation.new result }
 
     // An answer is 7955827 for yes or 28271 for no, and no other number is taken; the rights are due only where the
     // answers were, and a wrong use has its number and changes nothing.
-    ensures due { result ≡ 0 → ((kept : ℕ) × IsDue installation.old (Answer kept)) × ((n : ℕ) × IsDue installation.new (TakeRights n))
+    ensures due { result ≡ 0 → ((kept : ℕ) × IsDue installation.old (Answer kept)) × ((n : ℕ) × IsDue installation.new (TakePermissions n))
         × HasEnded installation.old.state installation.new.state × IsAnswer first × IsAnswer second }
     ensures refused { 0 < result → IsAnswerNumber installation.old installation.new first second result }
 

@@ -1,27 +1,9 @@
 -- An installation over a folder, from call to call: what stands fast between two of them, and what that says at the end.
-use Rattle.std.proofs.Common.{◌≡◌, inl, inr, ⊎_elim, ℕ, List, [], Option, Some, None, Bool, true, false, ap, sym, subst, ◌∙◌, refl}
-use Rattle.std.proofs.lemmas.Bool.{true≢false}
-use Rattle.minisign.specs.Acceptance.{Verifier}
-use Rattle.minisign_base.specs.Devices.{Rose}
-use Rattle.minisign_install.specs.Driving.{AreNamed, HasMade, IsNamed, Knows, MayCall, Names, setting}
-use Rattle.minisign_install.specs.Folders.{HasLocked, Run}
-use Rattle.minisign_install.specs.Hosts.{DeviceFails, Explains, Host, Setting}
-use Rattle.minisign_install.specs.Installing.{HasInstalled, InstallsOnlyUpdates, IsVouched, Terms}
-use Rattle.minisign_install.specs.Names.{drawn_bytes}
-use Rattle.minisign_install.specs.Order.{has_ended, next}
-use Rattle.minisign_install.specs.Refusals.{Counts, IsCause, IsCallFault, IsDataCause, IsLibraryFault, IsRefusal}
-use Rattle.minisign_install.specs.Runs.{OwnsNoMore}
-use Rattle.minisign_install.specs.declared.calls.Stage.{Stage}
-use Rattle.minisign_install.specs.declared.calls.Work.{Work}
-use Rattle.minisign_install.specs.declared.faults.InstallFault.{InstallFault}
-use Rattle.minisign_install.specs.declared.order.Due.{Due}
-use Rattle.minisign_install.specs.declared.order.Due.TheVariants.{Lock, Clear, ReadRecord, Create, Copy, ReadBack, Answer, TakeRights, Settle, CreateRecord, WriteRecord, SettleRecord, RenameRecord, SettleRecordName, Rename, SettleName, RemoveRecord, Remove, Installed, Refused}
-use Rattle.minisign_install.specs.declared.order.Outcome.{Outcome}
-use Rattle.minisign_install.specs.declared.order.Outcome.TheVariants.{Done, More, Number, Failed}
-use Rattle.minisign_install.proofs.Driving.{Goes}
+use Rattle.minisign_install.proofs.Common.{◌≡◌, inl, inr, ⊎_elim, ℕ, List, [], Option, Some, None, Bool, true, false, ap, sym, subst, ◌∙◌, refl, true≢false, Verifier, HasInstalled, InstallsOnlyUpdates, IsVouched, Terms, Rose, InstallFault, AreNamed, HasMade, IsNamed, Knows, MayCall, Names, setting, HasLocked, Run, DeviceFails, Explains, Host, Setting, drawn_bytes, has_ended, next, Due, Lock, Clear, ReadRecord, Create, Copy, ReadBack, Answer, TakePermissions, Sync, CreateRecord, WriteRecord, SyncRecord, RenameRecord, SyncRecordName, Rename, SyncName, RemoveRecord, Remove, Installed, Outcome, Done, More, Number, Failed, Counts, IsCause, IsCallFault, IsDataCause, IsLibraryFault, IsRefusal, OwnsNoMore, Stage, Work}
+use Rattle.minisign_install.specs.Order.{Refused}
+use Rattle.minisign_install.proofs.Driving.{Called}
 use Rattle.minisign_install.proofs.Orders.{Holds, from, refusing_own, still_staged}
-use Rattle.minisign_install.proofs.Reasons.{Reason, why}
-use Rattle.minisign_install.proofs.Wants.{Wants, wants}
+use Rattle.minisign_install.proofs.Reasons.{Reason, why, Wants, wants}
 
 -- a call that is due can be made: the run is still known, and the lock is held
 ready : (s : Setting) (a : Host) (due : Due InstallFault) (h : Host) → a.run.known ≡ true → has_ended due ≡ false → Holds s a due h → (h.run.known ≡ true) × MayCall due h.run
@@ -29,35 +11,31 @@ ready s a Lock h known going (run, same) = (ap (λ r. r.known) run ∙ known, tt
 ready s a Clear h known going (lock, mine, same) = (lock.stepped.known ∙ known, lock.held)
 ready s a ReadRecord h known going (l, lock, mine, clear, same) = (clear.0.known ∙ lock.stepped.known ∙ known, clear.0.locked lock.held)
 ready s a (Create kept) h known going (front, same) = (front.known, front.held)
-ready s a (Copy kept) h known going (x, rest) = (x.works.stage.known, x.works.stage.locked)
-ready s a (ReadBack kept) h known going (x, rest) = (x.works.stage.known, x.works.stage.locked)
-ready s a (Answer kept) h known going (x, given, all) = (x.works.stage.known, x.works.stage.locked)
-ready s a (TakeRights n) h known going (kept, x, given, update) = (x.works.stage.known, x.works.stage.locked)
-ready s a (Settle n) h known going (kept, x, given, update, rights) = (x.works.stage.known, x.works.stage.locked)
+ready s a (TakePermissions n) h known going (kept, x, given, update) = (x.works.stage.known, x.works.stage.locked)
+ready s a (Sync n) h known going (kept, x, given, update, rights) = (x.works.stage.known, x.works.stage.locked)
 ready s a (CreateRecord n) h known going x = (x.staging.works.stage.known, x.staging.works.stage.locked)
 ready s a (WriteRecord n) h known going (t, x, made) = (made.stepped.known ∙ x.staging.works.stage.known, made.stepped.locked x.staging.works.stage.locked)
-ready s a (SettleRecord n) h known going (x, rest) = (x.works.stage.known, x.works.stage.locked)
-ready s a (RenameRecord n) h known going (x, holds, on_disk) = (x.works.stage.known, x.works.stage.locked)
-ready s a (SettleRecordName n) h known going (v, x, holds, on_disk, renamed) = (renamed.stepped.known ∙ x.works.stage.known, renamed.stepped.locked x.works.stage.locked)
+ready s a (SyncRecordName n) h known going (v, x, holds, on_disk, renamed) = (renamed.stepped.known ∙ x.works.stage.known, renamed.stepped.locked x.works.stage.locked)
 ready s a (Rename n) h known going x = ((still_staged s a h.run n x).stage.known, (still_staged s a h.run n x).stage.locked)
-ready s a (SettleName n) h known going (w, x, renamed) = (renamed.stepped.known ∙ (still_staged s a w n x).stage.known, renamed.stepped.locked (still_staged s a w n x).stage.locked)
+ready s a (SyncName n) h known going (w, x, renamed) = (renamed.stepped.known ∙ (still_staged s a w n x).stage.known, renamed.stepped.locked (still_staged s a w n x).stage.locked)
 ready s a (RemoveRecord e) h known going x = (x.places.brings.known ∙ x.front.known, x.places.brings.locked x.front.held)
 ready s a (Remove e) h known going x = (x.places.brings.known ∙ x.front.known, x.places.brings.locked x.front.held)
 ready s a Installed h known going x = absurd (true≢false going)
 ready s a (Refused e) h known going x = absurd (true≢false going)
+ready s a due h known going x = (x.0.works.stage.known, x.0.works.stage.locked)
 
 module _ (accepts : Verifier) (terms : Terms) (first : Bool) where
   -- What is so of any folder: no device failed so far, and from some point on the texts vouch for some data; or the run
   -- will be refused for this fault, and why that may be.
   abbrev pub Counted : Counts → Due InstallFault → Counts → Type 0
-  Counted before (Settle n) after = (after ≡ before) × IsVouched accepts terms
+  Counted before (Sync n) after = (after ≡ before) × IsVouched accepts terms
   Counted before (CreateRecord n) after = (after ≡ before) × IsVouched accepts terms
   Counted before (WriteRecord n) after = (after ≡ before) × IsVouched accepts terms
-  Counted before (SettleRecord n) after = (after ≡ before) × IsVouched accepts terms
+  Counted before (SyncRecord n) after = (after ≡ before) × IsVouched accepts terms
   Counted before (RenameRecord n) after = (after ≡ before) × IsVouched accepts terms
-  Counted before (SettleRecordName n) after = (after ≡ before) × IsVouched accepts terms
+  Counted before (SyncRecordName n) after = (after ≡ before) × IsVouched accepts terms
   Counted before (Rename n) after = (after ≡ before) × IsVouched accepts terms
-  Counted before (SettleName n) after = (after ≡ before) × IsVouched accepts terms
+  Counted before (SyncName n) after = (after ≡ before) × IsVouched accepts terms
   Counted before Installed after = (after ≡ before) × IsVouched accepts terms
   Counted before (RemoveRecord e) after = IsDataCause accepts terms before after e
   Counted before (Remove e) after = IsDataCause accepts terms before after e
@@ -73,80 +51,34 @@ module _ (accepts : Verifier) (terms : Terms) (first : Bool) where
   -- from each call that is due to the next one
   count : {H : Type 0} (before : Counts) (names : Names) (w : Work H) (due : Due InstallFault) (o : Outcome InstallFault) (h h' : Host) → has_ended due ≡ false
       → Explains (setting accepts terms first names) due o h h' → Knows accepts terms due w h.read → Counted before due h.faults → Counted before (next due o) h'.faults
-  count before names w Lock Done h h' going why knows same = why ∙ same
-  count before names w Lock More h h' going why knows same = why ∙ same
-  count before names w Lock (Number k) h h' going why knows same = why ∙ same
   count before names w Lock (Failed e) h h' going why knows same = ⊎_elim (λ busy. inl busy.0) (λ fails. inr (inr (device before h h' e same fails))) why
-  count before names w Clear Done h h' going why knows same = why ∙ same
-  count before names w Clear More h h' going why knows same = why ∙ same
-  count before names w Clear (Number k) h h' going why knows same = why ∙ same
   count before names w Clear (Failed e) h h' going why knows same = inr (inr (device before h h' e same why))
-  count before names w ReadRecord Done h h' going why knows same = why ∙ same
-  count before names w ReadRecord More h h' going why knows same = why ∙ same
-  count before names w ReadRecord (Number k) h h' going why knows same = why ∙ same
   count before names w ReadRecord (Failed e) h h' going why knows same = ⊎_elim (λ refused. inr (inl refused.0)) (λ fails. inr (inr (device before h h' e same fails))) why
-  count before names w (Create kept) Done h h' going why knows same = why ∙ same
-  count before names w (Create kept) More h h' going why knows same = why ∙ same
-  count before names w (Create kept) (Number k) h h' going why knows same = why ∙ same
   count before names w (Create kept) (Failed e) h h' going why knows same = inr (inr (device before h h' e same why))
-  count before names w (Copy kept) Done h h' going why knows same = why ∙ same
-  count before names w (Copy kept) More h h' going why knows same = why ∙ same
-  count before names w (Copy kept) (Number k) h h' going why knows same = why ∙ same
   count before names w (Copy kept) (Failed e) h h' going why knows same = device before h h' e same why
-  count before names w (ReadBack kept) Done h h' going why knows same = why ∙ same
-  count before names w (ReadBack kept) More h h' going why knows same = why ∙ same
-  count before names w (ReadBack kept) (Number k) h h' going why knows same = why ∙ same
   count before names w (ReadBack kept) (Failed e) h h' going why knows same = device before h h' e same why
-  count before names w (Answer kept) Done h h' going why knows same = why ∙ same
-  count before names w (Answer kept) More h h' going why knows same = why ∙ same
-  count before names w (Answer kept) (Number k) h h' going why knows same = why ∙ same
   count before names w (Answer kept) (Failed e) h h' going why knows same = ⊎_elim (λ refused. inr (inl (h.read, kept, refused))) (λ fails. device before h h' e same fails) why
-  count before names w (TakeRights n) Done h h' going why knows same = (why ∙ same, knows)
-  count before names w (TakeRights n) More h h' going why knows same = why ∙ same
-  count before names w (TakeRights n) (Number k) h h' going why knows same = why ∙ same
-  count before names w (TakeRights n) (Failed e) h h' going why knows same = device before h h' e same why
-  count before names w (Settle n) Done h h' going why knows (same, vouched) = (why ∙ same, vouched)
-  count before names w (Settle n) More h h' going why knows (same, vouched) = (why ∙ same, vouched)
-  count before names w (Settle n) (Number k) h h' going why knows (same, vouched) = (why ∙ same, vouched)
-  count before names w (Settle n) (Failed e) h h' going why knows (same, vouched) = device before h h' e same why
-  count before names w (CreateRecord n) Done h h' going why knows (same, vouched) = (why ∙ same, vouched)
-  count before names w (CreateRecord n) More h h' going why knows (same, vouched) = (why ∙ same, vouched)
-  count before names w (CreateRecord n) (Number k) h h' going why knows (same, vouched) = (why ∙ same, vouched)
-  count before names w (CreateRecord n) (Failed e) h h' going why knows (same, vouched) = device before h h' e same why
-  count before names w (WriteRecord n) Done h h' going why knows (same, vouched) = (why ∙ same, vouched)
-  count before names w (WriteRecord n) More h h' going why knows (same, vouched) = (why ∙ same, vouched)
-  count before names w (WriteRecord n) (Number k) h h' going why knows (same, vouched) = (why ∙ same, vouched)
-  count before names w (WriteRecord n) (Failed e) h h' going why knows (same, vouched) = device before h h' e same why
-  count before names w (SettleRecord n) Done h h' going why knows (same, vouched) = (why ∙ same, vouched)
-  count before names w (SettleRecord n) More h h' going why knows (same, vouched) = (why ∙ same, vouched)
-  count before names w (SettleRecord n) (Number k) h h' going why knows (same, vouched) = (why ∙ same, vouched)
-  count before names w (SettleRecord n) (Failed e) h h' going why knows (same, vouched) = device before h h' e same why
-  count before names w (RenameRecord n) Done h h' going why knows (same, vouched) = (why ∙ same, vouched)
-  count before names w (RenameRecord n) More h h' going why knows (same, vouched) = (why ∙ same, vouched)
-  count before names w (RenameRecord n) (Number k) h h' going why knows (same, vouched) = (why ∙ same, vouched)
-  count before names w (RenameRecord n) (Failed e) h h' going why knows (same, vouched) = device before h h' e same why
-  count before names w (SettleRecordName n) Done h h' going why knows (same, vouched) = (why ∙ same, vouched)
-  count before names w (SettleRecordName n) More h h' going why knows (same, vouched) = (why ∙ same, vouched)
-  count before names w (SettleRecordName n) (Number k) h h' going why knows (same, vouched) = (why ∙ same, vouched)
-  count before names w (SettleRecordName n) (Failed e) h h' going why knows (same, vouched) = device before h h' e same why
-  count before names w (Rename n) Done h h' going why knows (same, vouched) = (why ∙ same, vouched)
-  count before names w (Rename n) More h h' going why knows (same, vouched) = (why ∙ same, vouched)
-  count before names w (Rename n) (Number k) h h' going why knows (same, vouched) = (why ∙ same, vouched)
+  count before names w (TakePermissions n) Done h h' going why knows same = (why ∙ same, knows)
+  count before names w (TakePermissions n) (Failed e) h h' going why knows same = device before h h' e same why
   count before names w (Rename n) (Failed e) h h' going (writing, rose) knows (same, vouched) = inl (_, writing, inr (inr (inl (refl, subst (λ f. Rose f.folder h'.faults.folder) same rose))))
-  count before names w (SettleName n) Done h h' going why knows (same, vouched) = (why ∙ same, vouched)
-  count before names w (SettleName n) More h h' going why knows (same, vouched) = (why ∙ same, vouched)
-  count before names w (SettleName n) (Number k) h h' going why knows (same, vouched) = (why ∙ same, vouched)
-  count before names w (SettleName n) (Failed e) h h' going (folder, rose) knows (same, vouched) = inr (inr (folder, subst (λ f. Rose f.folder h'.faults.folder) same rose))
+  count before names w (SyncName n) (Failed e) h h' going (folder, rose) knows (same, vouched) = inr (inr (folder, subst (λ f. Rose f.folder h'.faults.folder) same rose))
+  count before names w Lock o h h' going why knows same = why ∙ same
+  count before names w Clear o h h' going why knows same = why ∙ same
+  count before names w ReadRecord o h h' going why knows same = why ∙ same
+  count before names w (Create kept) o h h' going why knows same = why ∙ same
+  count before names w (Copy kept) o h h' going why knows same = why ∙ same
+  count before names w (ReadBack kept) o h h' going why knows same = why ∙ same
+  count before names w (Answer kept) o h h' going why knows same = why ∙ same
+  count before names w (TakePermissions n) o h h' going why knows same = why ∙ same
   count before names w (RemoveRecord f) Done h h' going why knows cause = same_cause before h h' f why cause
-  count before names w (RemoveRecord f) (Failed e) h h' going why knows cause = same_cause before h h' f why cause
-  count before names w (RemoveRecord f) More h h' going why knows cause = same_cause before h h' f why cause
-  count before names w (RemoveRecord f) (Number k) h h' going why knows cause = same_cause before h h' f why cause
+  count before names w (RemoveRecord f) o h h' going why knows cause = same_cause before h h' f why cause
   count before names w (Remove f) Done h h' going why knows cause = inr (inr (same_cause before h h' f why cause))
   count before names w (Remove f) (Failed e) h h' going why knows cause = inr (inr (same_cause before h h' f why cause))
-  count before names w (Remove f) More h h' going why knows cause = same_cause before h h' f why cause
-  count before names w (Remove f) (Number k) h h' going why knows cause = same_cause before h h' f why cause
+  count before names w (Remove f) o h h' going why knows cause = same_cause before h h' f why cause
   count before names w Installed o h h' going why knows same = absurd (true≢false going)
   count before names w (Refused f) o h h' going why knows same = absurd (true≢false going)
+  count before names w due (Failed e) h h' going why knows (same, vouched) = device before h h' e same why
+  count before names w due o h h' going why knows (same, vouched) = (why ∙ same, vouched)
 
   module _ {H : Type 0} (file_of : H → ℕ) (a : Host) where
     -- between two calls
@@ -174,7 +106,7 @@ module _ (accepts : Verifier) (terms : Terms) (first : Bool) where
     are_named : (w : Work H) → AreNamed file_of w (names_of w)
     are_named w = (so_named w.stage, so_named w.record_stage)
 
-    pub drive : (due : Due InstallFault) (o : Outcome InstallFault) (old new : Work H) (h h' : Host) → has_ended due ≡ false → Goes accepts terms first file_of due o old new h h' → Driven due old h
+    pub drive : (due : Due InstallFault) (o : Outcome InstallFault) (old new : Work H) (h h' : Host) → has_ended due ≡ false → Called accepts terms first file_of due o old new h h' → Driven due old h
         → Driven (next due o) new h'
     drive due o old new h h' going (made, knows, went) (has, vouched, counted, holds) = (
       made,
@@ -208,23 +140,6 @@ module _ (accepts : Verifier) (terms : Terms) (first : Bool) where
 
 -- what is due where the run has not ended
 pub goes_on : (due : Due InstallFault) → ¬ (due ≡ Installed) → ((e : InstallFault) → ¬ (due ≡ Refused e)) → has_ended due ≡ false
-goes_on Lock not_installed not_refused = refl
-goes_on Clear not_installed not_refused = refl
-goes_on ReadRecord not_installed not_refused = refl
-goes_on (Create kept) not_installed not_refused = refl
-goes_on (Copy kept) not_installed not_refused = refl
-goes_on (ReadBack kept) not_installed not_refused = refl
-goes_on (Answer kept) not_installed not_refused = refl
-goes_on (TakeRights n) not_installed not_refused = refl
-goes_on (Settle n) not_installed not_refused = refl
-goes_on (CreateRecord n) not_installed not_refused = refl
-goes_on (WriteRecord n) not_installed not_refused = refl
-goes_on (SettleRecord n) not_installed not_refused = refl
-goes_on (RenameRecord n) not_installed not_refused = refl
-goes_on (SettleRecordName n) not_installed not_refused = refl
-goes_on (Rename n) not_installed not_refused = refl
-goes_on (SettleName n) not_installed not_refused = refl
-goes_on (RemoveRecord e) not_installed not_refused = refl
-goes_on (Remove e) not_installed not_refused = refl
 goes_on Installed not_installed not_refused = absurd (not_installed refl)
 goes_on (Refused e) not_installed not_refused = absurd (not_refused e refl)
+goes_on due not_installed not_refused = refl

@@ -1,20 +1,7 @@
 -- What the parts of an installation bring together.
-use Rattle.std.proofs.Common.{◌≡◌, ◌≤◌, ◌<◌, ◌^◌, inl, inr, ⊎_elim, ℕ, Bool, false, List, Option, Some, None, ap, sym, subst, ◌∙◌, true, arith}
-use Rattle.minisign.specs.Acceptance.{Verifier}
-use Rattle.minisign.specs.Calls.{TextsVouchWith}
-use Rattle.minisign.specs.Reading.{IsAhead}
-use Rattle.minisign_install.specs.Comments.{Says}
-use Rattle.minisign_install.specs.Folders.{Clears, HasStepped, IsFound, LeavesRecord, Moment, Finds, Run, RunStep}
-use Rattle.minisign_install.specs.Installing.{InstallsLocked, IsBrought, IsInstalled, IsKeptNumber, IsPlaced, IsRecordBrought, IsUpdate, NeverFalls, PlacesBehind, PlacesOnly, Terms}
-use Rattle.minisign_install.specs.RecordTexts.{IsNumberFor, record_of}
-use Rattle.minisign_install.specs.Runs.{BringsNothing, BringsOnly, IsNumberFrom, IsPublished, Keeps, rights_of}
-use Rattle.minisign_install.specs.declared.comments.Numbering.{Numbering}
-use Rattle.minisign_install.specs.declared.folders.Name.{Name}
-use Rattle.minisign_install.specs.declared.folders.Name.TheVariants.{Place, Record}
-use Rattle.minisign_install.proofs.Moments.{lasting_keeps}
+use Rattle.minisign_install.proofs.Common.{◌≡◌, ◌≤◌, ◌<◌, ◌^◌, inl, inr, ⊎_elim, ℕ, Bool, false, List, Option, Some, None, ap, sym, subst, ◌∙◌, true, arith, Verifier, TextsVouchWith, IsAhead, InstallsLocked, MayBePublished, IsInstalled, IsKeptNumber, MayBeInstalled, MayBeRecorded, IsUpdate, NeverFalls, RecordsFirst, PublishesInOrder, Terms, Says, Numbering, Clears, HasStepped, IsFound, RecordUnchanged, Moment, Finds, Run, RunStep, Name, Place, Record, IsNumberFor, record_of, PublishesNothing, PublishesOnly, IsNumberFrom, IsPublished, RecordHolds, rights_of}
+use Rattle.minisign_install.proofs.Works.{lasting_keeps, PublishesBut, PublishesBeside, HasRecorded, IsKept, IsOnly, brings_nothing, brings_trans, brings_weaken}
 use Rattle.minisign_install.proofs.RecordTexts.{record_reads, same_number}
-use Rattle.minisign_install.proofs.Stages.{Goes, GoesBeside, HasRecorded, IsKept, IsOnly}
-use Rattle.minisign_install.proofs.Works.{brings_nothing, brings_trans, brings_weaken}
 
 no_record : Record ≡ Place → ⊥
 no_record e = cc
@@ -36,20 +23,18 @@ number_least numbering first bytes kept k n is least (inr (is_first, is_zero, no
 
 module _ (accepts : Verifier) (terms : Terms) (kept : ℕ) where
   abbrev P : Name → List ℕ → Type 0
-  P = IsBrought accepts terms kept
+  P = MayBePublished accepts terms kept
 
-  -- an update comes to the place
-  pub update_brought : (update : List ℕ) (n : ℕ) (old new : Run) → IsUpdate accepts terms kept update n → BringsOnly (IsOnly Place update) old new
-      → BringsOnly (IsBrought accepts terms kept) old new
+  pub update_brought : (update : List ℕ) (n : ℕ) (old new : Run) → IsUpdate accepts terms kept update n → PublishesOnly (IsOnly Place update) old new
+      → PublishesOnly (MayBePublished accepts terms kept) old new
   update_brought update n old new is brings =
-      brings_weaken (IsOnly Place update) (IsBrought accepts terms kept) old new
-      (λ name b only. subst (λ x. IsBrought accepts terms kept x b) (sym only.0) (n, subst (λ u. IsUpdate accepts terms kept u n) (sym only.1) is)) brings
+      brings_weaken (IsOnly Place update) (MayBePublished accepts terms kept) old new
+      (λ name b only. subst (λ x. MayBePublished accepts terms kept x b) (sym only.0) (n, subst (λ u. IsUpdate accepts terms kept u n) (sym only.1) is)) brings
 
-  -- and then published
-  pub placed : (name : List ℕ) (file : ℕ) (n : ℕ) (old staged mid new : Run) → BringsOnly (IsBrought accepts terms kept) old mid → IsUpdate accepts terms kept (staged.now.holds file) n
-      → IsKept staged mid name file → Goes (IsOnly Place (mid.now.holds file)) name file mid new → BringsOnly (IsBrought accepts terms kept) old new
+  pub placed : (name : List ℕ) (file : ℕ) (n : ℕ) (old staged mid new : Run) → PublishesOnly (MayBePublished accepts terms kept) old mid → IsUpdate accepts terms kept (staged.now.holds file) n
+      → IsKept staged mid name file → PublishesBut (IsOnly Place (mid.now.holds file)) name file mid new → PublishesOnly (MayBePublished accepts terms kept) old new
   placed name file n old staged mid new so_far is same goes =
-      brings_trans (IsBrought accepts terms kept) old mid new so_far
+      brings_trans (MayBePublished accepts terms kept) old mid new so_far
       (update_brought (mid.now.holds file) n mid new (subst (λ u. IsUpdate accepts terms kept u n) (sym same.holds) is) goes.brings)
 
   pub installed : (name : List ℕ) (file : ℕ) (n : ℕ) (ahead : Option (List ℕ)) (staged mid : Run) (steps : List RunStep) → IsAhead ahead (staged.now.holds file) → IsUpdate accepts terms kept (staged.now.holds file) n
@@ -67,71 +52,67 @@ module _ (accepts : Verifier) (terms : Terms) (kept : ℕ) where
     rights = has ∙ same.rights ∙ rights;
   }
 
-  -- the number of an update comes to the record alone
-  pub record_brought : (update : List ℕ) (n : ℕ) (old new : Run) → IsUpdate accepts terms kept update n → BringsOnly (IsOnly Record (record_of terms.numbering n)) old new
-      → BringsOnly (IsRecordBrought accepts terms kept) old new
+  pub record_brought : (update : List ℕ) (n : ℕ) (old new : Run) → IsUpdate accepts terms kept update n → PublishesOnly (IsOnly Record (record_of terms.numbering n)) old new
+      → PublishesOnly (MayBeRecorded accepts terms kept) old new
   record_brought update n old new is brings =
-      brings_weaken (IsOnly Record (record_of terms.numbering n)) (IsRecordBrought accepts terms kept) old new (λ name b only. (only.0, (n, update, is, only.1))) brings
+      brings_weaken (IsOnly Record (record_of terms.numbering n)) (MayBeRecorded accepts terms kept) old new (λ name b only. (only.0, (n, update, is, only.1))) brings
 
-  -- nothing but the record was brought so far
-  pub places_record : (old new : Run) → BringsOnly (IsRecordBrought accepts terms kept) old new → PlacesOnly accepts terms kept old new
+  pub places_record : (old new : Run) → PublishesOnly (MayBeRecorded accepts terms kept) old new → PublishesInOrder accepts terms kept old new
   places_record old new brings = record {
-    brings = brings_weaken (IsRecordBrought accepts terms kept) P old new (λ name b is. subst (λ x. IsBrought accepts terms kept x b) (sym is.0) is.1) brings;
+    brings = brings_weaken (MayBeRecorded accepts terms kept) P old new (λ name b is. subst (λ x. MayBePublished accepts terms kept x b) (sym is.0) is.1) brings;
     order = inl brings;
   }
 
-  pub places_nothing : (old new : Run) → BringsNothing old new → PlacesOnly accepts terms kept old new
-  places_nothing old new none = places_record old new (brings_nothing (IsRecordBrought accepts terms kept) old new none)
+  pub places_nothing : (old new : Run) → PublishesNothing old new → PublishesInOrder accepts terms kept old new
+  places_nothing old new none = places_record old new (brings_nothing (MayBeRecorded accepts terms kept) old new none)
 
-  places_behind : (n : ℕ) (old point new : Run) → BringsOnly (IsRecordBrought accepts terms kept) old point → point.locked ≡ true → Keeps terms.numbering n point.now → BringsOnly (IsPlaced accepts terms kept n) point new
-      → PlacesBehind accepts terms kept old new
+  places_behind : (n : ℕ) (old point new : Run) → PublishesOnly (MayBeRecorded accepts terms kept) old point → point.locked ≡ true → RecordHolds terms.numbering n point.now → PublishesOnly (MayBeInstalled accepts terms kept n) point new
+      → RecordsFirst accepts terms kept old new
   places_behind n old point new recorded locked there placed =
       let (number, lasts) = placed.numbers locked terms.numbering n (λ bytes no. absurd (no_record no.0)) there in
       record { n = n; point = point; recorded = recorded; locked = locked; there = there; placed = placed; number = number; lasts = lasts }
 
   -- staged, the number kept, and then published
-  pub places_update : (name : List ℕ) (file : ℕ) (n : ℕ) (old staged mid new : Run) → old.locked ≡ true → BringsNothing old staged → IsUpdate accepts terms kept (staged.now.holds file) n
-      → GoesBeside (IsOnly Record (record_of terms.numbering n)) staged mid → HasRecorded (record_of terms.numbering n) mid → IsKept staged mid name file → Goes (IsOnly Place (mid.now.holds file)) name file mid new
-      → PlacesOnly accepts terms kept old new
+  pub places_update : (name : List ℕ) (file : ℕ) (n : ℕ) (old staged mid new : Run) → old.locked ≡ true → PublishesNothing old staged → IsUpdate accepts terms kept (staged.now.holds file) n
+      → PublishesBeside (IsOnly Record (record_of terms.numbering n)) staged mid → HasRecorded (record_of terms.numbering n) mid → IsKept staged mid name file → PublishesBut (IsOnly Place (mid.now.holds file)) name file mid new
+      → PublishesInOrder accepts terms kept old new
   places_update name file n old staged mid new locked before is recording recorded same goes =
-      let Q = IsRecordBrought accepts terms kept in
-      let to_record : BringsOnly Q old mid = brings_trans Q old staged mid (brings_nothing Q old staged before) (record_brought (staged.now.holds file) n staged mid is recording.brings) in
+      let Q = MayBeRecorded accepts terms kept in
+      let to_record : PublishesOnly Q old mid = brings_trans Q old staged mid (brings_nothing Q old staged before) (record_brought (staged.now.holds file) n staged mid is recording.brings) in
       let there : IsUpdate accepts terms kept (mid.now.holds file) n = subst (λ u. IsUpdate accepts terms kept u n) (sym same.holds) is in
-      let placed = brings_weaken (IsOnly Place (mid.now.holds file)) (IsPlaced accepts terms kept n) mid new
+      let placed = brings_weaken (IsOnly Place (mid.now.holds file)) (MayBeInstalled accepts terms kept n) mid new
       (λ name b only. (only.0, subst (λ u. IsUpdate accepts terms kept u n) (sym only.1) there)) goes.brings in
-      let keeps : Keeps terms.numbering n mid.now = lasting_keeps terms.numbering n mid.now (record_of terms.numbering n) recorded.lasts (number_from terms.numbering n n is.says.number.bound (omega arith)) in
+      let keeps : RecordHolds terms.numbering n mid.now = lasting_keeps terms.numbering n mid.now (record_of terms.numbering n) recorded.lasts (number_from terms.numbering n n is.says.number.bound (omega arith)) in
       record {
-        brings = brings_trans P old mid new (brings_weaken Q P old mid (λ name b q. subst (λ x. IsBrought accepts terms kept x b) (sym q.0) q.1) to_record)
-            (brings_weaken (IsPlaced accepts terms kept n) P mid new (λ name b q. subst (λ x. IsBrought accepts terms kept x b) (sym q.0) (n, q.1)) placed);
+        brings = brings_trans P old mid new (brings_weaken Q P old mid (λ name b q. subst (λ x. MayBePublished accepts terms kept x b) (sym q.0) q.1) to_record)
+            (brings_weaken (MayBeInstalled accepts terms kept n) P mid new (λ name b q. subst (λ x. MayBePublished accepts terms kept x b) (sym q.0) (n, q.1)) placed);
         order = inr (places_behind n old mid new to_record (to_record.locked locked) keeps placed);
       }
 
-  -- calls before that bring nothing
-  pub places_after : (old mid new : Run) → BringsNothing old mid → PlacesOnly accepts terms kept mid new → PlacesOnly accepts terms kept old new
+  pub places_after : (old mid new : Run) → PublishesNothing old mid → PublishesInOrder accepts terms kept mid new → PublishesInOrder accepts terms kept old new
   places_after old mid new before places = record {
     brings = brings_trans P old mid new (brings_nothing P old mid before) places.brings;
     order = ⊎_elim
-        (λ recorded. inl (brings_trans (IsRecordBrought accepts terms kept) old mid new (brings_nothing (IsRecordBrought accepts terms kept) old mid before) recorded))
+        (λ recorded. inl (brings_trans (MayBeRecorded accepts terms kept) old mid new (brings_nothing (MayBeRecorded accepts terms kept) old mid before) recorded))
         (λ behind. inr (places_behind behind.n old behind.point new
-        (brings_trans (IsRecordBrought accepts terms kept) old mid behind.point (brings_nothing (IsRecordBrought accepts terms kept) old mid before) behind.recorded)
+        (brings_trans (MayBeRecorded accepts terms kept) old mid behind.point (brings_nothing (MayBeRecorded accepts terms kept) old mid before) behind.recorded)
         behind.locked behind.there behind.placed))
         places.order;
   }
 
-  -- and calls afterwards
-  pub places_more : (old mid new : Run) → BringsNothing mid new → PlacesOnly accepts terms kept old mid → PlacesOnly accepts terms kept old new
+  pub places_more : (old mid new : Run) → PublishesNothing mid new → PublishesInOrder accepts terms kept old mid → PublishesInOrder accepts terms kept old new
   places_more old mid new more places = record {
     brings = brings_trans P old mid new places.brings (brings_nothing P mid new more);
     order = ⊎_elim
-        (λ recorded. inl (brings_trans (IsRecordBrought accepts terms kept) old mid new recorded (brings_nothing (IsRecordBrought accepts terms kept) mid new more)))
+        (λ recorded. inl (brings_trans (MayBeRecorded accepts terms kept) old mid new recorded (brings_nothing (MayBeRecorded accepts terms kept) mid new more)))
         (λ behind. inr (places_behind behind.n old behind.point new behind.recorded behind.locked behind.there
-        (brings_trans (IsPlaced accepts terms kept behind.n) behind.point mid new behind.placed (brings_nothing (IsPlaced accepts terms kept behind.n) mid new more))))
+        (brings_trans (MayBeInstalled accepts terms kept behind.n) behind.point mid new behind.placed (brings_nothing (MayBeInstalled accepts terms kept behind.n) mid new more))))
         places.order;
   }
 
 -- == The record was found when the lock was got ==
 
-found_before : (m m' : Moment) (found : Option (List ℕ)) → LeavesRecord m m' → IsFound m' Record found → IsFound m Record found
+found_before : (m m' : Moment) (found : Option (List ℕ)) → RecordUnchanged m m' → IsFound m' Record found → IsFound m Record found
 found_before m m' None leaves none = sym leaves.leads ∙ none
 found_before m m' (Some bytes) leaves (f, leads, holds) =
     let there : m.leads Record ≡ Some f = sym leaves.leads ∙ leads in
@@ -148,32 +129,31 @@ found_first found old cleared read locked clear s =
     found_before old.now clear.before found (clear.others.record_left locked) (found_cleared clear.before cleared.now found clear.this then)
 
 -- a number that was in the record is not above the one that was found there
-kept_least : (numbering : Numbering) (first : Bool) (found : Option (List ℕ)) (kept k : ℕ) (m : Moment) → IsFound m Record found → IsKeptNumber numbering first found kept → Keeps numbering k m → k ≤ kept
+kept_least : (numbering : Numbering) (first : Bool) (found : Option (List ℕ)) (kept k : ℕ) (m : Moment) → IsFound m Record found → IsKeptNumber numbering first found kept → RecordHolds numbering k m → k ≤ kept
 kept_least numbering first None kept k m there number keeps = absurd (none_found keeps.file (sym there ∙ keeps.leads))
 kept_least numbering first (Some bytes) kept k m (f, leads, holds) number keeps =
     let (n, is, least) = keeps.numbers bytes (record { file = f; lead = inl leads; holds = λ kept. sym holds }) in
     number_least numbering first bytes kept k n is least number
 
--- nothing was brought, or what is not older
-never_falls_nothing : (numbering : Numbering) (old new : Run) → old.locked ≡ true → BringsNothing old new → NeverFalls numbering old new
+never_falls_nothing : (numbering : Numbering) (old new : Run) → old.locked ≡ true → PublishesNothing old new → NeverFalls numbering old new
 never_falls_nothing numbering old new locked none k keeps =
     let (each, last) = none.numbers locked numbering k (λ bytes no. absurd no) keeps in
     (none.since, none.noted, each, last)
 
 never_falls_newer : (accepts : Verifier) (terms : Terms) (first : Bool) (found : Option (List ℕ)) (kept : ℕ) (old new : Run) → old.locked ≡ true → IsFound old.now Record found → IsKeptNumber terms.numbering first found kept
-    → BringsOnly (IsBrought accepts terms kept) old new → NeverFalls terms.numbering old new
+    → PublishesOnly (MayBePublished accepts terms kept) old new → NeverFalls terms.numbering old new
 never_falls_newer accepts terms first found kept old new locked there number brings k keeps =
     let least : k ≤ kept = kept_least terms.numbering first found kept k old.now there number keeps in
     let (each, last) = brings.numbers locked terms.numbering k
     (λ bytes (n, update, is, same). subst (IsNumberFrom terms.numbering k) (sym same) (number_from terms.numbering k n is.says.number.bound (omega (arith, least, is.newer)))) keeps in
     (brings.since, brings.noted, each, last)
 
-pub nothing_locked : (accepts : Verifier) (terms : Terms) (first : Bool) (old new : Run) → old.locked ≡ true → BringsNothing old new → InstallsLocked accepts terms first old new
+pub nothing_locked : (accepts : Verifier) (terms : Terms) (first : Bool) (old new : Run) → old.locked ≡ true → PublishesNothing old new → InstallsLocked accepts terms first old new
 nothing_locked accepts terms first old new locked none = record { only = inl none; never_falls = never_falls_nothing terms.numbering old new locked none }
 
 -- the record was read, and what is not older than its number was brought
-pub installs : (accepts : Verifier) (terms : Terms) (first : Bool) (found : Option (List ℕ)) (kept : ℕ) (old read new : Run) → old.locked ≡ true → BringsNothing old read → IsFound old.now Record found
-    → IsKeptNumber terms.numbering first found kept → PlacesOnly accepts terms kept read new → InstallsLocked accepts terms first old new
+pub installs : (accepts : Verifier) (terms : Terms) (first : Bool) (found : Option (List ℕ)) (kept : ℕ) (old read new : Run) → old.locked ≡ true → PublishesNothing old read → IsFound old.now Record found
+    → IsKeptNumber terms.numbering first found kept → PublishesInOrder accepts terms kept read new → InstallsLocked accepts terms first old new
 installs accepts terms first found kept old read new locked before there number places =
     let all = places_after accepts terms kept old read new before places in
     record {
@@ -181,7 +161,6 @@ installs accepts terms first found kept old read new locked before there number 
       never_falls = never_falls_newer accepts terms first found kept old new locked there number all.brings;
     }
 
--- what was staged is an update
 pub is_update : (accepts : Verifier) (terms : Terms) (kept : ℕ) (bytes comment text : List ℕ) (n : ℕ) → TextsVouchWith accepts terms.pk_text terms.sig_text bytes false comment → text ≡ comment
     → Says text terms.file terms.numbering terms.moment n → kept ≤ n → IsUpdate accepts terms kept bytes n
 is_update accepts terms kept bytes comment text n vouched same says newer = record {

@@ -1,33 +1,8 @@
--- Whether what a state was fed is an update.
-use Rattle.std.proofs.Common.{◌≡◌, ◌⊎◌, inl, inr, ◌≤◌, ◌+◌, ◌++◌, ◌∙◌, if◌then◌else◌, nat_le, ℕ, Bool, true, false, List, length, take, ap, sym, subst, refl, IsTrue, MatchResult}
-use Rattle.std.proofs.lemmas.Bool.{true≢false}
-use Rattle.std.specs.Str.{IsUtf8}
-use Rattle.std.proofs.lemmas.Str.{is_utf8-from_IsUtf8}
-use Rattle.std.specs.declared.result.Result.{Result}
-use Rattle.std.specs.declared.result.Result.TheVariants.{Ok, Err}
-use Rattle.minisign_hash.specs.Blake2b.{blake2b_digest}
-use Rattle.minisign_base.specs.Fault.{Fault, Named}
-use Rattle.minisign_base.specs.declared.faults.NamedFault.TheVariants.{OutOfMemory}
-use Rattle.minisign.specs.Acceptance.{Verifier, signed_bytes}
-use Rattle.minisign.specs.Calls.{TextsVouchWith}
+-- Whether what a state was fed is an update, and whether the comment of the text of a signature was signed by a key.
+use Rattle.minisign_install.proofs.Common.{◌≡◌, ◌⊎◌, inl, inr, ◌≤◌, ◌+◌, ◌++◌, ◌∙◌, if◌then◌else◌, nat_le, ℕ, Bool, true, false, List, length, take, ap, sym, subst, refl, IsTrue, MatchResult, Result, Ok, Err, true≢false, IsUtf8, is_utf8-from_IsUtf8, blake2b_digest, Fault, Named, OutOfMemory, InstallFault, Verifier, TextsVouchWith, IsUpdate, Terms, signed_bytes, read_public_key, CommentsRecord, PublicKeyRecord, is_prehashed, SignatureTextRecord, box_of, read_signature, read_utf8, told_key, Answers, AnswersTexts, IsKeyText, has_whole_signature, read_under, told_signature, AreQuestions, IsAskFedRefusal, IsFaultOf, IsFedState, IsTextRefusal, asked_of, PublicKeyValue, Misuse, NoRoom, Questions, Refusal, WrongUse, State, Says, IsCommentRefused, IsDataRefused, IsLibraryFault, ◌==◌, ◌||◌, CommentSignatureRefused, accepts_comments, and_then, require, key_of, comment_verdict_under, IsMarkedTold, fed_mark, given_verdict, is_begun, told_mark, signed_comment}
 use Rattle.minisign.specs.Headline.{TextsVouchFor, verdict}
-use Rattle.minisign.specs.PublicKeyText.{read_public_key}
-use Rattle.minisign.specs.Records.{CommentsRecord, PublicKeyRecord, is_prehashed}
-use Rattle.minisign.specs.SignatureText.{SignatureTextRecord, box_of, read_signature}
-use Rattle.minisign_external.specs.PublicKeys.{read_utf8, told_key, value_of}
-use Rattle.minisign_external.specs.Questions.{Answers, AnswersTexts, IsKeyText, has_whole_signature, read_under, told_signature}
-use Rattle.minisign_external.specs.States.{AreQuestions, IsAskFedRefusal, IsFaultOf, IsFedState, IsTextRefusal, asked_of}
-use Rattle.minisign_external.specs.declared.public_keys.PublicKeyValue.{PublicKeyValue}
-use Rattle.minisign_external.specs.declared.state.Misuse.{Misuse}
-use Rattle.minisign_external.specs.declared.state.Misuse.TheVariants.{NoRoom}
-use Rattle.minisign_external.specs.declared.state.Questions.{Questions}
-use Rattle.minisign_external.specs.declared.state.Refusal.{Refusal}
-use Rattle.minisign_external.specs.declared.state.Refusal.TheVariants.{Refused, WrongUse}
-use Rattle.minisign_external.specs.declared.state.State.{State}
-use Rattle.minisign_install.specs.Comments.{Says}
-use Rattle.minisign_install.specs.Installing.{IsUpdate, Terms}
-use Rattle.minisign_install.specs.Refusals.{IsCommentRefused, IsDataRefused, IsLibraryFault}
-use Rattle.minisign_install.specs.declared.faults.InstallFault.{InstallFault}
+use Rattle.minisign_external.specs.PublicKeys.{value_of}
+use Rattle.minisign_external.specs.declared.state.Refusal.TheVariants.{Refused}
 use Rattle.minisign_install.proofs.SignatureComments.{comments_in, opened, trusted_in}
 
 -- == What the scheme answers ==
@@ -41,7 +16,6 @@ told_whole c whole = rw whole refl
 same_text : (sig_text : List ℕ) (t s : SignatureTextRecord) → read_signature sig_text ≡ Ok t → read_signature sig_text ≡ Ok s → t ≡ s
 same_text sig_text t s one other = let both = sym one ∙ other in cc both
 
--- a text reads as one key
 pub one_value : (pk_text : List ℕ) (v w : PublicKeyValue) → IsKeyText pk_text v → IsKeyText pk_text w → v ≡ w
 one_value pk_text v w one other =
     let keys = sym one.read ∙ other.read in
@@ -60,7 +34,6 @@ module _ (accepts : Verifier) (v : PublicKeyValue) (sig_text m : List ℕ) (t : 
   comment_signature_is : q.comment_signature ≡ told_signature t.comments
   comment_signature_is = ap (λ (x : Questions). x.comment_signature) are.questions
 
-  -- the scheme answered what it was asked
   pub answers_so : Answers accepts v sig_text m first second
   answers_so = record {
     to_first = λ s read. subst (λ (u : SignatureTextRecord). accepts (signed_bytes (box_of u) m) v.key u.signature.signature ≡ first)
@@ -76,7 +49,6 @@ module _ (accepts : Verifier) (v : PublicKeyValue) (sig_text m : List ℕ) (t : 
         ∙ ap (λ s. accepts (take q.message_len bytes) q.public_key s) (sym (comment_signature_is ∙ told_whole t.comments whole)) ∙ sym two);
   }
 
-  -- the text of the public key reads as no other key
   pub answers_texts : (pk_text : List ℕ) → IsKeyText pk_text v → AnswersTexts accepts pk_text sig_text m first second
   answers_texts pk_text keyed = λ w other.
       subst (λ (u : PublicKeyValue). Answers accepts u sig_text m first second) (one_value pk_text v w keyed other) answers_so
@@ -87,7 +59,7 @@ fault_is holds (WrongUse w) f is none = absurd none
 fault_is holds (Refused e) f is held = subst holds (sym (is e refl)) held
 
 -- a wrong use behind reading is too little room
-abbrev fits : Bool → Result Unit Refusal
+abbrev pub fits : Bool → Result Unit Refusal
 fits b = if b then Ok tt else Err (WrongUse NoRoom)
 
 lacks_room : (b : Bool) (w : Misuse) → fits b ≡ Err (WrongUse w) → w ≡ NoRoom
@@ -141,7 +113,6 @@ asking_refused accepts s pk_text sig_text m v room (WrongUse w) fed keyed utf8 (
     absurd (roomy (ap (λ (x : Misuse). WrongUse x) (no_room (read_under v false sig_text) room w why)))
 asking_refused accepts s pk_text sig_text m v room (Refused e) fed keyed utf8 why roomy refused = refused utf8 pk_text m accepts keyed
 
--- memory may run out besides
 pub else_memory : {T : Type 0} (S : Type 0) (accepts : Verifier) (pk_text sig_text m : List ℕ) (bytes : T → List ℕ) (r : Result T Fault)
     → MatchResult r (λ t. TextsVouchWith accepts pk_text sig_text m false (bytes t)) (λ f. verdict accepts pk_text sig_text m false ≡ Err f)
     → MatchResult r (λ t. TextsVouchWith accepts pk_text sig_text m false (bytes t)) (λ e. ((e ≡ Named OutOfMemory) × S) ⊎ (verdict accepts pk_text sig_text m false ≡ Err e))
@@ -160,7 +131,6 @@ vouched_comment accepts pk_text sig_text m comment v t opens is vouched = record
   trusted = sym (is ∙ trusted_in sig_text t vouched.box (comments_in sig_text vouched.box vouched.box_read).0 (opened v sig_text t opens).0 vouched.box_read (comments_in sig_text vouched.box vouched.box_read).1);
 }
 
--- the comment that was signed is the one of the text
 pub vouched_with : (accepts : Verifier) (pk_text sig_text message : List ℕ) (v : TextsVouchFor accepts pk_text sig_text message false)
     → TextsVouchWith accepts pk_text sig_text message false (comments_in sig_text v.box v.box_read).0.trusted
 vouched_with accepts pk_text sig_text message v = record { vouched = v; comments = (comments_in sig_text v.box v.box_read).0; both = (comments_in sig_text v.box v.box_read).1; trusted = refl }
@@ -172,3 +142,75 @@ module _ (accepts : Verifier) (terms : Terms) (kept : ℕ) (m comment : List ℕ
       → MatchResult r (IsUpdate accepts terms kept m) (λ e. IsLibraryFault (λ f. (f ≡ Named OutOfMemory) × S) e ⊎ IsDataRefused accepts terms kept m e)
   judged_comment S (Ok n) vouched (says, newer) = record { comment = comment; vouched = vouched; says = says; newer = newer }
   judged_comment S (Err e) vouched refused = inr (inr (comment, vouched, refused))
+
+pub told_is_begun : (s : State) → IsMarkedTold s → is_begun s ≡ true
+told_is_begun s told = ap (λ (m : ℕ). (m == fed_mark) || (m == told_mark)) told
+
+-- == A verdict on the comment ==
+
+granted : (b : Bool) (comment : List ℕ) → given_verdict (require b CommentSignatureRefused (Ok comment)) ≡ Ok tt → require b CommentSignatureRefused (Ok comment) ≡ Ok comment
+granted true comment h = refl
+granted false comment h = cc h
+
+refused_so : (x : Result (List ℕ) Fault) (r : Refusal) (f : Fault) → ((e : Fault) → r ≡ Refused e → f ≡ e) → given_verdict x ≡ Err r → x ≡ Err f
+refused_so (Ok comment) r f is h = cc h
+refused_so (Err e) r f is h = let same : Refused e ≡ r = cc h in ap (λ g. Err g) (sym (is e (sym same)))
+
+-- what comes of a text that reads so
+abbrev of_text : Verifier → PublicKeyValue → Result SignatureTextRecord Fault → Result (List ℕ) Fault
+of_text accepts v r = and_then r (λ t. require (accepts_comments accepts (key_of v) (box_of t)) CommentSignatureRefused (Ok t.comments.trusted))
+
+abbrev of_key : Verifier → List ℕ → Result PublicKeyRecord Fault → Result (List ℕ) Fault
+of_key accepts sig_text r = and_then r (λ key. comment_verdict_under accepts (value_of key) sig_text false)
+
+-- where a text is read as the key, what it decides is what the key does
+keyed_comment : (accepts : Verifier) (pk_text sig_text : List ℕ) (v : PublicKeyValue) → IsKeyText pk_text v → signed_comment accepts pk_text sig_text ≡ comment_verdict_under accepts v sig_text false
+keyed_comment accepts pk_text sig_text v keyed =
+    ap (of_key accepts sig_text) keyed.read ∙ ap (λ (w : PublicKeyValue). comment_verdict_under accepts w sig_text false) (sym keyed.same)
+
+module _ (accepts : Verifier) (pk_text sig_text comment : List ℕ) (v : PublicKeyValue) (keyed : IsKeyText pk_text v) where
+  -- the verdict was yes: this is the comment that was signed
+  pub comment_is : (t : SignatureTextRecord) → read_under v false sig_text ≡ Ok t → comment ≡ t.comments.trusted
+      → Ok tt ≡ given_verdict (comment_verdict_under accepts v sig_text false) → signed_comment accepts pk_text sig_text ≡ Ok comment
+  comment_is t opens is given =
+      let judged : comment_verdict_under accepts v sig_text false ≡ require (accepts_comments accepts (key_of v) (box_of t)) CommentSignatureRefused (Ok t.comments.trusted) = ap (of_text accepts v) opens in
+      keyed_comment accepts pk_text sig_text v keyed ∙ judged
+      ∙ granted (accepts_comments accepts (key_of v) (box_of t)) t.comments.trusted (ap given_verdict (sym judged) ∙ sym given)
+      ∙ ap (λ c. Ok c) (sym is)
+
+  pub comment_refused : (r : Refusal) (f : Fault) → ((e : Fault) → r ≡ Refused e → f ≡ e)
+      → Err r ≡ given_verdict (comment_verdict_under accepts v sig_text false) → signed_comment accepts pk_text sig_text ≡ Err f
+  comment_refused r f is given =
+      keyed_comment accepts pk_text sig_text v keyed ∙ refused_so (comment_verdict_under accepts v sig_text false) r f is (sym given)
+
+-- == Asking was refused ==
+
+lacks : (b : Bool) (e : Fault) → fits b ≡ Err (Refused e) → ⊥
+lacks true e h = cc h
+lacks false e h = cc h
+
+unread : (x : Result SignatureTextRecord Fault) (room : ℕ) (e : Fault) → asked_of x room ≡ Err (Refused e) → x ≡ Err e
+unread (Ok t) room e h = absurd (lacks (nat_le (64 + length t.comments.trusted) room) e h)
+unread (Err f) room e h = cc h
+
+-- of a state that was fed, and where the room is not missed, asking is refused only for the text of the signature
+pub unasked : (accepts : Verifier) (s : State) (pk_text sig_text m : List ℕ) (v : PublicKeyValue) (room : ℕ) (r : Refusal) (f : Fault) → IsFedState s m → IsKeyText pk_text v
+    → IsAskFedRefusal s v sig_text false room r → ¬ (r ≡ WrongUse NoRoom) → ((e : Fault) → r ≡ Refused e → f ≡ e)
+    → signed_comment accepts pk_text sig_text ≡ Err f
+unasked accepts s pk_text sig_text m v room (WrongUse w) f fed keyed (inl unfed) roomy is = absurd (unfed.1 m fed)
+unasked accepts s pk_text sig_text m v room (WrongUse w) f fed keyed (inr (marked, why)) roomy is =
+    absurd (roomy (ap (λ (x : Misuse). WrongUse x) (no_room (read_under v false sig_text) room w why)))
+unasked accepts s pk_text sig_text m v room (Refused e) f fed keyed (inl none) roomy is = absurd none
+unasked accepts s pk_text sig_text m v room (Refused e) f fed keyed (inr (marked, why)) roomy is =
+    let under : read_under v false sig_text ≡ Err e = unread (read_under v false sig_text) room e why in
+    let judged : comment_verdict_under accepts v sig_text false ≡ Err e = ap (of_text accepts v) under in
+    keyed_comment accepts pk_text sig_text v keyed ∙ judged ∙ ap (λ g. Err g) (sym (is e refl))
+
+pub no_key_no_comment : (accepts : Verifier) (pk_text sig_text : List ℕ) (e : Fault) → read_public_key pk_text ≡ Err e → signed_comment accepts pk_text sig_text ≡ Err e
+no_key_no_comment accepts pk_text sig_text e read = ap (of_key accepts sig_text) read
+
+pub or_memory : {T : Type 0} (x : Result (List ℕ) Fault) (bytes : T → List ℕ) (r : Result T Fault)
+    → MatchResult r (λ t. x ≡ Ok (bytes t)) (λ e. x ≡ Err e)
+    → MatchResult r (λ t. x ≡ Ok (bytes t)) (λ e. (e ≡ Named OutOfMemory) ⊎ (x ≡ Err e))
+or_memory x bytes (Ok t) is = is
+or_memory x bytes (Err e) is = inr is

@@ -1,19 +1,15 @@
-mod Checks
-mod Counts
+mod Common
 mod Driven
 mod Driving
 mod Fields
 mod Installs
 mod Judgements
-mod Moments
 mod Obeying
 mod Orders
 mod Pieces
 mod Reasons
 mod RecordTexts
-mod Refused
-mod Stages
+mod Places
 mod Verdicts
 mod Works
-mod Wants
 pub mod SignatureComments

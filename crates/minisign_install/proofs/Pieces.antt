@@ -1,9 +1,5 @@
 -- Pieces that are written into a file, or read, one after another.
-use Rattle.std.proofs.Common.{◌≡◌, ◌+◌, ℕ, List, [], ◌∷◌, ◌++◌, true, take, drop, ap, sym, subst, ◌∙◌, refl, append_assoc, append-nil, take-append-drop}
-use Rattle.std.proofs.lemmas.List.{drop-drop}
-use Rattle.std.specs.List.{concat}
-use Rattle.minisign_install.specs.Folders.{Appends, Run}
-use Rattle.minisign_install.specs.Hosts.{Calls, Writes, WritesInPart}
+use Rattle.minisign_install.proofs.Common.{◌≡◌, ◌+◌, ℕ, List, [], ◌∷◌, ◌++◌, true, take, drop, ap, sym, subst, ◌∙◌, refl, append_assoc, append-nil, take-append-drop, drop-drop, concat, Appends, Run, Calls, Writes, WritesInPart}
 
 module _ (file : ℕ) where
   pub writes_both : (a b : List (List ℕ)) (old mid new : Run) → Writes file a old mid → Writes file b mid new → Writes file (a ++ b) old new
@@ -27,12 +23,10 @@ concat_both (piece ∷ a) b = ap (λ l. piece ++ l) (concat_both a b) ∙ sym (a
 pub concat_one : (a : List (List ℕ)) (piece : List ℕ) → concat (a ++ piece ∷ []) ≡ concat a ++ piece
 concat_one a piece = concat_both a (piece ∷ []) ∙ ap (λ l. concat a ++ l) (append-nil piece)
 
--- what is left begins with what is read next
 read_next : (at n : ℕ) (xs front : List ℕ) → front ≡ take n (drop at xs) → drop at xs ≡ front ++ drop (at + n) xs
 read_next at n xs front same =
     sym (take-append-drop n (drop at xs)) ∙ ap (λ l. l ++ drop n (drop at xs)) (sym same) ∙ ap (λ l. front ++ l) (drop-drop n at xs)
 
--- what was read, and what is read next
 pub read_more : (at n : ℕ) (xs done front : List ℕ) → xs ≡ done ++ drop at xs → front ≡ take n (drop at xs) → xs ≡ (done ++ front) ++ drop (at + n) xs
 read_more at n xs done front so_far is =
     so_far ∙ ap (λ l. done ++ l) (read_next at n xs front is) ∙ sym (append_assoc done front (drop (at + n) xs))

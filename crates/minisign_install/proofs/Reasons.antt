@@ -1,24 +1,80 @@
--- Where each failing call says why it failed, a run that is refused says the first reason.
-use Rattle.std.proofs.Common.{◌≡◌, inl, inr, ⊎_elim, ℕ, List, [], ◌∷◌, Option, true, ap, sym, subst, ◌∙◌, refl, Ok, Err}
-use Rattle.minisign.specs.Acceptance.{Verifier}
-use Rattle.minisign.specs.Reading.{IsAhead}
-use Rattle.minisign_base.specs.Devices.{Rose}
-use Rattle.minisign_install.specs.Folders.{HasStepped, IsBusy, IsStill, Run}
-use Rattle.minisign_install.specs.Hosts.{DeviceFails, Event, Explains, HasRun, Host, IsExplained, Makes, RunIsRefused, Setting}
-use Rattle.minisign_install.specs.Installing.{IsBrought, IsRecordBrought, IsUpdate, Terms}
-use Rattle.minisign_install.specs.Order.{next}
-use Rattle.minisign_install.specs.Refusals.{Counts, HasNamed, IsCallFault, IsDataRefusal, IsLibraryFault}
-use Rattle.minisign_install.specs.Runs.{BringsNothing, BringsOnly}
-use Rattle.minisign_install.specs.declared.faults.InstallFault.{InstallFault}
-use Rattle.minisign_install.specs.declared.folders.Name.TheVariants.{Place, Record}
-use Rattle.minisign_install.specs.declared.order.Due.{Due}
-use Rattle.minisign_install.specs.declared.order.Due.TheVariants.{Lock, Clear, ReadRecord, Create, Copy, ReadBack, Answer, TakeRights, Settle, CreateRecord, WriteRecord, SettleRecord, RenameRecord, SettleRecordName, Rename, SettleName, RemoveRecord, Remove, Installed, Refused}
-use Rattle.minisign_install.specs.declared.order.Outcome.{Outcome}
-use Rattle.minisign_install.specs.declared.order.Outcome.TheVariants.{Done, More, Number, Failed}
+-- Where each failing call says why it failed, a run that is refused says the first reason; and where memory ran out, nothing
+-- was brought.
+use Rattle.minisign_install.proofs.Common.{◌≡◌, inl, inr, ℕ, true, List, [], ◌∷◌, ◌++◌, Option, ap, sym, ◌∙◌, append_assoc, IfErr, MatchResult, Result, Ok, Err, Verifier, MayBePublished, MayBeRecorded, Terms, HasStepped, MaySyncDirectory, Renames, Run, SyncsDirectory, Name, Counts, HasNamed, IsDataRefusal, PublishesNothing, PublishesOnly, InstallFault, ⊎_elim, subst, refl, IsAhead, IsUpdate, Rose, IsBusy, IsStill, Place, Record, DeviceFails, Event, Explains, HasRun, Host, IsExplained, Makes, RunIsRefused, Setting, next, Due, Lock, Clear, ReadRecord, Create, Copy, ReadBack, Answer, TakePermissions, Sync, CreateRecord, WriteRecord, SyncRecord, RenameRecord, SyncRecordName, Rename, SyncName, RemoveRecord, Remove, Installed, Outcome, Done, More, Number, Failed, IsCallFault, IsLibraryFault, ◌≢◌, ⊤, Named, OutOfMemory, Library, WantsNoMemory, OnlyLocked}
+use Rattle.minisign_install.proofs.Works.{step, HasStage, brings_nothing, brings_trans, renamed_stands, brings_weaken, cleared_step, cleared_then, clearing, perhaps_renamed_goes, removed_brings, resting_brings, spoiling}
+use Rattle.minisign_install.specs.Order.{Refused}
 use Rattle.minisign_install.proofs.Installs.{found_first}
-use Rattle.minisign_install.proofs.Orders.{Front, Holds, Recording, Staging, begin_record, cleared_more, from, more_record, more_work, nothing_brings, part_works, place_goes, placing, record_brings, record_goes, recorded_brings, recording_nothing, removal_brings, staging_nothing, still_on_disk, still_staged}
-use Rattle.minisign_install.proofs.Refused.{data_after, data_more, named_after, unsettled}
-use Rattle.minisign_install.proofs.Works.{brings_nothing, brings_trans, brings_weaken, cleared_step, cleared_then, clearing, perhaps_renamed_goes, removed_brings, resting_brings, spoiling}
+use Rattle.minisign_install.proofs.Orders.{Front, Holds, Recording, Staged, Staging, begin_record, cleared_more, from, more_record, more_work, nothing_brings, part_works, place_goes, placing, record_brings, record_goes, recorded_brings, recording_nothing, removal_brings, staging_nothing, still_on_disk, still_staged}
+
+pub unsettled : (name : List ℕ) (to : Name) (old mid new : Run) → HasStepped old mid (Renames name to) → HasStepped mid new MaySyncDirectory → (g : ℕ) → HasStage old name g → old.now.on_disk g ≡ true
+    → HasNamed to (old.now.holds g) old new
+unsettled name to old mid new first last g stage on_disk = record {
+  later = step last.before new.now ∷ [];
+  call = step first.before mid.now;
+  earlier = [];
+  noted = last.noted ∙ ap (λ l. step last.before new.now ∷ l) first.noted;
+  stands = renamed_stands name to g old mid stage on_disk first;
+}
+
+-- == What was found or named stays so, with more calls before and after ==
+
+module _ (P : Name → List ℕ → Type 0) (to : Name) where
+  pub named_after : (bytes : List ℕ) (old mid new : Run) → PublishesOnly P old mid → HasNamed to bytes mid new → HasNamed to bytes old new
+  named_after bytes old mid new before named = record {
+    later = named.later;
+    call = named.call;
+    earlier = named.earlier ++ before.since;
+    noted = named.noted ∙ ap (λ l. named.later ++ (named.call ∷ (named.earlier ++ l))) before.noted
+        ∙ ap (λ l. named.later ++ (named.call ∷ l)) (sym (append_assoc named.earlier before.since old.steps));
+    stands = named.stands;
+  }
+
+  pub named_more : (bytes : List ℕ) (old mid new : Run) → PublishesOnly P mid new → HasNamed to bytes old mid → HasNamed to bytes old new
+  named_more bytes old mid new more named = record {
+    later = more.since ++ named.later;
+    call = named.call;
+    earlier = named.earlier;
+    noted = more.noted ∙ ap (λ l. more.since ++ l) named.noted ∙ sym (append_assoc more.since named.later (named.call ∷ (named.earlier ++ old.steps)));
+    stands = named.stands;
+  }
+
+-- == The data is refused ==
+
+module _ (accepts : Verifier) (terms : Terms) (kept : ℕ) (ahead : Option (List ℕ)) (before after : Counts) where
+  abbrev pub P : Name → List ℕ → Type 0
+  P = MayBePublished accepts terms kept
+
+  abbrev pub Q : Name → List ℕ → Type 0
+  Q = MayBeRecorded accepts terms kept
+
+  abbrev pub N : Name → List ℕ → Type 0
+  N = λ _ _. ⊥
+
+  pub data_after : (old mid new : Run) (e : InstallFault) → PublishesNothing old mid → IsDataRefusal accepts terms kept ahead before after mid new e → IsDataRefusal accepts terms kept ahead before after old new e
+  data_after old mid new e earlier (inl (none, why)) = inl (brings_trans N old mid new earlier none, why)
+  data_after old mid new e earlier (inr (inl (none, why))) = inr (inl (brings_trans N old mid new earlier none, why))
+  data_after old mid new e earlier (inr (inr (inl (brings, why)))) = inr (inr (inl (brings_trans Q old mid new (brings_nothing Q old mid earlier) brings, why)))
+  data_after old mid new e earlier (inr (inr (inr (inl (brings, writing, rose))))) = inr (inr (inr (inl (brings_trans P old mid new (brings_nothing P old mid earlier) brings, writing, rose))))
+  data_after old mid new e earlier (inr (inr (inr (inr (brings, placed, folder, rose))))) =
+      inr (inr (inr (inr (
+        brings_trans P old mid new (brings_nothing P old mid earlier) brings,
+        (placed.0, placed.1, placed.2, named_after N _ placed.0 old mid new earlier placed.3),
+        folder,
+        rose,
+      ))))
+
+  pub data_more : (old mid new : Run) (e : InstallFault) → PublishesNothing mid new → IsDataRefusal accepts terms kept ahead before after old mid e → IsDataRefusal accepts terms kept ahead before after old new e
+  data_more old mid new e more (inl (none, why)) = inl (brings_trans N old mid new none more, why)
+  data_more old mid new e more (inr (inl (none, why))) = inr (inl (brings_trans N old mid new none more, why))
+  data_more old mid new e more (inr (inr (inl (brings, why)))) = inr (inr (inl (brings_trans Q old mid new brings (brings_nothing Q mid new more), why)))
+  data_more old mid new e more (inr (inr (inr (inl (brings, writing, rose))))) = inr (inr (inr (inl (brings_trans P old mid new brings (brings_nothing P mid new more), writing, rose))))
+  data_more old mid new e more (inr (inr (inr (inr (brings, placed, folder, rose))))) =
+      inr (inr (inr (inr (
+        brings_trans P old mid new brings (brings_nothing P mid new more),
+        (placed.0, placed.1, placed.2, named_more N _ placed.0 old mid new more placed.3),
+        folder,
+        rose,
+      ))))
 
 -- why the data is not installed, by what was found to be kept
 abbrev pub Unfit : Setting → Host → Host → InstallFault → Type 0
@@ -33,11 +89,11 @@ Reason s a due h = h.faults ≡ a.faults
 
 -- what a refusal of the data has brought
 refusal_brings : (accepts : Verifier) (terms : Terms) (kept : ℕ) (ahead : Option (List ℕ)) (before after : Counts) (old new : Run) (e : InstallFault)
-    → IsDataRefusal accepts terms kept ahead before after old new e → BringsOnly (IsBrought accepts terms kept) old new
-refusal_brings accepts terms kept ahead before after old new e (inl (none, why)) = brings_nothing (IsBrought accepts terms kept) old new none
-refusal_brings accepts terms kept ahead before after old new e (inr (inl (none, why))) = brings_nothing (IsBrought accepts terms kept) old new none
+    → IsDataRefusal accepts terms kept ahead before after old new e → PublishesOnly (MayBePublished accepts terms kept) old new
+refusal_brings accepts terms kept ahead before after old new e (inl (none, why)) = brings_nothing (MayBePublished accepts terms kept) old new none
+refusal_brings accepts terms kept ahead before after old new e (inr (inl (none, why))) = brings_nothing (MayBePublished accepts terms kept) old new none
 refusal_brings accepts terms kept ahead before after old new e (inr (inr (inl (brings, why)))) =
-    brings_weaken (IsRecordBrought accepts terms kept) (IsBrought accepts terms kept) old new (λ name b q. subst (λ x. IsBrought accepts terms kept x b) (sym q.0) q.1) brings
+    brings_weaken (MayBeRecorded accepts terms kept) (MayBePublished accepts terms kept) old new (λ name b q. subst (λ x. MayBePublished accepts terms kept x b) (sym q.0) q.1) brings
 refusal_brings accepts terms kept ahead before after old new e (inr (inr (inr (inl (brings, writing, rose))))) = brings
 refusal_brings accepts terms kept ahead before after old new e (inr (inr (inr (inr (brings, placed, folder, rose))))) = brings
 
@@ -48,7 +104,7 @@ module _ (s : Setting) (a : Host) (known : a.run.known ≡ true) where
   rising : (h h' : Host) → h.faults ≡ a.faults → Rose h.faults.folder h'.faults.folder → Rose a.faults.folder h'.faults.folder
   rising h h' same rose = subst (λ f. Rose f.folder h'.faults.folder) same rose
 
-  nothing_unfit : (kept : ℕ) (ready : Run) (h h' : Host) (e : InstallFault) → Front s a ready kept → BringsNothing ready h'.run → h.faults ≡ a.faults → DeviceFails e h h' → Unfit s a h' e
+  nothing_unfit : (kept : ℕ) (ready : Run) (h h' : Host) (e : InstallFault) → Front s a ready kept → PublishesNothing ready h'.run → h.faults ≡ a.faults → DeviceFails e h h' → Unfit s a h' e
   nothing_unfit kept ready h h' e front none same fails = (kept, ready, front, inl (none, device h h' e same fails))
 
   staging_unfit : (kept : ℕ) (h h' : Host) (e : InstallFault) → Staging s a h'.run kept → h.faults ≡ a.faults → DeviceFails e h h' → Unfit s a h' e
@@ -57,19 +113,21 @@ module _ (s : Setting) (a : Host) (known : a.run.known ≡ true) where
   recording_unfit : (n : ℕ) (h h' : Host) (e : InstallFault) → Recording s a h'.run n → h.faults ≡ a.faults → DeviceFails e h h' → Unfit s a h' e
   recording_unfit n h h' e x same fails = nothing_unfit x.staged.kept x.staged.staging.ready h h' e x.staged.staging.front (recording_nothing s a h'.run n x) same fails
 
+  recorded_unfit : (n : ℕ) (v : Run) (h' : Host) (e : InstallFault) → (x : Staged s a v n) → IsDataRefusal s.accepts s.terms x.kept a.ahead a.faults h'.faults x.staging.ready h'.run e → Unfit s a h' e
+  recorded_unfit n v h' e x why = (x.kept, x.staging.ready, x.staging.front, why)
+
   refused_so : (h : Host) (e : InstallFault) → Unfit s a h e → RunIsRefused s a h e
   refused_so h e (kept, ready, x, why) =
       inr (inr (
         x.locked,
         x.lock,
         inr (inr (
-          cleared_more (IsBrought s.accepts s.terms kept) x.locked ready h.run x.cleared (refusal_brings s.accepts s.terms kept a.ahead a.faults h.faults ready h.run e why),
+          cleared_more (MayBePublished s.accepts s.terms kept) x.locked ready h.run x.cleared (refusal_brings s.accepts s.terms kept a.ahead a.faults h.faults ready h.run e why),
           (x.found, kept, x.there, x.number, data_after s.accepts s.terms kept a.ahead a.faults h.faults x.locked ready h.run e x.nothing why),
         )),
       ))
 
-  -- a stage was removed, or this was tried
-  more_unfit : (h h' : Host) (e : InstallFault) → BringsNothing h.run h'.run → h'.faults ≡ h.faults → Unfit s a h e → Unfit s a h' e
+  more_unfit : (h h' : Host) (e : InstallFault) → PublishesNothing h.run h'.run → h'.faults ≡ h.faults → Unfit s a h e → Unfit s a h' e
   more_unfit h h' e more same (kept, ready, x, why) = (
     kept,
     ready,
@@ -78,20 +136,13 @@ module _ (s : Setting) (a : Host) (known : a.run.known ≡ true) where
   )
 
   pub why : (due : Due InstallFault) (o : Outcome InstallFault) (h h' : Host) → Holds s a due h → Makes s due o h h' → Explains s due o h h' → Reason s a due h → Reason s a (next due o) h'
-  why Lock Done h h' x made no_new_fault same = no_new_fault ∙ same
   why Lock (Failed e) h h' (run, rest) ((still, own), ahead, read) blamed same =
       ⊎_elim (λ busy. inl (subst (λ r. HasStepped r h'.run IsBusy) run (busy.1 (ap (λ r. r.known) run ∙ known)), busy.0)) (λ fails. inr (inl (subst (λ r. HasStepped r h'.run IsStill) run still, device h h' e same fails))) blamed
-  why Lock More h h' x never no_new_fault same = absurd never
-  why Lock (Number n) h h' x never no_new_fault same = absurd never
-  why Clear Done h h' x made no_new_fault same = no_new_fault ∙ same
   why Clear (Failed e) h h' (lock, mine, rest) (clear, ahead, read) fails same =
-      inr (inr (h.run, lock, inl (clearing h.run h'.run {A = Unit} {E = Unit} (Err tt) clear, device h h' e same fails)))
-  why Clear More h h' x never no_new_fault same = absurd never
-  why Clear (Number n) h h' x never no_new_fault same = absurd never
-  why ReadRecord (Number n) h h' x made no_new_fault same = no_new_fault ∙ same
+      inr (inr (h.run, lock, inl (clearing h.run h'.run clear.0, device h h' e same fails)))
   why ReadRecord (Failed e) h h' (l, lock, mine, clear, rest) ((still, own), ahead, read) blamed same =
       let rested = resting_brings h.run h'.run still in
-      let none = brings_trans (λ _ _. ⊥) l h.run h'.run (clearing l h.run {A = Unit} {E = Unit} (Ok tt) clear) rested in
+      let none = brings_trans (λ _ _. ⊥) l h.run h'.run (clearing l h.run (cleared_step l h.run clear.0)) rested in
       inr (inr (
         l,
         lock,
@@ -101,105 +152,47 @@ module _ (s : Setting) (a : Host) (known : a.run.known ≡ true) where
             inr (inl (
               cleared_then (λ _ _. ⊥) l h.run h'.run clear.0 rested,
               none,
-              (found, found_first found l h.run h'.run lock.held (cleared_step l h.run {A = Unit} {E = Unit} (Ok tt) clear) read_so, why_so),
+              (found, found_first found l h.run h'.run lock.held (cleared_step l h.run clear.0) read_so, why_so),
             )))
             (λ fails. inl (none, device h h' e same fails)) blamed,
       ))
-  why ReadRecord Done h h' x never no_new_fault same = absurd never
-  why ReadRecord More h h' x never no_new_fault same = absurd never
-  why (Create kept) Done h h' x made no_new_fault same = no_new_fault ∙ same
   why (Create kept) (Failed e) h h' (front, rest) (nothing, ahead, read) fails same =
       refused_so h' e (nothing_unfit kept h.run h h' e front (nothing_brings h.run h'.run nothing).0 same fails)
-  why (Create kept) More h h' x never no_new_fault same = absurd never
-  why (Create kept) (Number n) h h' x never no_new_fault same = absurd never
-  why (Copy kept) Done h h' x made no_new_fault same = no_new_fault ∙ same
-  why (Copy kept) More h h' x made no_new_fault same = no_new_fault ∙ same
   why (Copy kept) (Failed e) h h' (staging, consumed) part fails same =
       staging_unfit kept h h' e (more_work s a h.run h'.run kept staging (part_works s.name s.file h.run h'.run staging.works.stage part)) same fails
-  why (Copy kept) (Number n) h h' x never no_new_fault same = absurd never
-  why (ReadBack kept) Done h h' x made no_new_fault same = no_new_fault ∙ same
-  why (ReadBack kept) More h h' x made no_new_fault same = no_new_fault ∙ same
   why (ReadBack kept) (Failed e) h h' (staging, given) run fails same = staging_unfit kept h h' e (subst (λ r. Staging s a r kept) (sym run) staging) same fails
-  why (ReadBack kept) (Number n) h h' x never no_new_fault same = absurd never
-  why (Answer kept) (Number n) h h' x made no_new_fault same = no_new_fault ∙ same
   why (Answer kept) (Failed e) h h' (staging, given, all) run blamed same =
-      let none = subst (BringsNothing staging.ready) (sym run) (staging_nothing s a h.run kept staging) in (
+      let none = subst (PublishesNothing staging.ready) (sym run) (staging_nothing s a h.run kept staging) in (
         kept,
         staging.ready,
         staging.front,
         ⊎_elim (λ refused. inr (inl (none, (h.read, subst (IsAhead a.ahead) all given, refused)))) (λ fails. inl (none, device h h' e same fails)) blamed,
       )
-  why (Answer kept) Done h h' x never no_new_fault same = absurd never
-  why (Answer kept) More h h' x never no_new_fault same = absurd never
-  why (TakeRights n) Done h h' x made no_new_fault same = no_new_fault ∙ same
-  why (TakeRights n) (Failed e) h h' (kept, staging, given, update) ((step, own), ahead, read) fails same =
+  why (TakePermissions n) (Failed e) h h' (kept, staging, given, update) ((step, own), ahead, read) fails same =
       staging_unfit kept h h' e (more_work s a h.run h'.run kept staging (spoiling s.name s.file h.run h'.run staging.works.stage step own)) same fails
-  why (TakeRights n) More h h' x never no_new_fault same = absurd never
-  why (TakeRights n) (Number k) h h' x never no_new_fault same = absurd never
-  why (Settle n) Done h h' x made no_new_fault same = no_new_fault ∙ same
-  why (Settle n) (Failed e) h h' (kept, staging, given, update, rights) ((step, own), ahead, read) fails same =
+  why (Sync n) (Failed e) h h' (kept, staging, given, update, rights) ((step, own), ahead, read) fails same =
       staging_unfit kept h h' e (more_work s a h.run h'.run kept staging (spoiling s.name s.file h.run h'.run staging.works.stage step own)) same fails
-  why (Settle n) More h h' x never no_new_fault same = absurd never
-  why (Settle n) (Number k) h h' x never no_new_fault same = absurd never
-  why (CreateRecord n) Done h h' x made no_new_fault same = no_new_fault ∙ same
   why (CreateRecord n) (Failed e) h h' x (nothing, ahead, read) fails same =
       let y = x.staging in
       nothing_unfit x.kept y.ready h h' e y.front (brings_trans (λ _ _. ⊥) y.ready h.run h'.run (staging_nothing s a h.run x.kept y) (nothing_brings h.run h'.run nothing).0) same fails
-  why (CreateRecord n) More h h' x never no_new_fault same = absurd never
-  why (CreateRecord n) (Number k) h h' x never no_new_fault same = absurd never
-  why (WriteRecord n) Done h h' x made no_new_fault same = no_new_fault ∙ same
   why (WriteRecord n) (Failed e) h h' (t, staged, made) (part, ahead, read) fails same =
       let begun = begin_record s a n t h.run staged made in
       recording_unfit n h h' e (more_record s a h.run h'.run n begun (part_works s.record_name s.record_file h.run h'.run begun.works.stage part)) same fails
-  why (WriteRecord n) More h h' x never no_new_fault same = absurd never
-  why (WriteRecord n) (Number k) h h' x never no_new_fault same = absurd never
-  why (SettleRecord n) Done h h' x made no_new_fault same = no_new_fault ∙ same
-  why (SettleRecord n) (Failed e) h h' (x, holds) ((step, own), ahead, read) fails same =
+  why (SyncRecord n) (Failed e) h h' (x, holds) ((step, own), ahead, read) fails same =
       recording_unfit n h h' e (more_record s a h.run h'.run n x (spoiling s.record_name s.record_file h.run h'.run x.works.stage step own)) same fails
-  why (SettleRecord n) More h h' x never no_new_fault same = absurd never
-  why (SettleRecord n) (Number k) h h' x never no_new_fault same = absurd never
-  why (RenameRecord n) Done h h' x made no_new_fault same = no_new_fault ∙ same
-  why (RenameRecord n) (Failed e) h h' (x, holds, on_disk) ((step, own), ahead, read) fails same = (
-    x.staged.kept,
-    x.staged.staging.ready,
-    x.staged.staging.front,
-    inr (inr (inl (
-      record_brings s a h.run h'.run n x holds (perhaps_renamed_goes s.record_name Record s.record_file h.run h'.run x.works.stage on_disk step own),
-      device h h' e same fails,
-    ))),
-  )
-  why (RenameRecord n) More h h' x never no_new_fault same = absurd never
-  why (RenameRecord n) (Number k) h h' x never no_new_fault same = absurd never
-  why (SettleRecordName n) Done h h' x made no_new_fault same = no_new_fault ∙ same
-  why (SettleRecordName n) (Failed e) h h' (v, x, holds, on_disk, renamed) ((step, own), ahead, read) fails same = (
-    x.staged.kept,
-    x.staged.staging.ready,
-    x.staged.staging.front,
-    inr (inr (inl (record_brings s a v h'.run n x holds (record_goes s a n v h.run h'.run x on_disk renamed (step, own)), device h h' e same fails))),
-  )
-  why (SettleRecordName n) More h h' x never no_new_fault same = absurd never
-  why (SettleRecordName n) (Number k) h h' x never no_new_fault same = absurd never
-  why (Rename n) Done h h' x made no_new_fault same = no_new_fault ∙ same
-  why (Rename n) (Failed e) h h' x ((step, own), ahead, read) (writing, rose) same = (
-    x.staged.kept,
-    x.staged.staging.ready,
-    x.staged.staging.front,
-    inr (inr (inr (inl (
-      (placing s a h.run h'.run n x (perhaps_renamed_goes s.name Place s.file h.run h'.run (still_staged s a h.run n x).stage (still_on_disk s a h.run n x) step own)).brings,
-      writing,
-      rising h h' same rose,
-    )))),
-  )
-  why (Rename n) More h h' x never no_new_fault same = absurd never
-  why (Rename n) (Number k) h h' x never no_new_fault same = absurd never
-  why (SettleName n) Done h h' x made no_new_fault same = no_new_fault ∙ same
-  why (SettleName n) (Failed e) h h' (w, x, renamed) ((step, own), ahead, read) (folder, rose) same =
+  why (RenameRecord n) (Failed e) h h' (x, holds, on_disk) ((step, own), ahead, read) fails same =
+      recorded_unfit n _ h' e x.staged (inr (inr (inl (record_brings s a h.run h'.run n x holds (perhaps_renamed_goes s.record_name Record s.record_file h.run h'.run x.works.stage on_disk step own), device h h' e same fails))))
+  why (SyncRecordName n) (Failed e) h h' (v, x, holds, on_disk, renamed) ((step, own), ahead, read) fails same =
+      recorded_unfit n _ h' e x.staged (inr (inr (inl (record_brings s a v h'.run n x holds (record_goes s a n v h.run h'.run x on_disk renamed (step, own)), device h h' e same fails))))
+  why (Rename n) (Failed e) h h' x ((step, own), ahead, read) (writing, rose) same =
+      recorded_unfit n _ h' e x.staged (inr (inr (inr (inl ((placing s a h.run h'.run n x (perhaps_renamed_goes s.name Place s.file h.run h'.run (still_staged s a h.run n x).stage (still_on_disk s a h.run n x) step own)).brings, writing, rising h h' same rose)))))
+  why (SyncName n) (Failed e) h h' (w, x, renamed) ((step, own), ahead, read) (folder, rose) same =
       let kept = x.staged.kept in
       let y = x.staged.staging in
       let bytes = w.now.holds s.file in
       let still = still_staged s a w n x in
       let named : HasNamed Place bytes w h'.run =
-      unsettled s.name Place w h.run h'.run {A = Unit} {E = Unit} (λ _. Unit) (Err tt) (λ _ _. renamed.stepped) (λ _. step) tt s.file still.stage (still_on_disk s a w n x) in (
+      unsettled s.name Place w h.run h'.run renamed.stepped step s.file still.stage (still_on_disk s a w n x) in (
         kept,
         y.ready,
         y.front,
@@ -209,30 +202,21 @@ module _ (s : Setting) (a : Host) (known : a.run.known ≡ true) where
             bytes,
             n,
             subst (λ b. IsUpdate s.accepts s.terms kept b n) (sym still.holds) x.staged.update,
-            named_after (IsRecordBrought s.accepts s.terms kept) Place bytes y.ready w h'.run (recorded_brings s a w n x) named,
+            named_after (MayBeRecorded s.accepts s.terms kept) Place bytes y.ready w h'.run (recorded_brings s a w n x) named,
           ),
           folder,
           rising h h' same rose,
         )))),
       )
-  why (SettleName n) More h h' x never no_new_fault same = absurd never
-  why (SettleName n) (Number k) h h' x never no_new_fault same = absurd never
   why (RemoveRecord f) Done h h' x ((step, less), ahead, read) no_new_fault unfit = more_unfit h h' f (removed_brings (λ _ _. ⊥) s.record_name h.run h'.run step) no_new_fault unfit
   why (RemoveRecord f) (Failed e) h h' x ((step, less), ahead, read) no_new_fault unfit = more_unfit h h' f (removal_brings s.record_name h.run h'.run step) no_new_fault unfit
-  why (RemoveRecord f) More h h' x never no_new_fault unfit = absurd never
-  why (RemoveRecord f) (Number k) h h' x never no_new_fault unfit = absurd never
   why (Remove f) Done h h' x ((step, less), ahead, read) no_new_fault unfit = refused_so h' f (more_unfit h h' f (removed_brings (λ _ _. ⊥) s.name h.run h'.run step) no_new_fault unfit)
   why (Remove f) (Failed e) h h' x ((step, less), ahead, read) no_new_fault unfit = refused_so h' f (more_unfit h h' f (removal_brings s.name h.run h'.run step) no_new_fault unfit)
-  why (Remove f) More h h' x never no_new_fault unfit = absurd never
-  why (Remove f) (Number k) h h' x never no_new_fault unfit = absurd never
-  why Installed Done h h' x never no_new_fault same = absurd never
-  why Installed More h h' x never no_new_fault same = absurd never
-  why Installed (Number n) h h' x never no_new_fault same = absurd never
-  why Installed (Failed e) h h' x never no_new_fault same = absurd never
-  why (Refused f) Done h h' x never no_new_fault same = absurd never
-  why (Refused f) More h h' x never no_new_fault same = absurd never
-  why (Refused f) (Number n) h h' x never no_new_fault same = absurd never
-  why (Refused f) (Failed e) h h' x never no_new_fault same = absurd never
+  why (RemoveRecord f) o h h' x never no_new_fault unfit = absurd never
+  why (Remove f) o h h' x never no_new_fault unfit = absurd never
+  why (Refused f) o h h' x never blamed same = absurd never
+  why Installed (Failed e) h h' x never blamed same = absurd never
+  why due o h h' x made no_new_fault same = no_new_fault ∙ same
 
   reasons : (due : Due InstallFault) (h : Host) (events : List (Event InstallFault)) (due' : Due InstallFault) (h' : Host) → Holds s a due h → Reason s a due h → HasRun s due h events due' h'
       → IsExplained s due h events → Reason s a due' h'
@@ -243,3 +227,40 @@ module _ (s : Setting) (a : Host) (known : a.run.known ≡ true) where
 pub refused_at_last : (s : Setting) (h h' : Host) (events : List (Event InstallFault)) (e : InstallFault) → h.run.known ≡ true → HasRun s Lock h events (Refused e) h' → IsExplained s Lock h events
     → RunIsRefused s h h' e
 refused_at_last s h h' events e known run explained = reasons s h known Lock h events (Refused e) h' (refl, (refl, refl)) refl run explained
+
+-- a run that will be refused for want of memory has brought nothing
+abbrev pub Wants : Host → Due InstallFault → Host → Type 0
+Wants a (RemoveRecord e) h = e ≢ Library (Named OutOfMemory)
+Wants a (Remove e) h = e ≡ Library (Named OutOfMemory) → OnlyLocked a.run h.run
+Wants a (Refused e) h = e ≡ Library (Named OutOfMemory) → OnlyLocked a.run h.run
+Wants a due h = ⊤
+
+module _ (s : Setting) (a : Host) where
+  lock_brings : (kept : ℕ) (ready now : Run) → Front s a ready kept → PublishesNothing ready now → OnlyLocked a.run now
+  lock_brings kept ready now x none = (x.locked, x.lock, brings_trans (λ _ _. ⊥) x.locked ready now x.nothing none)
+
+  more_nothing : (h h' : Host) → OnlyLocked a.run h.run → PublishesNothing h.run h'.run → OnlyLocked a.run h'.run
+  more_nothing h h' (locked, lock, none) more = (locked, lock, brings_trans (λ _ _. ⊥) locked h.run h'.run none more)
+
+  pub wants : (due : Due InstallFault) (o : Outcome InstallFault) (h h' : Host) → Holds s a due h → Makes s due o h h' → WantsNoMemory due o → Wants a due h → Wants a (next due o) h'
+  wants (Copy kept) (Failed e) h h' (staging, consumed) part spares w = λ is.
+      let then = more_work s a h.run h'.run kept staging (part_works s.name s.file h.run h'.run staging.works.stage part) in
+      lock_brings kept then.ready h'.run then.front (staging_nothing s a h'.run kept then)
+  wants (ReadBack kept) (Failed e) h h' (staging, given) run spares w = λ is.
+      lock_brings kept staging.ready h'.run staging.front (subst (PublishesNothing staging.ready) (sym run) (staging_nothing s a h.run kept staging))
+  wants (Answer kept) (Failed e) h h' (staging, given, all) run spares w = λ is.
+      lock_brings kept staging.ready h'.run staging.front (subst (PublishesNothing staging.ready) (sym run) (staging_nothing s a h.run kept staging))
+  wants (WriteRecord n) (Failed e) h h' x made spares w = spares refl
+  wants (SyncRecord n) (Failed e) h h' x made spares w = spares refl
+  wants (RenameRecord n) (Failed e) h h' x made spares w = spares refl
+  wants (SyncRecordName n) (Failed e) h h' x made spares w = spares refl
+  wants (RemoveRecord f) Done h h' x made spares w = λ is. absurd (w is)
+  wants (RemoveRecord f) (Failed e) h h' x made spares w = λ is. absurd (w is)
+  wants (Remove f) Done h h' x ((step, less), ahead, read) spares w = λ is. more_nothing h h' (w is) (removed_brings (λ _ _. ⊥) s.name h.run h'.run step)
+  wants (Remove f) (Failed e) h h' x ((step, less), ahead, read) spares w = λ is. more_nothing h h' (w is) (removal_brings s.name h.run h'.run step)
+  wants (RemoveRecord f) o h h' x never spares w = absurd never
+  wants (Remove f) o h h' x never spares w = absurd never
+  wants (Refused f) o h h' x never spares w = absurd never
+  wants Installed (Failed e) h h' x never spares w = absurd never
+  wants due (Failed e) h h' x made spares w = λ is. absurd (spares refl is)
+  wants due o h h' x made spares w = tt

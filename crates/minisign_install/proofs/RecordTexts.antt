@@ -1,28 +1,10 @@
 -- A record reads as it was written, and holds one number at most for a field.
-use Rattle.std.proofs.Common.{◌≡◌, ◌≢◌, ◌⊎◌, ◌≤◌, ◌<◌, ◌^◌, ◌-◌, ◌+◌, ◌&&◌, ◌++◌, inl, inr, ⊎_elim, ℕ, zero, suc, List, [], Option, Some, None, true, false, ap, sym, subst, ◌∙◌, refl, cond, get_or, length, take, drop, arith, lit<, length-append, append_assoc, take-append-drop}
-use Rattle.std.proofs.Math.Seq.{drop-append_seam, get_or-append_right}
-use Rattle.std.proofs.lemmas.Bool.{le-leb, lt-ltb, ne_eqb, true≢false}
-use Rattle.std.proofs.lemmas.List.{take_at}
-use Rattle.std.proofs.lemmas.Fmt.{decimal_is_IsNumeral, decimal_nonempty, length-decimal-le, IsAscii-decimal}
-use Rattle.std.proofs.lemmas.Slice.Eq.{bytes_eq-Decides}
-use Rattle.std.proofs.lemmas.Str.{IsAscii-append, IsUtf8-from_ascii}
-use Rattle.std.proofs.lemmas.Str.Ascii.{IsAscii-cons, IsAscii-nil}
-use Rattle.std.proofs.lemmas.Str.Parse.{digit_at}
-use Rattle.std.specs.Fmt.{decimal}
-use Rattle.std.specs.Io.BufRead.{strip_last}
-use Rattle.std.specs.Prelude.{◌==◌, MatchOption, bytes_eq, codes}
-use Rattle.std.specs.Str.{IsAscii, IsUtf8}
-use Rattle.minisign_install.specs.Comments.{IsNumberText, number_label}
-use Rattle.minisign_install.specs.RecordTexts.{HasNoNumber, IsFieldText, IsNumberFor, record_of, record_text}
-use Rattle.minisign_install.specs.declared.comments.Numbering.{Numbering}
-use Rattle.minisign_install.specs.declared.comments.Numbering.TheVariants.{Timestamp, Version}
+use Rattle.minisign_install.proofs.Common.{◌≡◌, ◌≢◌, ◌⊎◌, ◌≤◌, ◌<◌, ◌^◌, ◌-◌, ◌+◌, ◌&&◌, ◌++◌, inl, inr, ⊎_elim, ℕ, zero, suc, List, [], Option, Some, None, true, false, ap, sym, subst, ◌∙◌, refl, cond, get_or, length, take, drop, arith, lit<, length-append, append_assoc, take-append-drop, drop-append_seam, get_or-append_right, le-leb, lt-ltb, ne_eqb, true≢false, take_at, decimal_is_IsNumeral, decimal_nonempty, length-decimal-le, IsAscii-decimal, bytes_eq-Decides, IsAscii-append, IsUtf8-from_ascii, IsAscii-cons, IsAscii-nil, digit_at, decimal, strip_last, ◌==◌, MatchOption, bytes_eq, codes, IsAscii, IsUtf8, IsNumberText, number_label, Numbering, Timestamp, Version, HasNoNumber, IsFieldText, IsNumberFor, record_of, record_text}
 
--- what stands behind a label
 pub behind_label : (label text value : List ℕ) → bytes_eq (take (length label) text) label ≡ true → value ≡ drop (length label) text → text ≡ label ++ value
 behind_label label text value is same =
     sym (take-append-drop (length label) text) ∙ ap (λ l. l ++ drop (length label) text) ((bytes_eq-Decides (take (length label) text) label).0 is) ∙ ap (λ v. label ++ v) (sym same)
 
--- where there is none
 pub lacks_label : (label text value : List ℕ) → bytes_eq (take (length label) text) label ≡ false → text ≡ label ++ value → ⊥
 lacks_label label text value lacks is =
     true≢false (sym ((bytes_eq-Decides (take (length label) text) label).1 (ap (λ t. take (length label) t) is ∙ take_at label value (length label) refl)) ∙ lacks)
@@ -30,7 +12,6 @@ lacks_label label text value lacks is =
 pub same_behind : (label a b : List ℕ) → label ++ a ≡ label ++ b → a ≡ b
 same_behind label a b e = sym (drop-append_seam label a) ∙ ap (λ l. drop (length label) l) e ∙ drop-append_seam label b
 
--- no number begins with a label
 first_digit : (text : List ℕ) (n : ℕ) → IsNumberText text n → (48 ≤ get_or text 0 0) × (get_or text 0 0 ≤ 57)
 first_digit text n number = digit_at text 0 number.numeral.1 number.numeral.0
 
@@ -61,14 +42,11 @@ field_number numbering text value None not is none = λ n either.
     ⊎_elim (not n) (λ (v, same, number). none n (subst (λ t. IsNumberText t n) (same_behind (number_label numbering) v value (sym same ∙ is)) number)) either
 field_number numbering text value (Some n) not is number = inr (value, is, number)
 
--- and of reading the bytes of a record
 pub bytes_number : (numbering : Numbering) (bytes text : List ℕ) (r : Option ℕ) → text ≡ record_text bytes → IsUtf8 (record_text bytes)
     → MatchOption r ((n : ℕ) → ¬ (IsNumberText text n ⊎ IsFieldText numbering text n)) (λ n. IsNumberText text n ⊎ IsFieldText numbering text n)
     → MatchOption r (HasNoNumber numbering bytes) (IsNumberFor numbering bytes)
 bytes_number numbering bytes text None same utf8 none = λ n (is, either). none n (subst (λ t. IsNumberText t n ⊎ IsFieldText numbering t n) (sym same) either)
 bytes_number numbering bytes text (Some n) same utf8 number = (utf8, subst (λ t. IsNumberText t n ⊎ IsFieldText numbering t n) same number)
-
--- what is written of a number
 
 label_short : (numbering : Numbering) → length (number_label numbering) ≤ 10
 label_short Timestamp = omega arith
@@ -83,7 +61,6 @@ decimal_number n bound =
     let (numeral, value) = decimal_is_IsNumeral n bound in
     record { numeral = numeral; is = value; bound = bound }
 
--- its last byte is no line feed
 strip_none : (xs : List ℕ) → 0 < length xs → get_or xs (length xs - 1) 0 ≢ 10 → strip_last 10 xs ≡ xs
 strip_none xs some other =
     ap (λ t. cond (t && (get_or xs (length xs - 1) 0 == 10)) (take (length xs - 1) xs) xs) (lt-ltb 0 (length xs) some)
@@ -110,14 +87,12 @@ label_ascii : (numbering : Numbering) → IsAscii (number_label numbering)
 label_ascii Timestamp = IsAscii-cons 116 (codes "imestamp:") (lit< tt) (IsAscii-cons 105 (codes "mestamp:") (lit< tt) (IsAscii-cons 109 (codes "estamp:") (lit< tt) (IsAscii-cons 101 (codes "stamp:") (lit< tt) (IsAscii-cons 115 (codes "tamp:") (lit< tt) (IsAscii-cons 116 (codes "amp:") (lit< tt) (IsAscii-cons 97 (codes "mp:") (lit< tt) (IsAscii-cons 109 (codes "p:") (lit< tt) (IsAscii-cons 112 (codes ":") (lit< tt) (IsAscii-cons 58 [] (lit< tt) IsAscii-nil)))))))))
 label_ascii Version = IsAscii-cons 118 (codes "ersion:") (lit< tt) (IsAscii-cons 101 (codes "rsion:") (lit< tt) (IsAscii-cons 114 (codes "sion:") (lit< tt) (IsAscii-cons 115 (codes "ion:") (lit< tt) (IsAscii-cons 105 (codes "on:") (lit< tt) (IsAscii-cons 111 (codes "n:") (lit< tt) (IsAscii-cons 110 (codes ":") (lit< tt) (IsAscii-cons 58 [] (lit< tt) IsAscii-nil)))))))
 
--- what is written reads as the number
 pub record_reads : (numbering : Numbering) (n : ℕ) → n < 2 ^ 64 → IsNumberFor numbering (record_of numbering n) n
 record_reads numbering n bound =
     let xs = record_of numbering n in
     let utf8 = IsUtf8-from_ascii xs (IsAscii-append (number_label numbering) (decimal n) (label_ascii numbering) (IsAscii-decimal n bound)) in
     subst (λ t. IsUtf8 t × (IsNumberText t n ⊎ IsFieldText numbering t n)) (sym (text_of numbering n bound)) (utf8, inr (decimal n, refl, decimal_number n bound))
 
--- a label and digits, one behind the other
 pub two_written : (label digits rest front behind : List ℕ) → front ≡ label → behind ≡ digits
     → (length label + length digits ≤ length (front ++ (behind ++ rest))) × (take (length label + length digits) (front ++ (behind ++ rest)) ≡ label ++ digits)
 two_written label digits rest front behind first second =
@@ -127,7 +102,6 @@ two_written label digits rest front behind first second =
       ap (λ l. take n l) (sym (append_assoc front behind rest)) ∙ take_at (front ++ behind) rest n len ∙ ap (λ l. l ++ behind) first ∙ ap (λ l. label ++ l) second,
     )
 
--- there is room for all of it in so many bytes
 pub all_written : (numbering : Numbering) (n : ℕ) → n < 2 ^ 64 → (written : ℕ) (old new : List ℕ) → length old ≡ 30
     → (0 < written → (written ≤ length new) × (take written new ≡ record_of numbering n))
     → (written ≡ 0 → (new ≡ old) × (length old < length (record_of numbering n))) → take written new ≡ record_of numbering n

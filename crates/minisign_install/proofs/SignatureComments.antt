@@ -1,24 +1,11 @@
 -- What a signature text reads as has comments; and what is left where nothing is refused under a key.
-use Rattle.std.proofs.Common.{◌≡◌, ◌∙◌, List, ℕ, Bool, true, false, ◌||◌, bytes_eq, Result, Ok, Err, Some, ap, refl, subst, sym}
-use Rattle.std.specs.Prelude.{⊤}
-use Rattle.std.specs.Str.{is_utf8}
-use Rattle.minisign_base.specs.declared.faults.NamedFault.{NamedFault}
-use Rattle.minisign_base.specs.declared.faults.NamedFault.TheVariants.{NotUtf8}
-use Rattle.minisign_base.specs.Fault.{Fault}
-use Rattle.minisign.specs.Records.{CommentsRecord, SignatureBoxRecord, is_prehashed}
-use Rattle.minisign.specs.SignatureText.{SignatureTextRecord, box_of, read_signature, read_signature_box}
-use Rattle.minisign.specs.Texts.{map_ok, require}
-use Rattle.minisign_external.specs.PublicKeys.{key_of, read_utf8}
-use Rattle.minisign.specs.Acceptance.{judge_key}
-use Rattle.minisign.specs.Texts.{and_then}
-use Rattle.minisign_external.specs.Questions.{read_under}
-use Rattle.minisign_external.specs.declared.public_keys.PublicKeyValue.{PublicKeyValue}
+use Rattle.minisign_install.proofs.Common.{◌≡◌, ◌∙◌, List, ℕ, Bool, true, false, ◌||◌, bytes_eq, Result, Ok, Err, Some, ap, refl, subst, sym, ⊤, is_utf8, NamedFault, NotUtf8, Fault, CommentsRecord, SignatureBoxRecord, is_prehashed, SignatureTextRecord, box_of, read_signature, read_signature_box, require, and_then, key_of, read_utf8, judge_key, read_under, PublicKeyValue}
+use Rattle.minisign.specs.Texts.{map_ok}
 
 boxed : (r : Result SignatureTextRecord Fault) (x : SignatureBoxRecord) → map_ok box_of r ≡ Ok x → (c : CommentsRecord) × (x.comments ≡ Some c)
 boxed (Ok t) x h = let same : box_of t ≡ x = cc h in (t.comments, ap (λ (y : SignatureBoxRecord). y.comments) (sym same))
 boxed (Err e) x h = cc h
 
--- the comments of a box that a text reads as
 pub comments_in : (text : List ℕ) (x : SignatureBoxRecord) → read_signature_box text ≡ Ok x → (c : CommentsRecord) × (x.comments ≡ Some c)
 comments_in text x read = boxed (read_signature text) x read
 
@@ -32,7 +19,6 @@ same_trusted (Ok s) t x c is read both =
     ap (λ (u : SignatureTextRecord). u.comments.trusted) (sym told) ∙ ap (λ (d : CommentsRecord). d.trusted) of_text
 same_trusted (Err e) t x c is read both = cc is
 
--- the trusted comment of what a text reads as is that of the box
 pub trusted_in : (text : List ℕ) (t : SignatureTextRecord) (x : SignatureBoxRecord) (c : CommentsRecord) → read_signature text ≡ Ok t
     → read_signature_box text ≡ Ok x → x.comments ≡ Some c → t.comments.trusted ≡ c.trusted
 trusted_in text t x c is read both = same_trusted (read_signature text) t x c is read both

@@ -1,25 +1,6 @@
 -- An update is installed exactly where it can be.
-use Rattle.std.proofs.Common.{◌≡◌, ◌≢◌, inl, inr, ℕ, Bool, true, false, List, [], Option, Some, None, ap, sym, subst, ◌∙◌, refl, arith, IfErr, OnOk}
-use Rattle.std.proofs.lemmas.Bool.{true≢false}
-use Rattle.std.specs.declared.result.Result.{Result}
-use Rattle.std.specs.declared.result.Result.TheVariants.{Ok, Err}
-use Rattle.minisign_base.specs.Fault.{Named}
-use Rattle.minisign_base.specs.declared.faults.NamedFault.TheVariants.{OutOfMemory}
-use Rattle.minisign.specs.Acceptance.{Verifier}
-use Rattle.minisign.specs.Calls.{TextsVouchWith}
-use Rattle.minisign.specs.Reading.{IsAhead}
-use Rattle.minisign.proofs.Laws.{refused_unvouched}
-use Rattle.minisign.specs.Records.{CommentsRecord, SignatureBoxRecord}
-use Rattle.minisign_install.specs.Comments.{ExpiresAt, IsExpiryRefused, IsNumberText, IsUnexpired, Says}
-use Rattle.minisign_install.specs.Folders.{HasLocked, IsFound, Run}
-use Rattle.minisign_install.specs.Installing.{HasInstalled, IsKeptNumber, Terms}
-use Rattle.minisign_install.specs.Refusals.{CanBeInstalled, CannotBeInstalled, Counts, HasFailed, InstallsExactly, IsCallFault, IsDataRefused, IsLibraryFault, IsLockedRefusal, IsRecordRefused, IsRefusal}
-use Rattle.minisign_install.specs.RecordTexts.{IsNumberFor}
-use Rattle.minisign_install.specs.declared.comments.Numbering.{Numbering}
-use Rattle.minisign_install.specs.declared.faults.InstallFault.{InstallFault}
-use Rattle.minisign_install.specs.declared.faults.InstallFault.TheVariants.{Library}
-use Rattle.minisign_install.specs.declared.folders.Name.TheVariants.{Record}
-use Rattle.minisign_install.proofs.Counts.{not_failed}
+use Rattle.minisign_install.proofs.Common.{◌≡◌, ◌≢◌, inl, inr, ℕ, Bool, true, false, List, [], Option, Some, None, ap, sym, subst, ◌∙◌, refl, arith, IfErr, OnOk, Result, Ok, Err, true≢false, Named, OutOfMemory, InstallFault, Library, Verifier, TextsVouchWith, IsAhead, HasInstalled, IsKeptNumber, Terms, refused_unvouched, CommentsRecord, SignatureBoxRecord, ExpiresAt, IsExpiryRefused, IsNumberText, IsUnexpired, Says, Numbering, HasLocked, IsFound, Run, Record, CanBeInstalled, CannotBeInstalled, Counts, HasFailed, InstallsExactly, IsCallFault, IsDataRefused, IsLibraryFault, IsLockedRefusal, IsRecordRefused, IsRefusal, IsNumberFor}
+use Rattle.minisign_install.proofs.Driving.{not_failed}
 use Rattle.minisign_install.proofs.Installs.{some_list}
 use Rattle.minisign_install.proofs.RecordTexts.{same_number}
 
@@ -51,7 +32,7 @@ record_unfit numbering first found kept e (later, why) (inr (first_one, zero, nu
 record_unfit numbering first found kept e (later, (inl (is, none))) (inl (bytes, there, number)) = no_text bytes (sym none ∙ there)
 record_unfit numbering first found kept e (later, (inr (bytes, there, none, unfit))) (inl (other, same, number)) = none kept (subst (λ t. IsNumberFor numbering t kept) (some_list other bytes (sym same ∙ there)) number)
 
-said_once : (comment file : List ℕ) (numbering : Numbering) (moment n k : ℕ) → Says comment file numbering moment n → Says comment file numbering moment k → n ≡ k
+pub said_once : (comment file : List ℕ) (numbering : Numbering) (moment n k : ℕ) → Says comment file numbering moment n → Says comment file numbering moment k → n ≡ k
 said_once comment file numbering moment n k a b =
     sym a.number.is ∙ (subst (λ t. IsNumberText t k) (some_list b.value a.value (sym b.numbered ∙ a.numbered)) b.number).is
 
@@ -62,7 +43,7 @@ expires_once comment n k a b =
     sym a.number.is ∙ (subst (λ t. IsNumberText t k) same b.number).is
 
 -- what has expired is not unexpired, nor is what does not say when
-expiry_unfit : (comment : List ℕ) (moment : ℕ) (e : InstallFault) → IsExpiryRefused moment comment e → IsUnexpired moment comment → ⊥
+pub expiry_unfit : (comment : List ℕ) (moment : ℕ) (e : InstallFault) → IsExpiryRefused moment comment e → IsUnexpired moment comment → ⊥
 expiry_unfit comment moment e (inl (is, (until, expires, past))) (inl never) = let none = sym expires.once ∙ never in cc none
 expiry_unfit comment moment e (inl (is, (until, expires, past))) (inr (later, at, ahead)) = omega (arith, past, ahead, expires_once comment until later expires at)
 expiry_unfit comment moment e (inr (is, some, none)) (inl never) = some never

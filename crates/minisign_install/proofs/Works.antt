@@ -1,55 +1,214 @@
--- Calls one after another.
-use Rattle.std.proofs.lemmas.Bool.{true≢false}
-use Rattle.std.proofs.Common.{◌≡◌, ◌≢◌, ◌⊎◌, inl, inr, ⊎_elim, ℕ, List, [], ◌∷◌, ◌++◌, Some, None, true, ap, sym, subst, ◌∙◌, refl, append_assoc, MatchResult, OnOk}
-use Rattle.std.proofs.lemmas.List.Elements.{All-cons, All-nil, All-append}
-use Rattle.std.specs.declared.result.Result.{Result}
-use Rattle.std.specs.declared.result.Result.TheVariants.{Ok, Err}
-use Rattle.minisign_install.specs.Folders.{Appends, Clears, ClearsAll, Creates, GivesRights, HasCreated, HasStepped, HasTried, IsApart, IsStill, KeepsNames, KeepsOwn, MayLead, Moment, OthersLeave, OwnsLess, OwnsMore, Perhaps, Removes, Renames, Run, Settles, SettlesNames, Spoils, Stands}
-use Rattle.minisign_install.specs.Runs.{Brings, HasCleared, KeepsAt, BringsNothing, BringsOnly, OwnsNoMore, IsPublished, rights_of}
-use Rattle.minisign_install.specs.declared.folders.Name.{Name}
-use Rattle.minisign_install.specs.declared.folders.Name.TheVariants.{Record}
-use Rattle.minisign_install.proofs.Moments.{call_keeps, lead_back, leaving, others_keep, place_or_record, renaming, resting, settling_names, some_inj, step, touching}
-use Rattle.minisign_install.proofs.Stages.{HasLetGo, Lasts, Goes, GoesBeside, HasStage, IsKept, IsOnly, KeepsOthers, KeepsStages, WorksOn}
+-- The stages of a run, what one call brings to the lasting names, and calls one after another.
+use Rattle.minisign_install.proofs.Common.{◌≡◌, ◌≢◌, ℕ, List, Some, true, IsApart, OwnsTheSame, Moment, Run, RunStep, HasOnDisk, Name, Record, PublishesNothing, PublishesOnly, IsPublished, ◌⊎◌, inl, inr, ⊎_elim, Option, ap, sym, subst, ◌∙◌, refl, MaySyncDirectory, RecordUnchanged, MayFind, MayLead, Renames, TouchesOnly, Place, Numbering, Publishes, IsNumberFrom, RecordHolds, true≢false, [], ◌∷◌, ◌++◌, None, append_assoc, MatchResult, OnOk, Result, Ok, Err, All-cons, All-nil, All-append, Appends, Clears, ClearsAll, Creates, GivesRights, HasCreated, HasStepped, HasTried, IsStill, OtherProcesses, OwnsLess, OwnsMore, Perhaps, Removes, Syncs, SyncsDirectory, Spoils, HasCleared, RecordHoldsAt, OwnsNoMore, rights_of}
+
+-- the run holds the lock, and the name of a stage is its own and leads to this file, and neither lasting name does or
+-- may after a crash
+pub record HasStage (r : Run) (name : List ℕ) (file : ℕ) : Type 0 where
+  pub known : r.known ≡ true
+  pub locked : r.locked ≡ true
+  pub owned : r.owns name ≡ true
+  pub leads : r.now.stages name ≡ Some file
+  pub apart : IsApart r.now file
+
+-- the stage is still there, with what it held and its rights, on the disk where it was
+pub record IsKept (old new : Run) (name : List ℕ) (file : ℕ) : Type 0 where
+  pub stage : HasStage new name file
+  pub holds : new.now.holds file ≡ old.now.holds file
+  pub on_disk : new.now.on_disk file ≡ old.now.on_disk file
+  pub rights : new.now.rights file ≡ old.now.rights file
+
+-- every stage is
+abbrev pub StagesUnchanged : Run → Run → Type 0
+StagesUnchanged old new = (s : List ℕ) (f : ℕ) → HasStage old s f → IsKept old new s f
+
+-- only this stage was worked on, and nothing was brought to a lasting name
+pub record WorksOn (name : List ℕ) (file : ℕ) (old new : Run) : Type 0 where
+  pub brings : PublishesNothing old new
+  pub stage : HasStage new name file
+  pub kept : (s : List ℕ) (f : ℕ) → HasStage old s f → f ≢ file → IsKept old new s f
+  pub own : OwnsTheSame old new
+
+-- every stage but this one is still there
+abbrev pub OtherStagesUnchanged : List ℕ → ℕ → Run → Run → Type 0
+OtherStagesUnchanged name file old new = (s : List ℕ) (f : ℕ) → HasStage old s f → s ≢ name → f ≢ file → IsKept old new s f
+
+-- Only what is as P says was brought to a lasting name, and every stage but this one is still there.
+pub record PublishesBut (P : Name → List ℕ → Type 0) (name : List ℕ) (file : ℕ) (old new : Run) : Type 0 where
+  pub brings : PublishesOnly P old new
+  pub others : OtherStagesUnchanged name file old new
+
+-- Only what is as P says was brought to a lasting name, and every stage is still there.
+pub record PublishesBeside (P : Name → List ℕ → Type 0) (old new : Run) : Type 0 where
+  pub brings : PublishesOnly P old new
+  pub kept : StagesUnchanged old new
+
+-- no stage is the run's own that was not so before, nor this one
+pub record HasReleased (name : List ℕ) (old new : Run) : Type 0 where
+  pub only : (s : List ℕ) → new.owns s ≡ true → (s ≢ name) × (old.owns s ≡ true)
+
+-- only these bytes, at only this lasting name
+abbrev pub IsOnly : Name → List ℕ → Name → List ℕ → Type 0
+IsOnly to bytes n found = (n ≡ to) × (found ≡ bytes)
+
+-- Who opens the name finds exactly these bytes, which are on the disk, and a crash leaves it leading to no other file.
+pub record IsDurable (m : Moment) (name : Name) (bytes : List ℕ) : Type 0 where
+  pub stands : HasOnDisk m name bytes
+  pub settled : (f : ℕ) → m.left name f ≡ true → m.leads name ≡ Some f
+
+-- these bytes were published as the record, and are there for good
+pub record HasRecorded (bytes : List ℕ) (new : Run) : Type 0 where
+  pub earlier : List RunStep
+  pub published : IsPublished Record bytes earlier new.steps
+  pub lasts : IsDurable new.now Record bytes
+
+abbrev pub step : Moment → Moment → RunStep
+step m m' = record { before = m; after = m' }
+
+pub lead_back : (m m' : Moment) (n : Name) (f : ℕ) → m'.leads ≡ m.leads → m'.left ≡ m.left → MayLead m' n f → MayLead m n f
+lead_back m m' n f leads left (inl e) = inl (sym (ap (λ l. l n) leads) ∙ e)
+lead_back m m' n f leads left (inr e) = inr (sym (ap (λ l. l n f) left) ∙ e)
 
 module _ (P : Name → List ℕ → Type 0) where
-  pub brings_none : (r : Run) → BringsOnly P r r
+  -- a call that touches one file alone, to which no lasting name may lead
+  pub touching : (g : ℕ) (m m' : Moment) → TouchesOnly g m m' → IsApart m g → Publishes P (step m m')
+  touching g m m' only apart = record {
+    finds = λ n bytes found.
+        let lead = lead_back m m' n found.file only.leads only.left found.lead in
+        let other : found.file ≢ g = λ same. apart n (subst (MayLead m n) same lead) in
+        inl (record {
+          file = found.file;
+          lead = lead;
+          holds = λ kept. found.holds (only.on_disk found.file other ∙ kept) ∙ only.holds found.file other;
+        });
+    stays = λ n f e. (f, ap (λ l. l n) only.leads ∙ e);
+  }
+
+  staying : (m m' : Moment) → m'.leads ≡ m.leads → ((n : Name) (f : ℕ) → m'.left n f ≡ true → MayLead m n f) → m'.holds ≡ m.holds → m'.on_disk ≡ m.on_disk → Publishes P (step m m')
+  staying m m' leads left holds on_disk = record {
+    finds = λ n bytes found. inl (record {
+      file = found.file;
+      lead = ⊎_elim (λ e. inl (sym (ap (λ l. l n) leads) ∙ e)) (λ e. left n found.file e) found.lead;
+      holds = λ kept. found.holds (ap (λ d. d found.file) on_disk ∙ kept) ∙ ap (λ h. h found.file) holds;
+    });
+    stays = λ n f e. (f, ap (λ l. l n) leads ∙ e);
+  }
+
+  pub leaving : (m m' : Moment) → m'.leads ≡ m.leads → m'.left ≡ m.left → m'.holds ≡ m.holds → m'.on_disk ≡ m.on_disk → Publishes P (step m m')
+  leaving m m' leads left holds on_disk = staying m m' leads (λ n f e. inr (sym (ap (λ l. l n f) left) ∙ e)) holds on_disk
+
+  pub settling_names : (m m' : Moment) → MaySyncDirectory m m' → Publishes P (step m m')
+  settling_names m m' keeps = staying m m' keeps.leads keeps.left keeps.holds keeps.on_disk
+
+pub place_or_record : (n to : Name) → (n ≡ to) ⊎ (n ≢ to)
+place_or_record Place Place = inl refl
+place_or_record Place Record = inr (λ e. cc)
+place_or_record Record Place = inr (λ e. cc)
+place_or_record Record Record = inl refl
+
+pub some_inj : (f g : ℕ) → (o : Option ℕ) → o ≡ Some f → o ≡ Some g → f ≡ g
+some_inj f g o a b = cc
+
+module _ (P : Name → List ℕ → Type 0) where
+  renaming_finds : (name : List ℕ) (to : Name) (g : ℕ) (m m' : Moment) → Renames name to m m' → m.stages name ≡ Some g → m.on_disk g ≡ true → P to (m.holds g)
+      → (n : Name) (bytes : List ℕ) → MayFind m' n bytes → MayFind m n bytes ⊎ P n bytes
+  renaming_finds name to g m m' done leads on_disk due n bytes found =
+      let f = found.file in
+      let holds : m.on_disk f ≡ true → bytes ≡ m.holds f = λ kept. found.holds (ap (λ d. d f) done.on_disk ∙ kept) ∙ ap (λ h. h f) done.holds in
+      let before : MayLead m n f → MayFind m n bytes = λ lead. record { file = f; lead = lead; holds = holds } in
+      ⊎_elim
+      (λ same. ⊎_elim
+      (λ e.
+      let is : f ≡ g = some_inj f g (m'.leads to) (subst (λ x. m'.leads x ≡ Some f) same e) (done.leads ∙ leads) in
+      let what : bytes ≡ m.holds g = holds (ap (λ x. m.on_disk x) is ∙ on_disk) ∙ ap (λ x. m.holds x) is in
+      inr (subst (λ x. P x bytes) (sym same) (subst (P to) (sym what) due)))
+      (λ e. inl (before (subst (λ x. MayLead m x f) (sym same) (done.left f (subst (λ x. m'.left x f ≡ true) same e)))))
+      found.lead)
+      (λ other. inl (before (⊎_elim (λ e. inl (sym (done.other_leads n other) ∙ e)) (λ e. inr (sym (done.other_left n other f) ∙ e)) found.lead)))
+      (place_or_record n to)
+
+  pub renaming : (name : List ℕ) (to : Name) (g : ℕ) (m m' : Moment) → Renames name to m m' → m.stages name ≡ Some g → m.on_disk g ≡ true → P to (m.holds g) → Publishes P (step m m')
+  renaming name to g m m' done leads on_disk due = record {
+    finds = renaming_finds name to g m m' done leads on_disk due;
+    stays = λ n f e. ⊎_elim
+        (λ same. (g, ap (λ x. m'.leads x) same ∙ done.leads ∙ leads))
+        (λ other. (f, done.other_leads n other ∙ e))
+        (place_or_record n to);
+  }
+
+-- == The number in the record ==
+
+pub others_keep : (numbering : Numbering) (k : ℕ) (m m' : Moment) → RecordUnchanged m m' → RecordHolds numbering k m → RecordHolds numbering k m'
+others_keep numbering k m m' leaves keeps = record {
+  file = keeps.file;
+  leads = leaves.leads ∙ keeps.leads;
+  numbers = λ bytes found.
+      let lead : MayLead m Record found.file = ⊎_elim (λ e. inl (sym leaves.leads ∙ e)) (λ e. leaves.left found.file e) found.lead in
+      keeps.numbers bytes (record {
+        file = found.file;
+        lead = lead;
+        holds = λ kept. found.holds (leaves.on_disk found.file lead kept) ∙ leaves.holds found.file lead;
+      });
+}
+
+pub call_keeps : (P : Name → List ℕ → Type 0) (numbering : Numbering) (k : ℕ) (m m' : Moment) → Publishes P (step m m') → ((bytes : List ℕ) → P Record bytes → IsNumberFrom numbering k bytes) → RecordHolds numbering k m → RecordHolds numbering k m'
+call_keeps P numbering k m m' brings floor keeps =
+    let (g, leads) = brings.stays Record keeps.file keeps.leads in
+    record {
+      file = g;
+      leads = leads;
+      numbers = λ bytes found. ⊎_elim (keeps.numbers bytes) (floor bytes) (brings.finds Record bytes found);
+    }
+
+pub lasting_keeps : (numbering : Numbering) (k : ℕ) (m : Moment) (bytes : List ℕ) → IsDurable m Record bytes → IsNumberFrom numbering k bytes → RecordHolds numbering k m
+lasting_keeps numbering k m bytes lasts number = record {
+  file = lasts.stands.file;
+  leads = lasts.stands.leads;
+  numbers = λ xs found.
+      let leads : m.leads Record ≡ Some found.file = ⊎_elim (λ e. e) (lasts.settled found.file) found.lead in
+      let same : found.file ≡ lasts.stands.file = some_inj found.file lasts.stands.file (m.leads Record) leads lasts.stands.leads in
+      let is : xs ≡ bytes = found.holds (ap (λ f. m.on_disk f) same ∙ lasts.stands.on_disk) ∙ ap (λ f. m.holds f) same ∙ lasts.stands.holds in
+      subst (IsNumberFrom numbering k) (sym is) number;
+}
+
+module _ (P : Name → List ℕ → Type 0) where
+  pub brings_none : (r : Run) → PublishesOnly P r r
   brings_none r = record {
     since = [];
     noted = refl;
-    each = All-nil (Brings P);
+    each = All-nil (Publishes P);
     known = refl;
     locked = λ l. l;
-    numbers = λ l numbering k floor keeps. (All-nil (KeepsAt numbering k), keeps);
+    numbers = λ l numbering k floor keeps. (All-nil (RecordHoldsAt numbering k), keeps);
   }
 
-  pub brings_more : (old mid new : Run) (call : Moment → Moment → Type 0) → BringsOnly P old mid → (s : HasStepped mid new call) → Brings P (step s.before new.now) → BringsOnly P old new
+  pub brings_more : (old mid new : Run) (call : Moment → Moment → Type 0) → PublishesOnly P old mid → (s : HasStepped mid new call) → Publishes P (step s.before new.now) → PublishesOnly P old new
   brings_more old mid new call so_far s this = record {
     since = step s.before new.now ∷ so_far.since;
     noted = s.noted ∙ ap (λ l. step s.before new.now ∷ l) so_far.noted;
-    each = All-cons (Brings P) (step s.before new.now) so_far.since this so_far.each;
+    each = All-cons (Publishes P) (step s.before new.now) so_far.since this so_far.each;
     known = s.known ∙ so_far.known;
     locked = λ l. s.locked (so_far.locked l);
     numbers = λ l numbering k floor keeps.
         let (each, last) = so_far.numbers l numbering k floor keeps in
         let before = others_keep numbering k mid.now s.before (s.others.record_left (so_far.locked l)) last in
         let after = call_keeps P numbering k s.before new.now this floor before in
-        (All-cons (KeepsAt numbering k) (step s.before new.now) so_far.since (before, after) each, after);
+        (All-cons (RecordHoldsAt numbering k) (step s.before new.now) so_far.since (before, after) each, after);
   }
 
-  pub brings_trans : (old mid new : Run) → BringsOnly P old mid → BringsOnly P mid new → BringsOnly P old new
+  pub brings_trans : (old mid new : Run) → PublishesOnly P old mid → PublishesOnly P mid new → PublishesOnly P old new
   brings_trans old mid new a b = record {
     since = b.since ++ a.since;
     noted = b.noted ∙ ap (λ l. b.since ++ l) a.noted ∙ sym (append_assoc b.since a.since old.steps);
-    each = All-append (Brings P) b.since a.since b.each a.each;
+    each = All-append (Publishes P) b.since a.since b.each a.each;
     known = b.known ∙ a.known;
     locked = λ l. b.locked (a.locked l);
     numbers = λ l numbering k floor keeps.
         let (first, then) = a.numbers l numbering k floor keeps in
         let (more, last) = b.numbers (a.locked l) numbering k floor then in
-        (All-append (KeepsAt numbering k) b.since a.since more first, last);
+        (All-append (RecordHoldsAt numbering k) b.since a.since more first, last);
   }
 
-  pub brings_nothing : (old new : Run) → BringsNothing old new → BringsOnly P old new
+  pub brings_nothing : (old new : Run) → PublishesNothing old new → PublishesOnly P old new
   brings_nothing old new none = record {
     since = none.since;
     noted = none.noted;
@@ -70,7 +229,7 @@ pub record Before (r : Run) (m : Moment) (name : List ℕ) (file : ℕ) : Type 0
   pub on_disk : m.on_disk file ≡ r.now.on_disk file
   pub rights : m.rights file ≡ r.now.rights file
 
-pub before_call : (r : Run) (m : Moment) (name : List ℕ) (file : ℕ) → OthersLeave r.locked r.owns r.now m → HasStage r name file → Before r m name file
+pub before_call : (r : Run) (m : Moment) (name : List ℕ) (file : ℕ) → OtherProcesses r.locked r.owns r.now m → HasStage r name file → Before r m name file
 before_call r m name file others stage = record {
   leads = others.stages name stage.owned ∙ stage.leads;
   apart = others.apart name file stage.owned stage.leads stage.apart;
@@ -87,7 +246,7 @@ works_none name file r stage = record {
   own = record { owns = refl };
 }
 
-pub own_trans : (old mid new : Run) → KeepsOwn old mid → KeepsOwn mid new → KeepsOwn old new
+pub own_trans : (old mid new : Run) → OwnsTheSame old mid → OwnsTheSame mid new → OwnsTheSame old new
 own_trans old mid new a b = record { owns = b.owns ∙ a.owns }
 
 pub kept_trans : (old mid new : Run) (s : List ℕ) (f : ℕ) → IsKept old mid s f → IsKept mid new s f → IsKept old new s f
@@ -101,7 +260,7 @@ works_trans name file old mid new a b = record {
   own = own_trans old mid new a.own b.own;
 }
 
-pub spoiling : (name : List ℕ) (file : ℕ) (old new : Run) → HasStage old name file → HasStepped old new (Spoils file) → KeepsOwn old new → WorksOn name file old new
+pub spoiling : (name : List ℕ) (file : ℕ) (old new : Run) → HasStage old name file → HasStepped old new (Spoils file) → OwnsTheSame old new → WorksOn name file old new
 spoiling name file old new stage s own =
     let m = s.before in
     let at : (t : List ℕ) (f : ℕ) → HasStage old t f → Before old m t f = λ t f. before_call old m t f s.others in
@@ -123,35 +282,14 @@ spoiling name file old new stage s own =
       own = own;
     }
 
--- a call that changes nothing keeps each stage
-pub resting_keeps : (old new : Run) → HasStepped old new IsStill → KeepsOwn old new → KeepsStages old new
-resting_keeps old new s own t f held =
-    let at = before_call old s.before t f s.others held in record {
-      stage = record {
-        known = s.known ∙ held.known;
-        locked = s.locked held.locked;
-        owned = ap (λ o. o t) own.owns ∙ held.owned;
-        leads = ap (λ m. m.stages t) s.this ∙ at.leads;
-        apart = subst (λ m. IsApart m f) (sym s.this) at.apart;
-      };
-      holds = ap (λ m. m.holds f) s.this ∙ at.holds;
-      on_disk = ap (λ m. m.on_disk f) s.this ∙ at.on_disk;
-      rights = ap (λ m. m.rights f) s.this ∙ at.rights;
-    }
-
-pub resting_brings : (old new : Run) → HasStepped old new IsStill → BringsNothing old new
-resting_brings old new s = brings_more (λ _ _. ⊥) old old new IsStill (brings_none (λ _ _. ⊥) old) s (resting (λ _ _. ⊥) s.before new.now s.this)
-
--- what is written stands behind what the stage held
-pub appending : (name : List ℕ) (file : ℕ) (bytes : List ℕ) (old new : Run) → HasStage old name file → HasStepped old new (Appends file bytes) → KeepsOwn old new
+pub appending : (name : List ℕ) (file : ℕ) (bytes : List ℕ) (old new : Run) → HasStage old name file → HasStepped old new (Appends file bytes) → OwnsTheSame old new
     → WorksOn name file old new × (new.now.holds file ≡ old.now.holds file ++ bytes)
 appending name file bytes old new stage s own = (
   spoiling name file old new stage (record { before = s.before; others = s.others; this = s.this.spoils; noted = s.noted; known = s.known; locked = s.locked }) own,
   s.this.grown ∙ ap (λ h. h ++ bytes) (s.others.holds name file stage.owned stage.leads),
 )
 
--- what the file holds comes to the disk
-pub settling : (name : List ℕ) (file : ℕ) (old new : Run) → HasStage old name file → HasStepped old new (Settles file) → KeepsOwn old new
+pub settling : (name : List ℕ) (file : ℕ) (old new : Run) → HasStage old name file → HasStepped old new (Syncs file) → OwnsTheSame old new
     → WorksOn name file old new × (new.now.holds file ≡ old.now.holds file) × (new.now.on_disk file ≡ true) × (new.now.rights file ≡ old.now.rights file)
 settling name file old new stage s own = (
   spoiling name file old new stage (record { before = s.before; others = s.others; this = s.this.spoils; noted = s.noted; known = s.known; locked = s.locked }) own,
@@ -160,8 +298,7 @@ settling name file old new stage s own = (
   s.this.rights ∙ s.others.rights name file stage.owned stage.leads,
 )
 
--- the file is given its rights
-pub giving : (name : List ℕ) (file : ℕ) (old new : Run) → HasStage old name file → HasStepped old new (GivesRights file) → KeepsOwn old new
+pub giving : (name : List ℕ) (file : ℕ) (old new : Run) → HasStage old name file → HasStepped old new (GivesRights file) → OwnsTheSame old new
     → WorksOn name file old new × (new.now.holds file ≡ old.now.holds file) × (new.now.rights file ≡ true)
 giving name file old new stage s own = (
   spoiling name file old new stage (record { before = s.before; others = s.others; this = s.this.spoils; noted = s.noted; known = s.known; locked = s.locked }) own,
@@ -189,11 +326,10 @@ created_stage name g old new known locked c = record {
   apart = λ n lead. c.stepped.this.apart n (lead_back c.stepped.before new.now n g c.stepped.this.only.leads c.stepped.this.only.left lead);
 }
 
-pub created_brings : (name : List ℕ) (g : ℕ) (old new : Run) → HasCreated name g old new → BringsNothing old new
+pub created_brings : (name : List ℕ) (g : ℕ) (old new : Run) → HasCreated name g old new → PublishesNothing old new
 created_brings name g old new c =
     brings_more (λ _ _. ⊥) old old new (Creates name g) (brings_none (λ _ _. ⊥) old) c.stepped (touching (λ _ _. ⊥) g c.stepped.before new.now c.stepped.this.only c.stepped.this.apart)
 
--- the others stay, and are others
 pub created_keeps : (name : List ℕ) (g : ℕ) (old new : Run) → HasCreated name g old new → (s : List ℕ) (f : ℕ) → HasStage old s f → (s ≢ name) × (f ≢ g) × IsKept old new s f
 created_keeps name g old new c s f held =
     let m = c.stepped.before in
@@ -221,7 +357,7 @@ renamed_apart name to g f m m' done leads differs apart n lead =
     (place_or_record n to)
 
 module _ (name : List ℕ) (to : Name) (g : ℕ) (old new : Run) (stage : HasStage old name g) where
-  pub renamed_keeps : (s : HasStepped old new (Renames name to)) → ((t : List ℕ) → t ≢ name → new.owns t ≡ old.owns t) → KeepsOthers name g old new
+  pub renamed_keeps : (s : HasStepped old new (Renames name to)) → ((t : List ℕ) → t ≢ name → new.owns t ≡ old.owns t) → OtherStagesUnchanged name g old new
   renamed_keeps s owns t f held name_differs file_differs =
       let m = s.before in
       let mine = before_call old m name g s.others stage in
@@ -229,14 +365,14 @@ module _ (name : List ℕ) (to : Name) (g : ℕ) (old new : Run) (stage : HasSta
       kept_from old new m t f at (s.known ∙ held.known) (s.locked held.locked) (owns t name_differs ∙ held.owned) (s.this.stages t name_differs)
       (renamed_apart name to g f m new.now s.this mine.leads file_differs at.apart) (ap (λ h. h f) s.this.holds) (ap (λ d. d f) s.this.on_disk) (ap (λ r. r f) s.this.rights)
 
-  pub renamed_brings : old.now.on_disk g ≡ true → (s : HasStepped old new (Renames name to)) → BringsOnly (IsOnly to (old.now.holds g)) old new
+  pub renamed_brings : old.now.on_disk g ≡ true → (s : HasStepped old new (Renames name to)) → PublishesOnly (IsOnly to (old.now.holds g)) old new
   renamed_brings on_disk s =
       let P = IsOnly to (old.now.holds g) in
       let mine = before_call old s.before name g s.others stage in
       brings_more P old old new (Renames name to) (brings_none P old) s
       (renaming P name to g s.before new.now s.this mine.leads (mine.on_disk ∙ on_disk) (refl, mine.holds))
 
-  pub renamed_stands : old.now.on_disk g ≡ true → (s : HasStepped old new (Renames name to)) → Stands new.now to (old.now.holds g)
+  pub renamed_stands : old.now.on_disk g ≡ true → (s : HasStepped old new (Renames name to)) → HasOnDisk new.now to (old.now.holds g)
   renamed_stands on_disk s =
       let mine = before_call old s.before name g s.others stage in
       record {
@@ -248,7 +384,7 @@ module _ (name : List ℕ) (to : Name) (g : ℕ) (old new : Run) (stage : HasSta
 
 -- == The names come to the disk, or a name is removed ==
 
-pub names_keep : (old new : Run) → HasStepped old new KeepsNames → KeepsOwn old new → KeepsStages old new
+pub names_keep : (old new : Run) → HasStepped old new MaySyncDirectory → OwnsTheSame old new → StagesUnchanged old new
 names_keep old new s own t f held =
     let m = s.before in
     let at = before_call old m t f s.others held in
@@ -256,24 +392,32 @@ names_keep old new s own t f held =
     (λ n lead. at.apart n (⊎_elim (λ e. inl (sym (ap (λ l. l n) s.this.leads) ∙ e)) (λ e. s.this.left n f e) lead))
     (ap (λ h. h f) s.this.holds) (ap (λ d. d f) s.this.on_disk) (ap (λ r. r f) s.this.rights)
 
-pub names_bring : (P : Name → List ℕ → Type 0) (old new : Run) → HasStepped old new KeepsNames → BringsOnly P old new
-names_bring P old new s = brings_more P old old new KeepsNames (brings_none P old) s (settling_names P s.before new.now s.this)
+pub names_bring : (P : Name → List ℕ → Type 0) (old new : Run) → HasStepped old new MaySyncDirectory → PublishesOnly P old new
+names_bring P old new s = brings_more P old old new MaySyncDirectory (brings_none P old) s (settling_names P s.before new.now s.this)
 
-pub names_settled : (old new : Run) → HasStepped old new SettlesNames → HasStepped old new KeepsNames
+-- a call that changes nothing
+still_names : (old new : Run) → HasStepped old new IsStill → HasStepped old new MaySyncDirectory
+still_names old new s =
+    let same : MaySyncDirectory s.before s.before = record { leads = refl; left = λ n f e. inr e; holds = refl; on_disk = refl; rights = refl; stages = refl } in
+    record { before = s.before; others = s.others; this = subst (MaySyncDirectory s.before) (sym s.this) same; noted = s.noted; known = s.known; locked = s.locked }
+
+pub resting_brings : (old new : Run) → HasStepped old new IsStill → PublishesNothing old new
+resting_brings old new s = names_bring (λ _ _. ⊥) old new (still_names old new s)
+
+pub names_settled : (old new : Run) → HasStepped old new SyncsDirectory → HasStepped old new MaySyncDirectory
 names_settled old new s = record { before = s.before; others = s.others; this = s.this.same; noted = s.noted; known = s.known; locked = s.locked }
 
-pub removed_brings : (P : Name → List ℕ → Type 0) (name : List ℕ) (old new : Run) → HasStepped old new (Removes name) → BringsOnly P old new
+pub removed_brings : (P : Name → List ℕ → Type 0) (name : List ℕ) (old new : Run) → HasStepped old new (Removes name) → PublishesOnly P old new
 removed_brings P name old new s =
     brings_more P old old new (Removes name) (brings_none P old) s (leaving P s.before new.now s.this.leads s.this.left s.this.holds s.this.on_disk)
 
--- a call that was perhaps made
 pub perhaps : (call : Moment → Moment → Type 0) (old new : Run) → HasStepped old new (Perhaps call) → HasStepped old new IsStill ⊎ HasStepped old new call
 perhaps call old new s =
     ⊎_elim (λ still. inl (record { before = s.before; others = s.others; this = still; noted = s.noted; known = s.known; locked = s.locked })) (λ done. inr (record { before = s.before; others = s.others; this = done; noted = s.noted; known = s.known; locked = s.locked })) s.this
 
 -- == Calls on one stage, and its name at last ==
 
-pub goes_trans : (P : Name → List ℕ → Type 0) (name : List ℕ) (g : ℕ) (old mid new : Run) → Goes P name g old mid → Goes P name g mid new → Goes P name g old new
+pub goes_trans : (P : Name → List ℕ → Type 0) (name : List ℕ) (g : ℕ) (old mid new : Run) → PublishesBut P name g old mid → PublishesBut P name g mid new → PublishesBut P name g old new
 goes_trans P name g old mid new a b = record {
   brings = brings_trans P old mid new a.brings b.brings;
   others = λ s f held name_differs file_differs.
@@ -281,39 +425,33 @@ goes_trans P name g old mid new a b = record {
       kept_trans old mid new s f first (b.others s f first.stage name_differs file_differs);
 }
 
-pub works_goes : (P : Name → List ℕ → Type 0) (name : List ℕ) (g : ℕ) (old new : Run) → WorksOn name g old new → Goes P name g old new
+pub works_goes : (P : Name → List ℕ → Type 0) (name : List ℕ) (g : ℕ) (old new : Run) → WorksOn name g old new → PublishesBut P name g old new
 works_goes P name g old new works = record {
   brings = brings_nothing P old new works.brings;
   others = λ s f held name_differs file_differs. works.kept s f held file_differs;
 }
 
-pub names_go : (P : Name → List ℕ → Type 0) (name : List ℕ) (g : ℕ) (old new : Run) → HasStepped old new KeepsNames → KeepsOwn old new → Goes P name g old new
+pub names_go : (P : Name → List ℕ → Type 0) (name : List ℕ) (g : ℕ) (old new : Run) → HasStepped old new MaySyncDirectory → OwnsTheSame old new → PublishesBut P name g old new
 names_go P name g old new s own = record {
   brings = names_bring P old new s;
   others = λ t f held name_differs file_differs. names_keep old new s own t f held;
 }
 
-pub still_goes : (P : Name → List ℕ → Type 0) (name : List ℕ) (g : ℕ) (old new : Run) → HasStepped old new IsStill → KeepsOwn old new → Goes P name g old new
-still_goes P name g old new s own = record {
-  brings = brings_nothing P old new (resting_brings old new s);
-  others = λ t f held name_differs file_differs. resting_keeps old new s own t f held;
-}
-
 pub renamed_goes : (name : List ℕ) (to : Name) (g : ℕ) (old new : Run) → HasStage old name g → old.now.on_disk g ≡ true → HasStepped old new (Renames name to)
-    → ((t : List ℕ) → t ≢ name → new.owns t ≡ old.owns t) → Goes (IsOnly to (old.now.holds g)) name g old new
+    → ((t : List ℕ) → t ≢ name → new.owns t ≡ old.owns t) → PublishesBut (IsOnly to (old.now.holds g)) name g old new
 renamed_goes name to g old new stage on_disk s owns = record {
   brings = renamed_brings name to g old new stage on_disk s;
   others = renamed_keeps name to g old new stage s owns;
 }
 
-pub perhaps_renamed_goes : (name : List ℕ) (to : Name) (g : ℕ) (old new : Run) → HasStage old name g → old.now.on_disk g ≡ true → HasStepped old new (Perhaps (Renames name to)) → KeepsOwn old new
-    → Goes (IsOnly to (old.now.holds g)) name g old new
+pub perhaps_renamed_goes : (name : List ℕ) (to : Name) (g : ℕ) (old new : Run) → HasStage old name g → old.now.on_disk g ≡ true → HasStepped old new (Perhaps (Renames name to)) → OwnsTheSame old new
+    → PublishesBut (IsOnly to (old.now.holds g)) name g old new
 perhaps_renamed_goes name to g old new stage on_disk s own =
-    ⊎_elim (λ still. still_goes (IsOnly to (old.now.holds g)) name g old new still own)
+    ⊎_elim (λ still. names_go (IsOnly to (old.now.holds g)) name g old new (still_names old new still) own)
     (λ done. renamed_goes name to g old new stage on_disk done (λ t differs. ap (λ o. o t) own.owns)) (perhaps (Renames name to) old new s)
 
 -- a stage is made, worked on and published: the stages from before are still there
-pub created_goes : (P : Name → List ℕ → Type 0) (name : List ℕ) (g : ℕ) (old mid new : Run) → HasCreated name g old mid → Goes P name g mid new → GoesBeside P old new
+pub created_goes : (P : Name → List ℕ → Type 0) (name : List ℕ) (g : ℕ) (old mid new : Run) → HasCreated name g old mid → PublishesBut P name g mid new → PublishesBeside P old new
 created_goes P name g old mid new made goes = record {
   brings = brings_trans P old mid new (brings_nothing P old mid (created_brings name g old mid made)) goes.brings;
   kept = λ s f held.
@@ -321,7 +459,7 @@ created_goes P name g old mid new made goes = record {
       kept_trans old mid new s f first (goes.others s f first.stage name_differs file_differs);
 }
 
-pub brings_weaken : (P Q : Name → List ℕ → Type 0) (old new : Run) → ((n : Name) (b : List ℕ) → P n b → Q n b) → BringsOnly P old new → BringsOnly Q old new
+pub brings_weaken : (P Q : Name → List ℕ → Type 0) (old new : Run) → ((n : Name) (b : List ℕ) → P n b → Q n b) → PublishesOnly P old new → PublishesOnly Q old new
 brings_weaken P Q old new more b = record {
   since = b.since;
   noted = b.noted;
@@ -334,13 +472,10 @@ brings_weaken P Q old new more b = record {
   numbers = λ l numbering k floor keeps. b.numbers l numbering k (λ bytes p. floor bytes (more Record bytes p)) keeps;
 }
 
--- leftovers were removed, all or some
-pub cleared_step : (old new : Run) {A E : Type 0} (r : Result A E) → HasTried ClearsAll Clears old new r → HasStepped old new Clears
-cleared_step old new (Ok a) done = record { before = done.0.before; others = done.0.others; this = done.0.this.clears; noted = done.0.noted; known = done.0.known; locked = done.0.locked }
-cleared_step old new (Err e) done = done.0
+pub cleared_step : (old new : Run) → HasStepped old new ClearsAll → HasStepped old new Clears
+cleared_step old new s = record { before = s.before; others = s.others; this = s.this.clears; noted = s.noted; known = s.known; locked = s.locked }
 
--- they were, and more calls came
-pub cleared_then : (P : Name → List ℕ → Type 0) (old mid new : Run) → HasStepped old mid ClearsAll → BringsOnly P mid new → HasCleared old new
+pub cleared_then : (P : Name → List ℕ → Type 0) (old mid new : Run) → HasStepped old mid ClearsAll → PublishesOnly P mid new → HasCleared old new
 cleared_then P old mid new s more = record {
   later = more.since;
   call = step s.before mid.now;
@@ -349,44 +484,30 @@ cleared_then P old mid new s more = record {
   clear = s.this.clear;
 }
 
--- leftovers were removed, or some were
-pub clearing : (old new : Run) {A E : Type 0} (r : Result A E) → HasTried ClearsAll Clears old new r → BringsNothing old new
-clearing old new r done =
-    let s = cleared_step old new r done in
+pub clearing : (old new : Run) → HasStepped old new Clears → PublishesNothing old new
+clearing old new s =
     brings_more (λ _ _. ⊥) old old new Clears (brings_none (λ _ _. ⊥) old) s (leaving (λ _ _. ⊥) s.before new.now s.this.leads s.this.left s.this.holds s.this.on_disk)
 
--- a stage was named, and the names brought to the disk
-pub published : (name : List ℕ) (to : Name) (old mid new : Run) {A E : Type 0} (r : Result A E) → (old.known ≡ true → old.locked ≡ true → HasStepped old mid (Renames name to))
-    → (mid.known ≡ true → MatchResult r (λ _. HasStepped mid new SettlesNames) (λ _. HasStepped mid new KeepsNames))
-    → OnOk r ((g : ℕ) → HasStage old name g → old.now.on_disk g ≡ true → (p : IsPublished to (old.now.holds g) old.steps new.steps) × (rights_of p ≡ old.now.rights g))
-published name to old mid new (Ok a) rename settle = λ g stage on_disk.
-    let first = rename stage.known stage.locked in
-    let last = settle (first.known ∙ stage.known) in
+pub published : (name : List ℕ) (to : Name) (old mid new : Run) → HasStepped old mid (Renames name to) → HasStepped mid new SyncsDirectory → (g : ℕ) → HasStage old name g → old.now.on_disk g ≡ true
+    → (p : IsPublished to (old.now.holds g) old.steps new.steps) × (rights_of p ≡ old.now.rights g)
+unfolding renamed_stands
+published name to old mid new first last g stage on_disk =
     let mine = before_call old first.before name g first.others stage in (
       record {
         renamed = step first.before mid.now;
         settled = step last.before new.now;
         calls = last.noted ∙ ap (λ l. step last.before new.now ∷ l) first.noted;
-        stands = record {
-          file = g;
-          leads = first.this.leads ∙ mine.leads;
-          holds = ap (λ h. h g) first.this.holds ∙ mine.holds;
-          on_disk = ap (λ d. d g) first.this.on_disk ∙ mine.on_disk ∙ on_disk;
-        };
+        stands = renamed_stands name to g old mid stage on_disk first;
         lasts = last.this;
       },
       ap (λ r. r g) first.this.rights ∙ mine.rights,
     )
-published name to old mid new (Err e) rename settle = tt
 
 -- the record is there for good then, since others leave it alone
-pub lasting : (name : List ℕ) (to : Name) (old mid new : Run) {A E : Type 0} (r : Result A E) → (old.known ≡ true → old.locked ≡ true → HasStepped old mid (Renames name to))
-    → (mid.known ≡ true → MatchResult r (λ _. HasStepped mid new SettlesNames) (λ _. HasStepped mid new KeepsNames))
-    → OnOk r (to ≡ Record → (g : ℕ) → HasStage old name g → old.now.on_disk g ≡ true → Lasts new.now Record (old.now.holds g))
-lasting name to old mid new (Ok a) rename settle = λ is g stage on_disk.
-    let first = rename stage.known stage.locked in
-    let last = settle (first.known ∙ stage.known) in
-    let stands : Stands mid.now Record (old.now.holds g) = subst (λ n. Stands mid.now n (old.now.holds g)) is (renamed_stands name to g old mid stage on_disk first) in
+pub lasting : (name : List ℕ) (old mid new : Run) → HasStepped old mid (Renames name Record) → HasStepped mid new SyncsDirectory → (g : ℕ) → HasStage old name g → old.now.on_disk g ≡ true
+    → IsDurable new.now Record (old.now.holds g)
+lasting name old mid new first last g stage on_disk =
+    let stands : HasOnDisk mid.now Record (old.now.holds g) = renamed_stands name Record g old mid stage on_disk first in
     let leaves = last.others.record_left (first.locked stage.locked) in
     let same = last.this.same in
     let f = stands.file in
@@ -400,32 +521,30 @@ lasting name to old mid new (Ok a) rename settle = λ is g stage on_disk.
       };
       settled = λ h l. last.this.settled Record h l;
     }
-lasting name to old mid new (Err e) rename settle = tt
 
 -- == Which stages are the run's own ==
 
 pub own_none : (r : Run) → OwnsNoMore r r
 own_none r = record { only = λ s e. e }
 
-pub kept_no_more : (old new : Run) → KeepsOwn old new → OwnsNoMore old new
+pub kept_no_more : (old new : Run) → OwnsTheSame old new → OwnsNoMore old new
 kept_no_more old new own = record { only = λ s e. sym (ap (λ o. o s) own.owns) ∙ e }
 
 pub no_more_trans : (old mid new : Run) → OwnsNoMore old mid → OwnsNoMore mid new → OwnsNoMore old new
 no_more_trans old mid new a b = record { only = λ s e. a.only s (b.only s e) }
 
-pub less_let_go : (name : List ℕ) (old new : Run) → OwnsLess name old new → HasLetGo name old new
+pub less_let_go : (name : List ℕ) (old new : Run) → OwnsLess name old new → HasReleased name old new
 less_let_go name old new own = record {
   only = λ s e.
       let differs : s ≢ name = λ same. true≢false (sym e ∙ ap (λ t. new.owns t) same ∙ own.less) in
       (differs, sym (own.others s differs) ∙ e);
 }
 
-pub let_go_after : (name : List ℕ) (old mid new : Run) → OwnsNoMore old mid → HasLetGo name mid new → HasLetGo name old new
+pub let_go_after : (name : List ℕ) (old mid new : Run) → OwnsNoMore old mid → HasReleased name mid new → HasReleased name old new
 let_go_after name old mid new a b = record { only = λ s e. ((b.only s e).0, a.only s (b.only s e).1) }
 
-pub let_go_more : (name : List ℕ) (old mid new : Run) → HasLetGo name old mid → OwnsNoMore mid new → HasLetGo name old new
+pub let_go_more : (name : List ℕ) (old mid new : Run) → HasReleased name old mid → OwnsNoMore mid new → HasReleased name old new
 let_go_more name old mid new a b = record { only = λ s e. a.only s (b.only s e) }
 
--- a stage is made, and let go of at last
-pub made_let_go : (name : List ℕ) (old mid new : Run) → OwnsMore name old mid → HasLetGo name mid new → OwnsNoMore old new
+pub made_let_go : (name : List ℕ) (old mid new : Run) → OwnsMore name old mid → HasReleased name mid new → OwnsNoMore old new
 made_let_go name old mid new more go = record { only = λ s e. sym (more.others s (go.only s e).0) ∙ (go.only s e).1 }

@@ -1,32 +1,23 @@
 -- Whether an update is newer than what is kept, from its signature alone.
-use Rattle.std.specs.Prelude.{◌≡◌, ◌⊎◌, ◌<◌, ◌==◌, ℕ, Bool, false, true, if◌then◌else◌, nat_le, List, [], Option, Some, None, IfSome}
-use Rattle.std.specs.declared.result.Result.{Result}
-use Rattle.std.specs.declared.result.Result.TheVariants.{Ok, Err}
+use Rattle.std.specs.Prelude.{◌≡◌, ◌⊎◌, ◌<◌, ◌==◌, ℕ, Bool, false, true, if◌then◌else◌, nat_le, List, [], Option, Some, None, IfSome, Result, Ok, Err}
 use Rattle.std.specs.Str.{IsUtf8}
-use Rattle.minisign_base.specs.Devices.{Rose}
-use Rattle.minisign_base.specs.Fault.{Fault, Named}
-use Rattle.minisign_base.specs.declared.faults.NamedFault.TheVariants.{NotUtf8, OutOfMemory, ReadingFailed}
-use Rattle.minisign.specs.Acceptance.{Verifier}
+use Rattle.minisign_install.specs.Faults.{Rose, Fault, Named, NotUtf8, OutOfMemory, ReadingFailed, InstallFault, Library}
+use Rattle.minisign_install.specs.Installing.{Verifier, Terms}
 use Rattle.minisign.specs.PublicKeyText.{read_public_key}
 use Rattle.minisign.specs.Texts.{and_then}
 use Rattle.minisign_external.specs.PublicKeys.{value_of}
 use Rattle.minisign_external.specs.Questions.{comment_verdict_under}
 use Rattle.minisign_external.specs.Numbers.{misuse_number}
 use Rattle.minisign_external.specs.declared.state.Misuse.TheVariants.{BadFirstFlag, BadNumbering}
-use Rattle.minisign_install.specs.Comments.{Says}
-use Rattle.minisign_install.specs.Folders.{Finds, IsStill, Known, Run}
+use Rattle.minisign_install.specs.Comments.{Says, Numbering}
+use Rattle.minisign_install.specs.Folders.{Finds, IsStill, Known, Run, Record}
 use Rattle.minisign_install.specs.HostNumbers.{install_number, numbering_number, offer_number}
 use Rattle.minisign_install.specs.Hosted.{wanted_by}
 use Rattle.minisign_install.specs.Hosts.{Calls}
-use Rattle.minisign_install.specs.Installing.{Terms}
 use Rattle.minisign_install.specs.RecordTexts.{HasNoNumber, IsNumberFor}
 use Rattle.minisign_install.specs.Refusals.{IsCommentRefused, IsRecordRefused}
 use Rattle.minisign_install.specs.declared.checking.Offer.{Offer}
 use Rattle.minisign_install.specs.declared.checking.Offer.TheVariants.{Newer, Same, Older}
-use Rattle.minisign_install.specs.declared.comments.Numbering.{Numbering}
-use Rattle.minisign_install.specs.declared.faults.InstallFault.{InstallFault}
-use Rattle.minisign_install.specs.declared.faults.InstallFault.TheVariants.{Library}
-use Rattle.minisign_install.specs.declared.folders.Name.TheVariants.{Record}
 
 -- The trusted comment of the signature's text, where the key has signed it together with the signature, which is not
 -- over the data itself; or the first case that fails. Nothing is said of any data.
@@ -37,7 +28,8 @@ signed_comment accepts pk_text sig_text =
 
 -- the number that the record holds for the field; where it holds none, there is none, if this is the first installation
 abbrev pub IsKeptOrNone : Numbering → Bool → Option (List ℕ) → Option ℕ → Type 0
-IsKeptOrNone numbering first found (Some kept) = (bytes : List ℕ) × (found ≡ Some bytes) × IsNumberFor numbering bytes kept
+IsKeptOrNone numbering first found (Some kept) =
+    (bytes : List ℕ) × (found ≡ Some bytes) × IsNumberFor numbering bytes kept
 IsKeptOrNone numbering first found None = (first ≡ true) × IfSome found (HasNoNumber numbering)
 
 -- what an update of this number is beside the kept number; where none is kept, it is newer
@@ -50,7 +42,8 @@ offer_beside None n = Newer
 -- is beside the kept one.
 abbrev pub IsOffered : Terms → Bool → Option (List ℕ) → List ℕ → Result (Offer × ℕ) InstallFault → Type 0
 IsOffered terms first found comment (Ok (offer, n)) =
-    (kept : Option ℕ) × IsKeptOrNone terms.numbering first found kept × Says comment terms.file terms.numbering terms.moment n × (offer ≡ offer_beside kept n)
+    (kept : Option ℕ) × IsKeptOrNone terms.numbering first found kept
+    × Says comment terms.file terms.numbering terms.moment n × (offer ≡ offer_beside kept n)
 IsOffered terms first found comment (Err e) =
     IsRecordRefused terms.numbering first found e
     ⊎ ((kept : Option ℕ) × IsKeptOrNone terms.numbering first found kept × IsCommentRefused terms 0 comment e)
@@ -61,8 +54,10 @@ IsOffered terms first found comment (Err e) =
 abbrev pub ChecksSo : Verifier → Terms → Bool → ℕ → ℕ → Run → Run → Result (Offer × ℕ) InstallFault → Type 0
 ChecksSo accepts terms first before after old new r =
     ((r ≡ Err (Library (Named OutOfMemory))) × (new ≡ old) × (after ≡ before))
-    ⊎ ((fault : Fault) × (signed_comment accepts terms.pk_text terms.sig_text ≡ Err fault) × (r ≡ Err (Library fault)) × (new ≡ old) × (after ≡ before))
-    ⊎ ((found : Option (List ℕ)) × (comment : List ℕ) × (signed_comment accepts terms.pk_text terms.sig_text ≡ Ok comment)
+    ⊎ ((fault : Fault) × (signed_comment accepts terms.pk_text terms.sig_text ≡ Err fault) × (r ≡ Err (Library fault))
+    × (new ≡ old) × (after ≡ before))
+    ⊎ ((found : Option (List ℕ)) × (comment : List ℕ)
+    × (signed_comment accepts terms.pk_text terms.sig_text ≡ Ok comment)
     × IsOffered terms first found comment r × Known old (Calls (Finds Record found) old new) × (after ≡ before))
     ⊎ ((comment : List ℕ) × (signed_comment accepts terms.pk_text terms.sig_text ≡ Ok comment)
     × (r ≡ Err (Library (Named ReadingFailed))) × Known old (Calls IsStill old new) × Rose before after)
@@ -87,5 +82,6 @@ abbrev pub IsCheckNumber : List ℕ → List ℕ → ℕ → ℕ → ℕ → Opt
 IsCheckNumber comment file numbering moment first found error =
     ((error ≡ misuse_number BadFirstFlag) × (1 < first))
     ⊎ ((error ≡ misuse_number BadNumbering) × (first < 2) × (1 < numbering))
-    ⊎ ((first < 2) × (k : Numbering) × (numbering ≡ numbering_number k) × (e : InstallFault) × (error ≡ install_number e)
+    ⊎ ((first < 2) × (k : Numbering) × (numbering ≡ numbering_number k) × (e : InstallFault)
+    × (error ≡ install_number e)
     × CommentChecksSo comment (wanted_by [] [] file k moment) (first == 1) found (Err e))

@@ -2,22 +2,31 @@
 use Rattle.std.specs.Prelude.{◌≡◌, ◌⊎◌, ℕ, ◌^◌, ◌<◌, ◌≤◌, List, [], ◌∷◌, ◌==◌, length, take, drop, Option, Some, None, if◌then◌else◌, bytes_eq, codes}
 use Rattle.std.specs.List.{slice_split}
 use Rattle.std.specs.Str.Parse.{IsNumeral, digits_value}
-use Rattle.minisign_install.specs.declared.comments.Numbering.{Numbering}
-use Rattle.minisign_install.specs.declared.comments.Numbering.TheVariants.{Timestamp, Version}
-use Rattle.minisign_install.specs.declared.faults.InstallFault.{InstallFault}
-use Rattle.minisign_install.specs.declared.faults.InstallFault.TheVariants.{BadExpiry, Expired}
+pub use Rattle.minisign_install.specs.declared.comments.Numbering.{Numbering}
+pub use Rattle.minisign_install.specs.declared.comments.Numbering.TheVariants.{Timestamp, Version}
+use Rattle.minisign_install.specs.Faults.{InstallFault, BadExpiry, Expired}
 
 -- the fields of a comment: what stands between its tabs
 abbrev pub fields : List ℕ → List (List ℕ)
 fields comment = slice_split (λ b. b == 9) comment
 
--- what stands behind the label in the first field that begins with it
-abbrev pub value_in : List ℕ → List (List ℕ) → Option (List ℕ)
-value_in label [] = None
-value_in label (field ∷ more) = if bytes_eq (take (length label) field) label then Some (drop (length label) field) else value_in label more
+-- what stands behind the label in each field that begins with it
+abbrev pub values_in : List ℕ → List (List ℕ) → List (List ℕ)
+values_in label [] = []
+values_in label (field ∷ more) =
+    if bytes_eq (take (length label) field) label then drop
+    (length label) field ∷ values_in label more else values_in label more
 
+abbrev pub values_of : List ℕ → List ℕ → List (List ℕ)
+values_of label comment = values_in label (fields comment)
+
+abbrev pub first_of : List (List ℕ) → Option (List ℕ)
+first_of [] = None
+first_of (value ∷ more) = Some value
+
+-- what stands behind it in the first one
 abbrev pub value_of : List ℕ → List ℕ → Option (List ℕ)
-value_of label comment = value_in label (fields comment)
+value_of label comment = first_of (values_of label comment)
 
 -- the text writes this number below 2^64 in decimal digits, and has nothing else: no sign stands before them
 pub record IsNumberText (text : List ℕ) (n : ℕ) : Type 0 where
@@ -39,14 +48,6 @@ pub record HasNumber (comment : List ℕ) (numbering : Numbering) (n : ℕ) : Ty
   pub value : List ℕ
   pub numbered : value_of (number_label numbering) comment ≡ Some value
   pub number : IsNumberText value n
-
--- what stands behind the label in each field that begins with it
-abbrev pub values_in : List ℕ → List (List ℕ) → List (List ℕ)
-values_in label [] = []
-values_in label (field ∷ more) = if bytes_eq (take (length label) field) label then drop (length label) field ∷ values_in label more else values_in label more
-
-abbrev pub values_of : List ℕ → List ℕ → List (List ℕ)
-values_of label comment = values_in label (fields comment)
 
 -- the label of the field that has the moment at which the update expires, in seconds since the beginning of 1970
 abbrev pub expiry_label : List ℕ

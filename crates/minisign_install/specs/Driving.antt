@@ -1,29 +1,19 @@
 -- What an installation over a folder holds between two calls, and what each call that is due does to it.
-use Rattle.std.specs.Prelude.{◌≡◌, ◌≢◌, ◌-◌, ⊤, ℕ, Bool, true, false, List, Option, IsNone, IsSome, IfSome}
-use Rattle.minisign_base.specs.Fault.{Named}
-use Rattle.minisign_base.specs.declared.faults.NamedFault.TheVariants.{OutOfMemory}
-use Rattle.minisign.specs.Acceptance.{Verifier}
+use Rattle.std.specs.Prelude.{◌≡◌, ◌≢◌, ◌-◌, ⊤, ℕ, Bool, true, false, List, Option, IsNone, IsSome, IfSome, Result, Ok, Err}
+use Rattle.minisign_install.specs.Faults.{Named, OutOfMemory, InstallFault, Library}
+use Rattle.minisign_install.specs.Installing.{Verifier, IsVouched, Terms}
 use Rattle.minisign_external.specs.States.{IsFedState}
 use Rattle.minisign_install.specs.Folders.{Run}
 use Rattle.minisign_install.specs.Hosts.{Explains, Host, Makes, Setting}
-use Rattle.minisign_install.specs.Installing.{IsVouched, Terms}
 use Rattle.minisign_install.specs.Names.{drawn_bytes}
-use Rattle.minisign_install.specs.Order.{due_number}
+use Rattle.minisign_install.specs.Order.{due_number, next, Due, Lock, Clear, ReadRecord, Create, Copy, ReadBack, Answer, TakePermissions, Sync, CreateRecord, WriteRecord, SyncRecord, RenameRecord, SyncRecordName, Rename, SyncName, RemoveRecord, Remove, Installed, Refused, Outcome, Done, Number, Failed}
 use Rattle.minisign_install.specs.Refusals.{Counts}
 use Rattle.minisign_install.specs.declared.calls.Stage.{Stage}
 use Rattle.minisign_install.specs.declared.calls.Work.{Work}
-use Rattle.minisign_install.specs.declared.faults.InstallFault.{InstallFault}
-use Rattle.minisign_install.specs.declared.faults.InstallFault.TheVariants.{Library}
-use Rattle.minisign_install.specs.declared.order.Due.{Due}
-use Rattle.minisign_install.specs.declared.order.Due.TheVariants.{Lock, Clear, ReadRecord, Create, Copy, ReadBack, Answer, TakeRights, Settle, CreateRecord, WriteRecord, SettleRecord, RenameRecord, SettleRecordName, Rename, SettleName, RemoveRecord, Remove, Installed, Refused}
-use Rattle.minisign_install.specs.declared.order.Outcome.{Outcome}
-use Rattle.minisign_install.specs.declared.order.Outcome.TheVariants.{Done, Number, Failed}
-use Rattle.std.specs.declared.result.Result.{Result}
-use Rattle.std.specs.declared.result.Result.TheVariants.{Ok, Err}
 
 -- a host at one moment
-abbrev pub host : Run → Option (List ℕ) → List ℕ → Counts → Host
-host run ahead read faults = record { run = run; ahead = ahead; read = read; faults = faults }
+abbrev pub host : Run → Option (List ℕ) → Counts → List ℕ → Host
+host run ahead faults read = record { run = run; ahead = ahead; read = read; faults = faults }
 
 -- the names and the files of the two stages, that of the update and that of the record
 pub record Names : Type 0 where
@@ -50,7 +40,9 @@ IsNamed file_of made name file = IfSome made (λ stage. (drawn_bytes stage.name 
 
 -- so have both
 abbrev pub AreNamed : {H : Type 0} → (H → ℕ) → Work H → Names → Type 0
-AreNamed file_of work names = IsNamed file_of work.stage names.name names.file × IsNamed file_of work.record_stage names.record_name names.record_file
+AreNamed file_of work names =
+    IsNamed file_of work.stage names.name names.file
+    × IsNamed file_of work.record_stage names.record_name names.record_file
 
 -- Which stages were made where this is due.
 abbrev pub HasMade : {E H : Type 0} → Due E → Work H → Type 0
@@ -58,28 +50,23 @@ HasMade Lock work = IsNone work.stage × IsNone work.record_stage
 HasMade Clear work = IsNone work.stage × IsNone work.record_stage
 HasMade ReadRecord work = IsNone work.stage × IsNone work.record_stage
 HasMade (Create kept) work = IsNone work.stage × IsNone work.record_stage
-HasMade (Copy kept) work = IsSome work.stage × IsNone work.record_stage
-HasMade (ReadBack kept) work = IsSome work.stage × IsNone work.record_stage
-HasMade (Answer kept) work = IsSome work.stage × IsNone work.record_stage
-HasMade (TakeRights n) work = IsSome work.stage × IsNone work.record_stage
-HasMade (Settle n) work = IsSome work.stage × IsNone work.record_stage
-HasMade (CreateRecord n) work = IsSome work.stage × IsNone work.record_stage
 HasMade (WriteRecord n) work = IsSome work.stage × IsSome work.record_stage
-HasMade (SettleRecord n) work = IsSome work.stage × IsSome work.record_stage
+HasMade (SyncRecord n) work = IsSome work.stage × IsSome work.record_stage
 HasMade (RenameRecord n) work = IsSome work.stage × IsSome work.record_stage
-HasMade (SettleRecordName n) work = IsSome work.stage × IsSome work.record_stage
-HasMade (Rename n) work = IsSome work.stage × ⊤
-HasMade (SettleName n) work = IsSome work.stage × ⊤
+HasMade (SyncRecordName n) work = IsSome work.stage × IsSome work.record_stage
 HasMade (RemoveRecord e) work = IsSome work.stage × IsSome work.record_stage
+HasMade (Rename n) work = IsSome work.stage × ⊤
+HasMade (SyncName n) work = IsSome work.stage × ⊤
 HasMade (Remove e) work = IsSome work.stage × ⊤
 HasMade Installed work = ⊤ × ⊤
 HasMade (Refused e) work = ⊤ × ⊤
+HasMade due work = IsSome work.stage × IsNone work.record_stage
 
 -- What is known there of any folder: where the answers are due, the state was fed what was read back; and from there on
 -- it is an update.
 abbrev pub Knows : {E H : Type 0} → Verifier → Terms → Due E → Work H → List ℕ → Type 0
 Knows accepts terms (Answer kept) work read = IsFedState work.state read
-Knows accepts terms (TakeRights n) work read = IsVouched accepts terms
+Knows accepts terms (TakePermissions n) work read = IsVouched accepts terms
 Knows accepts terms due work read = ⊤
 
 -- the lock is held, but for the call that locks
@@ -107,6 +94,16 @@ pub record Went (s : Setting) (due : Due InstallFault) (outcome : Outcome Instal
   pub explained : Explains s due outcome h h'
   pub memory : WantsNoMemory due outcome
 
+-- The call that was due went so, wherever the stages were made that it uses: with what is known before it and after it
+-- of any folder, and with the hosts before and after it by what was read back.
+abbrev pub HasCalled : {H : Type 0} → Verifier → Terms → Bool → (H → ℕ) → Due InstallFault → Outcome InstallFault
+    → Work H → Work H → (List ℕ → Host) → (List ℕ → Host) → Type 0
+HasCalled accepts terms first file_of due outcome old new before after =
+    (read : List ℕ) → HasMade due old → Knows accepts terms due old read
+    → HasMade (next due outcome) new × ((then : List ℕ) × Knows accepts terms (next due outcome) new then
+    × ((names : Names) → AreNamed file_of new names → AreNamed file_of old names
+    × Went (setting accepts terms first names) due outcome (before read) (after then)))
+
 -- how many calls there may still be
 abbrev pub calls_left : {E : Type 0} → Due E → ℕ
 calls_left due = 19 - due_number due
@@ -119,3 +116,8 @@ done_or (Err e) = Failed e
 abbrev pub number_or : Result ℕ InstallFault → Outcome InstallFault
 number_or (Ok n) = Number n
 number_or (Err e) = Failed e
+
+-- the same of a call of the folder, which fails for this fault
+abbrev pub made_or : {D : Type 0} → Result Unit D → InstallFault → Outcome InstallFault
+made_or (Ok done) e = Done
+made_or (Err fault) e = Failed e

@@ -2,9 +2,9 @@
 -- crash leaves of both. Files are numbered, and no number comes twice. The definitions say what one call of the
 -- system does from one moment to the next, and what other processes may do between two calls.
 use Rattle.std.specs.Prelude.{◌≡◌, ◌≢◌, ◌⊎◌, ℕ, ◌<◌, ◌≤◌, Bool, true, false, List, [], ◌∷◌, ◌++◌, length, take, drop, Option, Some, None, Result, IfOk, MatchResult, OnOk, OnErr}
-use Rattle.minisign_base.specs.Devices.{Rose}
-use Rattle.minisign_install.specs.declared.folders.Name.{Name}
-use Rattle.minisign_install.specs.declared.folders.Name.TheVariants.{Record}
+use Rattle.minisign_install.specs.Faults.{Rose}
+pub use Rattle.minisign_install.specs.declared.folders.Name.{Name}
+pub use Rattle.minisign_install.specs.declared.folders.Name.TheVariants.{Place, Record}
 
 -- what processes find in the folder at one moment
 pub record Moment : Type 0 where
@@ -64,7 +64,7 @@ abbrev pub IsApart : Moment → ℕ → Type 0
 IsApart m file = (name : Name) → ¬ (MayLead m name file)
 
 -- who opens the name finds exactly these bytes, which are on the disk
-pub record Stands (m : Moment) (name : Name) (bytes : List ℕ) : Type 0 where
+pub record HasOnDisk (m : Moment) (name : Name) (bytes : List ℕ) : Type 0 where
   pub file : ℕ
   pub leads : m.leads name ≡ Some file
   pub holds : m.holds file ≡ bytes
@@ -74,7 +74,7 @@ pub record Stands (m : Moment) (name : Name) (bytes : List ℕ) : Type 0 where
 
 -- The record leads to the file that it led to, and a crash leaves it leading to no more files than before. All of
 -- them hold what they held, and hold it after a crash where they did so before.
-pub record LeavesRecord (old new : Moment) : Type 0 where
+pub record RecordUnchanged (old new : Moment) : Type 0 where
   pub leads : new.leads Record ≡ old.leads Record
   pub left : (f : ℕ) → new.left Record f ≡ true → MayLead old Record f
   pub holds : (f : ℕ) → MayLead old Record f → new.holds f ≡ old.holds f
@@ -85,13 +85,13 @@ pub record LeavesRecord (old new : Moment) : Type 0 where
 -- since whoever keeps to the lock writes the record only with the lock held. All else they may do: to the place at
 -- any time, and to the record while this run does not hold the lock. Of a process that changes the record without the
 -- lock, or a stage that is not its own, nothing is said.
-pub record OthersLeave (locked : Bool) (owns : List ℕ → Bool) (old new : Moment) : Type 0 where
+pub record OtherProcesses (locked : Bool) (owns : List ℕ → Bool) (old new : Moment) : Type 0 where
   pub stages : (s : List ℕ) → owns s ≡ true → new.stages s ≡ old.stages s
   pub holds : (s : List ℕ) (f : ℕ) → owns s ≡ true → old.stages s ≡ Some f → new.holds f ≡ old.holds f
   pub on_disk : (s : List ℕ) (f : ℕ) → owns s ≡ true → old.stages s ≡ Some f → new.on_disk f ≡ old.on_disk f
   pub rights : (s : List ℕ) (f : ℕ) → owns s ≡ true → old.stages s ≡ Some f → new.rights f ≡ old.rights f
   pub apart : (s : List ℕ) (f : ℕ) → owns s ≡ true → old.stages s ≡ Some f → IsApart old f → IsApart new f
-  pub record_left : locked ≡ true → LeavesRecord old new
+  pub record_left : locked ≡ true → RecordUnchanged old new
 
 -- == What one call does ==
 
@@ -130,7 +130,7 @@ pub record GivesRights (file : ℕ) (old new : Moment) : Type 0 where
   pub given : new.rights file ≡ true
 
 -- what the file holds comes to the disk, and its rights stay
-pub record Settles (file : ℕ) (old new : Moment) : Type 0 where
+pub record Syncs (file : ℕ) (old new : Moment) : Type 0 where
   pub spoils : Spoils file old new
   pub same : new.holds file ≡ old.holds file
   pub on_disk : new.on_disk file ≡ true
@@ -150,7 +150,7 @@ pub record Renames (name : List ℕ) (to : Name) (old new : Moment) : Type 0 whe
   pub stages : (s : List ℕ) → s ≢ name → new.stages s ≡ old.stages s
 
 -- names and files stay, and a crash leaves no more than before
-pub record KeepsNames (old new : Moment) : Type 0 where
+pub record MaySyncDirectory (old new : Moment) : Type 0 where
   pub leads : new.leads ≡ old.leads
   pub left : (n : Name) (f : ℕ) → new.left n f ≡ true → MayLead old n f
   pub holds : new.holds ≡ old.holds
@@ -159,8 +159,8 @@ pub record KeepsNames (old new : Moment) : Type 0 where
   pub stages : new.stages ≡ old.stages
 
 -- the names come to the disk: a crash leaves them leading where they lead
-pub record SettlesNames (old new : Moment) : Type 0 where
-  pub same : KeepsNames old new
+pub record SyncsDirectory (old new : Moment) : Type 0 where
+  pub same : MaySyncDirectory old new
   pub settled : (n : Name) (f : ℕ) → new.left n f ≡ true → new.leads n ≡ Some f
 
 -- a stage's name is removed
@@ -182,13 +182,13 @@ pub record Clears (old new : Moment) : Type 0 where
   pub rights : new.rights ≡ old.rights
 
 -- no stage is left that could be removed
-abbrev pub IsLeftClear : Moment → Type 0
-IsLeftClear m = (s : List ℕ) → m.fixed s ≡ false → m.stages s ≡ None
+abbrev pub IsClear : Moment → Type 0
+IsClear m = (s : List ℕ) → m.fixed s ≡ false → m.stages s ≡ None
 
 -- all stages' names are removed that can be
 pub record ClearsAll (old new : Moment) : Type 0 where
   pub clears : Clears old new
-  pub clear : IsLeftClear new
+  pub clear : IsClear new
 
 -- nothing changed
 abbrev pub IsStill : Moment → Moment → Type 0
@@ -216,14 +216,14 @@ Perhaps step old new = (new ≡ old) ⊎ step old new
 -- Some steps of others, then this call's own, which is noted. No call lets the lock go.
 pub record HasStepped (old new : Run) (call : Moment → Moment → Type 0) : Type 0 where
   pub before : Moment
-  pub others : OthersLeave old.locked old.owns old.now before
+  pub others : OtherProcesses old.locked old.owns old.now before
   pub this : call before new.now
   pub noted : new.steps ≡ (record { before = before; after = new.now }) ∷ old.steps
   pub known : new.known ≡ old.known
   pub locked : old.locked ≡ true → new.locked ≡ true
 
 -- what is the run's own stays
-pub record KeepsOwn (old new : Run) : Type 0 where
+pub record OwnsTheSame (old new : Run) : Type 0 where
   pub owns : new.owns ≡ old.owns
 
 -- one more name is the run's own
@@ -237,8 +237,11 @@ pub record OwnsLess (name : List ℕ) (old new : Run) : Type 0 where
   pub others : (s : List ℕ) → s ≢ name → new.owns s ≡ old.owns s
 
 -- the call did this, or failed and perhaps did it; nothing became or ceased to be the run's own
-abbrev pub HasTried : {A E : Type 0} → (Moment → Moment → Type 0) → (Moment → Moment → Type 0) → Run → Run → Result A E → Type 0
-HasTried done failed old new answer = MatchResult answer (λ _. HasStepped old new done × KeepsOwn old new) (λ _. HasStepped old new failed × KeepsOwn old new)
+abbrev pub HasTried : {A E : Type 0} → (Moment → Moment → Type 0) → (Moment → Moment → Type 0) → Run → Run → Result A E
+    → Type 0
+HasTried done failed old new answer =
+    MatchResult answer (λ _. HasStepped old new done × OwnsTheSame old new)
+    (λ _. HasStepped old new failed × OwnsTheSame old new)
 
 -- the lock was asked for, which changed nothing, and got, since no other run held it
 pub record HasLocked (old new : Run) : Type 0 where
@@ -262,7 +265,8 @@ pub record HasRenamed (name : List ℕ) (to : Name) (old new : Run) : Type 0 whe
 
 -- a stage was removed, or its removal failed and was perhaps done; it is the run's own no longer
 pub record HasRemoved {A E : Type 0} (name : List ℕ) (old new : Run) (answer : Result A E) : Type 0 where
-  pub stepped : MatchResult answer (λ _. HasStepped old new (Removes name)) (λ _. HasStepped old new (Perhaps (Removes name)))
+  pub stepped : MatchResult answer (λ _. HasStepped old new (Removes name))
+      (λ _. HasStepped old new (Perhaps (Removes name)))
   pub own : OwnsLess name old new
 
 -- these are the bytes of a file from an offset on, at least one where there are any and there is room
@@ -281,11 +285,25 @@ pub record Finds (name : Name) (found : Option (List ℕ)) (old new : Moment) : 
   pub still : new ≡ old
   pub found_there : IsFound old name found
 
+-- nothing changed, and the name was found to lead to this file, or to none
+pub record Leads (name : Name) (file : Option ℕ) (old new : Moment) : Type 0 where
+  pub still : new ≡ old
+  pub leads : old.leads name ≡ file
+
 -- the run of a folder of which nothing is known
 abbrev pub unknown : Run
 unknown = record {
   known = false;
-  now = record { leads = λ _. None; stages = λ _. None; holds = λ _. []; on_disk = λ _. false; left = λ _ _. false; rights = λ _. false; fixed = λ _. false; busy = false };
+  now = record {
+    leads = λ _. None;
+    stages = λ _. None;
+    holds = λ _. [];
+    on_disk = λ _. false;
+    left = λ _ _. false;
+    rights = λ _. false;
+    fixed = λ _. false;
+    busy = false;
+  };
   steps = [];
   owns = λ _. false;
   locked = false;

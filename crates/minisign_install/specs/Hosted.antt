@@ -1,11 +1,9 @@
 -- What an installation that a host in another language holds stands for, and what its calls do.
-use Rattle.std.specs.Prelude.{◌≡◌, ◌⊎◌, ◌==◌, ◌||◌, ◌<◌, ◌≤◌, ℕ, Bool, true, false, if◌then◌else◌, List, [], length, Option, Some, None, MatchResult, Ok}
-use Rattle.std.specs.declared.result.Result.{Result}
+use Rattle.std.specs.Prelude.{◌≡◌, ◌⊎◌, ◌==◌, ◌||◌, ◌<◌, ◌≤◌, ℕ, Bool, true, false, if◌then◌else◌, List, [], length, Option, Some, None, MatchResult, Ok, Result}
 use Rattle.std.specs.Str.{IsUtf8}
-use Rattle.minisign_base.specs.Fault.{Fault, Named}
+use Rattle.minisign_install.specs.Faults.{Fault, Named, NotUtf8, OutOfMemory, RandomSourceFailed, ReadingFailed, WritingFailed, InstallFault, DirectoryNotSynced, Library, PlaceInUse}
 use Rattle.minisign_base.specs.Faults.{fault_row}
-use Rattle.minisign_base.specs.declared.faults.NamedFault.TheVariants.{NotUtf8, OutOfMemory, RandomSourceFailed, ReadingFailed, WritingFailed}
-use Rattle.minisign.specs.Acceptance.{Verifier}
+use Rattle.minisign_install.specs.Installing.{Verifier, IsKeptNumber, IsUpdate, Terms}
 use Rattle.minisign.specs.Records.{CommentsRecord, SignatureBoxRecord}
 use Rattle.minisign.specs.SignatureText.{read_signature_box}
 use Rattle.minisign_external.specs.Numbers.{IsAnswer, misuse_number}
@@ -15,54 +13,21 @@ use Rattle.minisign_external.specs.declared.public_keys.PublicKeyValue.{PublicKe
 use Rattle.minisign_external.specs.declared.state.Misuse.{Misuse}
 use Rattle.minisign_external.specs.declared.state.Misuse.TheVariants.{BadAnswer, BadNumbering, NotDue}
 use Rattle.minisign_external.specs.declared.state.Refusal.TheVariants as asking
-use Rattle.minisign_install.specs.Comments.{Says}
+use Rattle.minisign_install.specs.Comments.{Says, Numbering, Timestamp, Version}
 use Rattle.minisign_install.specs.HostNumbers.{install_number, numbering_number}
-use Rattle.minisign_install.specs.Installing.{IsKeptNumber, IsUpdate, Terms}
 pub use Rattle.minisign_install.specs.Order.{due_number}
-use Rattle.minisign_install.specs.Order.{fits, next}
+use Rattle.minisign_install.specs.Order.{fits, next, Due, Lock, Clear, ReadRecord, Create, Copy, ReadBack, Answer, TakePermissions, Sync, CreateRecord, WriteRecord, SyncRecord, RenameRecord, SyncRecordName, Rename, SyncName, RemoveRecord, Remove, Outcome, Done, More, Failed}
 use Rattle.minisign_install.specs.Refusals.{IsCommentRefused, IsDataRefused, IsRecordRefused}
-use Rattle.minisign_install.specs.declared.comments.Numbering.{Numbering}
-use Rattle.minisign_install.specs.declared.comments.Numbering.TheVariants.{Timestamp, Version}
-use Rattle.minisign_install.specs.declared.faults.InstallFault.{InstallFault}
-use Rattle.minisign_install.specs.declared.faults.InstallFault.TheVariants.{FolderNotOnDisk, Library, PlaceInUse}
 use Rattle.minisign_install.specs.declared.hosted.Installation.{Installation}
 use Rattle.minisign_install.specs.declared.hosted.HostRefusal.{HostRefusal}
 use Rattle.minisign_install.specs.declared.hosted.HostRefusal.TheVariants.{WrongUse, Refused}
-use Rattle.minisign_install.specs.declared.order.Due.{Due}
-use Rattle.minisign_install.specs.declared.order.Due.TheVariants.{Lock, Clear, ReadRecord, Create, Copy, ReadBack, Answer, TakeRights, Settle, CreateRecord, WriteRecord, SettleRecord, RenameRecord, SettleRecordName, Rename, SettleName, RemoveRecord, Remove}
 use Rattle.minisign_install.specs.declared.order.Due.TheVariants as ended
-use Rattle.minisign_install.specs.declared.order.Outcome.{Outcome}
-use Rattle.minisign_install.specs.declared.order.Outcome.TheVariants.{Done, More, Failed}
 
 -- the mark of an installation that was begun: "minstall"
 abbrev pub begun_mark : ℕ
 begun_mark = 7812726606361684333
 
 -- == What is due, in stored form ==
-
--- the number of an update, or of the record, that comes with the call
-abbrev pub due_update : Due ℕ → ℕ
-due_update (Create kept) = kept
-due_update (Copy kept) = kept
-due_update (ReadBack kept) = kept
-due_update (Answer kept) = kept
-due_update (TakeRights n) = n
-due_update (Settle n) = n
-due_update (CreateRecord n) = n
-due_update (WriteRecord n) = n
-due_update (SettleRecord n) = n
-due_update (RenameRecord n) = n
-due_update (SettleRecordName n) = n
-due_update (Rename n) = n
-due_update (SettleName n) = n
-due_update due = 0
-
--- the number of the fault that comes with the call
-abbrev pub due_fault : Due ℕ → ℕ
-due_fault (RemoveRecord e) = e
-due_fault (Remove e) = e
-due_fault (ended.Refused e) = e
-due_fault due = 0
 
 -- what is due by a call's number, with the number and the fault that come with it
 abbrev pub due_from : ℕ → ℕ → ℕ → Option (Due ℕ)
@@ -74,15 +39,15 @@ due_from call n e =
     else if call == 5 then Some (Copy n)
     else if call == 6 then Some (ReadBack n)
     else if call == 7 then Some (Answer n)
-    else if call == 8 then Some (TakeRights n)
-    else if call == 9 then Some (Settle n)
+    else if call == 8 then Some (TakePermissions n)
+    else if call == 9 then Some (Sync n)
     else if call == 10 then Some (CreateRecord n)
     else if call == 11 then Some (WriteRecord n)
-    else if call == 12 then Some (SettleRecord n)
+    else if call == 12 then Some (SyncRecord n)
     else if call == 13 then Some (RenameRecord n)
-    else if call == 14 then Some (SettleRecordName n)
+    else if call == 14 then Some (SyncRecordName n)
     else if call == 15 then Some (Rename n)
-    else if call == 16 then Some (SettleName n)
+    else if call == 16 then Some (SyncName n)
     else if call == 17 then Some (RemoveRecord e)
     else if call == 18 then Some (Remove e)
     else if call == 19 then Some ended.Installed
@@ -99,7 +64,7 @@ IsDue i due = due_of i ≡ Some due
 
 -- all but what is due stays: what was fed and asked, whether this is the first installation, the field that the number
 -- stands in, and what came of the signed comment
-pub record KeepsRest (old new : Installation) : Type 0 where
+pub record RestUnchanged (old new : Installation) : Type 0 where
   pub state : new.state ≡ old.state
   pub is_first : new.is_first ≡ old.is_first
   pub numbering : new.numbering ≡ old.numbering
@@ -122,7 +87,7 @@ pub record HasGone (outcome : Outcome ℕ) (old new : Installation) : Type 0 whe
   pub due : IsDue old was
   pub fit : fits was outcome ≡ true
   pub next_due : IsDue new (next was outcome)
-  pub rest : KeepsRest old new
+  pub rest : RestUnchanged old new
 
 -- what is read back is fed by a call of its own
 abbrev pub is_read_back : Due ℕ → Bool
@@ -150,7 +115,7 @@ is_failure due e = is_device_fault e
 
 -- what it is refused for then: where the place's name could not be brought to the disk, for that
 abbrev pub failure : Due ℕ → ℕ → ℕ
-failure (SettleName n) e = install_number FolderNotOnDisk
+failure (SyncName n) e = install_number DirectoryNotSynced
 failure due e = e
 
 -- the call that was due failed for this fault
@@ -173,15 +138,17 @@ numbering_of i = if i.numbering == numbering_number Version then Version else Ti
 -- by what the record was found to hold, its number is kept, or the run is refused
 abbrev pub HasReadRecord : Option (List ℕ) → Installation → Installation → Type 0
 HasReadRecord found old new =
-    IsDue old ReadRecord × KeepsRest old new
+    IsDue old ReadRecord × RestUnchanged old new
     × (((kept : ℕ) × IsDue new (Create kept) × IsKeptNumber (numbering_of old) (old.is_first == 1) found kept)
-    ⊎ ((e : InstallFault) × IsDue new (ended.Refused (install_number e)) × IsRecordRefused (numbering_of old) (old.is_first == 1) found e))
+    ⊎ ((e : InstallFault) × IsDue new (ended.Refused (install_number e))
+    × IsRecordRefused (numbering_of old) (old.is_first == 1) found e))
 
 -- == Judging ==
 
 -- the updates that these arguments of a call want
 abbrev pub wanted_by : List ℕ → List ℕ → List ℕ → Numbering → ℕ → Terms
-wanted_by pk_text sig_text file numbering moment = record { pk_text = pk_text; sig_text = sig_text; file = file; numbering = numbering; moment = moment }
+wanted_by pk_text sig_text file numbering moment =
+    record { pk_text = pk_text; sig_text = sig_text; file = file; numbering = numbering; moment = moment }
 
 -- a piece was read back, or with none of it the end
 abbrev pub read_outcome : List ℕ → Outcome ℕ
@@ -208,7 +175,8 @@ IsJudged judged n terms kept comment =
 -- it is kept of the comment that the text of a signature has, which reads as one
 abbrev pub IsTextJudged : ℕ → ℕ → Terms → ℕ → Type 0
 IsTextJudged judged n terms kept =
-    (x : SignatureBoxRecord) (c : CommentsRecord) → read_signature_box terms.sig_text ≡ Ok x → x.comments ≡ Some c → IsJudged judged n terms kept c.trusted
+    (x : SignatureBoxRecord) (c : CommentsRecord) → read_signature_box terms.sig_text ≡ Ok x → x.comments ≡ Some c
+    → IsJudged judged n terms kept c.trusted
 
 -- The questions of the two texts were asked and the digest was told, where this number was kept, and the comment of the
 -- box that the second one reads as was judged.
@@ -221,16 +189,17 @@ pub record IsAsking (i : Installation) (terms : Terms) (kept : ℕ) : Type 0 whe
   pub judged : IsTextJudged i.comment i.update terms kept
 
 -- asking was refused: it is not due, or the state is used wrongly or has no room for the message, and nothing changes;
--- or the name of the file or the text of the signature is not UTF-8, or it is refused under the key: then the stage is to
--- be removed, for that
+-- or the name of the file or the text of the signature is not UTF-8, or it is refused under the key: then the stage is
+-- to be removed, for that
 abbrev pub IsAskRefusal : Installation → Installation → PublicKeyValue → List ℕ → List ℕ → ℕ → HostRefusal → Type 0
 IsAskRefusal old new key sig_text file room (WrongUse m) =
     (new ≡ old) × (((m ≡ NotDue) × ((kept : ℕ) → ¬ (IsDue old (Answer kept))))
     ⊎ IsAskFedRefusal old.state key sig_text false room (asking.WrongUse m))
 IsAskRefusal old new key sig_text file room (Refused e) =
-    KeepsRest old new × (kept : ℕ) × IsDue old (Answer kept) × IsDue new (Remove (install_number e))
+    RestUnchanged old new × (kept : ℕ) × IsDue old (Answer kept) × IsDue new (Remove (install_number e))
     × (fault : Fault) × (e ≡ Library fault)
-    × (((fault ≡ Named NotUtf8) × ¬ (IsUtf8 file)) ⊎ (IsUtf8 file × IsAskFedRefusal old.state key sig_text false room (asking.Refused fault)))
+    × (((fault ≡ Named NotUtf8) × ¬ (IsUtf8 file))
+    ⊎ (IsUtf8 file × IsAskFedRefusal old.state key sig_text false room (asking.Refused fault)))
 
 -- the number of a refusal
 abbrev pub host_number : HostRefusal → ℕ
@@ -240,12 +209,13 @@ host_number (Refused e) = install_number e
 -- an update is refused: the stage is to be removed, for the first reason
 abbrev pub IsUpdateRefusal : Verifier → Terms → ℕ → List ℕ → Installation → HostRefusal → Type 0
 IsUpdateRefusal accepts terms kept message new (WrongUse m) = ⊥
-IsUpdateRefusal accepts terms kept message new (Refused e) = IsDue new (Remove (install_number e)) × IsDataRefused accepts terms kept message e
+IsUpdateRefusal accepts terms kept message new (Refused e) =
+    IsDue new (Remove (install_number e)) × IsDataRefused accepts terms kept message e
 
 -- what is read back is an update of this number, and its rights are due; or it is none
 abbrev pub GivesUpdate : {T : Type 0} → Verifier → Terms → ℕ → List ℕ → Installation → Result T HostRefusal → Type 0
 GivesUpdate accepts terms kept message new r =
-    MatchResult r (λ _. (n : ℕ) × IsDue new (TakeRights n) × IsUpdate accepts terms kept message n)
+    MatchResult r (λ _. (n : ℕ) × IsDue new (TakePermissions n) × IsUpdate accepts terms kept message n)
     (IsUpdateRefusal accepts terms kept message new)
 
 -- no success: the answers are not due, or no questions were asked, and nothing changes; or the stage is to be removed
@@ -264,14 +234,16 @@ IsCommentFault comment terms kept e =
 
 -- asking was refused, by number
 abbrev pub IsAskNumber : Installation → Installation → PublicKeyValue → List ℕ → List ℕ → ℕ → ℕ → Type 0
-IsAskNumber old new key sig_text file room n = (r : HostRefusal) × (n ≡ host_number r) × IsAskRefusal old new key sig_text file room r
+IsAskNumber old new key sig_text file room n =
+    (r : HostRefusal) × (n ≡ host_number r) × IsAskRefusal old new key sig_text file room r
 
 -- what is read back is an update, and its rights are due; or it is none, and the stage is to be removed for the first
 -- reason, whose number this is
 abbrev pub GivesUpdateNumber : Verifier → Terms → ℕ → List ℕ → Installation → ℕ → Type 0
 GivesUpdateNumber accepts terms kept message new n =
-    ((n ≡ 0) × (update : ℕ) × IsDue new (TakeRights update) × IsUpdate accepts terms kept message update)
-    ⊎ ((0 < n) × (e : InstallFault) × (n ≡ install_number e) × IsDue new (Remove n) × IsDataRefused accepts terms kept message e)
+    ((n ≡ 0) × (update : ℕ) × IsDue new (TakePermissions update) × IsUpdate accepts terms kept message update)
+    ⊎ ((0 < n) × (e : InstallFault) × (n ≡ install_number e) × IsDue new (Remove n)
+    × IsDataRefused accepts terms kept message e)
 
 -- no success, by number: an answer is none, and nothing changes; or as above
 abbrev pub IsAnswerNumber : Installation → Installation → ℕ → ℕ → ℕ → Type 0
@@ -283,4 +255,5 @@ IsAnswerNumber old new first second n =
 abbrev pub IsCommentNumber : List ℕ → List ℕ → ℕ → ℕ → ℕ → ℕ → Type 0
 IsCommentNumber comment file numbering moment kept n =
     ((n ≡ misuse_number BadNumbering) × (1 < numbering))
-    ⊎ ((k : Numbering) × (numbering ≡ numbering_number k) × (e : InstallFault) × (n ≡ install_number e) × IsCommentFault comment (wanted_by [] [] file k moment) kept e)
+    ⊎ ((k : Numbering) × (numbering ≡ numbering_number k) × (e : InstallFault) × (n ≡ install_number e)
+    × IsCommentFault comment (wanted_by [] [] file k moment) kept e)

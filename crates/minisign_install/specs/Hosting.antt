@@ -1,33 +1,29 @@
--- A host in another language that does what include/minisign.h says: it makes the call that an installation says is due, as it
--- is told there, and says how it went by the call that is there for it. Of each call of the header this cites what its clauses
--- say where it is no wrong use.
+-- A host in another language that does what include/minisign.h says: it makes the call that an installation says is
+-- due, as it is told there, and says how it went by the call that is there for it. Of each call of the header this
+-- cites what its clauses say where it is no wrong use.
 use Rattle.std.specs.Prelude.{◌≡◌, ◌==◌, ◌⊎◌, ◌++◌, ℕ, Bool, List, [], ◌∷◌, Option, Ok, false, take}
 use Rattle.minisign_hash.specs.Blake2b.{blake2b_digest}
-use Rattle.minisign.specs.Acceptance.{Verifier}
+use Rattle.minisign_install.specs.Installing.{Verifier, Terms}
 use Rattle.minisign.specs.SignatureText.{SignatureTextRecord}
 use Rattle.minisign_external.specs.Questions.{AnswersTexts, IsKeyText, read_under}
 use Rattle.minisign_external.specs.States.{AreQuestions, IsFedState}
 use Rattle.minisign_external.specs.declared.public_keys.PublicKeyValue.{PublicKeyValue}
 use Rattle.minisign_external.specs.declared.state.Questions.{Questions}
-use Rattle.minisign_install.specs.Folders.{Finds}
+use Rattle.minisign_install.specs.Folders.{Finds, Record}
 use Rattle.minisign_install.specs.Hosted.{CallHasFailed, GivesUpdateNumber, HasGone, HasReadBack, HasReadRecord, IsAskRefusal, IsAsking, IsDue, failure, numbering_of, wanted_by}
 use Rattle.minisign_install.specs.Hosts.{Calls, Host, Makes, OnFolder, Setting}
-use Rattle.minisign_install.specs.Installing.{Terms}
-use Rattle.minisign_install.specs.declared.comments.Numbering.{Numbering}
-use Rattle.minisign_install.specs.declared.faults.InstallFault.{InstallFault}
-use Rattle.minisign_install.specs.declared.folders.Name.TheVariants.{Record}
+use Rattle.minisign_install.specs.Comments.{Numbering}
+use Rattle.minisign_install.specs.Faults.{InstallFault}
 use Rattle.minisign_install.specs.declared.hosted.HostRefusal.TheVariants.{Refused}
 use Rattle.minisign_install.specs.declared.hosted.Installation.{Installation}
-use Rattle.minisign_install.specs.declared.order.Due.TheVariants.{Answer, Lock, ReadBack}
-use Rattle.minisign_install.specs.declared.order.Outcome.{Outcome}
-use Rattle.minisign_install.specs.declared.order.Outcome.TheVariants.{Done, Failed, More}
+use Rattle.minisign_install.specs.Order.{Answer, Lock, ReadBack, Outcome, Done, Failed, More}
 
 -- the same setting, where the number stands in this field
 abbrev pub by_field : Setting → Numbering → Setting
 by_field s field = record s { terms = record s.terms { numbering = field } }
 
--- minisign_install_init: whether this is the first installation and the field are those of the setting, and nothing was read
--- back yet
+-- minisign_install_init: whether this is the first installation and the field are those of the setting, and nothing was
+-- read back yet
 pub record HasBegun (s : Setting) (i : Installation) (h : Host) : Type 0 where
   pub due : IsDue i Lock
   pub fed : IsFedState i.state []
@@ -35,8 +31,8 @@ pub record HasBegun (s : Setting) (i : Installation) (h : Host) : Type 0 where
   pub field : numbering_of i ≡ s.terms.numbering
   pub read : h.read ≡ []
 
--- minisign_install_done or minisign_install_more: the call that was due was made and went so. Into the stage of the record the
--- host writes what minisign_install_number_text gives, which goes by the field of the installation.
+-- minisign_install_done or minisign_install_more: the call that was due was made and went so. Into the stage of the
+-- record the host writes what minisign_install_number_text gives, which goes by the field of the installation.
 pub record TellsOutcome (outcome : Outcome ℕ) (s : Setting) (i i' : Installation) (h h' : Host) : Type 0 where
   pub gone : HasGone outcome i i'
   pub other : (kept : ℕ) → ¬ (IsDue i (ReadBack kept))
@@ -48,7 +44,8 @@ pub record TellsFailure (s : Setting) (i i' : Installation) (h h' : Host) : Type
   pub failed : CallHasFailed why i i'
   pub made : Makes (by_field s (numbering_of i)) failed.was (Failed (failure failed.was why)) h h'
 
--- minisign_install_record, with the bytes that the record was found to hold, or minisign_install_no_record where there was none
+-- minisign_install_record, with the bytes that the record was found to hold, or minisign_install_no_record where there
+-- was none
 pub record TellsRecord (s : Setting) (i i' : Installation) (h h' : Host) : Type 0 where
   pub found : Option (List ℕ)
   pub read : HasReadRecord found i i'
@@ -63,25 +60,30 @@ pub record TellsPiece (s : Setting) (i i' : Installation) (h h' : Host) : Type 0
   pub more : h'.read ≡ h.read ++ piece
   pub end : piece ≡ [] → h.run.now.holds s.file ≡ h.read
 
--- minisign_install_ask, with the key that the wanted text reads as, and the text of the signature and the name that are wanted; the signature scheme answered both questions; and
--- minisign_install_answer was told that, and answered this number
+-- minisign_install_ask, with the key that the wanted text reads as, and the text of the signature and the name that are
+-- wanted; the signature scheme answered both questions; and minisign_install_answer was told that, and answered this
+-- number
 pub record TellsAnswers (s : Setting) (i i' : Installation) (h h' : Host) : Type 0 where
   pub asked : Installation
   pub questions : Questions
   pub message : List ℕ
   pub key : PublicKeyValue
   pub keyed : IsKeyText s.terms.pk_text key
-  pub signed : (t : SignatureTextRecord) × (read_under key false s.terms.sig_text ≡ Ok t) × AreQuestions questions message key t
+  pub signed : (t : SignatureTextRecord) × (read_under key false s.terms.sig_text ≡ Ok t)
+      × AreQuestions questions message key t
   pub digest : (m : List ℕ) → IsFedState i.state m → questions.digest ≡ blake2b_digest 64 m
   pub asking : (kept : ℕ) × IsDue i (Answer kept)
-      × ((pk_text : List ℕ) → IsKeyText pk_text key → IsAsking asked (wanted_by pk_text s.terms.sig_text s.terms.file (numbering_of i) s.terms.moment) kept)
+      × ((pk_text : List ℕ) → IsKeyText pk_text key
+      → IsAsking asked (wanted_by pk_text s.terms.sig_text s.terms.file (numbering_of i) s.terms.moment) kept)
   pub first : Bool
   pub second : Bool
   pub to_first : first ≡ s.accepts questions.digest questions.public_key questions.signature
-  pub to_second : second ≡ s.accepts (take questions.message_len message) questions.public_key questions.comment_signature
+  pub to_second : second ≡ s.accepts
+      (take questions.message_len message) questions.public_key questions.comment_signature
   pub number : ℕ
   pub told : (terms : Terms) (kept : ℕ) (m : List ℕ) (accepts : Verifier) → IsAsking asked terms kept
-      → AnswersTexts accepts terms.pk_text terms.sig_text m first second → GivesUpdateNumber accepts terms kept m i' number
+      → AnswersTexts accepts terms.pk_text terms.sig_text m first second
+      → GivesUpdateNumber accepts terms kept m i' number
   pub asked_field : numbering_of asked ≡ numbering_of i
   pub field : numbering_of i' ≡ numbering_of asked
   pub still : h'.run ≡ h.run
@@ -108,4 +110,5 @@ pub record Told : Type 0 where
 -- that was so of each call, one after another
 abbrev pub HasObeyed : Setting → Installation → Host → List Told → Installation → Host → Type 0
 HasObeyed s i h [] i' h' = (i' ≡ i) × (h' ≡ h)
-HasObeyed s i h (told ∷ more) i' h' = Obeys s i told.installation h told.host × HasObeyed s told.installation told.host more i' h'
+HasObeyed s i h (told ∷ more) i' h' =
+    Obeys s i told.installation h told.host × HasObeyed s told.installation told.host more i' h'

@@ -3,22 +3,12 @@
 use Rattle.std.specs.Prelude.{◌≡◌, ◌⊎◌, ℕ, List, [], ◌∷◌, ◌++◌, Bool, Option, ⊤}
 use Rattle.std.specs.Io.KnownBytes.{Consumes, IsAtEnd}
 use Rattle.std.specs.List.{concat}
-use Rattle.minisign_base.specs.Devices.{Rose}
-use Rattle.minisign_base.specs.Fault.{Named}
-use Rattle.minisign_base.specs.declared.faults.NamedFault.TheVariants.{WritingFailed}
-use Rattle.minisign.specs.Acceptance.{Verifier}
-use Rattle.minisign_install.specs.Folders.{Appends, Clears, ClearsAll, GivesRights, HasCreated, HasLocked, HasRenamed, HasStepped, IsBusy, IsStill, KeepsNames, KeepsOwn, Moment, OwnsLess, Perhaps, Finds, Removes, Renames, Run, Settles, SettlesNames, Spoils, Known}
-use Rattle.minisign_install.specs.Installing.{HasInstalled, InstallsOnlyUpdates, IsKeptNumber, IsUpdate, Terms}
-use Rattle.minisign_install.specs.Order.{next}
-use Rattle.minisign_install.specs.Refusals.{Counts, IsDataRefused, IsCallFault, IsLibraryFault, IsRecordFault, IsRecordRefused, IsRefusal}
+use Rattle.minisign_install.specs.Faults.{Rose, Named, WritingFailed, InstallFault, DirectoryNotSynced, Library, PlaceInUse}
+use Rattle.minisign_install.specs.Installing.{Verifier, HasInstalled, InstallsOnlyUpdates, IsKeptNumber, IsUpdate, Terms}
+use Rattle.minisign_install.specs.Folders.{Appends, Clears, ClearsAll, GivesRights, HasCreated, HasLocked, HasRenamed, HasStepped, IsBusy, IsStill, MaySyncDirectory, OwnsTheSame, Moment, OwnsLess, Perhaps, Finds, Removes, Renames, Run, Syncs, SyncsDirectory, Spoils, Known, Place, Record}
+use Rattle.minisign_install.specs.Order.{next, Due, Lock, Clear, ReadRecord, Create, Copy, ReadBack, Answer, TakePermissions, Sync, CreateRecord, WriteRecord, SyncRecord, RenameRecord, SyncRecordName, Rename, SyncName, RemoveRecord, Remove, Outcome, Done, More, Number, Failed}
+use Rattle.minisign_install.specs.Refusals.{Counts, IsDataRefused, IsCallFault, IsLibraryFault, IsReadRefusal, IsRefusal}
 use Rattle.minisign_install.specs.RecordTexts.{record_of}
-use Rattle.minisign_install.specs.declared.faults.InstallFault.{InstallFault}
-use Rattle.minisign_install.specs.declared.faults.InstallFault.TheVariants.{FolderNotOnDisk, Library, PlaceInUse}
-use Rattle.minisign_install.specs.declared.folders.Name.TheVariants.{Place, Record}
-use Rattle.minisign_install.specs.declared.order.Due.{Due}
-use Rattle.minisign_install.specs.declared.order.Due.TheVariants.{Lock, Clear, ReadRecord, Create, Copy, ReadBack, Answer, TakeRights, Settle, CreateRecord, WriteRecord, SettleRecord, RenameRecord, SettleRecordName, Rename, SettleName, RemoveRecord, Remove}
-use Rattle.minisign_install.specs.declared.order.Outcome.{Outcome}
-use Rattle.minisign_install.specs.declared.order.Outcome.TheVariants.{Done, More, Number, Failed}
 
 -- what a run is about: what the signature scheme accepts, which update is wanted, whether it is the first one, and the
 -- names that are drawn for the stage and for that of the record, with the files that they are given to
@@ -45,7 +35,7 @@ OnFolder call h h' = call h.run h'.run × (h'.ahead ≡ h.ahead) × (h'.read ≡
 
 -- one call, with which no stage became or ceased to be the run's own
 abbrev pub Calls : (Moment → Moment → Type 0) → Run → Run → Type 0
-Calls call old new = HasStepped old new call × KeepsOwn old new
+Calls call old new = HasStepped old new call × OwnsTheSame old new
 
 -- one call that changed nothing, or none
 abbrev pub CallsNothing : Run → Run → Type 0
@@ -58,53 +48,62 @@ Writes file (piece ∷ more) old new = (mid : Run) × Calls (Appends file piece)
 
 -- the file grew so, and then a call failed that may have changed it somehow, or none was made
 abbrev pub WritesInPart : ℕ → Run → Run → Type 0
-WritesInPart file old new = (pieces : List (List ℕ)) × (mid : Run) × Writes file pieces old mid × ((new ≡ mid) ⊎ Calls (Spoils file) mid new)
+WritesInPart file old new =
+    (pieces : List (List ℕ)) × (mid : Run) × Writes file pieces old mid × ((new ≡ mid) ⊎ Calls (Spoils file) mid new)
 
 -- a stage's name was removed, or this was tried
-abbrev pub Lets : List ℕ → (Moment → Moment → Type 0) → Run → Run → Type 0
-Lets name call old new = HasStepped old new call × OwnsLess name old new
+abbrev pub CallsRemove : List ℕ → (Moment → Moment → Type 0) → Run → Run → Type 0
+CallsRemove name call old new = HasStepped old new call × OwnsLess name old new
 
 -- The call that was due was made as it was told, and went so.
 abbrev pub Makes : {E : Type 0} → Setting → Due E → Outcome E → Host → Host → Type 0
-Makes s Lock Done h h' = OnFolder (λ old new. HasLocked old new × KeepsOwn old new) h h'
+Makes s Lock Done h h' = OnFolder (λ old new. HasLocked old new × OwnsTheSame old new) h h'
 Makes s Lock (Failed e) h h' = OnFolder (Calls IsStill) h h'
 Makes s Clear Done h h' = OnFolder (Calls ClearsAll) h h'
 Makes s Clear (Failed e) h h' = OnFolder (Calls Clears) h h'
-Makes s ReadRecord (Number kept) h h' = OnFolder (λ old new. (found : Option (List ℕ)) × Calls (Finds Record found) old new × IsKeptNumber s.terms.numbering s.first found kept) h h'
+Makes s ReadRecord (Number kept) h h' =
+    OnFolder (λ old new. (found : Option (List ℕ)) × Calls (Finds Record found) old new
+    × IsKeptNumber s.terms.numbering s.first found kept) h h'
 Makes s ReadRecord (Failed e) h h' = OnFolder (Calls IsStill) h h'
 Makes s (Create kept) Done h h' = OnFolder (HasCreated s.name s.file) h h'
 Makes s (Create kept) (Failed e) h h' = OnFolder CallsNothing h h'
-Makes s (Copy kept) More h h' = (pieces : List (List ℕ)) × Writes s.file pieces h.run h'.run × Consumes h.ahead h'.ahead (concat pieces) × (h'.read ≡ h.read)
+Makes s (Copy kept) More h h' =
+    (pieces : List (List ℕ)) × Writes s.file pieces h.run h'.run × Consumes h.ahead h'.ahead (concat pieces)
+    × (h'.read ≡ h.read)
 Makes s (Copy kept) Done h h' =
-    (pieces : List (List ℕ)) × Writes s.file pieces h.run h'.run × Consumes h.ahead h'.ahead (concat pieces) × IsAtEnd h'.ahead × (h'.read ≡ h.read)
+    (pieces : List (List ℕ)) × Writes s.file pieces h.run h'.run × Consumes h.ahead h'.ahead (concat pieces)
+    × IsAtEnd h'.ahead × (h'.read ≡ h.read)
 Makes s (Copy kept) (Failed e) h h' = WritesInPart s.file h.run h'.run
 Makes s (ReadBack kept) More h h' = (h'.run ≡ h.run) × ((piece : List ℕ) × (h'.read ≡ h.read ++ piece))
 Makes s (ReadBack kept) Done h h' = (h'.run ≡ h.run) × (h.run.now.holds s.file ≡ h'.read)
 Makes s (ReadBack kept) (Failed e) h h' = h'.run ≡ h.run
 Makes s (Answer kept) (Number n) h h' = (h'.run ≡ h.run) × IsUpdate s.accepts s.terms kept h.read n
 Makes s (Answer kept) (Failed e) h h' = h'.run ≡ h.run
-Makes s (TakeRights n) Done h h' = OnFolder (Calls (GivesRights s.file)) h h'
-Makes s (TakeRights n) (Failed e) h h' = OnFolder (Calls (Spoils s.file)) h h'
-Makes s (Settle n) Done h h' = OnFolder (Calls (Settles s.file)) h h'
-Makes s (Settle n) (Failed e) h h' = OnFolder (Calls (Spoils s.file)) h h'
+Makes s (TakePermissions n) Done h h' = OnFolder (Calls (GivesRights s.file)) h h'
+Makes s (TakePermissions n) (Failed e) h h' = OnFolder (Calls (Spoils s.file)) h h'
+Makes s (Sync n) Done h h' = OnFolder (Calls (Syncs s.file)) h h'
+Makes s (Sync n) (Failed e) h h' = OnFolder (Calls (Spoils s.file)) h h'
 Makes s (CreateRecord n) Done h h' = OnFolder (HasCreated s.record_name s.record_file) h h'
 Makes s (CreateRecord n) (Failed e) h h' = OnFolder CallsNothing h h'
-Makes s (WriteRecord n) Done h h' = OnFolder (λ old new. (pieces : List (List ℕ)) × Writes s.record_file pieces old new × (concat pieces ≡ record_of s.terms.numbering n)) h h'
+Makes s (WriteRecord n) Done h h' =
+    OnFolder (λ old new. (pieces : List (List ℕ)) × Writes s.record_file pieces old new
+    × (concat pieces ≡ record_of s.terms.numbering n)) h h'
 Makes s (WriteRecord n) (Failed e) h h' = OnFolder (WritesInPart s.record_file) h h'
-Makes s (SettleRecord n) Done h h' = OnFolder (Calls (Settles s.record_file)) h h'
-Makes s (SettleRecord n) (Failed e) h h' = OnFolder (Calls (Spoils s.record_file)) h h'
+Makes s (SyncRecord n) Done h h' = OnFolder (Calls (Syncs s.record_file)) h h'
+Makes s (SyncRecord n) (Failed e) h h' = OnFolder (Calls (Spoils s.record_file)) h h'
 Makes s (RenameRecord n) Done h h' = OnFolder (HasRenamed s.record_name Record) h h'
 Makes s (RenameRecord n) (Failed e) h h' = OnFolder (Calls (Perhaps (Renames s.record_name Record))) h h'
-Makes s (SettleRecordName n) Done h h' = OnFolder (Calls SettlesNames) h h'
-Makes s (SettleRecordName n) (Failed e) h h' = OnFolder (Calls KeepsNames) h h'
+Makes s (SyncRecordName n) Done h h' = OnFolder (Calls SyncsDirectory) h h'
+Makes s (SyncRecordName n) (Failed e) h h' = OnFolder (Calls MaySyncDirectory) h h'
 Makes s (Rename n) Done h h' = OnFolder (HasRenamed s.name Place) h h'
 Makes s (Rename n) (Failed e) h h' = OnFolder (Calls (Perhaps (Renames s.name Place))) h h'
-Makes s (SettleName n) Done h h' = OnFolder (Calls SettlesNames) h h'
-Makes s (SettleName n) (Failed e) h h' = OnFolder (Calls KeepsNames) h h'
-Makes s (RemoveRecord first) Done h h' = OnFolder (Lets s.record_name (Removes s.record_name)) h h'
-Makes s (RemoveRecord first) (Failed e) h h' = OnFolder (Lets s.record_name (Perhaps (Removes s.record_name))) h h'
-Makes s (Remove first) Done h h' = OnFolder (Lets s.name (Removes s.name)) h h'
-Makes s (Remove first) (Failed e) h h' = OnFolder (Lets s.name (Perhaps (Removes s.name))) h h'
+Makes s (SyncName n) Done h h' = OnFolder (Calls SyncsDirectory) h h'
+Makes s (SyncName n) (Failed e) h h' = OnFolder (Calls MaySyncDirectory) h h'
+Makes s (RemoveRecord first) Done h h' = OnFolder (CallsRemove s.record_name (Removes s.record_name)) h h'
+Makes s (RemoveRecord first) (Failed e) h h' =
+    OnFolder (CallsRemove s.record_name (Perhaps (Removes s.record_name))) h h'
+Makes s (Remove first) Done h h' = OnFolder (CallsRemove s.name (Removes s.name)) h h'
+Makes s (Remove first) (Failed e) h h' = OnFolder (CallsRemove s.name (Perhaps (Removes s.name))) h h'
 Makes s due outcome h h' = ⊥
 
 -- what was said of a call, and the host after it
@@ -115,7 +114,8 @@ pub record Event (E : Type 0) : Type 0 where
 -- Each call was made as it was due, from when this was due to when that is.
 abbrev pub HasRun : {E : Type 0} → Setting → Due E → Host → List (Event E) → Due E → Host → Type 0
 HasRun s due h [] due' h' = (due' ≡ due) × (h' ≡ h)
-HasRun s due h (event ∷ more) due' h' = Makes s due event.outcome h event.host × HasRun s (next due event.outcome) event.host more due' h'
+HasRun s due h (event ∷ more) due' h' =
+    Makes s due event.outcome h event.host × HasRun s (next due event.outcome) event.host more due' h'
 
 -- == Why a call failed ==
 
@@ -123,16 +123,14 @@ HasRun s due h (event ∷ more) due' h' = Makes s due event.outcome h event.host
 abbrev pub DeviceFails : InstallFault → Host → Host → Type 0
 DeviceFails e h h' = IsLibraryFault (IsCallFault h.faults h'.faults) e
 
--- The fault says why the call that was due failed: a device's, or what was found is refused. A removal that fails is not
--- counted.
+-- The fault says why the call that was due failed: a device's, or what was found is refused. A removal that fails is
+-- not counted.
 abbrev pub Blames : Setting → Due InstallFault → InstallFault → Host → Host → Type 0
 Blames s Lock e h h' = ((e ≡ PlaceInUse) × Known h.run (HasStepped h.run h'.run IsBusy)) ⊎ DeviceFails e h h'
-Blames s ReadRecord e h h' =
-    (IsRecordFault s.first e × Known h.run ((found : Option (List ℕ)) × HasStepped h.run h'.run (Finds Record found) × IsRecordRefused s.terms.numbering s.first found e))
-    ⊎ DeviceFails e h h'
+Blames s ReadRecord e h h' = IsReadRefusal s.terms.numbering s.first h.run h'.run e ⊎ DeviceFails e h h'
 Blames s (Answer kept) e h h' = IsDataRefused s.accepts s.terms kept h.read e ⊎ DeviceFails e h h'
 Blames s (Rename n) e h h' = (e ≡ Library (Named WritingFailed)) × Rose h.faults.folder h'.faults.folder
-Blames s (SettleName n) e h h' = (e ≡ FolderNotOnDisk) × Rose h.faults.folder h'.faults.folder
+Blames s (SyncName n) e h h' = (e ≡ DirectoryNotSynced) × Rose h.faults.folder h'.faults.folder
 Blames s (RemoveRecord first) e h h' = h'.faults ≡ h.faults
 Blames s (Remove first) e h h' = h'.faults ≡ h.faults
 Blames s due e h h' = DeviceFails e h h'
@@ -145,7 +143,8 @@ Explains s due outcome h h' = h'.faults ≡ h.faults
 -- that is so of each call
 abbrev pub IsExplained : Setting → Due InstallFault → Host → List (Event InstallFault) → Type 0
 IsExplained s due h [] = ⊤
-IsExplained s due h (event ∷ more) = Explains s due event.outcome h event.host × IsExplained s (next due event.outcome) event.host more
+IsExplained s due h (event ∷ more) =
+    Explains s due event.outcome h event.host × IsExplained s (next due event.outcome) event.host more
 
 -- == What a run comes to ==
 
@@ -155,7 +154,8 @@ RunsSafely s old new = (new ≡ old) ⊎ InstallsOnlyUpdates s.accepts s.terms s
 
 -- the update that was ahead is installed, on the disk and for good, and its number with it
 abbrev pub RunHasInstalled : Setting → Option (List ℕ) → Run → Run → Type 0
-RunHasInstalled s ahead old new = (locked : Run) × HasLocked old locked × HasInstalled s.accepts s.terms s.first ahead locked new
+RunHasInstalled s ahead old new =
+    (locked : Run) × HasLocked old locked × HasInstalled s.accepts s.terms s.first ahead locked new
 
 -- the update was refused for this fault, which is the first reason
 abbrev pub RunIsRefused : Setting → Host → Host → InstallFault → Type 0

@@ -1,16 +1,13 @@
 -- What installing an update may bring to the place and to the record beside it.
 use Rattle.std.specs.Prelude.{◌≡◌, ◌⊎◌, ℕ, ◌≤◌, Bool, true, false, List, ◌++◌, All, Option, Some, IfSome}
-use Rattle.minisign.specs.Acceptance.{Verifier}
-use Rattle.minisign.specs.Calls.{TextsVouchWith}
-use Rattle.minisign_install.specs.Comments.{Says}
-use Rattle.minisign.specs.Reading.{IsAhead}
-use Rattle.minisign_install.specs.Folders.{HasLocked, HasStepped, IsFound, IsStill, Run, RunStep}
+pub use Rattle.minisign.specs.Acceptance.{Verifier}
+pub use Rattle.minisign.specs.Calls.{TextsVouchWith}
+use Rattle.minisign_install.specs.Comments.{Says, Numbering}
+pub use Rattle.minisign.specs.Reading.{IsAhead}
+use Rattle.minisign_install.specs.Folders.{HasLocked, HasStepped, IsFound, IsStill, Run, RunStep, Name, Place, Record}
 use Rattle.minisign_install.specs.RecordTexts.{HasNoNumber, IsNumberFor, record_of}
-use Rattle.minisign_install.specs.Runs.{BringsNothing, BringsOnly, HasCleared, IsPublished, Keeps, KeepsAt, rights_of}
-use Rattle.minisign_install.specs.declared.comments.Numbering.{Numbering}
-use Rattle.minisign_install.specs.declared.folders.Name.{Name}
+use Rattle.minisign_install.specs.Runs.{PublishesNothing, PublishesOnly, HasCleared, IsPublished, RecordHolds, RecordHoldsAt, rights_of}
 use Rattle.minisign_install.specs.declared.wanted.Wanted.{Wanted}
-use Rattle.minisign_install.specs.declared.folders.Name.TheVariants.{Place, Record}
 
 -- which updates are wanted: the two texts, the file's name, where the number stands, and at which moment they must not
 -- have expired, in seconds since the beginning of 1970
@@ -22,7 +19,14 @@ pub record Terms : Type 0 where
   pub moment : ℕ
 
 abbrev pub terms_of : Wanted → Terms
-terms_of w = record { pk_text = w.pk_text.now; sig_text = w.sig_text.now; file = w.file.now; numbering = w.numbering; moment = w.moment }
+terms_of w =
+    record {
+      pk_text = w.pk_text.now;
+      sig_text = w.sig_text.now;
+      file = w.file.now;
+      numbering = w.numbering;
+      moment = w.moment;
+    }
 
 -- The texts vouch for these bytes, not as a legacy signature would, and the comment that was signed with them names
 -- the file, has not expired, and has this number, which is not below the kept one.
@@ -33,17 +37,18 @@ pub record IsUpdate (accepts : Verifier) (terms : Terms) (kept : ℕ) (bytes : L
   pub newer : kept ≤ n
 
 -- To the place an update is brought, and to the record the number of one, behind the label of its field.
-abbrev pub IsBrought : Verifier → Terms → ℕ → Name → List ℕ → Type 0
-IsBrought accepts terms kept Place bytes = (n : ℕ) × IsUpdate accepts terms kept bytes n
-IsBrought accepts terms kept Record bytes = (n : ℕ) × (update : List ℕ) × IsUpdate accepts terms kept update n × (bytes ≡ record_of terms.numbering n)
+abbrev pub MayBePublished : Verifier → Terms → ℕ → Name → List ℕ → Type 0
+MayBePublished accepts terms kept Place bytes = (n : ℕ) × IsUpdate accepts terms kept bytes n
+MayBePublished accepts terms kept Record bytes =
+    (n : ℕ) × (update : List ℕ) × IsUpdate accepts terms kept update n × (bytes ≡ record_of terms.numbering n)
 
 -- to the record the number of an update, and nothing to the place
-abbrev pub IsRecordBrought : Verifier → Terms → ℕ → Name → List ℕ → Type 0
-IsRecordBrought accepts terms kept name bytes = (name ≡ Record) × IsBrought accepts terms kept Record bytes
+abbrev pub MayBeRecorded : Verifier → Terms → ℕ → Name → List ℕ → Type 0
+MayBeRecorded accepts terms kept name bytes = (name ≡ Record) × MayBePublished accepts terms kept Record bytes
 
 -- to the place an update of this number, and nothing to the record
-abbrev pub IsPlaced : Verifier → Terms → ℕ → ℕ → Name → List ℕ → Type 0
-IsPlaced accepts terms kept n name bytes = (name ≡ Place) × IsUpdate accepts terms kept bytes n
+abbrev pub MayBeInstalled : Verifier → Terms → ℕ → ℕ → Name → List ℕ → Type 0
+MayBeInstalled accepts terms kept n name bytes = (name ≡ Place) × IsUpdate accepts terms kept bytes n
 
 -- the number that the record holds for the field; where it holds none, that is 0 if this is the first installation
 abbrev pub IsKeptNumber : Numbering → Bool → Option (List ℕ) → ℕ → Type 0
@@ -53,42 +58,43 @@ IsKeptNumber numbering first found kept =
 
 -- The number goes first. Up to some point of the run nothing was brought to the place. From there on only updates of
 -- one number are, while the record has that number or a greater one, at each moment and after a crash at any.
-pub record PlacesBehind (accepts : Verifier) (terms : Terms) (kept : ℕ) (old new : Run) : Type 0 where
+pub record RecordsFirst (accepts : Verifier) (terms : Terms) (kept : ℕ) (old new : Run) : Type 0 where
   pub n : ℕ
   pub point : Run
-  pub recorded : BringsOnly (IsRecordBrought accepts terms kept) old point
+  pub recorded : PublishesOnly (MayBeRecorded accepts terms kept) old point
   pub locked : point.locked ≡ true
-  pub there : Keeps terms.numbering n point.now
-  pub placed : BringsOnly (IsPlaced accepts terms kept n) point new
-  pub number : All (KeepsAt terms.numbering n) placed.since
-  pub lasts : Keeps terms.numbering n new.now
+  pub there : RecordHolds terms.numbering n point.now
+  pub placed : PublishesOnly (MayBeInstalled accepts terms kept n) point new
+  pub number : All (RecordHoldsAt terms.numbering n) placed.since
+  pub lasts : RecordHolds terms.numbering n new.now
 
--- A number that the record has for the field stays there until a greater one or the same takes its place, at each moment
--- since and after a crash at any.
+-- A number that the record has for the field stays there until a greater one or the same takes its place, at each
+-- moment since and after a crash at any.
 abbrev pub NeverFalls : Numbering → Run → Run → Type 0
 NeverFalls numbering old new =
-    (k : ℕ) → Keeps numbering k old.now → (since : List RunStep) × (new.steps ≡ since ++ old.steps) × All (KeepsAt numbering k) since × Keeps numbering k new.now
+    (k : ℕ) → RecordHolds numbering k old.now → (since : List RunStep) × (new.steps ≡ since ++ old.steps)
+    × All (RecordHoldsAt numbering k) since × RecordHolds numbering k new.now
 
 -- Only what is to be installed was brought, and the number went first.
-pub record PlacesOnly (accepts : Verifier) (terms : Terms) (kept : ℕ) (old new : Run) : Type 0 where
-  pub brings : BringsOnly (IsBrought accepts terms kept) old new
-  pub order : BringsOnly (IsRecordBrought accepts terms kept) old new ⊎ PlacesBehind accepts terms kept old new
+pub record PublishesInOrder (accepts : Verifier) (terms : Terms) (kept : ℕ) (old new : Run) : Type 0 where
+  pub brings : PublishesOnly (MayBePublished accepts terms kept) old new
+  pub order : PublishesOnly (MayBeRecorded accepts terms kept) old new ⊎ RecordsFirst accepts terms kept old new
 
--- Whatever who opens the place or the record finds there after any call of this run, at once or after a crash, could
--- be found there just before that call, or is an update, or the number of one, that is not older than the number that
--- the record held for its field when this run got the lock. The number of an update is in the record before the update is at the
--- place.
+-- Whatever who opens the place or the record finds there after any call of this run, at once or after a crash, could be
+-- found there just before that call, or is an update, or the number of one, that is not older than the number that the
+-- record held for its field when this run got the lock. The number of an update is in the record before the update is
+-- at the place.
 pub record InstallsOnly (accepts : Verifier) (terms : Terms) (first : Bool) (old new : Run) : Type 0 where
   pub found : Option (List ℕ)
   pub kept : ℕ
   pub there : IsFound old.now Record found
   pub number : IsKeptNumber terms.numbering first found kept
-  pub places : PlacesOnly accepts terms kept old new
+  pub places : PublishesInOrder accepts terms kept old new
 
 -- From when the lock was got: nothing was brought to the place or to the record, or only what is to be installed. And
 -- the number that the record has for the field never falls.
 pub record InstallsLocked (accepts : Verifier) (terms : Terms) (first : Bool) (old new : Run) : Type 0 where
-  pub only : BringsNothing old new ⊎ InstallsOnly accepts terms first old new
+  pub only : PublishesNothing old new ⊎ InstallsOnly accepts terms first old new
   pub never_falls : NeverFalls terms.numbering old new
 
 -- The lock was asked for and not got, and that was all. Or it was got, and from then on only what is to be installed
@@ -99,7 +105,8 @@ InstallsOnlyUpdates accepts terms first old new =
 
 -- An update stands at the place, through any crash: the data that was ahead, in a file that was given the rights of the
 -- one before. Its number was brought to the record, to stay there through any crash, before the update got its name.
-pub record IsInstalled (accepts : Verifier) (terms : Terms) (kept : ℕ) (ahead : Option (List ℕ)) (steps : List RunStep) : Type 0 where
+pub record IsInstalled (accepts : Verifier) (terms : Terms) (kept : ℕ) (ahead : Option (List ℕ))
+    (steps : List RunStep) : Type 0 where
   pub bytes : List ℕ
   pub n : ℕ
   pub read : IsAhead ahead bytes
@@ -112,7 +119,8 @@ pub record IsInstalled (accepts : Verifier) (terms : Terms) (kept : ℕ) (ahead 
 
 -- it is not older than the number that the record held when this run got the lock, and what killed runs had left was
 -- removed
-pub record HasInstalled (accepts : Verifier) (terms : Terms) (first : Bool) (ahead : Option (List ℕ)) (old new : Run) : Type 0 where
+pub record HasInstalled (accepts : Verifier) (terms : Terms) (first : Bool) (ahead : Option (List ℕ))
+    (old new : Run) : Type 0 where
   pub found : Option (List ℕ)
   pub kept : ℕ
   pub there : IsFound old.now Record found
@@ -120,8 +128,10 @@ pub record HasInstalled (accepts : Verifier) (terms : Terms) (first : Bool) (ahe
   pub cleared : HasCleared old new
   pub installed : IsInstalled accepts terms kept ahead new.steps
 
--- the texts vouch for some data, and the comment that was signed with it names the file, has not expired, and has a number
+-- the texts vouch for some data, and the comment that was signed with it names the file, has not expired, and has a
+-- number
 abbrev pub IsVouched : Verifier → Terms → Type 0
 IsVouched accepts terms =
     (message : List ℕ) × (comment : List ℕ) × (n : ℕ)
-    × TextsVouchWith accepts terms.pk_text terms.sig_text message false comment × Says comment terms.file terms.numbering terms.moment n
+    × TextsVouchWith accepts terms.pk_text terms.sig_text message false comment
+    × Says comment terms.file terms.numbering terms.moment n

@@ -13,3 +13,4 @@ pub mod Order
 pub mod RecordTexts
 pub mod Refusals
 pub mod Runs
+pub mod There

@@ -3,18 +3,16 @@ use Rattle.std.specs.Prelude.{◌≡◌, ◌⊎◌, ℕ, List, [], ◌++◌, len
 use Rattle.std.specs.Fmt.{decimal}
 use Rattle.std.specs.Io.BufRead.{strip_last}
 use Rattle.std.specs.Str.{IsUtf8}
-use Rattle.minisign_install.specs.Comments.{IsNumberText, number_label}
-use Rattle.minisign_install.specs.declared.comments.Numbering.{Numbering}
-use Rattle.minisign_install.specs.declared.comments.Numbering.TheVariants.{Timestamp, Version}
-use Rattle.minisign_install.specs.declared.faults.InstallFault.{InstallFault}
-use Rattle.minisign_install.specs.declared.faults.InstallFault.TheVariants.{DamagedRecord, KeptByTimestamp, KeptByVersion}
+use Rattle.minisign_install.specs.Comments.{IsNumberText, number_label, Numbering, Timestamp, Version}
+use Rattle.minisign_install.specs.Faults.{InstallFault, DamagedRecord, KeptByTimestamp, KeptByVersion}
 
 -- what is written into a record: the number of an update behind the label of the field that it stands in, as in the
 -- signed comment
 abbrev pub record_of : Numbering → ℕ → List ℕ
 record_of numbering n = number_label numbering ++ decimal n
 
--- what is read of a record of these bytes: a line feed at their end is left out, and of more than 64 bytes nothing is read
+-- what is read of a record of these bytes: a line feed at their end is left out, and of more than 64 bytes nothing is
+-- read
 abbrev pub record_text : List ℕ → List ℕ
 record_text bytes = if nat_le (length bytes) 64 then strip_last 10 bytes else []
 
@@ -22,10 +20,11 @@ record_text bytes = if nat_le (length bytes) 64 then strip_last 10 bytes else []
 abbrev pub IsFieldText : Numbering → List ℕ → ℕ → Type 0
 IsFieldText numbering text n = (value : List ℕ) × (text ≡ number_label numbering ++ value) × IsNumberText value n
 
--- A record of these bytes holds this number for updates whose number stands in this field: behind its label; or alone, as
--- records were written before they named a field, which counts for either.
+-- A record of these bytes holds this number for updates whose number stands in this field: behind its label; or alone,
+-- as records were written before they named a field, which counts for either.
 abbrev pub IsNumberFor : Numbering → List ℕ → ℕ → Type 0
-IsNumberFor numbering bytes n = IsUtf8 (record_text bytes) × (IsNumberText (record_text bytes) n ⊎ IsFieldText numbering (record_text bytes) n)
+IsNumberFor numbering bytes n =
+    IsUtf8 (record_text bytes) × (IsNumberText (record_text bytes) n ⊎ IsFieldText numbering (record_text bytes) n)
 
 -- it holds none
 abbrev pub HasNoNumber : Numbering → List ℕ → Type 0
@@ -40,7 +39,8 @@ abbrev pub kept_by : Numbering → InstallFault
 kept_by Timestamp = KeptByTimestamp
 kept_by Version = KeptByVersion
 
--- Why a record of these bytes, which holds no number for this field, is refused: it holds one for the other field, or none.
+-- Why a record of these bytes, which holds no number for this field, is refused: it holds one for the other field, or
+-- none.
 abbrev pub IsUnfit : Numbering → List ℕ → InstallFault → Type 0
 IsUnfit numbering bytes e =
     ((e ≡ kept_by (other_field numbering)) × ((n : ℕ) × IsNumberFor (other_field numbering) bytes n))

@@ -1,24 +1,13 @@
 -- Why an installation is refused, in the order of its steps, and what its run has brought to the place and to the
 -- record by then.
-use Rattle.std.specs.Prelude.{◌≡◌, ◌≢◌, ◌⊎◌, ℕ, ◌<◌, Bool, false, List, ◌∷◌, ◌++◌, Option, Some, None, Err, IfErr, IsErrAnd, MatchResult}
-use Rattle.std.specs.declared.result.Result.{Result}
-use Rattle.minisign_base.specs.Devices.{Rose}
-use Rattle.minisign_base.specs.Fault.{Fault, Named}
-use Rattle.minisign_base.specs.declared.faults.NamedFault.TheVariants.{OutOfMemory, RandomSourceFailed, ReadingFailed, WritingFailed}
-use Rattle.minisign.specs.Acceptance.{Verifier}
-use Rattle.minisign.specs.Calls.{TextsVouchWith}
+use Rattle.std.specs.Prelude.{◌≡◌, ◌≢◌, ◌⊎◌, ℕ, ◌<◌, Bool, false, List, ◌∷◌, ◌++◌, Option, Some, None, Err, IfErr, IsErrAnd, MatchResult, Result}
+use Rattle.minisign_install.specs.Faults.{Rose, Fault, Named, OutOfMemory, RandomSourceFailed, ReadingFailed, WritingFailed, InstallFault, Library, PlaceInUse, NoRecord, DamagedRecord, KeptByTimestamp, KeptByVersion, OtherFile, NoNumber, OlderUpdate, DirectoryNotSynced}
+use Rattle.minisign_install.specs.Installing.{Verifier, TextsVouchWith, IsAhead, MayBePublished, IsKeptNumber, MayBeRecorded, IsUpdate, Terms}
 use Rattle.minisign.specs.Headline.{verdict}
-use Rattle.minisign.specs.Reading.{IsAhead}
-use Rattle.minisign_install.specs.Comments.{HasNumber, IsExpiryRefused, Says, file_label, value_of}
-use Rattle.minisign_install.specs.Folders.{HasLocked, HasStepped, IsBusy, IsFound, IsStill, Run, Stands, RunStep}
-use Rattle.minisign_install.specs.Installing.{IsBrought, IsKeptNumber, IsRecordBrought, IsUpdate, Terms}
+use Rattle.minisign_install.specs.Comments.{HasNumber, IsExpiryRefused, Says, file_label, value_of, Numbering}
+use Rattle.minisign_install.specs.Folders.{Finds, Known, HasLocked, HasStepped, IsBusy, IsFound, IsStill, Run, HasOnDisk, RunStep, Name, Place, Record}
 use Rattle.minisign_install.specs.RecordTexts.{HasNoNumber, IsUnfit}
-use Rattle.minisign_install.specs.Runs.{BringsNothing, BringsOnly, HasCleared}
-use Rattle.minisign_install.specs.declared.comments.Numbering.{Numbering}
-use Rattle.minisign_install.specs.declared.faults.InstallFault.{InstallFault}
-use Rattle.minisign_install.specs.declared.faults.InstallFault.TheVariants.{Library, PlaceInUse, NoRecord, DamagedRecord, KeptByTimestamp, KeptByVersion, OtherFile, NoNumber, OlderUpdate, FolderNotOnDisk}
-use Rattle.minisign_install.specs.declared.folders.Name.{Name}
-use Rattle.minisign_install.specs.declared.folders.Name.TheVariants.{Place, Record}
+use Rattle.minisign_install.specs.Runs.{PublishesNothing, PublishesOnly, HasCleared}
 
 -- how many faults there were: of the random source, of the source of the data, and of the folder, whose removals of
 -- stages are not counted
@@ -32,7 +21,8 @@ counts random update folder = record { random = random; update = update; folder 
 
 -- a device failed: one of the counts rose
 abbrev pub HasFailed : Counts → Counts → Type 0
-HasFailed before after = Rose before.random after.random ⊎ Rose before.update after.update ⊎ Rose before.folder after.folder
+HasFailed before after =
+    Rose before.random after.random ⊎ Rose before.update after.update ⊎ Rose before.folder after.folder
 
 -- the device failed that the fault speaks of
 abbrev pub IsDeviceFault : Counts → Counts → Fault → Type 0
@@ -47,34 +37,38 @@ IsCallFault before after e = ((e ≡ Named OutOfMemory) × (after ≡ before)) �
 
 -- the device failed that a stage is read from; or memory ran out, and none failed
 abbrev pub IsReadingFault : ℕ → ℕ → Fault → Type 0
-IsReadingFault before after e = ((e ≡ Named OutOfMemory) × (after ≡ before)) ⊎ ((e ≡ Named ReadingFailed) × Rose before after)
+IsReadingFault before after e =
+    ((e ≡ Named OutOfMemory) × (after ≡ before)) ⊎ ((e ≡ Named ReadingFailed) × Rose before after)
 
 -- a fault of the library that is as P says
 abbrev pub IsLibraryFault : (Fault → Type 0) → InstallFault → Type 0
 IsLibraryFault P e = (fault : Fault) × (e ≡ Library fault) × P fault
 
--- This is not the first installation, and no record was found; or one that holds no number for the field, which is refused
--- for what it holds.
+-- This is not the first installation, and no record was found; or one that holds no number for the field, which is
+-- refused for what it holds.
 abbrev pub IsRecordRefused : Numbering → Bool → Option (List ℕ) → InstallFault → Type 0
 IsRecordRefused numbering first found e =
     (first ≡ false)
     × (((e ≡ NoRecord) × (found ≡ None))
     ⊎ ((bytes : List ℕ) × (found ≡ Some bytes) × HasNoNumber numbering bytes × IsUnfit numbering bytes e))
 
--- The signed comment does not name the file. It names it, and has no number. It has one, and has expired, or does not say
--- once when it does; or it has not expired, and its number is below the kept one.
+-- The signed comment does not name the file. It names it, and has no number. It has one, and has expired, or does not
+-- say once when it does; or it has not expired, and its number is below the kept one.
 abbrev pub IsCommentRefused : Terms → ℕ → List ℕ → InstallFault → Type 0
 IsCommentRefused terms kept comment e =
     ((e ≡ OtherFile) × (value_of file_label comment ≢ Some terms.file))
-    ⊎ ((e ≡ NoNumber) × (value_of file_label comment ≡ Some terms.file) × ((n : ℕ) → ¬ (HasNumber comment terms.numbering n)))
-    ⊎ ((value_of file_label comment ≡ Some terms.file) × ((n : ℕ) × HasNumber comment terms.numbering n) × IsExpiryRefused terms.moment comment e)
+    ⊎ ((e ≡ NoNumber) × (value_of file_label comment ≡ Some terms.file)
+    × ((n : ℕ) → ¬ (HasNumber comment terms.numbering n)))
+    ⊎ ((value_of file_label comment ≡ Some terms.file) × ((n : ℕ) × HasNumber comment terms.numbering n)
+    × IsExpiryRefused terms.moment comment e)
     ⊎ ((e ≡ OlderUpdate) × ((n : ℕ) × Says comment terms.file terms.numbering terms.moment n × (n < kept)))
 
 -- the texts do not vouch for this data, or they do and the comment that was signed with it is refused
 abbrev pub IsDataRefused : Verifier → Terms → ℕ → List ℕ → InstallFault → Type 0
 IsDataRefused accepts terms kept message e =
     IsLibraryFault (λ f. verdict accepts terms.pk_text terms.sig_text message false ≡ Err f) e
-    ⊎ ((comment : List ℕ) × TextsVouchWith accepts terms.pk_text terms.sig_text message false comment × IsCommentRefused terms kept comment e)
+    ⊎ ((comment : List ℕ) × TextsVouchWith accepts terms.pk_text terms.sig_text message false comment
+    × IsCommentRefused terms kept comment e)
 
 -- with one of the run's calls since then the name led to a file of these bytes, on the disk
 pub record HasNamed (to : Name) (bytes : List ℕ) (old new : Run) : Type 0 where
@@ -82,32 +76,39 @@ pub record HasNamed (to : Name) (bytes : List ℕ) (old new : Run) : Type 0 wher
   pub call : RunStep
   pub earlier : List RunStep
   pub noted : new.steps ≡ later ++ (call ∷ (earlier ++ old.steps))
-  pub stands : Stands call.after to bytes
+  pub stands : HasOnDisk call.after to bytes
 
 -- with one of the run's calls since then an update got the place's name
-abbrev pub HasPlaced : Verifier → Terms → ℕ → Run → Run → Type 0
-HasPlaced accepts terms kept old new = (bytes : List ℕ) × (n : ℕ) × IsUpdate accepts terms kept bytes n × HasNamed Place bytes old new
+abbrev pub HasPublishedUpdate : Verifier → Terms → ℕ → Run → Run → Type 0
+HasPublishedUpdate accepts terms kept old new =
+    (bytes : List ℕ) × (n : ℕ) × IsUpdate accepts terms kept bytes n × HasNamed Place bytes old new
 
--- Why the data ahead is not installed where the lock is held and the kept number is known, and what is brought then.
--- A device failed, or memory ran out, or the data is refused: nothing. The number could not be kept: at most the record. The
--- renaming failed: at most what a whole installation brings. The folder could not be brought to the disk: the update stands
--- at the place, and a crash may still bring back what stood there.
+-- Why the data ahead is not installed where the lock is held and the kept number is known, and what is brought then. A
+-- device failed, or memory ran out, or the data is refused: nothing. The number could not be kept: at most the record.
+-- The renaming failed: at most what a whole installation brings. The folder could not be brought to the disk: the
+-- update stands at the place, and a crash may still bring back what stood there.
 abbrev pub IsDataRefusal : Verifier → Terms → ℕ → Option (List ℕ) → Counts → Counts → Run → Run → InstallFault → Type 0
 IsDataRefusal accepts terms kept ahead before after old new e =
-    (BringsNothing old new × IsLibraryFault (IsCallFault before after) e)
-    ⊎ (BringsNothing old new × ((message : List ℕ) × IsAhead ahead message × IsDataRefused accepts terms kept message e))
-    ⊎ (BringsOnly (IsRecordBrought accepts terms kept) old new × IsLibraryFault (IsCallFault before after) e)
-    ⊎ (BringsOnly (IsBrought accepts terms kept) old new × (e ≡ Library (Named WritingFailed)) × Rose before.folder after.folder)
-    ⊎ (BringsOnly (IsBrought accepts terms kept) old new × HasPlaced accepts terms kept old new × (e ≡ FolderNotOnDisk) × Rose before.folder after.folder)
+    (PublishesNothing old new × IsLibraryFault (IsCallFault before after) e)
+    ⊎ (PublishesNothing old new × ((message : List ℕ) × IsAhead ahead message
+    × IsDataRefused accepts terms kept message e))
+    ⊎ (PublishesOnly (MayBeRecorded accepts terms kept) old new × IsLibraryFault (IsCallFault before after) e)
+    ⊎ (PublishesOnly (MayBePublished accepts terms kept) old new × (e ≡ Library (Named WritingFailed))
+    × Rose before.folder after.folder)
+    ⊎ (PublishesOnly (MayBePublished accepts terms kept) old new × HasPublishedUpdate accepts terms kept old new
+    × (e ≡ DirectoryNotSynced) × Rose before.folder after.folder)
 
 -- Why an installation is refused where the lock is held, and what it brings then. A device failed, or memory ran out:
--- nothing. Otherwise what killed runs had left was removed, and the record is refused, as it was found when the lock was
--- got: nothing. Or it was found to hold a number, and the data is refused.
-abbrev pub IsLockedRefusal : Verifier → Terms → Bool → Option (List ℕ) → Counts → Counts → Run → Run → InstallFault → Type 0
+-- nothing. Otherwise what killed runs had left was removed, and the record is refused, as it was found when the lock
+-- was got: nothing. Or it was found to hold a number, and the data is refused.
+abbrev pub IsLockedRefusal : Verifier → Terms → Bool → Option (List ℕ) → Counts → Counts → Run → Run → InstallFault
+    → Type 0
 IsLockedRefusal accepts terms first ahead before after old new e =
-    (BringsNothing old new × IsLibraryFault (IsCallFault before after) e)
-    ⊎ (HasCleared old new × BringsNothing old new × ((found : Option (List ℕ)) × IsFound old.now Record found × IsRecordRefused terms.numbering first found e))
-    ⊎ (HasCleared old new × ((found : Option (List ℕ)) × (kept : ℕ) × IsFound old.now Record found × IsKeptNumber terms.numbering first found kept
+    (PublishesNothing old new × IsLibraryFault (IsCallFault before after) e)
+    ⊎ (HasCleared old new × PublishesNothing old new
+    × ((found : Option (List ℕ)) × IsFound old.now Record found × IsRecordRefused terms.numbering first found e))
+    ⊎ (HasCleared old new × ((found : Option (List ℕ)) × (kept : ℕ) × IsFound old.now Record found
+    × IsKeptNumber terms.numbering first found kept
     × IsDataRefusal accepts terms kept ahead before after old new e))
 
 -- Why an installation is refused, and what it brings then. Another run holds the lock, or it could not be asked for:
@@ -119,43 +120,56 @@ IsRefusal accepts terms first ahead before after old new e =
     ⊎ ((locked : Run) × HasLocked old locked × IsLockedRefusal accepts terms first ahead before after locked new e)
 
 -- the lock was got, and since then nothing was brought
-abbrev pub LocksAlone : Run → Run → Type 0
-LocksAlone old new = (locked : Run) × HasLocked old locked × BringsNothing locked new
+abbrev pub OnlyLocked : Run → Run → Type 0
+OnlyLocked old new = (locked : Run) × HasLocked old locked × PublishesNothing locked new
 
 -- == When an update is installed ==
 
 -- the record has a number for the field, or this is the first installation, and the data is an update that is not older
 abbrev pub CanBeInstalled : Verifier → Terms → Bool → Option (List ℕ) → List ℕ → Type 0
-CanBeInstalled accepts terms first found message = (kept : ℕ) × (n : ℕ) × IsKeptNumber terms.numbering first found kept × IsUpdate accepts terms kept message n
+CanBeInstalled accepts terms first found message =
+    (kept : ℕ) × (n : ℕ) × IsKeptNumber terms.numbering first found kept × IsUpdate accepts terms kept message n
 
 -- it cannot be installed, and this is the first reason: the record is refused; otherwise the texts do not vouch for
 -- the data; otherwise the signed comment is refused
-pub record CannotBeInstalled (accepts : Verifier) (terms : Terms) (first : Bool) (found : Option (List ℕ)) (message : List ℕ) (e : InstallFault) : Type 0 where
-  pub reason : IsRecordRefused terms.numbering first found e ⊎ ((kept : ℕ) × IsKeptNumber terms.numbering first found kept × IsDataRefused accepts terms kept message e)
+pub record CannotBeInstalled (accepts : Verifier) (terms : Terms) (first : Bool) (found : Option (List ℕ))
+    (message : List ℕ) (e : InstallFault) : Type 0 where
+  pub reason : IsRecordRefused terms.numbering first found e
+      ⊎ ((kept : ℕ) × IsKeptNumber terms.numbering first found kept × IsDataRefused accepts terms kept message e)
   pub not_so : ¬ (CanBeInstalled accepts terms first found message)
 
 -- where memory is found and no device fails: if another run holds the lock, that is said; otherwise, by what the record
 -- held when the lock was got and by the data ahead, the update is installed exactly where it can be, and the first
 -- reason is said where it cannot
-abbrev pub InstallsExactly : {T : Type 0} → Verifier → Terms → Bool → Option (List ℕ) → Counts → Counts → Run → Run → Result T InstallFault → Type 0
+abbrev pub InstallsExactly : {T : Type 0} → Verifier → Terms → Bool → Option (List ℕ) → Counts → Counts → Run → Run
+    → Result T InstallFault → Type 0
 InstallsExactly accepts terms first ahead before after old new answer =
     IfErr answer (λ e. e ≢ Library (Named OutOfMemory)) → ¬ (HasFailed before after)
     → (HasStepped old new IsBusy × IsErrAnd answer (λ e. e ≡ PlaceInUse))
     ⊎ ((locked : Run) × HasLocked old locked × ((found : Option (List ℕ)) × IsFound locked.now Record found
     × ((message : List ℕ) × IsAhead ahead message
-    × MatchResult answer (λ _. CanBeInstalled accepts terms first found message) (CannotBeInstalled accepts terms first found message))))
+    × MatchResult answer (λ _. CanBeInstalled accepts terms first found message)
+    (CannotBeInstalled accepts terms first found message))))
 
 -- == The causes alone, whether it is known what the folder holds or not ==
 
 -- why some data is not installed
 abbrev pub IsDataCause : Verifier → Terms → Counts → Counts → InstallFault → Type 0
 IsDataCause accepts terms before after e =
-    IsLibraryFault (IsCallFault before after) e ⊎ ((message : List ℕ) × (kept : ℕ) × IsDataRefused accepts terms kept message e)
-    ⊎ ((e ≡ FolderNotOnDisk) × Rose before.folder after.folder)
+    IsLibraryFault (IsCallFault before after) e
+    ⊎ ((message : List ℕ) × (kept : ℕ) × IsDataRefused accepts terms kept message e)
+    ⊎ ((e ≡ DirectoryNotSynced) × Rose before.folder after.folder)
 
 -- the record is refused, which it never is at the first installation
 abbrev pub IsRecordFault : Bool → InstallFault → Type 0
-IsRecordFault first e = (first ≡ false) × ((e ≡ NoRecord) ⊎ (e ≡ DamagedRecord) ⊎ (e ≡ KeptByTimestamp) ⊎ (e ≡ KeptByVersion))
+IsRecordFault first e =
+    (first ≡ false) × ((e ≡ NoRecord) ⊎ (e ≡ DamagedRecord) ⊎ (e ≡ KeptByTimestamp) ⊎ (e ≡ KeptByVersion))
+
+-- reading the record refused it, for what it was found to hold
+abbrev pub IsReadRefusal : Numbering → Bool → Run → Run → InstallFault → Type 0
+IsReadRefusal numbering first old new e =
+    IsRecordFault first e × Known old ((found : Option (List ℕ)) × HasStepped old new (Finds Record found)
+    × IsRecordRefused numbering first found e)
 
 -- why an installation is refused: the lock is held by another, or the record is refused, or some data is not installed
 abbrev pub IsCause : Verifier → Terms → Bool → Counts → Counts → InstallFault → Type 0

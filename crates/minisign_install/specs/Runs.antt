@@ -1,14 +1,12 @@
 -- What several calls of a run do together.
 use Rattle.std.specs.Prelude.{◌≡◌, ◌⊎◌, ℕ, ◌≤◌, Bool, true, List, ◌∷◌, ◌++◌, All, Some}
-use Rattle.minisign_install.specs.Folders.{IsLeftClear, MayFind, Moment, Run, SettlesNames, Stands, RunStep}
+use Rattle.minisign_install.specs.Folders.{IsClear, MayFind, Moment, Run, SyncsDirectory, HasOnDisk, RunStep, Name, Record}
 use Rattle.minisign_install.specs.RecordTexts.{IsNumberFor}
-use Rattle.minisign_install.specs.declared.comments.Numbering.{Numbering}
-use Rattle.minisign_install.specs.declared.folders.Name.{Name}
-use Rattle.minisign_install.specs.declared.folders.Name.TheVariants.{Record}
+use Rattle.minisign_install.specs.Comments.{Numbering}
 
 -- What may be found at a lasting name after the call, at once or after a crash, could be found there just before
 -- it, or is as P says. A lasting name that led to a file leads to one.
-pub record Brings (P : Name → List ℕ → Type 0) (s : RunStep) : Type 0 where
+pub record Publishes (P : Name → List ℕ → Type 0) (s : RunStep) : Type 0 where
   pub finds : (n : Name) (bytes : List ℕ) → MayFind s.after n bytes → MayFind s.before n bytes ⊎ P n bytes
   pub stays : (n : Name) (f : ℕ) → s.before.leads n ≡ Some f → (g : ℕ) × (s.after.leads n ≡ Some g)
 
@@ -18,29 +16,30 @@ IsNumberFrom numbering k bytes = (n : ℕ) × IsNumberFor numbering bytes n × (
 
 -- the record leads to a file, and who opens it now, or after a crash now, finds a number for the field that is k or
 -- greater
-pub record Keeps (numbering : Numbering) (k : ℕ) (m : Moment) : Type 0 where
+pub record RecordHolds (numbering : Numbering) (k : ℕ) (m : Moment) : Type 0 where
   pub file : ℕ
   pub leads : m.leads Record ≡ Some file
   pub numbers : (bytes : List ℕ) → MayFind m Record bytes → IsNumberFrom numbering k bytes
 
 -- it does so just before the call and just after it
-abbrev pub KeepsAt : Numbering → ℕ → RunStep → Type 0
-KeepsAt numbering k s = Keeps numbering k s.before × Keeps numbering k s.after
+abbrev pub RecordHoldsAt : Numbering → ℕ → RunStep → Type 0
+RecordHoldsAt numbering k s = RecordHolds numbering k s.before × RecordHolds numbering k s.after
 
 -- Every call since then brings to the lasting names only what is as P says. With the lock held, a number in the
 -- record that no record falls below that P allows stays there at each moment, whatever others do between the calls.
-pub record BringsOnly (P : Name → List ℕ → Type 0) (old new : Run) : Type 0 where
+pub record PublishesOnly (P : Name → List ℕ → Type 0) (old new : Run) : Type 0 where
   pub since : List RunStep
   pub noted : new.steps ≡ since ++ old.steps
-  pub each : All (Brings P) since
+  pub each : All (Publishes P) since
   pub known : new.known ≡ old.known
   pub locked : old.locked ≡ true → new.locked ≡ true
-  pub numbers : old.locked ≡ true → (numbering : Numbering) (k : ℕ) → ((bytes : List ℕ) → P Record bytes → IsNumberFrom numbering k bytes) → Keeps numbering k old.now
-      → All (KeepsAt numbering k) since × Keeps numbering k new.now
+  pub numbers : old.locked ≡ true → (numbering : Numbering) (k : ℕ)
+      → ((bytes : List ℕ) → P Record bytes → IsNumberFrom numbering k bytes) → RecordHolds numbering k old.now
+      → All (RecordHoldsAt numbering k) since × RecordHolds numbering k new.now
 
 -- nothing is brought
-abbrev pub BringsNothing : Run → Run → Type 0
-BringsNothing = BringsOnly (λ _ _. ⊥)
+abbrev pub PublishesNothing : Run → Run → Type 0
+PublishesNothing = PublishesOnly (λ _ _. ⊥)
 
 -- no stage is the run's own that was not its own before
 pub record OwnsNoMore (old new : Run) : Type 0 where
@@ -52,7 +51,7 @@ pub record HasCleared (old new : Run) : Type 0 where
   pub call : RunStep
   pub earlier : List RunStep
   pub noted : new.steps ≡ later ++ (call ∷ (earlier ++ old.steps))
-  pub clear : IsLeftClear call.after
+  pub clear : IsClear call.after
 
 -- With the last but one call the name led to a file of these bytes, on the disk, and with the last one the names came
 -- to the disk too: unless others change it, the name leads there from then on, through any crash.
@@ -60,8 +59,8 @@ pub record IsPublished (to : Name) (bytes : List ℕ) (old : List RunStep) (new 
   pub renamed : RunStep
   pub settled : RunStep
   pub calls : new ≡ settled ∷ renamed ∷ old
-  pub stands : Stands renamed.after to bytes
-  pub lasts : SettlesNames settled.before settled.after
+  pub stands : HasOnDisk renamed.after to bytes
+  pub lasts : SyncsDirectory settled.before settled.after
 
 -- whether the file that got the name had the rights of the file at the place then
 abbrev pub rights_of : {to : Name} {bytes : List ℕ} {old new : List RunStep} → IsPublished to bytes old new → Bool

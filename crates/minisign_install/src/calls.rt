@@ -1,21 +1,16 @@
 //! The calls of an installation over a folder: each is made as it is due, and says how it went.
 
 ghost use Rattle.std.specs.Prelude.{◌≡◌, ◌⊎◌, ◌<◌, ℕ, List, Some, false, IfErr, IsSome, IsSomeAnd, OnOk, OnErr, MatchResult};
-ghost use Rattle.std.specs.Io.KnownBytes.{Consumes, IsAtEnd};
 ghost use Rattle.std.specs.List.{concat};
-ghost use Rattle.minisign_base.specs.Devices.{Rose};
-ghost use Rattle.minisign_base.specs.Fault.{Fault, Named};
-ghost use Rattle.minisign_base.specs.declared.faults.NamedFault.TheVariants.{OutOfMemory, RandomSourceFailed, ReadingFailed, WritingFailed};
-ghost use Rattle.minisign_external.specs.States.{IsFedState};
-ghost use Rattle.minisign_install.specs.Driving.{AreNamed, HasMade, Knows, Names, Went, calls_left, done_or, host, number_or, setting};
-ghost use Rattle.minisign_install.specs.Folders.{Clears, ClearsAll, GivesRights, HasCreated, HasLocked, HasRenamed, HasStepped, HasTried, Held, IsBusy, IsStill, KeepsNames, KeepsOwn, Perhaps, Removes, Renames, Settles, SettlesNames, Spoils, Known};
-ghost use Rattle.minisign_install.specs.Hosts.{Calls, CallsNothing, Lets, Writes, WritesInPart};
+ghost use Rattle.minisign_install.specs.Driving.{HasCalled, HasMade, calls_left, done_or, host, made_or, number_or};
+ghost use Rattle.minisign_install.specs.Faults.{Library, Named, PlaceInUse, RandomSourceFailed, ReadingFailed, Rose, WritingFailed};
+ghost use Rattle.minisign_install.specs.Folders.{HasCounted, HasCreated, HasLocked, HasStepped, Held, IsBusy, IsStill, OwnsTheSame, Known};
+ghost use Rattle.minisign_install.specs.Hosts.{Calls, CallsNothing, Writes, WritesInPart};
 ghost use Rattle.minisign_install.specs.Installing.{terms_of};
 ghost use Rattle.minisign_install.specs.Names.{drawn_bytes};
 ghost use Rattle.minisign_install.specs.Order.{has_ended, next};
 ghost use Rattle.minisign_install.specs.RecordTexts.{record_of};
-ghost use Rattle.minisign_install.specs.Refusals.{IsLibraryFault, IsReadingFault, counts};
-ghost use Rattle.minisign_install.specs.declared.faults.InstallFault.TheVariants.{FolderNotOnDisk, Library, PlaceInUse};
+ghost use Rattle.minisign_install.specs.Refusals.{counts};
 
 use crate::comments::Numbering;
 use crate::faults::InstallFault;
@@ -82,39 +77,43 @@ pub(crate) fn make<S: Scheme, Z: RandomSource, R: Source, F: Folder>(
     requires { HasMade due.now work.old }
     // The call that is due was made, and went as it is said; where it failed, this is why: for want of memory only where
     // it asks for memory and no device failed.
-    ensures went { has_ended due.now ≡ false → (read : List ℕ) → HasMade due.now work.old → Knows (S.accepts scheme.now) (terms_of wanted.entry) due.now work.old read
-        → HasMade (next due.now result) work.new × ((then : List ℕ) × Knows (S.accepts scheme.now) (terms_of wanted.entry) (next due.now result) work.new then
-        × ((names : Names) → AreNamed F.Handle.file work.new names → AreNamed F.Handle.file work.old names
-        × Went (setting (S.accepts scheme.now) (terms_of wanted.entry) is_first names) due.now result
-        (host (F.run folder.old) (R.ahead update.old) read (counts (Z.random_faults random.old) (R.faults update.old) (F.folder_faults folder.old)))
-        (host (F.run folder.new) (R.ahead update.new) then (counts (Z.random_faults random.new) (R.faults update.new) (F.folder_faults folder.new))))) }
+    ensures went { has_ended due.now ≡ false → HasCalled (S.accepts scheme.now) (terms_of wanted.entry) is_first F.Handle.file due.now result work.old work.new
+        (host (F.run folder.old) (R.ahead update.old) (counts (Z.random_faults random.old) (R.faults update.old) (F.folder_faults folder.old)))
+        (host (F.run folder.new) (R.ahead update.new) (counts (Z.random_faults random.new) (R.faults update.new) (F.folder_faults folder.new))) }
     // It is not due again.
     ensures left { has_ended due.now ≡ false → calls_left (next due.now result) < calls_left due.now }
 {
     match due {
         Due::Lock => done_or(lock(folder)),
-        Due::Clear => done_or(clear(folder)),
+        Due::Clear => writing_or(folder.clear()),
         Due::ReadRecord => number_or(read_number(alloc, folder, wanted.numbering, is_first)),
         Due::Create(_) => done_or(create(random, folder, &mut work.stage)),
-        Due::Copy(_) => done_or(copy(alloc, folder, made(&work.stage), update)),
-        Due::ReadBack(_) => done_or(read_stage(alloc, folder, made(&work.stage), &mut work.state)),
+        Due::Copy(_) => done_or(fill(alloc, folder, &made(&work.stage).handle, update)),
+        Due::ReadBack(_) => {
+            let stage = made(&work.stage);
+            done_or(read_back(alloc, folder, &stage.handle, &mut work.state))
+        }
         Due::Answer(kept) => number_or(judge(alloc, scheme, wanted, *kept, &mut work.state)),
-        Due::TakeRights(_) => done_or(take_rights(folder, made(&work.stage))),
-        Due::Settle(_) => done_or(settle(folder, made(&work.stage))),
+        Due::TakePermissions(_) => writing_or(folder.take_rights(&made(&work.stage).handle)),
+        Due::Sync(_) => writing_or(folder.settle(&made(&work.stage).handle)),
         Due::CreateRecord(_) => done_or(create(random, folder, &mut work.record_stage)),
-        Due::WriteRecord(number) => done_or(write_number(
+        Due::WriteRecord(number) => writing_or(write_number(
             folder,
-            made(&work.record_stage),
+            &made(&work.record_stage).handle,
             wanted.numbering,
             *number,
         )),
-        Due::SettleRecord(_) => done_or(settle(folder, made(&work.record_stage))),
-        Due::RenameRecord(_) => done_or(rename(folder, made(&work.record_stage), Name::Record)),
-        Due::SettleRecordName(_) => done_or(settle_names(folder, NamedFault::WritingFailed.into())),
-        Due::Rename(_) => done_or(rename(folder, made(&work.stage), Name::Place)),
-        Due::SettleName(_) => done_or(settle_names(folder, InstallFault::FolderNotOnDisk)),
-        Due::RemoveRecord(_) => done_or(remove(folder, made(&work.record_stage))),
-        Due::Remove(_) => done_or(remove(folder, made(&work.stage))),
+        Due::SyncRecord(_) => writing_or(folder.settle(&made(&work.record_stage).handle)),
+        Due::RenameRecord(_) => writing_or(folder.rename(
+            &made(&work.record_stage).name,
+            Name::Record,
+        )),
+        Due::SyncRecordName(_) => writing_or(folder.settle_names()),
+        Due::Rename(_) => writing_or(folder.rename(&made(&work.stage).name, Name::Place)),
+        Due::SyncName(_) => made_or(folder.settle_names(), InstallFault::DirectoryNotSynced),
+        // Where a stage cannot be removed, it is left to a later run.
+        Due::RemoveRecord(_) => writing_or(folder.remove(&made(&work.record_stage).name)),
+        Due::Remove(_) => writing_or(folder.remove(&made(&work.stage).name)),
         Due::Installed | Due::Refused(_) => Outcome::Done,
     }
 }
@@ -140,6 +139,23 @@ fn done_or(answer: Result<(), InstallFault>) -> Outcome<InstallFault>
     }
 }
 
+// The same of a call of the folder, which fails for this fault.
+fn made_or(answer: Result<(), DeviceFault>, fault: InstallFault) -> Outcome<InstallFault>
+    ensures { result ≡ made_or answer fault }
+{
+    match answer {
+        Ok(()) => Outcome::Done,
+        Err(_) => Outcome::Failed(fault),
+    }
+}
+
+// What the folder did, or failed to write.
+fn writing_or(answer: Result<(), DeviceFault>) -> Outcome<InstallFault>
+    ensures { result ≡ made_or answer (Library (Named WritingFailed)) }
+{
+    made_or(answer, NamedFault::WritingFailed.into())
+}
+
 // What gave a number, or failed.
 fn number_or(answer: Result<u64, InstallFault>) -> Outcome<InstallFault>
     ensures { result ≡ number_or answer }
@@ -151,9 +167,9 @@ fn number_or(answer: Result<u64, InstallFault>) -> Outcome<InstallFault>
 }
 
 // Locks the place. It does not wait for another run.
-fn lock<F: Folder>(folder: &mut F) -> Result<(), InstallFault>
+pub(crate) fn lock<F: Folder>(folder: &mut F) -> Result<(), InstallFault>
     ensures locked { Known (F.run folder.old) (MatchResult result
-        (λ _. HasLocked (F.run folder.old) (F.run folder.new) × KeepsOwn (F.run folder.old) (F.run folder.new))
+        (λ _. HasLocked (F.run folder.old) (F.run folder.new) × OwnsTheSame (F.run folder.old) (F.run folder.new))
         (λ _. Calls IsStill (F.run folder.old) (F.run folder.new))) }
     ensures refused { IfErr result (λ e. ((e ≡ PlaceInUse) × Known (F.run folder.old) (HasStepped (F.run folder.old) (F.run folder.new) IsBusy))
         ⊎ ((e ≡ Library (Named ReadingFailed)) × Rose (F.folder_faults folder.old) (F.folder_faults folder.new))) }
@@ -163,18 +179,6 @@ fn lock<F: Folder>(folder: &mut F) -> Result<(), InstallFault>
         Ok(true) => Ok(()),
         Ok(false) => Err(InstallFault::PlaceInUse),
         Err(_) => Err(NamedFault::ReadingFailed.into()),
-    }
-}
-
-// Removes what killed runs have left, as far as it can be removed.
-fn clear<F: Folder>(folder: &mut F) -> Result<(), InstallFault>
-    ensures cleared { Held (F.run folder.old) (HasTried ClearsAll Clears (F.run folder.old) (F.run folder.new) result) }
-    ensures refused { IfErr result (λ e. (e ≡ Library (Named WritingFailed)) × Rose (F.folder_faults folder.old) (F.folder_faults folder.new)) }
-    ensures no_new_fault { OnOk result (F.folder_faults folder.new ≡ F.folder_faults folder.old) }
-{
-    match folder.clear() {
-        Ok(()) => Ok(()),
-        Err(_) => Err(NamedFault::WritingFailed.into()),
     }
 }
 
@@ -202,130 +206,23 @@ fn create<Z: RandomSource, F: Folder>(
     }
 }
 
-// Copies all the data ahead into the stage.
-fn copy<R: Source, F: Folder>(
-    alloc: Global,
-    folder: &mut F,
-    stage: &Stage<F::Handle>,
-    update: &mut R,
-) -> Result<(), InstallFault>
-    ensures copied { Known (F.run folder.old) (MatchResult result
-        (λ _. (pieces : List (List ℕ)) × Writes (F.Handle.file stage.now.handle) pieces (F.run folder.old) (F.run folder.new)
-        × Consumes (R.ahead update.old) (R.ahead update.new) (concat pieces) × IsAtEnd (R.ahead update.new))
-        (λ _. WritesInPart (F.Handle.file stage.now.handle) (F.run folder.old) (F.run folder.new))) }
-    ensures refused { IfErr result (λ e. (fault : Fault) × (e ≡ Library fault) × (((fault ≡ Named OutOfMemory) × (folder.new ≡ folder.old) × (update.new ≡ update.old)) ⊎ ((fault ≡ Named ReadingFailed) × Rose (R.faults update.old) (R.faults update.new))
-        ⊎ ((fault ≡ Named WritingFailed) × Rose (F.folder_faults folder.old) (F.folder_faults folder.new)))) }
-    ensures no_new_fault { OnOk result ((R.faults update.new ≡ R.faults update.old) × (F.folder_faults folder.new ≡ F.folder_faults folder.old)) }
-{
-    match fill(alloc, folder, &stage.handle, update) {
-        Ok(()) => Ok(()),
-        Err(fault) => Err(fault.into()),
-    }
-}
-
-// Reads back what the stage holds.
-fn read_stage<F: Folder>(
-    alloc: Global,
-    folder: &mut F,
-    stage: &Stage<F::Handle>,
-    state: &mut State,
-) -> Result<(), InstallFault>
-    ensures still { F.run folder.new ≡ F.run folder.old }
-    ensures fed { OnOk result ((m : List ℕ) × IsFedState state.new m × Known (F.run folder.old) ((F.run folder.old).now.holds (F.Handle.file stage.now.handle) ≡ m)) }
-    ensures refused { IfErr result (IsLibraryFault (IsReadingFault (F.folder_faults folder.old) (F.folder_faults folder.new))) }
-    ensures no_new_fault { OnOk result (F.folder_faults folder.new ≡ F.folder_faults folder.old) }
-{
-    match read_back(alloc, folder, &stage.handle) {
-        Ok(fed) => {
-            *state = fed;
-            Ok(())
-        }
-        Err(fault) => Err(fault.into()),
-    }
-}
-
-// Gives the stage the rights of what stands at the place.
-fn take_rights<F: Folder>(folder: &mut F, stage: &Stage<F::Handle>) -> Result<(), InstallFault>
-    ensures given { Known (F.run folder.old) (HasTried (GivesRights (F.Handle.file stage.now.handle)) (Spoils (F.Handle.file stage.now.handle)) (F.run folder.old) (F.run folder.new) result) }
-    ensures refused { IfErr result (λ e. (e ≡ Library (Named WritingFailed)) × Rose (F.folder_faults folder.old) (F.folder_faults folder.new)) }
-    ensures no_new_fault { OnOk result (F.folder_faults folder.new ≡ F.folder_faults folder.old) }
-{
-    match folder.take_rights(&stage.handle) {
-        Ok(()) => Ok(()),
-        Err(_) => Err(NamedFault::WritingFailed.into()),
-    }
-}
-
-// Brings to the disk what the stage holds.
-fn settle<F: Folder>(folder: &mut F, stage: &Stage<F::Handle>) -> Result<(), InstallFault>
-    ensures settled { Known (F.run folder.old) (HasTried (Settles (F.Handle.file stage.now.handle)) (Spoils (F.Handle.file stage.now.handle)) (F.run folder.old) (F.run folder.new) result) }
-    ensures refused { IfErr result (λ e. (e ≡ Library (Named WritingFailed)) × Rose (F.folder_faults folder.old) (F.folder_faults folder.new)) }
-    ensures no_new_fault { OnOk result (F.folder_faults folder.new ≡ F.folder_faults folder.old) }
-{
-    match folder.settle(&stage.handle) {
-        Ok(()) => Ok(()),
-        Err(_) => Err(NamedFault::WritingFailed.into()),
-    }
-}
-
 // Writes the number, behind the label of its field, into the stage of the record, which is empty.
 fn write_number<F: Folder>(
     folder: &mut F,
-    stage: &Stage<F::Handle>,
+    handle: &F::Handle,
     numbering: Numbering,
     number: u64,
-) -> Result<(), InstallFault>
+) -> Result<(), DeviceFault>
     ensures written { Known (F.run folder.old) (MatchResult result
-        (λ _. (pieces : List (List ℕ)) × Writes (F.Handle.file stage.now.handle) pieces (F.run folder.old) (F.run folder.new) × (concat pieces ≡ record_of numbering number))
-        (λ _. WritesInPart (F.Handle.file stage.now.handle) (F.run folder.old) (F.run folder.new))) }
-    ensures refused { IfErr result (λ e. (e ≡ Library (Named WritingFailed)) × Rose (F.folder_faults folder.old) (F.folder_faults folder.new)) }
-    ensures no_new_fault { OnOk result (F.folder_faults folder.new ≡ F.folder_faults folder.old) }
+        (λ _. (pieces : List (List ℕ)) × Writes (F.Handle.file handle.now) pieces (F.run folder.old) (F.run folder.new) × (concat pieces ≡ record_of numbering number))
+        (λ _. WritesInPart (F.Handle.file handle.now) (F.run folder.old) (F.run folder.new))) }
+    ensures counted { HasCounted (F.folder_faults folder.old) (F.folder_faults folder.new) result }
 {
     let mut buffer = [0u8; MOST_WRITTEN];
     let written = write_record(numbering, number, &mut buffer);
     let (text, _) = buffer.split_at(written);
-    match write_all(folder, &stage.handle, text) {
+    match write_all(folder, handle, text) {
         Ok(()) => Ok(()),
-        Err(_) => Err(NamedFault::WritingFailed.into()),
-    }
-}
-
-// Gives the stage the lasting name.
-fn rename<F: Folder>(folder: &mut F, stage: &Stage<F::Handle>, to: Name) -> Result<(), InstallFault>
-    ensures renamed { Held (F.run folder.old) (MatchResult result
-        (λ _. HasRenamed (drawn_bytes stage.now.name) to (F.run folder.old) (F.run folder.new))
-        (λ _. Calls (Perhaps (Renames (drawn_bytes stage.now.name) to)) (F.run folder.old) (F.run folder.new))) }
-    ensures refused { IfErr result (λ e. (e ≡ Library (Named WritingFailed)) × Rose (F.folder_faults folder.old) (F.folder_faults folder.new)) }
-    ensures no_new_fault { OnOk result (F.folder_faults folder.new ≡ F.folder_faults folder.old) }
-{
-    match folder.rename(&stage.name, to) {
-        Ok(()) => Ok(()),
-        Err(_) => Err(NamedFault::WritingFailed.into()),
-    }
-}
-
-// Brings the names to the disk. Where that fails, this is the fault.
-fn settle_names<F: Folder>(folder: &mut F, fault: InstallFault) -> Result<(), InstallFault>
-    ensures settled { Known (F.run folder.old) (HasTried SettlesNames KeepsNames (F.run folder.old) (F.run folder.new) result) }
-    ensures refused { IfErr result (λ e. (e ≡ fault) × Rose (F.folder_faults folder.old) (F.folder_faults folder.new)) }
-    ensures no_new_fault { OnOk result (F.folder_faults folder.new ≡ F.folder_faults folder.old) }
-{
-    match folder.settle_names() {
-        Ok(()) => Ok(()),
-        Err(_) => Err(fault),
-    }
-}
-
-// Removes the stage. Where it cannot be removed, it is left to `clear` of a later run, and no fault is counted.
-fn remove<F: Folder>(folder: &mut F, stage: &Stage<F::Handle>) -> Result<(), InstallFault>
-    ensures removed { Held (F.run folder.old) (MatchResult result
-        (λ _. Lets (drawn_bytes stage.now.name) (Removes (drawn_bytes stage.now.name)) (F.run folder.old) (F.run folder.new))
-        (λ _. Lets (drawn_bytes stage.now.name) (Perhaps (Removes (drawn_bytes stage.now.name))) (F.run folder.old) (F.run folder.new))) }
-    ensures refused { IfErr result (λ e. e ≡ Library (Named WritingFailed)) }
-    ensures uncounted { F.folder_faults folder.new ≡ F.folder_faults folder.old }
-{
-    match folder.remove(&stage.name) {
-        Ok(()) => Ok(()),
-        Err(_) => Err(NamedFault::WritingFailed.into()),
+        Err(fault) => Err(fault),
     }
 }

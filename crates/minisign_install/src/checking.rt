@@ -3,14 +3,11 @@
 
 ghost use Rattle.std.specs.Prelude.{◌≡◌, ◌⊎◌, ◌≤◌, ℕ, [], List, Option, Ok, Err, false, option_map, IfErr, IfOk, MatchResult, length, take};
 ghost use Rattle.std.specs.Str.{IsUtf8};
-ghost use Rattle.minisign_base.specs.Fault.{Fault, Named};
-ghost use Rattle.minisign_base.specs.declared.faults.NamedFault.TheVariants.{OutOfMemory};
-ghost use Rattle.minisign.specs.Acceptance.{Verifier};
+ghost use Rattle.minisign_install.specs.Faults.{Fault, Named, OutOfMemory, Library};
+ghost use Rattle.minisign_install.specs.Installing.{Verifier, terms_of};
 ghost use Rattle.minisign_install.specs.Checking.{ChecksSo, CommentChecksSo, IsKeptOrNone, IsOffered, offer_beside, signed_comment};
 ghost use Rattle.minisign_install.specs.Hosted.{wanted_by};
-ghost use Rattle.minisign_install.specs.Installing.{terms_of};
 ghost use Rattle.minisign_install.specs.Refusals.{IsRecordFault, IsRecordRefused};
-ghost use Rattle.minisign_install.specs.declared.faults.InstallFault.TheVariants.{Library};
 
 use crate::comments::{Numbering, check_comment};
 use crate::faults::InstallFault;
@@ -190,7 +187,7 @@ fn comment_of<'a, S: Scheme>(
 
 // Reads the key, asks about the comment, has the scheme answer, and gives the verdict on it. The message of the
 // question is written to `message`.
-fn judged_comment<'a, S: Scheme>(
+pub(crate) fn judged_comment<'a, S: Scheme>(
     scheme: &S,
     pk_text: &[u8],
     sig_text: &'a [u8],

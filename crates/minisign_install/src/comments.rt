@@ -2,8 +2,10 @@
 
 ghost use Rattle.std.specs.Prelude.{◌≡◌, ◌≢◌, ◌⊎◌, ◌≤◌, ◌<◌, ◌∷◌, [], ℕ, List, Some, None, option_map, IfOk, IfErr, MatchOption, MatchResult, bytes_eq, take, drop, length, true, false};
 ghost use Rattle.minisign_install.specs.Comments.{HasNumber, IsExpiryRefused, IsNumberText, IsUnexpired, Says, expiry_label, file_label, number_label, value_of, values_of};
+ghost use Rattle.minisign_install.specs.Hosted.{wanted_by};
 ghost use Rattle.minisign_install.specs.RecordTexts.{other_field};
-ghost use Rattle.minisign_install.specs.declared.faults.InstallFault.TheVariants.{BadExpiry, Expired, NoNumber, OlderUpdate, OtherFile};
+ghost use Rattle.minisign_install.specs.Refusals.{IsCommentRefused};
+ghost use Rattle.minisign_install.specs.Faults.{BadExpiry, Expired, NoNumber, OlderUpdate, OtherFile};
 
 use crate::faults::InstallFault;
 
@@ -49,10 +51,7 @@ pub(crate) fn check_comment(
 ) -> Result<u64, InstallFault>
     ensures says { IfOk result (λ n. Says comment.now file.now numbering moment n) }
     ensures newer { IfOk result (λ n. kept ≤ n) }
-    ensures refused { IfErr result (λ e. ((e ≡ OtherFile) × (value_of file_label comment.now ≢ Some file.now))
-        ⊎ ((e ≡ NoNumber) × (value_of file_label comment.now ≡ Some file.now) × ((n : ℕ) → ¬ (HasNumber comment.now numbering n)))
-        ⊎ ((value_of file_label comment.now ≡ Some file.now) × ((n : ℕ) × HasNumber comment.now numbering n) × IsExpiryRefused moment comment.now e)
-        ⊎ ((e ≡ OlderUpdate) × ((n : ℕ) × Says comment.now file.now numbering moment n × (n < kept)))) }
+    ensures refused { IfErr result (IsCommentRefused (wanted_by [] [] file.now numbering moment) kept comment.now) }
 {
     if value(comment, "file:") != Some(file) {
         return Err(InstallFault::OtherFile);
@@ -130,17 +129,9 @@ fn first_value<'a>(comment: &'a str, label: &str) -> Option<(&'a str, Option<&'a
 fn value<'a>(comment: &'a str, label: &str) -> Option<&'a str>
     ensures { option_map (λ v. v.now) result ≡ value_of label.now comment.now }
 {
-    let mut rest = comment;
-    'fields: loop {
-        match rest.split_once('\t') {
-            Some((field, more)) => {
-                if let Some(value) = strip(field, label) {
-                    return Some(value);
-                }
-                rest = more;
-            }
-            None => return strip(rest, label),
-        }
+    match first_value(comment, label) {
+        Some((value, _)) => Some(value),
+        None => None,
     }
 }
 

@@ -29,7 +29,7 @@ pub enum InstallFault {
     /// The number of the trusted comment is below the one that is kept.
     OlderUpdate,
     /// The update stands at the place, but a crash may still bring back what stood there before.
-    FolderNotOnDisk,
+    DirectoryNotSynced,
     /// The number that is kept is a timestamp and not a version, and this was not said to be the first
     /// installation.
     KeptByTimestamp,
@@ -41,6 +41,9 @@ pub enum InstallFault {
     /// The trusted comment has more than one field for when the update expires, or one with no number in decimal digits
     /// alone, or none below 2^64.
     BadExpiry,
+    /// The number of the trusted comment is the one that is kept, other data stands at the place, and the caller did not
+    /// ask for the update to be installed again.
+    SameNumber,
 }
 
 impl InstallFault {
@@ -55,10 +58,12 @@ impl InstallFault {
             PlaceInUse
             | NoRecord
             | DamagedRecord
-            | FolderNotOnDisk
+            | DirectoryNotSynced
             | KeptByTimestamp
             | KeptByVersion => &ErrorKind::Io,
-            OtherFile | NoNumber | OlderUpdate | Expired | BadExpiry => &ErrorKind::Verify,
+            OtherFile | NoNumber | OlderUpdate | Expired | BadExpiry | SameNumber => {
+                &ErrorKind::Verify
+            }
         }
     }
 }
@@ -77,8 +82,8 @@ impl fmt::Display for InstallFault {
             OtherFile => f.write_str("the signed comment does not name this file"),
             NoNumber => f.write_str("the signed comment has no such number"),
             OlderUpdate => f.write_str("the update is older than what was installed"),
-            FolderNotOnDisk => {
-                f.write_str("installed, but the folder could not be brought to the disk")
+            DirectoryNotSynced => {
+                f.write_str("installed, but the directory could not be synced")
             }
             KeptByTimestamp => f.write_str(
                 "the number that is kept beside the place is a timestamp, and no version",
@@ -89,6 +94,9 @@ impl fmt::Display for InstallFault {
             Expired => f.write_str("the update has expired"),
             BadExpiry => f.write_str(
                 "the signed comment does not say once, in a number, when it expires",
+            ),
+            SameNumber => f.write_str(
+                "an update of this number was installed, and other data stands at the place",
             ),
         }
     }

@@ -1,10 +1,10 @@
 //! The folder that an update is installed in, as processes share it: one method for each call of
-//! the system. Between any two calls other processes may do what `OthersLeave` of the definitions
+//! the system. Between any two calls other processes may do what `OtherProcesses` of the definitions
 //! allows them.
 
 ghost use Rattle.std.specs.Prelude.{◌≡◌, ◌⊎◌, ℕ, Bool, true, OnErr, List, Some, None, MatchOption, MatchResult, IfOk, take, length, option_map, ◌+◌, ◌^◌, ◌<◌, ◌≤◌};
 ghost use Rattle.minisign_base.specs.Devices.{Rose};
-ghost use Rattle.minisign_install.specs.Folders.{Run, Appends, Clears, ClearsAll, GivesRights, HasCounted, HasCreated, HasReadAt, Held, HasRemoved, HasRenamed, HasStepped, HasTried, IsAsked, IsStill, KeepsNames, KeepsOwn, Perhaps, Finds, Renames, Settles, SettlesNames, Spoils, Known};
+ghost use Rattle.minisign_install.specs.Folders.{Run, Appends, Clears, ClearsAll, GivesRights, HasCounted, HasCreated, HasReadAt, Held, HasRemoved, HasRenamed, HasStepped, HasTried, IsAsked, IsStill, Leads, MaySyncDirectory, OwnsTheSame, Perhaps, Finds, Renames, Syncs, SyncsDirectory, Spoils, Known};
 ghost use Rattle.minisign_install.specs.Names.{drawn_bytes};
 
 use crate::stage_names::StageName;
@@ -20,7 +20,7 @@ pub enum Name {
     Record,
 }
 
-/// An open file that was created by this run.
+/// An open file: one that was created by this run, or the one at the place.
 pub trait Handle {
     // The file, by its number.
     ghost file: { Self → ℕ };
@@ -29,7 +29,7 @@ pub trait Handle {
 /// A folder with a place at which updates are installed. It holds the lock on the place from the
 /// call of `lock` that gets it for as long as it lives.
 pub trait Folder {
-    /// An open stage.
+    /// An open stage, or the open file at the place.
     type Handle: Handle + Drop;
 
     // The run so far, which says whether it is known.
@@ -43,12 +43,13 @@ pub trait Folder {
     ghost read_fails: { Bool };
 
     /// Locks the place against other runs, for as long as this lives: `true` where it is locked
-    /// now, and `false` where another run holds the lock.
+    /// now, also by an earlier call, and `false` where another run holds the lock.
     fn lock(&mut self) -> Result<bool, DeviceFault>
         ensures asked { Known (run self.old) (MatchResult result
-            (λ is. HasStepped (run self.old) (run self.new) (IsAsked is) × KeepsOwn (run self.old) (run self.new))
-            (λ _. HasStepped (run self.old) (run self.new) IsStill × KeepsOwn (run self.old) (run self.new))) }
+            (λ is. HasStepped (run self.old) (run self.new) (IsAsked is) × OwnsTheSame (run self.old) (run self.new))
+            (λ _. HasStepped (run self.old) (run self.new) IsStill × OwnsTheSame (run self.old) (run self.new))) }
         ensures held { Known (run self.old) (IfOk result (λ is. is ≡ true → (run self.new).locked ≡ true)) }
+        ensures held_already { Known (run self.old) ((run self.old).locked ≡ true → IfOk result (λ is. is ≡ true)) }
         ensures counted { HasCounted (folder_faults self.old) (folder_faults self.new) result };
 
     /// Removes the stages that killed runs on this place have left, as far as they can be removed.
@@ -62,7 +63,7 @@ pub trait Folder {
     fn create(&mut self, name: &StageName) -> Result<Self::Handle, DeviceFault>
         ensures created { Held (run self.old) (MatchResult result
             (λ handle. HasCreated (drawn_bytes name.now) (Self.Handle.file handle) (run self.old) (run self.new))
-            (λ _. HasStepped (run self.old) (run self.new) IsStill × KeepsOwn (run self.old) (run self.new))) }
+            (λ _. HasStepped (run self.old) (run self.new) IsStill × OwnsTheSame (run self.old) (run self.new))) }
         ensures counted { HasCounted (folder_faults self.old) (folder_faults self.new) result };
 
     /// Writes a beginning of `bytes` behind what the stage holds and returns how long it is: of
@@ -71,11 +72,11 @@ pub trait Folder {
         ensures bound { IfOk result (λ n. n ≤ length bytes.now) }
         ensures some { IfOk result (λ n. 0 < length bytes.now → 0 < n) }
         ensures written { Known (run self.old) (MatchResult result
-            (λ n. HasStepped (run self.old) (run self.new) (Appends (Self.Handle.file handle.now) (take n bytes.now)) × KeepsOwn (run self.old) (run self.new))
-            (λ _. HasStepped (run self.old) (run self.new) (Spoils (Self.Handle.file handle.now)) × KeepsOwn (run self.old) (run self.new))) }
+            (λ n. HasStepped (run self.old) (run self.new) (Appends (Self.Handle.file handle.now) (take n bytes.now)) × OwnsTheSame (run self.old) (run self.new))
+            (λ _. HasStepped (run self.old) (run self.new) (Spoils (Self.Handle.file handle.now)) × OwnsTheSame (run self.old) (run self.new))) }
         ensures counted { HasCounted (folder_faults self.old) (folder_faults self.new) result };
 
-    /// Reads what the stage holds from an offset on, up to all of `buf`, and returns how much. The
+    /// Reads what the file holds from an offset on, up to all of `buf`, and returns how much. The
     /// result is 0 only where `buf` is empty or nothing is left. No file reaches beyond 2^63 - 1
     /// bytes.
     fn read_at(&self, handle: &Self::Handle, at: u64, buf: &mut [u8]) -> Result<usize, DeviceFault>
@@ -97,19 +98,19 @@ pub trait Folder {
 
     /// Brings to the disk what the stage holds.
     fn settle(&mut self, handle: &Self::Handle) -> Result<(), DeviceFault>
-        ensures settled { Known (run self.old) (HasTried (Settles (Self.Handle.file handle.now)) (Spoils (Self.Handle.file handle.now)) (run self.old) (run self.new) result) }
+        ensures settled { Known (run self.old) (HasTried (Syncs (Self.Handle.file handle.now)) (Spoils (Self.Handle.file handle.now)) (run self.old) (run self.new) result) }
         ensures counted { HasCounted (folder_faults self.old) (folder_faults self.new) result };
 
     /// Gives the file of the stage's name the lasting one, in one step. Only who holds the lock may.
     fn rename(&mut self, name: &StageName, to: Name) -> Result<(), DeviceFault>
         ensures renamed { Held (run self.old) (MatchResult result
             (λ _. HasRenamed (drawn_bytes name.now) to (run self.old) (run self.new))
-            (λ _. HasStepped (run self.old) (run self.new) (Perhaps (Renames (drawn_bytes name.now) to)) × KeepsOwn (run self.old) (run self.new))) }
+            (λ _. HasStepped (run self.old) (run self.new) (Perhaps (Renames (drawn_bytes name.now) to)) × OwnsTheSame (run self.old) (run self.new))) }
         ensures counted { HasCounted (folder_faults self.old) (folder_faults self.new) result };
 
     /// Brings the names to the disk.
     fn settle_names(&mut self) -> Result<(), DeviceFault>
-        ensures settled { Known (run self.old) (HasTried SettlesNames KeepsNames (run self.old) (run self.new) result) }
+        ensures settled { Known (run self.old) (HasTried SyncsDirectory MaySyncDirectory (run self.old) (run self.new) result) }
         ensures counted { HasCounted (folder_faults self.old) (folder_faults self.new) result };
 
     /// Removes a stage's name. Only who holds the lock may. Where that fails, the name is left to
@@ -121,7 +122,14 @@ pub trait Folder {
     /// What the record holds, where there is one.
     fn read_record(&mut self, alloc: Global) -> Result<Option<Vec<u8>>, DeviceFault>
         ensures read { Known (run self.old) (MatchResult result
-            (λ found. HasStepped (run self.old) (run self.new) (Finds Name.Record (option_map (λ v. v.items) found)) × KeepsOwn (run self.old) (run self.new))
-            (λ _. HasStepped (run self.old) (run self.new) IsStill × KeepsOwn (run self.old) (run self.new))) }
+            (λ found. HasStepped (run self.old) (run self.new) (Finds Name.Record (option_map (λ v. v.items) found)) × OwnsTheSame (run self.old) (run self.new))
+            (λ _. HasStepped (run self.old) (run self.new) IsStill × OwnsTheSame (run self.old) (run self.new))) }
+        ensures counted { HasCounted (folder_faults self.old) (folder_faults self.new) result };
+
+    /// Opens the file at the place, to be read by `read_at` alone; none where no file stands there.
+    fn open_place(&mut self) -> Result<Option<Self::Handle>, DeviceFault>
+        ensures opened { Known (run self.old) (MatchResult result
+            (λ found. HasStepped (run self.old) (run self.new) (Leads Name.Place (option_map Self.Handle.file found)) × OwnsTheSame (run self.old) (run self.new))
+            (λ _. HasStepped (run self.old) (run self.new) IsStill × OwnsTheSame (run self.old) (run self.new))) }
         ensures counted { HasCounted (folder_faults self.old) (folder_faults self.new) result };
 }

@@ -25,11 +25,12 @@ impl InstallFault {
             OtherFile => 49,
             NoNumber => 50,
             OlderUpdate => 51,
-            FolderNotOnDisk => 52,
+            DirectoryNotSynced => 52,
             KeptByTimestamp => 53,
             KeptByVersion => 54,
             Expired => 55,
             BadExpiry => 56,
+            SameNumber => 57,
         }
     }
 }
@@ -48,11 +49,12 @@ pub fn error_text(number: u32) -> &'static str
         49 => "the signed comment does not name this file",
         50 => "the signed comment has no such number",
         51 => "the update is older than what was installed",
-        52 => "installed, but the folder could not be brought to the disk",
+        52 => "installed, but the directory could not be synced",
         53 => "the number that is kept beside the place is a timestamp, and no version",
         54 => "the number that is kept beside the place is a version, and no timestamp",
         55 => "the update has expired",
         56 => "the signed comment does not say once, in a number, when it expires",
+        57 => "an update of this number was installed, and other data stands at the place",
         _ => numbers::error_text(number),
     }
 }

@@ -6,12 +6,10 @@ ghost use Rattle.minisign_external.specs.Numbers.{misuse_number};
 ghost use Rattle.minisign_external.specs.States.{IsFedState};
 ghost use Rattle.minisign_external.specs.declared.state.Misuse.TheVariants.{NotDue};
 ghost use Rattle.minisign_install.specs.HostNumbers.{install_number};
-ghost use Rattle.minisign_install.specs.Hosted.{CannotBeFed, CannotFail, CannotGo, CallHasFailed, HasGone, HasReadRecord, HasReadBack, IsNotDue, IsUnused, KeepsRest, IsDue, begun_mark, due_fault, due_from, due_number, due_of, due_update, failure, host_number, is_device_fault, is_failure, is_read_back, numbering_of};
-ghost use Rattle.minisign_install.specs.Order.{fits};
+ghost use Rattle.minisign_install.specs.Hosted.{CannotBeFed, CannotFail, CannotGo, CallHasFailed, HasGone, HasReadRecord, HasReadBack, IsNotDue, IsUnused, RestUnchanged, IsDue, begun_mark, due_from, due_number, due_of, failure, host_number, is_device_fault, is_failure, is_read_back, numbering_of};
+ghost use Rattle.minisign_install.specs.Order.{fits, Answer, Lock, ReadBack, ReadRecord, SyncName, WriteRecord, Done, More};
 ghost use Rattle.minisign_install.specs.RecordTexts.{record_of};
-ghost use Rattle.minisign_install.specs.declared.order.Due.TheVariants.{Answer, Lock, ReadBack, ReadRecord, SettleName, WriteRecord};
 ghost use Rattle.minisign_install.specs.declared.order.Due.TheVariants as ended;
-ghost use Rattle.minisign_install.specs.declared.order.Outcome.TheVariants.{Done, More};
 ghost use Rattle.minisign_install.specs.declared.hosted.HostRefusal.TheVariants.{Refused, WrongUse};
 
 use crate::comments::Numbering;
@@ -123,7 +121,7 @@ impl Installation {
         ensures { MatchOption (due_of self.now) (result ≡ 0) (λ due. result ≡ due_number due) }
     {
         match self.due() {
-            Some(due) => due.number(),
+            Some(due) => due.parts().0,
             None => 0,
         }
     }
@@ -304,75 +302,44 @@ impl Installation {
     // This is due now.
     pub(crate) fn set(&mut self, due: Due<u32>)
         ensures due { IsDue self.new due }
-        ensures rest { KeepsRest self.old self.new }
+        ensures rest { RestUnchanged self.old self.new }
     {
+        let (call, number, fault) = due.parts();
         self.mark = BEGUN;
-        self.due = due.number();
-        self.number = due.update();
-        self.fault = due.fault();
+        self.due = call;
+        self.number = number;
+        self.fault = fault;
     }
 }
 
 impl Due<u32> {
-    // The number of the call.
-    fn number(&self) -> u32
-        ensures { result ≡ due_number self.now }
+    // The number of the call, and the number and the fault that come with it, where they do.
+    fn parts(&self) -> (u32, u64, u32)
+        ensures number { result.0 ≡ due_number self.now }
+        ensures parts { due_from result.0 result.1 result.2 ≡ Some self.now }
     {
         use Due::*;
         match self {
-            Lock => 1,
-            Clear => 2,
-            ReadRecord => 3,
-            Create(_) => 4,
-            Copy(_) => 5,
-            ReadBack(_) => 6,
-            Answer(_) => 7,
-            TakeRights(_) => 8,
-            Settle(_) => 9,
-            CreateRecord(_) => 10,
-            WriteRecord(_) => 11,
-            SettleRecord(_) => 12,
-            RenameRecord(_) => 13,
-            SettleRecordName(_) => 14,
-            Rename(_) => 15,
-            SettleName(_) => 16,
-            RemoveRecord(_) => 17,
-            Remove(_) => 18,
-            Installed => 19,
-            Refused(_) => 20,
-        }
-    }
-
-    // The number of an update, or of the record, that comes with it.
-    fn update(&self) -> u64
-        ensures { result ≡ due_update self.now }
-    {
-        use Due::*;
-        match self {
-            Create(number)
-            | Copy(number)
-            | ReadBack(number)
-            | Answer(number)
-            | TakeRights(number)
-            | Settle(number)
-            | CreateRecord(number)
-            | WriteRecord(number)
-            | SettleRecord(number)
-            | RenameRecord(number)
-            | SettleRecordName(number)
-            | Rename(number)
-            | SettleName(number) => *number,
-            Lock | Clear | ReadRecord | RemoveRecord(_) | Remove(_) | Installed | Refused(_) => 0,
-        }
-    }
-
-    // The fault that comes with it.
-    fn fault(&self) -> u32
-        ensures { result ≡ due_fault self.now }
-    {
-        match self {
-            Due::RemoveRecord(fault) | Due::Remove(fault) | Due::Refused(fault) => *fault,
-            _ => 0,
+            Lock => (1, 0, 0),
+            Clear => (2, 0, 0),
+            ReadRecord => (3, 0, 0),
+            Create(kept) => (4, *kept, 0),
+            Copy(kept) => (5, *kept, 0),
+            ReadBack(kept) => (6, *kept, 0),
+            Answer(kept) => (7, *kept, 0),
+            TakePermissions(number) => (8, *number, 0),
+            Sync(number) => (9, *number, 0),
+            CreateRecord(number) => (10, *number, 0),
+            WriteRecord(number) => (11, *number, 0),
+            SyncRecord(number) => (12, *number, 0),
+            RenameRecord(number) => (13, *number, 0),
+            SyncRecordName(number) => (14, *number, 0),
+            Rename(number) => (15, *number, 0),
+            SyncName(number) => (16, *number, 0),
+            RemoveRecord(fault) => (17, 0, *fault),
+            Remove(fault) => (18, 0, *fault),
+            Installed => (19, 0, 0),
+            Refused(fault) => (20, 0, *fault),
         }
     }
 }
@@ -389,15 +356,15 @@ fn due_from(call: u32, number: u64, fault: u32) -> Option<Due<u32>>
         5 => Some(Due::Copy(number)),
         6 => Some(Due::ReadBack(number)),
         7 => Some(Due::Answer(number)),
-        8 => Some(Due::TakeRights(number)),
-        9 => Some(Due::Settle(number)),
+        8 => Some(Due::TakePermissions(number)),
+        9 => Some(Due::Sync(number)),
         10 => Some(Due::CreateRecord(number)),
         11 => Some(Due::WriteRecord(number)),
-        12 => Some(Due::SettleRecord(number)),
+        12 => Some(Due::SyncRecord(number)),
         13 => Some(Due::RenameRecord(number)),
-        14 => Some(Due::SettleRecordName(number)),
+        14 => Some(Due::SyncRecordName(number)),
         15 => Some(Due::Rename(number)),
-        16 => Some(Due::SettleName(number)),
+        16 => Some(Due::SyncName(number)),
         17 => Some(Due::RemoveRecord(fault)),
         18 => Some(Due::Remove(fault)),
         19 => Some(Due::Installed),
@@ -417,7 +384,7 @@ const RANDOM_SOURCE_FAILED: u32 = 67;
 
 const PLACE_IN_USE: u32 = 46;
 
-const FOLDER_NOT_ON_DISK: u32 = 52;
+const DIRECTORY_NOT_SYNCED: u32 = 52;
 
 // Whether a call can fail for the fault of this number.
 fn can_fail(due: &Due<u32>, fault: u32) -> bool
@@ -444,7 +411,7 @@ fn failure(due: &Due<u32>, fault: u32) -> u32
     ensures { result ≡ failure due.now fault }
 {
     match due {
-        Due::SettleName(_) => FOLDER_NOT_ON_DISK,
+        Due::SyncName(_) => DIRECTORY_NOT_SYNCED,
         _ => fault,
     }
 }

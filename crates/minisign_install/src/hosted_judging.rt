@@ -3,18 +3,17 @@
 ghost use Rattle.std.specs.Prelude.{◌≡◌, ◌⊎◌, ◌≤◌, ℕ, Bool, List, false, OnOk, OnErr, IfErr, IfOk, MatchResult, [], true, Ok, length};
 ghost use Rattle.std.specs.Str.{IsUtf8};
 ghost use Rattle.minisign_hash.specs.Blake2b.{blake2b_digest};
-ghost use Rattle.minisign.specs.Acceptance.{Verifier};
+ghost use Rattle.minisign_install.specs.Installing.{Verifier, Terms};
 ghost use Rattle.minisign.specs.SignatureText.{SignatureTextRecord};
 ghost use Rattle.minisign_external.specs.Questions.{AnswersTexts, IsKeyText, read_under};
 ghost use Rattle.minisign_external.specs.States.{AreQuestions, HasEnded, IsFedState};
 ghost use Rattle.minisign_install.specs.Comments.{Says};
 ghost use Rattle.minisign_install.specs.HostNumbers.{install_number};
-ghost use Rattle.minisign_install.specs.Hosted.{GivesUpdate, IsAnswerRefusal, IsAskRefusal, IsAsking, IsCommentFault, IsJudged, KeepsRest, IsDue, due_of, numbering_of, wanted_by};
-ghost use Rattle.minisign_install.specs.Installing.{Terms};
+ghost use Rattle.minisign_install.specs.Hosted.{GivesUpdate, IsAnswerRefusal, IsAskRefusal, IsAsking, IsCommentFault, IsJudged, RestUnchanged, IsDue, due_of, numbering_of, wanted_by};
 ghost use Rattle.minisign_install.specs.Refusals.{IsCommentRefused};
-ghost use Rattle.minisign_install.specs.declared.faults.InstallFault.TheVariants.{Library};
+ghost use Rattle.minisign_install.specs.Faults.{Library};
 ghost use Rattle.minisign_install.specs.declared.hosted.HostRefusal.TheVariants.{Refused};
-ghost use Rattle.minisign_install.specs.declared.order.Due.TheVariants.{Answer, Remove, TakeRights};
+ghost use Rattle.minisign_install.specs.Order.{Answer, Remove, TakePermissions};
 
 use crate::comments::{Numbering, check_comment};
 use crate::faults::InstallFault;
@@ -99,7 +98,7 @@ impl Installation {
             → GivesUpdate accepts terms kept message self.new result }
 
         // The rights are due only where the answers were, and what was asked is ended then. A wrong use changes nothing.
-        ensures due { OnOk result (((kept : ℕ) × IsDue self.old (Answer kept)) × ((n : ℕ) × IsDue self.new (TakeRights n))
+        ensures due { OnOk result (((kept : ℕ) × IsDue self.old (Answer kept)) × ((n : ℕ) × IsDue self.new (TakePermissions n))
             × HasEnded self.old.state self.new.state) }
         ensures refused { IfErr result (IsAnswerRefusal self.old self.new) }
 
@@ -123,7 +122,7 @@ impl Installation {
     // The stage is to be removed for this fault.
     fn remove_for(&mut self, fault: &InstallFault)
         ensures due { IsDue self.new (Remove (install_number fault.now)) }
-        ensures rest { KeepsRest self.old self.new }
+        ensures rest { RestUnchanged self.old self.new }
     {
         self.set(Due::Remove(fault.number()));
     }
@@ -151,15 +150,15 @@ impl Installation {
     // The verdict was yes: what was kept of the comment is told.
     fn take_judgement(&mut self) -> Result<(), HostRefusal>
         ensures judged { (terms : Terms) (kept : ℕ) (comment : List ℕ) → IsJudged self.old.comment self.old.update terms kept comment
-            → MatchResult result (λ _. (n : ℕ) × IsDue self.new (TakeRights n) × Says comment terms.file terms.numbering terms.moment n × (kept ≤ n))
+            → MatchResult result (λ _. (n : ℕ) × IsDue self.new (TakePermissions n) × Says comment terms.file terms.numbering terms.moment n × (kept ≤ n))
             (λ r. (e : InstallFault) × (r ≡ Refused e) × IsDue self.new (Remove (install_number e)) × IsCommentRefused terms kept comment e) }
-        ensures due { OnOk result ((n : ℕ) × IsDue self.new (TakeRights n)) }
+        ensures due { OnOk result ((n : ℕ) × IsDue self.new (TakePermissions n)) }
         ensures refused { IfErr result (λ r. (e : InstallFault) × (r ≡ Refused e) × IsDue self.new (Remove (install_number e))) }
         ensures state { self.new.state ≡ self.old.state }
         ensures numbering { self.new.numbering ≡ self.old.numbering }
     {
         if self.comment == IS_UPDATE {
-            self.set(Due::TakeRights(self.update));
+            self.set(Due::TakePermissions(self.update));
             return Ok(());
         }
         let fault = comment_fault(self.comment);

@@ -1,13 +1,11 @@
 //! Installing an update in a folder: each call is made as the table of `Due` has it due.
 
 ghost use Rattle.std.specs.Prelude.{◌≡◌, IfErr, OnOk};
-ghost use Rattle.minisign_base.specs.Fault.{Named};
-ghost use Rattle.minisign_base.specs.declared.faults.NamedFault.TheVariants.{OutOfMemory};
+ghost use Rattle.minisign_install.specs.Faults.{Named, OutOfMemory, Library};
 ghost use Rattle.minisign_install.specs.Folders.{HasLocked, Run, Known};
 ghost use Rattle.minisign_install.specs.Installing.{HasInstalled, InstallsOnlyUpdates, IsVouched, terms_of};
-ghost use Rattle.minisign_install.specs.Refusals.{InstallsExactly, IsCause, IsRefusal, LocksAlone, counts};
+ghost use Rattle.minisign_install.specs.Refusals.{InstallsExactly, IsCause, IsRefusal, OnlyLocked, counts};
 ghost use Rattle.minisign_install.specs.Runs.{OwnsNoMore};
-ghost use Rattle.minisign_install.specs.declared.faults.InstallFault.TheVariants.{Library};
 
 use crate::calls::{Work, make};
 use crate::faults::InstallFault;
@@ -34,14 +32,14 @@ use std::alloc::Global;
 /// below 2^64 in the wanted field; `BadExpiry`, where it has the field `expires:` twice or without such
 /// a number, and `Expired`, where the moment that was passed is not below that; `OlderUpdate`, where
 /// the number is below the kept one. The same number may be installed again. Then it gives the file
-/// the rights of the one at the place and brings it to the disk, keeps the number, on the disk, and last gives the file the place's name
-/// and brings the folder to the disk.
+/// the permissions of the one at the place and syncs it, keeps the number, which is synced too, and
+/// last gives the file the place's name and syncs the directory.
 ///
 /// A device that fails is `ReadingFailed`, `WritingFailed` or `RandomSourceFailed`, and memory
 /// may run out in copying, reading back and judging (a record that is read without memory is
 /// `ReadingFailed`). After a refusal this run has brought nothing to the place, unless the
-/// renaming failed (`WritingFailed`), which may have been done, or bringing it to the disk
-/// (`FolderNotOnDisk`): then the update stands there. The record has changed only if keeping
+/// renaming failed (`WritingFailed`), which may have been done, or syncing the directory
+/// (`DirectoryNotSynced`): then the update stands there. The record has changed only if keeping
 /// the number failed or a later step did. The new file is removed if it can be, or by the next run.
 ///
 /// The data is copied, and read back, in pieces of at most 64 KiB, of which one is held at a time;
@@ -62,13 +60,13 @@ pub fn install_update<S: Scheme, Z: RandomSource, R: Source, F: Folder>(
     // number of such an update, behind the label
     // of its field; through any crash, and whatever other processes do that leave the run's own
     // stages alone, and the record while this run holds the lock (`InstallsOnly`, `IsUpdate`,
-    // `OthersLeave`).
+    // `OtherProcesses`).
     //
     // Nothing is done without the lock; from when it is got, a number that the record has for the
     // wanted field stays or is followed by a greater one, and whenever the run has brought an update
     // to the place, the record has had its number or a greater one since before: at each moment, and
     // after a crash at any, also of a run that is refused or cut off (`HasLocked`, `NeverFalls`,
-    // `PlacesBehind`).
+    // `RecordsFirst`).
     ensures headline { Known (F.run folder.old) (InstallsOnlyUpdates (S.accepts scheme.now) (terms_of wanted.entry) is_first (F.run folder.old) (F.run folder.new)) }
 
     // On success what was installed is the data that was ahead, and its number is not below the one
@@ -88,7 +86,7 @@ pub fn install_update<S: Scheme, Z: RandomSource, R: Source, F: Folder>(
     // texts over the data ahead, or what the vouched-for comment lacks, with nothing brought; a
     // device's fault with at most the record brought; `writing failed` with at most what the
     // headline allows; or the folder is not on the disk, after a call that gave an update the
-    // place's name (`IsDataRefusal`, `IsDataRefused`, `IsCommentRefused`, `HasPlaced`).
+    // place's name (`IsDataRefusal`, `IsDataRefused`, `IsCommentRefused`, `HasPublishedUpdate`).
     ensures refused { IfErr result (λ e. Known (F.run folder.old) (IsRefusal (S.accepts scheme.now) (terms_of wanted.entry) is_first (R.ahead update.old) (counts (Z.random_faults random.old) (R.faults update.old) (F.folder_faults folder.old)) (counts (Z.random_faults random.new) (R.faults update.new) (F.folder_faults folder.new)) (F.run folder.old) (F.run folder.new) e)) }
 
     // Where memory is found and no device fails: if another run holds the lock, that is said;
@@ -113,7 +111,7 @@ pub fn install_update<S: Scheme, Z: RandomSource, R: Source, F: Folder>(
 
     // Memory runs out only with the lock held, and before anything is brought to the place or to the
     // record. A run that says so may have given up there.
-    ensures memory { IfErr result (λ e. e ≡ Library (Named OutOfMemory) → Known (F.run folder.old) (LocksAlone (F.run folder.old) (F.run folder.new))) }
+    ensures memory { IfErr result (λ e. e ≡ Library (Named OutOfMemory) → Known (F.run folder.old) (OnlyLocked (F.run folder.old) (F.run folder.new))) }
 
     // On success no device failed.
     ensures no_new_fault { OnOk result (counts (Z.random_faults random.new) (R.faults update.new) (F.folder_faults folder.new) ≡ counts (Z.random_faults random.old) (R.faults update.old) (F.folder_faults folder.old)) }

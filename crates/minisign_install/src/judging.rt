@@ -2,14 +2,12 @@
 
 ghost use Rattle.std.specs.Prelude.{◌≡◌, ◌⊎◌, ◌<◌, ◌≤◌, ℕ, List, false, true, length, take, IfOk, IfErr, OnOk, OnErr, MatchResult};
 ghost use Rattle.std.specs.Str.{IsUtf8};
-ghost use Rattle.minisign_base.specs.Fault.{Fault, Named};
-ghost use Rattle.minisign_base.specs.declared.faults.NamedFault.TheVariants.{OutOfMemory};
-ghost use Rattle.minisign.specs.Calls.{TextsVouchWith};
+ghost use Rattle.minisign_install.specs.Faults.{Fault, Named, OutOfMemory};
+ghost use Rattle.minisign_install.specs.Installing.{TextsVouchWith, IsUpdate, terms_of};
 ghost use Rattle.minisign.specs.Headline.{verdict};
 ghost use Rattle.minisign_external.specs.States.{IsFedState};
 ghost use Rattle.minisign_external.specs.declared.state.Refusal.TheVariants.{Refused};
 ghost use Rattle.minisign_install.specs.Folders.{Known};
-ghost use Rattle.minisign_install.specs.Installing.{IsUpdate, terms_of};
 ghost use Rattle.minisign_install.specs.Refusals.{IsDataRefused, IsLibraryFault, IsReadingFault};
 
 use crate::comments::check_comment;
@@ -25,21 +23,27 @@ use minisign_external::public_keys::{PublicKeyValue, tell_public_key};
 use minisign_external::state::{Questions, Refusal, State};
 use std::alloc::Global;
 
-// Reads back all that the stage holds, in pieces. A fault of reading it is counted. Memory runs out only before anything
-// is read.
+// Reads all that the file holds, and feeds it to a new state. A fault of reading it is counted. Memory runs out only before
+// anything is read.
 pub(crate) fn read_back<F: Folder>(
     alloc: Global,
     folder: &mut F,
     handle: &F::Handle,
-) -> Result<State, PError>
+    state: &mut State,
+) -> Result<(), InstallFault>
     ensures still { F.run folder.new ≡ F.run folder.old }
-    ensures fed { IfOk result (λ s. (m : List ℕ) × IsFedState s m × Known (F.run folder.old) ((F.run folder.old).now.holds (F.Handle.file handle.now) ≡ m)) }
-    ensures refused { IfErr result (IsReadingFault (F.folder_faults folder.old) (F.folder_faults folder.new)) }
+    ensures fed { OnOk result ((m : List ℕ) × IsFedState state.new m × Known (F.run folder.old) ((F.run folder.old).now.holds (F.Handle.file handle.now) ≡ m)) }
+    ensures refused { IfErr result (IsLibraryFault (IsReadingFault (F.folder_faults folder.old) (F.folder_faults folder.new))) }
     ensures no_new_fault { OnOk result (F.folder_faults folder.new ≡ F.folder_faults folder.old) }
 {
-    let mut buf = zeros(alloc, PIECE)?;
+    let Ok(mut buf) = zeros(alloc, PIECE) else {
+        return Err(NamedFault::OutOfMemory.into());
+    };
     match feed(folder, handle, &mut buf) {
-        Ok(state) => Ok(state),
+        Ok(fed) => {
+            *state = fed;
+            Ok(())
+        }
         Err(_) => {
             folder.count_fault();
             Err(NamedFault::ReadingFailed.into())
@@ -122,7 +126,7 @@ fn vouch<'a, S: Scheme>(
 
 // Reads the key, asks its questions, has the scheme answer them, and gives the verdict, with the comment that was signed.
 // The message of the second question is written to `message`.
-fn decide<'a, S: Scheme>(
+pub(crate) fn decide<'a, S: Scheme>(
     scheme: &S,
     pk_text: &[u8],
     sig_text: &'a [u8],

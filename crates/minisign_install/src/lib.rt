@@ -17,6 +17,7 @@ pub mod order;
 mod recording;
 pub mod stage_names;
 mod staging;
+pub mod there;
 pub mod wanted;
 
 pub use checking::{Offer, check_update};
@@ -25,4 +26,5 @@ pub use faults::InstallFault;
 pub use folders::{Folder, Handle, Name};
 pub use installing::install_update;
 pub use stage_names::StageName;
+pub use there::{Installed, install_unless_there};
 pub use wanted::Wanted;

@@ -3,7 +3,7 @@
 
 ghost use Rattle.std.specs.Prelude.{◌≡◌, ◌⊎◌, List, true};
 ghost use Rattle.minisign_install.specs.Hosts.{Event, HasRun, Host, IsExplained, RunHasInstalled, RunIsRefused, RunsSafely, Setting};
-ghost use Rattle.minisign_install.specs.declared.faults.InstallFault.{InstallFault};
+ghost use Rattle.minisign_install.specs.Faults.{InstallFault};
 ghost use Rattle.minisign_install.specs.Order.{after_done, after_failed, after_number, fits, next};
 ghost use Rattle.minisign_install.specs.Runs.{OwnsNoMore};
 
@@ -25,31 +25,31 @@ pub enum Due<E> {
     ReadBack(u64),
     /// Have the signature scheme answer the two questions.
     Answer(u64),
-    /// Give the stage the rights of the file at the place.
-    TakeRights(u64),
-    /// Bring to the disk what the stage holds.
-    Settle(u64),
+    /// Give the stage the permissions of the file at the place.
+    TakePermissions(u64),
+    /// Sync what the stage holds.
+    Sync(u64),
     /// Draw a name, and make the stage of the record under it.
     CreateRecord(u64),
     /// Write the number into the stage of the record.
     WriteRecord(u64),
-    /// Bring to the disk what the stage of the record holds.
-    SettleRecord(u64),
+    /// Sync what the stage of the record holds.
+    SyncRecord(u64),
     /// Give the stage of the record the record's name.
     RenameRecord(u64),
-    /// Bring the record's name to the disk.
-    SettleRecordName(u64),
+    /// Sync the directory; so the record keeps its name.
+    SyncRecordName(u64),
     /// Give the stage the place's name.
     Rename(u64),
-    /// Bring the place's name to the disk.
-    SettleName(u64),
-    /// Remove the stage of the record: the run is refused for this fault.
+    /// Sync the directory; so the place keeps its name.
+    SyncName(u64),
+    /// Remove the stage of the record: the run is rejected for this error.
     RemoveRecord(E),
-    /// Remove the stage: the run is refused for this fault.
+    /// Remove the stage: the run is rejected for this error.
     Remove(E),
     /// Nothing: the update is installed.
     Installed,
-    /// Nothing: the run was refused for this fault.
+    /// Nothing: the run was rejected for this error.
     Refused(E),
 }
 
@@ -104,15 +104,15 @@ impl<E: Drop> Due<E> {
             Create(kept) => Copy(kept),
             Copy(kept) => ReadBack(kept),
             ReadBack(kept) => Answer(kept),
-            TakeRights(number) => Settle(number),
-            Settle(number) => CreateRecord(number),
+            TakePermissions(number) => Sync(number),
+            Sync(number) => CreateRecord(number),
             CreateRecord(number) => WriteRecord(number),
-            WriteRecord(number) => SettleRecord(number),
-            SettleRecord(number) => RenameRecord(number),
-            RenameRecord(number) => SettleRecordName(number),
-            SettleRecordName(number) => Rename(number),
-            Rename(number) => SettleName(number),
-            SettleName(_) => Installed,
+            WriteRecord(number) => SyncRecord(number),
+            SyncRecord(number) => RenameRecord(number),
+            RenameRecord(number) => SyncRecordName(number),
+            SyncRecordName(number) => Rename(number),
+            Rename(number) => SyncName(number),
+            SyncName(_) => Installed,
             RemoveRecord(fault) => Remove(fault),
             Remove(fault) => Refused(fault),
             due => due,
@@ -126,7 +126,7 @@ impl<E: Drop> Due<E> {
         use Due::*;
         match self {
             ReadRecord => Create(number),
-            Answer(_) => TakeRights(number),
+            Answer(_) => TakePermissions(number),
             due => due,
         }
     }
@@ -142,12 +142,12 @@ impl<E: Drop> Due<E> {
             Copy(_)
             | ReadBack(_)
             | Answer(_)
-            | TakeRights(_)
-            | Settle(_)
+            | TakePermissions(_)
+            | Sync(_)
             | CreateRecord(_)
             | Rename(_)
-            | SettleName(_) => Remove(fault),
-            WriteRecord(_) | SettleRecord(_) | RenameRecord(_) | SettleRecordName(_) => {
+            | SyncName(_) => Remove(fault),
+            WriteRecord(_) | SyncRecord(_) | RenameRecord(_) | SyncRecordName(_) => {
                 RemoveRecord(fault)
             }
             RemoveRecord(first) => Remove(first),

@@ -1,16 +1,13 @@
 //! The number of the newest update is kept beside the place, behind the label of its field.
 
 ghost use Rattle.std.specs.Prelude.{◌≡◌, ◌⊎◌, ◌<◌, ◌≤◌, ℕ, false, List, Option, Some, None, IfOk, IfErr, OnOk, OnErr, MatchOption, MatchResult, length, take};
-ghost use Rattle.minisign_base.specs.Devices.{Rose};
-ghost use Rattle.minisign_base.specs.Fault.{Named};
-ghost use Rattle.minisign_base.specs.declared.faults.NamedFault.TheVariants.{ReadingFailed};
-ghost use Rattle.minisign_install.specs.declared.faults.InstallFault.TheVariants.{Library};
+ghost use Rattle.minisign_install.specs.Faults.{Rose, Named, ReadingFailed, Library};
 ghost use Rattle.minisign_install.specs.Comments.{IsNumberText};
 ghost use Rattle.minisign_install.specs.Folders.{HasStepped, IsStill, Finds, Known};
 ghost use Rattle.minisign_install.specs.Hosts.{Calls};
 ghost use Rattle.minisign_install.specs.Installing.{IsKeptNumber};
 ghost use Rattle.minisign_install.specs.RecordTexts.{HasNoNumber, IsFieldText, IsNumberFor, IsUnfit, kept_by, record_of, record_text};
-ghost use Rattle.minisign_install.specs.Refusals.{IsRecordFault, IsRecordRefused};
+ghost use Rattle.minisign_install.specs.Refusals.{IsReadRefusal, IsRecordFault, IsRecordRefused};
 
 use crate::comments::{Numbering, number_of, strip};
 use crate::faults::InstallFault;
@@ -34,7 +31,7 @@ pub(crate) fn read_number<F: Folder>(
 ) -> Result<u64, InstallFault>
     ensures read { IfOk result (λ kept. Known (F.run folder.old) ((found : Option (List ℕ)) × Calls (Finds Name.Record found) (F.run folder.old) (F.run folder.new) × IsKeptNumber numbering is_first found kept)) }
     ensures still { OnErr result (Known (F.run folder.old) (Calls IsStill (F.run folder.old) (F.run folder.new))) }
-    ensures refused { IfErr result (λ e. (IsRecordFault is_first e × Known (F.run folder.old) ((found : Option (List ℕ)) × HasStepped (F.run folder.old) (F.run folder.new) (Finds Name.Record found) × IsRecordRefused numbering is_first found e))
+    ensures refused { IfErr result (λ e. IsReadRefusal numbering is_first (F.run folder.old) (F.run folder.new) e
         ⊎ ((e ≡ Library (Named ReadingFailed)) × Rose (F.folder_faults folder.old) (F.folder_faults folder.new))) }
     ensures no_new_fault { OnOk result (F.folder_faults folder.new ≡ F.folder_faults folder.old) }
 {

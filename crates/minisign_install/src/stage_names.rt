@@ -2,7 +2,7 @@
 
 ghost use Rattle.std.specs.Prelude.{◌≡◌, List, ℕ, length, IfOk, OnErr};
 ghost use Rattle.std.specs.Io.KnownBytes.{Consumes};
-ghost use Rattle.minisign_base.specs.Devices.{Rose};
+ghost use Rattle.minisign_install.specs.Faults.{Rose};
 ghost use Rattle.minisign_install.specs.Names.{drawn_bytes};
 
 use minisign_base::devices::DeviceFault;

@@ -3,14 +3,12 @@
 ghost use Rattle.std.specs.Prelude.{◌≡◌, ◌⊎◌, ◌<◌, ℕ, List, length, vec_len, IfOk, IfErr, OnOk, OnErr, MatchResult};
 ghost use Rattle.std.specs.Io.KnownBytes.{Consumes, IsAtEnd};
 ghost use Rattle.std.specs.List.{concat};
-ghost use Rattle.minisign_base.specs.Devices.{Rose};
-ghost use Rattle.minisign_base.specs.Fault.{Named};
-ghost use Rattle.minisign_base.specs.declared.faults.NamedFault.TheVariants.{OutOfMemory, ReadingFailed, WritingFailed};
+ghost use Rattle.minisign_install.specs.Faults.{Library, Rose, Named, OutOfMemory, ReadingFailed, WritingFailed};
 ghost use Rattle.minisign_install.specs.Folders.{HasCounted, Known};
 ghost use Rattle.minisign_install.specs.Hosts.{Writes, WritesInPart};
 
+use crate::faults::InstallFault;
 use crate::folders::{Folder, Handle};
-use minisign::Result;
 use minisign_base::NamedFault;
 use minisign_base::devices::DeviceFault;
 use minisign_base::devices::sources::Source;
@@ -25,20 +23,23 @@ pub(crate) fn fill<F: Folder, R: Source>(
     folder: &mut F,
     handle: &F::Handle,
     update: &mut R,
-) -> Result<()>
+) -> Result<(), InstallFault>
     ensures copied { OnOk result (Known (F.run folder.old) ((pieces : List (List ℕ)) × Writes (F.Handle.file handle.now) pieces (F.run folder.old) (F.run folder.new)
         × Consumes (R.ahead update.old) (R.ahead update.new) (concat pieces) × IsAtEnd (R.ahead update.new))) }
     ensures broken { OnErr result (Known (F.run folder.old) (WritesInPart (F.Handle.file handle.now) (F.run folder.old) (F.run folder.new))) }
     ensures no_new_fault { OnOk result ((R.faults update.new ≡ R.faults update.old) × (F.folder_faults folder.new ≡ F.folder_faults folder.old)) }
-    ensures refused { IfErr result (λ e. ((e ≡ Named OutOfMemory) × (folder.new ≡ folder.old) × (update.new ≡ update.old)) ⊎ ((e ≡ Named ReadingFailed) × Rose (R.faults update.old) (R.faults update.new))
-        ⊎ ((e ≡ Named WritingFailed) × Rose (F.folder_faults folder.old) (F.folder_faults folder.new))) }
+    ensures refused { IfErr result (λ e. ((e ≡ Library (Named OutOfMemory)) × (folder.new ≡ folder.old) × (update.new ≡ update.old))
+        ⊎ ((e ≡ Library (Named ReadingFailed)) × Rose (R.faults update.old) (R.faults update.new))
+        ⊎ ((e ≡ Library (Named WritingFailed)) × Rose (F.folder_faults folder.old) (F.folder_faults folder.new))) }
 {
-    let mut buf = zeros(alloc, PIECE)?;
+    let Ok(mut buf) = zeros(alloc, PIECE) else {
+        return Err(NamedFault::OutOfMemory.into());
+    };
     copy(folder, handle, update, &mut buf)
 }
 
 // A buffer of so many zeros.
-pub(crate) fn zeros(alloc: Global, len: usize) -> std::result::Result<Vec<u8>, AllocError>
+pub(crate) fn zeros(alloc: Global, len: usize) -> Result<Vec<u8>, AllocError>
     ensures { IfOk result (λ v. vec_len v ≡ len) }
 {
     vec![in alloc; 0u8; len]
@@ -50,14 +51,14 @@ fn copy<F: Folder, R: Source>(
     handle: &F::Handle,
     update: &mut R,
     buf: &mut [u8],
-) -> Result<()>
+) -> Result<(), InstallFault>
     requires { 0 < length buf.old }
     ensures copied { OnOk result (Known (F.run folder.old) ((pieces : List (List ℕ)) × Writes (F.Handle.file handle.now) pieces (F.run folder.old) (F.run folder.new)
         × Consumes (R.ahead update.old) (R.ahead update.new) (concat pieces) × IsAtEnd (R.ahead update.new))) }
     ensures broken { OnErr result (Known (F.run folder.old) (WritesInPart (F.Handle.file handle.now) (F.run folder.old) (F.run folder.new))) }
     ensures no_new_fault { OnOk result ((R.faults update.new ≡ R.faults update.old) × (F.folder_faults folder.new ≡ F.folder_faults folder.old)) }
-    ensures refused { IfErr result (λ e. ((e ≡ Named ReadingFailed) × Rose (R.faults update.old) (R.faults update.new))
-        ⊎ ((e ≡ Named WritingFailed) × Rose (F.folder_faults folder.old) (F.folder_faults folder.new))) }
+    ensures refused { IfErr result (λ e. ((e ≡ Library (Named ReadingFailed)) × Rose (R.faults update.old) (R.faults update.new))
+        ⊎ ((e ≡ Library (Named WritingFailed)) × Rose (F.folder_faults folder.old) (F.folder_faults folder.new))) }
 {
     'pieces: loop {
         let Ok(n) = update.read(buf) else {
@@ -77,7 +78,7 @@ pub(crate) fn write_all<F: Folder>(
     folder: &mut F,
     handle: &F::Handle,
     bytes: &[u8],
-) -> std::result::Result<(), DeviceFault>
+) -> Result<(), DeviceFault>
     ensures written { Known (F.run folder.old) (MatchResult result
         (λ _. (pieces : List (List ℕ)) × Writes (F.Handle.file handle.now) pieces (F.run folder.old) (F.run folder.new) × (concat pieces ≡ bytes.now))
         (λ _. WritesInPart (F.Handle.file handle.now) (F.run folder.old) (F.run folder.new))) }

@@ -1,10 +1,9 @@
 //! A folder of the file system: each call is one call of the system, or a fixed few. Nothing
 //! is known of it but how often it failed, since nothing is known of std's files.
 
-ghost use Rattle.std.specs.Prelude.{◌≡◌, ◌+◌, ◌<◌, ◌≤◌, ◌^◌, ℕ, true, IfOk, IfSome, length, min};
-ghost use Rattle.minisign_base.specs.Devices.{most_faults};
+ghost use Rattle.std.specs.Prelude.{◌≡◌, ◌+◌, ◌-◌, ◌<◌, ◌≤◌, ◌^◌, ℕ, List, None, Ok, true, IfOk, IfSome, length, min, string_bytes};
 ghost use Rattle.minisign_install.specs.Folders.{HasCounted, unknown};
-ghost use Rattle.minisign_install_files.specs.Files.{IsLastPart, faults_of, name_of};
+ghost use Rattle.minisign_install_files.specs.Files.{IsNoFile, IsPlaceIn, beside, faults_of, folder_of, folder_path, mode_of, name_of, path_of, place_of};
 
 use crate::interruptions::again;
 use crate::troubles::{Cause, Part, Trouble};
@@ -34,10 +33,11 @@ const DIGITS: usize = 32;
 // holds the lock alone.
 const NEW_LOCK: &str = "stage-00000000000000000000000000000000";
 
-/// An open stage, and whether it was given the rights of the file at the place.
+/// An open stage, and whether it was given the rights of the file at the place; or that file.
 #[derive(Drop)]
 pub struct StageFile {
     file: File,
+    part: Part,
     has_rights: Cell<bool>,
 }
 
@@ -74,9 +74,15 @@ impl<'a> FileFolder<'a> {
         place: &'a str,
         mode: Option<u32>,
     ) -> Option<FileFolder<'a>>
-        // A folder of files that was just made has counted no fault, and the name of its place is the last part of the path.
+        // A folder of files that was just made has counted no fault. Its place is the one at the path, which leads
+        // into this folder and to this name, and a new file there gets the mode that was passed.
         ensures no_new_fault { IfSome result (λ f. faults_of f ≡ 0) }
-        ensures name { IfSome result (λ f. IsLastPart place.now (name_of f)) }
+        ensures place { IfSome result (λ f. (place_of f ≡ place.now) × IsPlaceIn place.now (folder_of f) (name_of f)) }
+        ensures mode { IfSome result (λ f. mode_of f ≡ mode) }
+
+        // One is made of each path but those whose last part is empty, `.` or `..`.
+        ensures named { IfSome result (λ f. ¬ (IsNoFile (name_of f))) }
+        ensures refused { result ≡ None → (folder : List ℕ) × (name : List ℕ) × IsPlaceIn place.now folder name × IsNoFile name }
     {
         let (folder, name) = parts_of(place);
         match name {
@@ -107,8 +113,13 @@ impl<'a> FileFolder<'a> {
         self.trouble.get()
     }
 
-    /// The path of a part, as it is shown.
-    pub fn shown(&self, part: Part) -> Result<String, DeviceFault> {
+    /// The path of a part, as it is shown. It fails only where memory runs out, which `trouble` then says if it said
+    /// nothing before.
+    pub fn shown(&self, part: Part) -> Result<String, DeviceFault>
+        // The path is that of the folder, of the place, or of the file beside the place that has this part's ending,
+        // where a stage's digits are a star.
+        ensures { IfOk result (λ text. string_bytes text ≡ path_of self.now part) }
+    {
         match part {
             Part::Folder => self.text(self.folder),
             Part::Place => self.text(self.place),
@@ -135,22 +146,32 @@ impl<'a> FileFolder<'a> {
     }
 
     // A text that takes memory.
-    fn made<T, E: Drop>(&self, text: Result<T, E>) -> Result<T, DeviceFault> {
+    fn made<T, E: Drop>(&self, text: Result<T, E>) -> Result<T, DeviceFault>
+        ensures { IfOk result (λ made. text ≡ Ok made) }
+    {
         match text {
             Ok(text) => Ok(text),
             Err(_) => Err(self.remember(Part::Place, Cause::OutOfMemory)),
         }
     }
 
-    fn text(&self, text: &str) -> Result<String, DeviceFault> {
+    fn text(&self, text: &str) -> Result<String, DeviceFault>
+        ensures { IfOk result (λ made. string_bytes made ≡ text.now) }
+    {
         self.made(String::from_str(self.rt.alloc(), text))
     }
 
     // The path of a file beside the place, by what stands behind the place's name.
-    fn beside(&self, behind: &str) -> Result<String, DeviceFault> {
-        let folder = self.folder;
-        let name = self.name;
-        self.made(format!(in self.rt.alloc(); "{folder}/.{name}.{behind}"))
+    #[tactic(auto, using(crate::proofs::Paths::joined))]
+    fn beside(&self, behind: &str) -> Result<String, DeviceFault>
+        ensures { IfOk result (λ made. string_bytes made ≡ beside self.now behind.now) }
+    {
+        let mut path = self.text(self.folder)?;
+        self.made(path.push_str("/."))?;
+        self.made(path.push_str(self.name))?;
+        self.made(path.push_str("."))?;
+        self.made(path.push_str(behind))?;
+        Ok(path)
     }
 
     // The path of a stage.
@@ -187,6 +208,22 @@ impl<'a> FileFolder<'a> {
     // What stands at the place, where a regular file does.
     fn older(&self) -> Result<Option<Metadata>, DeviceFault> {
         self.regular(Part::Place, self.place)
+    }
+
+    // The file at the place, opened to be read, where a regular file stands there.
+    fn find_place(&self) -> Result<Option<StageFile>, DeviceFault> {
+        if self.older()?.is_none() {
+            return Ok(None);
+        }
+        let file = self.known(Part::Place, again(|| fs::open(self.rt, self.place)))?;
+        if !self.leads_to(Part::Place, self.place, &file)? {
+            return Err(self.remember(Part::Place, Cause::Restless));
+        }
+        Ok(Some(StageFile {
+            file,
+            part: Part::Place,
+            has_rights: Cell::new(true),
+        }))
     }
 
     // The regular file that the path of a part leads to, where any does. No link is followed.
@@ -306,7 +343,7 @@ impl<'a> FileFolder<'a> {
 
     // One more fault. The count stays at its greatest value.
     fn raise(&mut self)
-        ensures { self.new.faults ≡ min (self.old.faults + 1) most_faults }
+        ensures { self.new.faults ≡ min (self.old.faults + 1) (2 ^ 64 - 1) }
     {
         self.faults = self.faults.saturating_add(1);
     }
@@ -394,6 +431,7 @@ impl<'a> FileFolder<'a> {
         match open_own(self.rt, path.as_str(), true) {
             Ok(file) => Ok(StageFile {
                 file,
+                part: Part::Stage,
                 has_rights: Cell::new(false),
             }),
             Err(error) if error.kind() == ErrorKind::NotFound => {
@@ -486,13 +524,19 @@ impl<'a> FileFolder<'a> {
 
 // The path of the folder that a path leads into, and the last part of the path.
 fn parts_of(path: &str) -> (&str, &str)
-    ensures last { IsLastPart path.now result.1.now }
+    ensures parts { IsPlaceIn path.now result.0.now result.1.now }
 {
     match path.rsplit_once('/') {
-        Some(("", name)) => ("/", name),
-        Some((folder, name)) => (folder, name),
+        Some((before, name)) => (folder_path(before), name),
         None => (".", path),
     }
+}
+
+// The path of the folder that stands before a slash.
+fn folder_path(before: &str) -> &str
+    ensures { result.now ≡ folder_path before.now }
+{
+    if before.is_empty() { "/" } else { before }
 }
 
 // The part that a lasting name is of.
@@ -613,9 +657,9 @@ impl Folder for FileFolder<'_> {
             Ok(n) if n <= buf.len() && is_within_file(at, n) => Ok(n),
             Ok(_) => {
                 let cause = Cause::System(ErrorKind::FileTooLarge.into());
-                Err(self.remember(Part::Stage, cause))
+                Err(self.remember(handle.part, cause))
             }
-            Err(error) => Err(self.remember(Part::Stage, Cause::System(error))),
+            Err(error) => Err(self.remember(handle.part, Cause::System(error))),
         }
     }
 
@@ -649,6 +693,11 @@ impl Folder for FileFolder<'_> {
 
     fn read_record(&mut self, alloc: Global) -> Result<Option<Vec<u8>>, DeviceFault> {
         let answer = self.find_record(alloc);
+        self.counted(answer)
+    }
+
+    fn open_place(&mut self) -> Result<Option<StageFile>, DeviceFault> {
+        let answer = self.find_place();
         self.counted(answer)
     }
 }

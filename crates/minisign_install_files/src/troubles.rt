@@ -26,7 +26,7 @@ pub enum Cause {
     NoFolder,
     /// A link stands there, and links are not followed.
     Link,
-    /// A folder stands there.
+    /// A directory stands there.
     Folder,
     /// Neither a regular file, a link nor a folder.
     Special,
@@ -55,9 +55,9 @@ impl fmt::Display for Cause {
     fn fmt<W: fmt::Write>(&self, f: &mut fmt::Formatter<W>) -> fmt::Result {
         match self {
             Cause::System(error) => error.fmt(f),
-            Cause::NoFolder => f.write_str("there is no such folder"),
+            Cause::NoFolder => f.write_str("there is no such directory"),
             Cause::Link => f.write_str("a link stands there, which is not followed"),
-            Cause::Folder => f.write_str("a folder stands there"),
+            Cause::Folder => f.write_str("a directory stands there"),
             Cause::Special => f.write_str("what stands there is no regular file"),
             Cause::Closed => f.write_str(
                 "it is for its owner alone: give it the owner of the place",

@@ -1,6 +1,7 @@
-//! The program `minisign_updater`, an example of an updater: `minisign_updater [--first] PK DATA SIG PLACE` installs the file
-//! DATA at PLACE if the texts in the files PK and SIG vouch for it. The toy scheme protects nothing. Its exit status is the
-//! number of the fault, as `include/minisign.h` has it, and 1 where the arguments are others.
+//! The program `minisign_updater`, an example of an updater: `minisign_updater [--first] [--again] PK DATA SIG PLACE` installs
+//! the file DATA at PLACE if the texts in the files PK and SIG vouch for it. The toy scheme protects nothing. Its exit status
+//! is 255 where the update stood there already, the number of the fault, as `include/minisign.h` has it, and 1 where the
+//! arguments are others.
 #![tactic(auto)]
 
 ghost use Rattle.std.specs.Prelude.{List, ℕ, OnOk};
@@ -13,12 +14,15 @@ use minisign_base::devices::sources::ReaderSource;
 use minisign_base::scheme::Scheme;
 use minisign_base::toy::ToyScheme;
 use minisign_base::{NamedFault, unix_timestamp};
-use minisign_install::{InstallFault, Numbering, Wanted};
+use minisign_install::{InstallFault, Installed, Numbering, Wanted};
 use minisign_install_files::{FileFolder, Trouble, Uninterrupted, install_files};
 use minisign_programs::arguments::{behind_program, read_arguments, words_of};
 use std::fs;
 use std::fs::File;
 use std::process::ExitCode;
+
+// The exit status where the update stood there already.
+const THERE_ALREADY: u8 = 255;
 
 fn main(rt: HostRuntime) -> ExitCode {
     let Ok(Some(arguments)) = read_arguments(&rt) else {
@@ -27,8 +31,12 @@ fn main(rt: HostRuntime) -> ExitCode {
     let Ok(words) = words_of(rt.alloc(), behind_program(arguments.as_slice())) else {
         return ExitCode::FAILURE;
     };
-    let (is_first, paths) = match words.as_slice() {
-        ["--first", paths @ ..] => (true, paths),
+    let (is_first, words) = match words.as_slice() {
+        ["--first", more @ ..] => (true, more),
+        words => (false, words),
+    };
+    let (again, paths) = match words {
+        ["--again", paths @ ..] => (true, paths),
         paths => (false, paths),
     };
     let [pk, data, sig, place] = paths else {
@@ -37,8 +45,18 @@ fn main(rt: HostRuntime) -> ExitCode {
     let Some(mut folder) = FileFolder::of_place(&rt, place, None) else {
         return ExitCode::FAILURE;
     };
-    match update(&rt, &ToyScheme::new(), pk, data, sig, is_first, &mut folder) {
-        Ok(()) => ExitCode::SUCCESS,
+    match update(
+        &rt,
+        &ToyScheme::new(),
+        pk,
+        data,
+        sig,
+        is_first,
+        again,
+        &mut folder,
+    ) {
+        Ok(Installed::Now) => ExitCode::SUCCESS,
+        Ok(Installed::Already) => ExitCode::from(THERE_ALREADY),
         Err(fault) => {
             let _ = eprintln!(rt; "error: {fault}");
             if let Some(Trouble { part, cause }) = folder.trouble() {
@@ -59,8 +77,9 @@ fn update<S: Scheme>(
     data: &str,
     sig: &str,
     is_first: bool,
+    again: bool,
     folder: &mut FileFolder<'_>,
-) -> Result<(), InstallFault>
+) -> Result<Installed, InstallFault>
     // Success only if two texts vouch for some data, and the comment that was signed with it has the name of the place, and
     // a timestamp, and had not expired at some moment. That it is the one that the clock shows is tested.
     ensures { OnOk result ((pk_text sig_text : List ℕ) × (moment : ℕ)
@@ -77,7 +96,7 @@ fn update<S: Scheme>(
         // Where the clock cannot be read, or shows a time before 1970, what expires has expired.
         moment: unix_timestamp(rt).unwrap_or(u64::MAX),
     };
-    install_files(rt, scheme, wanted, is_first, &mut update, folder)
+    install_files(rt, scheme, wanted, is_first, again, &mut update, folder)
 }
 
 // Opens a file, which is read on where a signal interrupts that.

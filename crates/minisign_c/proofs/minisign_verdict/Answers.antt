@@ -32,18 +32,18 @@ success_number (Ok t) h = refl
 success_number (Err e) h = cc h
 
 pub returns-in-Ok-clause-verdict : goal.returns-in-Ok-clause-verdict
-returns-in-Ok-clause-verdict c = λ v sig_text message legacy accepts has told one two answers.
-    success_number (verdict_under accepts v sig_text message legacy) (c.in-Ok.ensures.verdict v sig_text message legacy accepts has told answers)
+returns-in-Ok-clause-verdict c = λ v sig_text message legacy accepts by.
+    success_number (verdict_under accepts v sig_text message legacy) (c.in-Ok.ensures.verdict v sig_text message legacy accepts by.asked by.told by.answers)
 
 pub returns-in-Err-clause-verdict : goal.returns-in-Err-clause-verdict
-returns-in-Err-clause-verdict c = λ v sig_text message legacy accepts has told one two answers.
-    c.number-in-Err.ensures ∙ refused_number (verdict_under accepts v sig_text message legacy) c.in-Err.refusal (c.in-Err.ensures.verdict v sig_text message legacy accepts has told answers)
+returns-in-Err-clause-verdict c = λ v sig_text message legacy accepts by.
+    c.number-in-Err.ensures ∙ refused_number (verdict_under accepts v sig_text message legacy) c.in-Err.refusal (c.in-Err.ensures.verdict v sig_text message legacy accepts by.asked by.told by.answers)
 
 pub returns-in-Err-clause-texts : goal.returns-in-Err-clause-texts
-returns-in-Err-clause-texts c = λ v pk_text sig_text message legacy accepts has told keyed one two answers.
+returns-in-Err-clause-texts c = λ v pk_text sig_text message legacy accepts by keyed.
     given_number accepts pk_text sig_text message legacy (c.args.first == answer_yes) c.args.state.now c.verdict.new.self c.in-Err.refusal _ c.number-in-Err.ensures
-    (c.in-Err.ensures.texts v pk_text sig_text message legacy accepts has told keyed answers) c.in-Err.ensures.refused
+    (c.in-Err.ensures.texts v pk_text sig_text message legacy accepts by.asked by.told keyed by.answers) c.in-Err.ensures.refused
 
 pub returns-in-Ok-clause-texts : goal.returns-in-Ok-clause-texts
-returns-in-Ok-clause-texts c = λ v pk_text sig_text message legacy accepts has told keyed one two answers.
-    inl (refl, c.in-Ok.ensures.texts v pk_text sig_text message legacy accepts has told keyed answers)
+returns-in-Ok-clause-texts c = λ v pk_text sig_text message legacy accepts by keyed.
+    inl (refl, c.in-Ok.ensures.texts v pk_text sig_text message legacy accepts by.asked by.told keyed by.answers)

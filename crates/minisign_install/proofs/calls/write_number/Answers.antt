@@ -1,4 +1,4 @@
-use Rattle.std.proofs.Common.{◌∙◌, refl}
+use Rattle.minisign_install.proofs.Common.{◌∙◌, refl}
 use Rattle.minisign_install.proofs.RecordTexts.{all_written}
 use Rattle.minisign_install.proofs.calls.write_number.Goals as goal
 

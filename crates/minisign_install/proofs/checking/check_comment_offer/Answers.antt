@@ -1,6 +1,4 @@
-use Rattle.std.proofs.Common.{List, [], inr, option_map, subst, ℕ}
-use Rattle.minisign_install.specs.Checking.{IsOffered}
-use Rattle.minisign_install.specs.Hosted.{wanted_by}
+use Rattle.minisign_install.proofs.Common.{List, [], inr, option_map, subst, ℕ, IsOffered, wanted_by}
 use Rattle.minisign_install.proofs.checking.check_comment_offer.Goals as goal
 
 pub returns : goal.returns

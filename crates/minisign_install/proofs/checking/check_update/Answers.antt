@@ -1,9 +1,4 @@
-use Rattle.std.proofs.Common.{Global, List, None, Option, Some, Vec, inl, inr, option_map, subst, ℕ}
-use Rattle.minisign_install.specs.Checking.{IsOffered}
-use Rattle.minisign_install.specs.Folders.{Finds, Known}
-use Rattle.minisign_install.specs.Hosts.{Calls}
-use Rattle.minisign_install.specs.Installing.{terms_of}
-use Rattle.minisign_install.specs.declared.folders.Name.TheVariants.{Record}
+use Rattle.minisign_install.proofs.Common.{Global, List, None, Option, Some, Vec, inl, inr, option_map, subst, ℕ, IsOffered, Finds, Known, Record, Calls, terms_of}
 use Rattle.minisign_install.proofs.checking.check_update.Goals as goal
 
 pub returns-in-Ok-Some : goal.returns-in-Ok-Some

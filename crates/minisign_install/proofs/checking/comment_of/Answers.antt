@@ -1,7 +1,5 @@
-use Rattle.std.proofs.Common.{◌≡◌, Err, List, Ok, ℕ, arith, subst}
-use Rattle.std.specs.Prelude.{MatchResult}
-use Rattle.minisign_install.specs.Checking.{signed_comment}
-use Rattle.minisign_install.proofs.Checks.{or_memory}
+use Rattle.minisign_install.proofs.Common.{◌≡◌, Err, List, Ok, ℕ, arith, subst, MatchResult, signed_comment}
+use Rattle.minisign_install.proofs.Judgements.{or_memory}
 use Rattle.minisign_install.proofs.checking.comment_of.Goals as goal
 
 pub returns : goal.returns

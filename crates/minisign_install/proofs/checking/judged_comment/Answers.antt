@@ -1,9 +1,5 @@
-use Rattle.std.proofs.Common.{◌≡◌, ◌∙◌, Err, Ok, [], ap, false, refl, sym, subst}
-use Rattle.std.specs.Prelude.{MatchResult}
-use Rattle.std.proofs.lemmas.Result.{err_from_is_err_and}
-use Rattle.minisign_install.specs.Checking.{signed_comment}
-use Rattle.minisign_install.proofs.Checks.{comment_is, comment_refused, no_key_no_comment, told_is_begun, unasked}
-use Rattle.minisign_install.proofs.Judgements.{answers_so, key_fails, key_text}
+use Rattle.minisign_install.proofs.Common.{◌≡◌, ◌∙◌, Err, Ok, [], ap, false, refl, sym, subst, MatchResult, err_from_is_err_and, signed_comment}
+use Rattle.minisign_install.proofs.Judgements.{comment_is, comment_refused, no_key_no_comment, told_is_begun, unasked, answers_so, key_fails, key_text}
 use Rattle.minisign_install.proofs.checking.judged_comment.Goals as goal
 
 pub returns-in-Ok-comment_verdict : goal.returns-in-Ok-comment_verdict

@@ -1,5 +1,5 @@
-use Rattle.std.proofs.Common.{◌≡◌, ◌∙◌, List, ℕ, Some, ap, inl, inr, refl, rules, subst, sym}
-use Rattle.minisign_install.specs.Comments.{IsNumberText, file_label, value_of}
+use Rattle.minisign_install.proofs.Common.{◌≡◌, ◌∙◌, List, ℕ, Some, ap, inl, inr, refl, rules, subst, sym, IsNumberText, file_label}
+use Rattle.minisign_install.specs.Comments.{value_of}
 use Rattle.minisign_install.proofs.Installs.{some_list}
 use Rattle.minisign_install.proofs.comments.check_comment.Goals as goal
 

@@ -1,4 +1,4 @@
-use Rattle.std.proofs.Common.{◌∙◌, ◌++◌, ap, sym, drop, length, take-append-drop}
+use Rattle.minisign_install.proofs.Common.{◌∙◌, ◌++◌, ap, sym, drop, length, take-append-drop}
 use Rattle.minisign_install.proofs.Fields.{begins, lacks}
 use Rattle.minisign_install.proofs.comments.strip.Goals as goal
 

@@ -1,6 +1,4 @@
-use Rattle.std.proofs.Common.{inr, subst, List, ℕ, []}
-use Rattle.minisign_install.specs.Hosted.{wanted_by}
-use Rattle.minisign_install.specs.Refusals.{IsCommentRefused}
+use Rattle.minisign_install.proofs.Common.{inr, subst, List, ℕ, [], wanted_by, IsCommentRefused}
 use Rattle.minisign_install.proofs.hosted_judging.judge_comment.Goals as goal
 
 pub returns-in-Err-clause-refused : goal.returns-in-Err-clause-refused

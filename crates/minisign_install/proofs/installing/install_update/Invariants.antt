@@ -1,15 +1,12 @@
-use Rattle.std.proofs.Common.{[], List, ℕ}
-use Rattle.minisign_install.specs.Driving.{calls_left, host}
-use Rattle.minisign_install.specs.Installing.{terms_of}
-use Rattle.minisign_install.specs.Refusals.{counts}
+use Rattle.minisign_install.proofs.Common.{[], List, ℕ, calls_left, host, terms_of, counts}
 use Rattle.minisign_install.proofs.Driven.{Driven}
 use Rattle.minisign_install.proofs.installing.install_update.Given as goal
 
 abbrev pub invariant-calls : goal.invariant-calls
 invariant-calls g l = (read : List ℕ) × Driven (g.S.Scheme.accepts l.scheme) (terms_of l.wanted) l.is_first g.F.Handle.Handle.file
-    (host (g.F.Folder.run l.fn.folder) (g.R.Source.ahead l.fn.update) [] (counts (g.Z.RandomSource.random_faults l.fn.random) (g.R.Source.faults l.fn.update) (g.F.Folder.folder_faults l.fn.folder)))
+    (host (g.F.Folder.run l.fn.folder) (g.R.Source.ahead l.fn.update) (counts (g.Z.RandomSource.random_faults l.fn.random) (g.R.Source.faults l.fn.update) (g.F.Folder.folder_faults l.fn.folder)) [])
     l.due l.work
-    (host (g.F.Folder.run l.folder) (g.R.Source.ahead l.update) read (counts (g.Z.RandomSource.random_faults l.random) (g.R.Source.faults l.update) (g.F.Folder.folder_faults l.folder)))
+    (host (g.F.Folder.run l.folder) (g.R.Source.ahead l.update) (counts (g.Z.RandomSource.random_faults l.random) (g.R.Source.faults l.update) (g.F.Folder.folder_faults l.folder)) read)
 
 abbrev pub decreases-calls : goal.decreases-calls
 decreases-calls g l = calls_left l.due

@@ -1,7 +1,4 @@
-use Rattle.std.proofs.Common.{◌≡◌, ◌∙◌, Err, ap, false, sym, subst}
-use Rattle.std.specs.Prelude.{MatchResult}
-use Rattle.std.proofs.lemmas.Result.{err_from_is_err_and}
-use Rattle.minisign.specs.Calls.{TextsVouchWith}
+use Rattle.minisign_install.proofs.Common.{◌≡◌, ◌∙◌, Err, ap, false, sym, subst, MatchResult, err_from_is_err_and, TextsVouchWith}
 use Rattle.minisign.specs.Headline.{verdict}
 use Rattle.minisign_install.proofs.Judgements.{answers_texts, asking_refused, fault_is, key_text, no_key, vouched_comment}
 use Rattle.minisign_install.proofs.judging.decide.Goals as goal

@@ -1,4 +1,4 @@
-use Rattle.std.proofs.Common.{refl, take, ◌++◌, []}
+use Rattle.minisign_install.proofs.Common.{refl, take, ◌++◌, []}
 use Rattle.minisign_install.proofs.Pieces.{read_more}
 use Rattle.minisign_install.proofs.judging.feed.Goals as goal
 

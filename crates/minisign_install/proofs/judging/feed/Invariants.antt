@@ -1,6 +1,4 @@
-use Rattle.std.proofs.Common.{◌≡◌, ◌++◌, ◌-◌, ◌^◌, ℕ, List, drop}
-use Rattle.minisign_external.specs.States.{IsFedState}
-use Rattle.minisign_install.specs.Folders.{Known}
+use Rattle.minisign_install.proofs.Common.{◌≡◌, ◌++◌, ◌-◌, ◌^◌, ℕ, List, drop, IsFedState, Known}
 use Rattle.minisign_install.proofs.judging.feed.Given as goal
 
 abbrev pub invariant-pieces : goal.invariant-pieces

@@ -1,6 +1,4 @@
-use Rattle.std.proofs.Common.{◌≡◌, Err, List, ℕ, subst, arith, false}
-use Rattle.std.specs.Prelude.{MatchResult}
-use Rattle.minisign.specs.Calls.{TextsVouchWith}
+use Rattle.minisign_install.proofs.Common.{◌≡◌, Err, List, ℕ, subst, arith, false, MatchResult, TextsVouchWith}
 use Rattle.minisign.specs.Headline.{verdict}
 use Rattle.minisign_install.proofs.Judgements.{else_memory}
 use Rattle.minisign_install.proofs.judging.vouch.Goals as goal

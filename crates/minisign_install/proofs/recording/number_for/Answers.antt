@@ -1,5 +1,4 @@
-use Rattle.std.proofs.Common.{◌∙◌, subst}
-use Rattle.std.specs.Str.{IsUtf8}
+use Rattle.minisign_install.proofs.Common.{◌∙◌, subst, IsUtf8}
 use Rattle.minisign_install.proofs.RecordTexts.{bytes_number}
 use Rattle.minisign_install.proofs.recording.number_for.Goals as goal
 

@@ -1,4 +1,4 @@
-use Rattle.std.proofs.Common.{◌≡◌, ◌++◌, List, ℕ, ⊎_elim, subst, sym}
+use Rattle.minisign_install.proofs.Common.{◌≡◌, ◌++◌, List, ℕ, ⊎_elim, subst, sym}
 use Rattle.minisign_install.proofs.RecordTexts.{behind_label, field_number, lacks_label}
 use Rattle.minisign_install.proofs.recording.number_in_text.Goals as goal
 

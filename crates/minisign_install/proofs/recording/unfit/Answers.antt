@@ -1,6 +1,4 @@
-use Rattle.std.proofs.Common.{inr, refl, subst}
-use Rattle.minisign_install.specs.RecordTexts.{HasNoNumber}
-use Rattle.minisign_install.specs.declared.comments.Numbering.{Numbering}
+use Rattle.minisign_install.proofs.Common.{inr, refl, subst, HasNoNumber, Numbering}
 use Rattle.minisign_install.proofs.recording.unfit.Goals as goal
 
 pub returns-in-None-clause-why : goal.returns-in-None-clause-why

@@ -1,6 +1,4 @@
-use Rattle.std.proofs.Common.{◌≡◌, ◌∙◌, ◌++◌, List, ℕ, ap}
-use Rattle.std.specs.Fmt.{decimal}
-use Rattle.minisign_install.specs.Comments.{number_label}
+use Rattle.minisign_install.proofs.Common.{◌≡◌, ◌∙◌, ◌++◌, List, ℕ, ap, decimal, number_label}
 use Rattle.minisign_install.proofs.RecordTexts.{two_written}
 use Rattle.minisign_install.proofs.recording.write_record.Goals as goal
 

@@ -1,7 +1,4 @@
-use Rattle.std.proofs.Common.{◌∙◌, sym, subst, refl, ap, [], ◌++◌}
-use Rattle.std.proofs.KnownBytes.{Consumes-nil, Consumes-trans}
-use Rattle.std.specs.Io.KnownBytes.{Consumes}
-use Rattle.std.specs.List.{concat}
+use Rattle.minisign_install.proofs.Common.{◌∙◌, sym, subst, refl, ap, [], ◌++◌, Consumes-nil, Consumes-trans, Consumes, concat}
 use Rattle.minisign_install.proofs.Pieces.{concat_both, part_after, writes_both, writes_told}
 use Rattle.minisign_install.proofs.staging.copy.Goals as goal
 

@@ -1,7 +1,4 @@
-use Rattle.std.proofs.Common.{◌≡◌, ℕ, List, true}
-use Rattle.std.specs.Io.KnownBytes.{Consumes}
-use Rattle.std.specs.List.{concat}
-use Rattle.minisign_install.specs.Hosts.{Writes}
+use Rattle.minisign_install.proofs.Common.{◌≡◌, ℕ, List, true, Consumes, concat, Writes}
 use Rattle.minisign_install.proofs.staging.copy.Given as goal
 
 abbrev pub invariant-pieces : goal.invariant-pieces

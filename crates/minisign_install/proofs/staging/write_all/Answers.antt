@@ -1,5 +1,4 @@
-use Rattle.std.proofs.Common.{arith, length-drop, take-add, take, drop, refl, ap, inr, [], ◌++◌, ◌∷◌, ◌∙◌}
-use Rattle.std.proofs.lemmas.List.{take_rest}
+use Rattle.minisign_install.proofs.Common.{arith, length-drop, take-add, take, drop, refl, ap, inr, [], ◌++◌, ◌∷◌, ◌∙◌, take_rest}
 use Rattle.minisign_install.proofs.Pieces.{concat_one, part_after, writes_both, writes_one, writes_told}
 use Rattle.minisign_install.proofs.staging.write_all.Goals as goal
 

@@ -1,6 +1,4 @@
-use Rattle.std.proofs.Common.{◌≡◌, ◌≤◌, ◌-◌, List, ℕ, length, take, true}
-use Rattle.std.specs.List.{concat}
-use Rattle.minisign_install.specs.Hosts.{Writes}
+use Rattle.minisign_install.proofs.Common.{◌≡◌, ◌≤◌, ◌-◌, List, ℕ, length, take, true, concat, Writes}
 use Rattle.minisign_install.proofs.staging.write_all.Given as goal
 
 abbrev pub invariant-rest : goal.invariant-rest

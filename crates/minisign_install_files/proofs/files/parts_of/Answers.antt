@@ -1,12 +1,12 @@
-use Rattle.std.proofs.Common.{None, Some}
-use Rattle.minisign_install_files.proofs.Paths.{last_part}
+use Rattle.std.proofs.Common.{None, Some, sym, subst}
+use Rattle.minisign_install_files.specs.Files.{IsPlaceIn}
+use Rattle.minisign_install_files.proofs.Paths.{parts}
 use Rattle.minisign_install_files.proofs.files.parts_of.Goals as goal
 
-pub returns-in-Some-empty-default : goal.returns-in-Some-empty-default
-returns-in-Some-empty-default c = record { last = last_part c.args.path.now (Some (c.in-Some-empty-default.field-0-0, c.in-Some-empty-default.name)) c.in-Some-empty-default.ensures.cases }
-
 pub returns-in-Some : goal.returns-in-Some
-returns-in-Some c = record { last = last_part c.args.path.now (Some (c.in-Some.folder, c.in-Some.name)) c.in-Some.ensures.cases }
+returns-in-Some c =
+    let found = parts c.args.path.now (Some (c.in-Some.before, c.in-Some.name)) c.in-Some.ensures.cases in
+    record { parts = subst (λ l. IsPlaceIn c.args.path.now l c.in-Some.name.now) (sym c.folder_path.ensures) found }
 
 pub returns-in-None : goal.returns-in-None
-returns-in-None c = record { last = last_part c.args.path.now None c.in-None.ensures.cases }
+returns-in-None c = record { parts = parts c.args.path.now None c.in-None.ensures.cases }

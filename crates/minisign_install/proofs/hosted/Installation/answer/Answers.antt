@@ -1,21 +1,6 @@
-use Rattle.std.proofs.Common.{◌≡◌, ℕ, List, inl, inr, refl, sym, subst, false}
-use Rattle.std.specs.declared.result.Result.{Result}
-use Rattle.std.specs.declared.result.Result.TheVariants.{Ok, Err}
-use Rattle.minisign.specs.Acceptance.{Verifier}
-use Rattle.minisign.specs.Calls.{TextsVouchWith}
+use Rattle.minisign_install.proofs.Common.{◌≡◌, ℕ, List, inl, inr, refl, sym, subst, false, Result, Ok, Err, Verifier, TextsVouchWith, Terms, IsFaultOf, Says, install_number, GivesUpdate, IsDue, IsCommentRefused, InstallFault, HostRefusal, Installation, Remove, TakePermissions, MatchResult, ◌≤◌}
 use Rattle.minisign.specs.Headline.{verdict}
-use Rattle.minisign_external.specs.States.{IsFaultOf}
-use Rattle.minisign_install.specs.Comments.{Says}
-use Rattle.minisign_install.specs.HostNumbers.{install_number}
-use Rattle.minisign_install.specs.Hosted.{GivesUpdate, IsDue}
-use Rattle.minisign_install.specs.Installing.{Terms}
-use Rattle.minisign_install.specs.Refusals.{IsCommentRefused}
-use Rattle.minisign_install.specs.declared.faults.InstallFault.{InstallFault}
-use Rattle.minisign_install.specs.declared.hosted.HostRefusal.{HostRefusal}
 use Rattle.minisign_install.specs.declared.hosted.HostRefusal.TheVariants.{Refused}
-use Rattle.minisign_install.specs.declared.hosted.Installation.{Installation}
-use Rattle.minisign_install.specs.declared.order.Due.TheVariants.{Remove, TakeRights}
-use Rattle.std.specs.Prelude.{MatchResult, ◌≤◌}
 use Rattle.minisign_install.proofs.Judgements.{vouched_with}
 use Rattle.minisign_install.proofs.SignatureComments.{comments_in}
 use Rattle.minisign_install.proofs.hosted.Installation.answer.Goals as goal
@@ -23,7 +8,7 @@ use Rattle.minisign_install.proofs.hosted.Installation.answer.Goals as goal
 -- what came of the comment is told of a message that is vouched for
 known : {T : Type 0} (accepts : Verifier) (terms : Terms) (kept : ℕ) (message comment : List ℕ) (new : Installation) (r : Result T HostRefusal)
     → TextsVouchWith accepts terms.pk_text terms.sig_text message false comment
-    → MatchResult r (λ _. (n : ℕ) × IsDue new (TakeRights n) × Says comment terms.file terms.numbering terms.moment n × (kept ≤ n))
+    → MatchResult r (λ _. (n : ℕ) × IsDue new (TakePermissions n) × Says comment terms.file terms.numbering terms.moment n × (kept ≤ n))
     (λ q. (e : InstallFault) × (q ≡ Refused e) × IsDue new (Remove (install_number e)) × IsCommentRefused terms kept comment e)
     → GivesUpdate accepts terms kept message new r
 known {T} accepts terms kept message comment new (Ok t) vouched (n, due, says, newer) =

@@ -1,8 +1,4 @@
-use Rattle.std.proofs.Common.{◌∙◌, List, ℕ, inr, refl, sym, subst, false}
-use Rattle.minisign_external.specs.States.{HasAsked, IsAskFedRefusal, IsMarkedTold}
-use Rattle.minisign_external.specs.declared.state.State.{State}
-use Rattle.minisign_install.specs.Hosted.{IsDue, IsJudged, numbering_of, wanted_by}
-use Rattle.minisign_install.specs.declared.order.Due.TheVariants.{Answer}
+use Rattle.minisign_install.proofs.Common.{◌∙◌, List, ℕ, inr, refl, sym, subst, false, HasAsked, IsAskFedRefusal, IsMarkedTold, State, IsDue, IsJudged, numbering_of, wanted_by, Answer}
 use Rattle.minisign_install.proofs.SignatureComments.{opened, trusted_in}
 use Rattle.minisign_install.proofs.hosted.Installation.ask.Goals as goal
 

@@ -1,8 +1,4 @@
-use Rattle.std.proofs.Common.{inl, inr, refl, subst}
-use Rattle.minisign_install.specs.Comments.{Says}
-use Rattle.minisign_install.specs.Hosted.{wanted_by}
-use Rattle.minisign_install.specs.Refusals.{IsCommentRefused}
-use Rattle.minisign_install.specs.declared.comments.Numbering.{Numbering}
+use Rattle.minisign_install.proofs.Common.{inl, inr, refl, subst, Says, Numbering, wanted_by, IsCommentRefused}
 use Rattle.minisign_install.proofs.hosted.Installation.keep_judgement.Goals as goal
 
 pub returns-in-Ok-clause-judged : goal.returns-in-Ok-clause-judged

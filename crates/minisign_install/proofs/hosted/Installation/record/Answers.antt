@@ -1,9 +1,5 @@
-use Rattle.std.proofs.Common.{◌==◌, ℕ, inl, inr, Some, refl, subst}
-use Rattle.minisign_install.specs.Hosted.{IsDue}
-use Rattle.minisign_install.specs.Installing.{IsKeptNumber}
-use Rattle.minisign_install.specs.Refusals.{IsRecordRefused}
-use Rattle.minisign_install.specs.declared.comments.Numbering.{Numbering}
-use Rattle.minisign_install.specs.declared.order.Due.TheVariants.{Refused}
+use Rattle.minisign_install.proofs.Common.{◌==◌, ℕ, inl, inr, Some, refl, subst, IsDue, IsKeptNumber, IsRecordRefused, Numbering}
+use Rattle.minisign_install.specs.Order.{Refused}
 use Rattle.minisign_install.proofs.hosted.Installation.record.Goals as goal
 
 pub returns-in-Ok-clause-read : goal.returns-in-Ok-clause-read

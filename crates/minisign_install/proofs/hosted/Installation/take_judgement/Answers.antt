@@ -1,5 +1,4 @@
-use Rattle.std.proofs.Common.{inl, inr, refl, sym, subst, arith}
-use Rattle.minisign_install.specs.Refusals.{IsCommentRefused}
+use Rattle.minisign_install.proofs.Common.{inl, inr, refl, sym, subst, arith, IsCommentRefused}
 use Rattle.minisign_install.proofs.hosted.Installation.take_judgement.Goals as goal
 
 pub returns-clause-judged : goal.returns-clause-judged

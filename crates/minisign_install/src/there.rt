@@ -1,0 +1,274 @@
+//! Installing an update, unless it stands at the place already: then nothing is written.
+
+ghost use Rattle.std.specs.Prelude.{◌≡◌, ◌⊎◌, ◌≤◌, ℕ, List, Option, Some, Ok, Err, IfErr, IfOk, MatchResult, OnErr, OnOk, false, length, option_map, true};
+ghost use Rattle.minisign_base.specs.Devices.{Rose};
+ghost use Rattle.minisign_base.specs.Fault.{Fault, Named};
+ghost use Rattle.minisign_base.specs.declared.faults.NamedFault.TheVariants.{OutOfMemory, ReadingFailed};
+ghost use Rattle.minisign.specs.Calls.{TextsVouchWith};
+ghost use Rattle.minisign.specs.Headline.{verdict};
+ghost use Rattle.minisign_external.specs.States.{IsFedState};
+ghost use Rattle.minisign_install.specs.Checking.{IsKeptOrNone, signed_comment};
+ghost use Rattle.minisign_install.specs.Comments.{Says};
+ghost use Rattle.minisign_install.specs.Folders.{Finds, IsStill, Known};
+ghost use Rattle.minisign_install.specs.Hosts.{Calls, CallsNothing};
+ghost use Rattle.minisign_install.specs.Installing.{IsVouched, terms_of};
+ghost use Rattle.minisign_install.specs.Refusals.{IsCallFault, IsLibraryFault, IsReadingFault, counts};
+ghost use Rattle.minisign_install.specs.There.{GoesOn, HasKeptNumber, InstallsUnlessThere, IsCauseUnlessThere, IsOther, IsSigned, IsThere, IsVouchedFor, LooksInPart};
+ghost use Rattle.minisign_install.specs.declared.faults.InstallFault.TheVariants.{Library, SameNumber};
+ghost use Rattle.minisign_install.specs.declared.folders.Name.TheVariants.{Place, Record};
+
+use crate::calls::lock;
+use crate::checking::judged_comment;
+use crate::comments::{Numbering, check_comment};
+use crate::faults::InstallFault;
+use crate::folders::Folder;
+use crate::installing::install_update;
+use crate::judging::{decide, read_back};
+use crate::recording::number_for;
+use crate::staging::zeros;
+use crate::wanted::Wanted;
+use minisign::PError;
+use minisign_base::NamedFault;
+use minisign_base::devices::random_sources::RandomSource;
+use minisign_base::devices::sources::Source;
+use minisign_base::scheme::Scheme;
+use minisign_external::state::State;
+use std::alloc::Global;
+
+/// Which way an update is installed.
+#[derive(Clone, Copy, PartialEq, Eq)]
+pub enum Installed {
+    /// It was installed now.
+    Now,
+    /// It stood at the place already, and nothing was written.
+    Already,
+}
+
+/// Installs the data ahead of `update` at the folder's place as `install_update` does, unless the update stands there
+/// already: `Installed::Already`, where its number is the kept one, and the two texts vouch for what the file at the place
+/// holds. Then nothing was made, written, renamed or removed, and nothing of the data ahead was read.
+///
+/// It locks the place, and asks about the update before it makes anything: it judges the signature of the comment, reads
+/// the record, and where that holds the update's own number for the field, reads the file at the place through. Other data
+/// there is refused (`SameNumber`), unless `again` says that it is to be replaced. Where no file stands there, the update
+/// is installed: so a removed file is put back. What is said of a key, of a comment or of a record that is refused, and
+/// of an older or a newer update, `install_update` says, with the lock held from the question on.
+///
+/// The file at the place is read in pieces of 64 KiB. Another process that writes into it meanwhile may have part of what
+/// it held judged with part of what it holds.
+pub fn install_unless_there<S: Scheme, Z: RandomSource, R: Source, F: Folder>(
+    alloc: Global,
+    scheme: &S,
+    random: &mut Z,
+    wanted: Wanted<'_>,
+    is_first: bool,
+    again: bool,
+    update: &mut R,
+    folder: &mut F,
+) -> Result<Installed, InstallFault>
+    // The lock is held by another run, or could not be asked for, and that was the only call. Or it was got, and held from
+    // then on. Where the record was found to hold the number of the update for its field, and the key has signed its
+    // comment, which names the file and has not expired, the place was read. `Already` is said exactly where the texts
+    // vouch for what the place held then; `SameNumber` exactly where they do not, and it was not asked for: no call of the
+    // run has changed anything (`IsThere`, `IsOther`, `Finds`). Otherwise the run goes on, and all that `install_update`
+    // promises holds of it from there (`GoesOn`, `InstallsFrom`). Only a device can fail besides, or memory run out, before
+    // anything changed.
+    ensures goes { Known (F.run folder.old) (InstallsUnlessThere (S.accepts scheme.now) (terms_of wanted.entry) is_first again (R.ahead update.old) (counts (Z.random_faults random.old) (R.faults update.old) (F.folder_faults folder.old)) (counts (Z.random_faults random.new) (R.faults update.new) (F.folder_faults folder.new)) (F.run folder.old) (F.run folder.new) result) }
+
+    // On success the two texts vouch for some data, and the comment that was signed with it names the file, has not expired,
+    // and has a number.
+    ensures vouched { OnOk result (IsVouched (S.accepts scheme.now) (terms_of wanted.entry)) }
+
+    // Why a fault may come: as one of `install_update` does; and `SameNumber` only where `again` was not asked, the comment
+    // is signed and says what is wanted, and the texts do not vouch for some data.
+    ensures causes { IfErr result (IsCauseUnlessThere (S.accepts scheme.now) (terms_of wanted.entry) is_first again (counts (Z.random_faults random.old) (R.faults update.old) (F.folder_faults folder.old)) (counts (Z.random_faults random.new) (R.faults update.new) (F.folder_faults folder.new))) }
+
+    // Where the update is there already, nothing is read of the data ahead, and no name is drawn.
+    ensures untouched { IfOk result (λ which. which ≡ Installed.Already → (update.new ≡ update.old) × (random.new ≡ random.old)) }
+
+    // On success no device failed.
+    ensures no_new_fault { OnOk result (counts (Z.random_faults random.new) (R.faults update.new) (F.folder_faults folder.new) ≡ counts (Z.random_faults random.old) (R.faults update.old) (F.folder_faults folder.old)) }
+{
+    match lock(folder) {
+        Ok(()) => match is_there(alloc, scheme, wanted, again, folder) {
+            Ok(true) => Ok(Installed::Already),
+            Ok(false) => {
+                match install_update(alloc, scheme, random, wanted, is_first, update, folder) {
+                    Ok(()) => Ok(Installed::Now),
+                    Err(fault) => Err(fault),
+                }
+            }
+            Err(fault) => Err(fault),
+        },
+        Err(fault) => Err(fault),
+    }
+}
+
+// Whether the update stands at the place already. Other data of its number is refused, unless it was asked for.
+fn is_there<S: Scheme, F: Folder>(
+    alloc: Global,
+    scheme: &S,
+    wanted: Wanted<'_>,
+    again: bool,
+    folder: &mut F,
+) -> Result<bool, InstallFault>
+    ensures there { IfOk result (λ is. is ≡ true → IsVouched (S.accepts scheme.now) (terms_of wanted.entry) × Known (F.run folder.old) (IsThere (S.accepts scheme.now) (terms_of wanted.entry) (F.run folder.old) (F.run folder.new))) }
+    ensures goes_on { IfOk result (λ is. is ≡ false → Known (F.run folder.old) (GoesOn (S.accepts scheme.now) (terms_of wanted.entry) again (F.run folder.old) (F.run folder.new))) }
+    ensures other { IfErr result (λ e. ((e ≡ SameNumber) × (again ≡ false) × IsSigned (S.accepts scheme.now) (terms_of wanted.entry) × ((m : List ℕ) × ¬ (IsVouchedFor (S.accepts scheme.now) (terms_of wanted.entry) m))
+        × Known (F.run folder.old) (IsOther (S.accepts scheme.now) (terms_of wanted.entry) (F.run folder.old) (F.run folder.new)) × (F.folder_faults folder.new ≡ F.folder_faults folder.old))
+        ⊎ (IsLibraryFault (IsReadingFault (F.folder_faults folder.old) (F.folder_faults folder.new)) e × Known (F.run folder.old) (LooksInPart (F.run folder.old) (F.run folder.new)))) }
+    ensures no_new_fault { OnOk result (F.folder_faults folder.new ≡ F.folder_faults folder.old) }
+{
+    match has_kept_number(alloc, scheme, wanted, folder) {
+        Ok(true) => match look_at_place(alloc, scheme, wanted.pk_text, wanted.sig_text, folder) {
+            Ok(Standing::Update) => Ok(true),
+            Ok(Standing::Nothing) => Ok(false),
+            Ok(Standing::Other) => {
+                if again {
+                    Ok(false)
+                } else {
+                    Err(InstallFault::SameNumber)
+                }
+            }
+            Err(fault) => Err(fault),
+        },
+        Ok(false) => Ok(false),
+        Err(fault) => Err(fault),
+    }
+}
+
+// Whether the key has signed the comment, and that says what is wanted, with the number that the record holds.
+fn has_kept_number<S: Scheme, F: Folder>(
+    alloc: Global,
+    scheme: &S,
+    wanted: Wanted<'_>,
+    folder: &mut F,
+) -> Result<bool, InstallFault>
+    ensures same { IfOk result (λ is. is ≡ true → IsSigned (S.accepts scheme.now) (terms_of wanted.entry)
+        × Known (F.run folder.old) ((found : Option (List ℕ)) × (n : ℕ) × Calls (Finds Record found) (F.run folder.old) (F.run folder.new) × HasKeptNumber (S.accepts scheme.now) (terms_of wanted.entry) found n)) }
+    ensures other { IfOk result (λ is. is ≡ false → Known (F.run folder.old)
+        (((F.run folder.new ≡ F.run folder.old) × ((fault : Fault) × (signed_comment (S.accepts scheme.now) wanted.entry.pk_text.now wanted.entry.sig_text.now ≡ Err fault)))
+        ⊎ ((found : Option (List ℕ)) × Calls (Finds Record found) (F.run folder.old) (F.run folder.new) × ((n : ℕ) → ¬ (HasKeptNumber (S.accepts scheme.now) (terms_of wanted.entry) found n))))) }
+    ensures refused { IfErr result (λ e. IsLibraryFault (IsReadingFault (F.folder_faults folder.old) (F.folder_faults folder.new)) e × Known (F.run folder.old) (CallsNothing (F.run folder.old) (F.run folder.new))) }
+    ensures no_new_fault { OnOk result (F.folder_faults folder.new ≡ F.folder_faults folder.old) }
+{
+    let Ok(mut message) = zeros(alloc, wanted.sig_text.len()) else {
+        return Err(NamedFault::OutOfMemory.into());
+    };
+    match signed_by(scheme, wanted.pk_text, wanted.sig_text, &mut message) {
+        Ok(comment) => match folder.read_record(alloc) {
+            Ok(Some(bytes)) => Ok(is_kept(
+                comment,
+                wanted.file,
+                wanted.numbering,
+                wanted.moment,
+                bytes.as_slice(),
+            )),
+            Ok(None) => Ok(false),
+            Err(_) => Err(NamedFault::ReadingFailed.into()),
+        },
+        Err(_) => Ok(false),
+    }
+}
+
+// The comment that the key has signed. The message of the question is written to `message`, which has room for it.
+fn signed_by<'a, S: Scheme>(
+    scheme: &S,
+    pk_text: &str,
+    sig_text: &'a str,
+    message: &mut [u8],
+) -> Result<&'a str, PError>
+    requires { length sig_text.now ≤ length message.old }
+    ensures { MatchResult result (λ c. signed_comment (S.accepts scheme.now) pk_text.now sig_text.now ≡ Ok c.now)
+        (λ e. signed_comment (S.accepts scheme.now) pk_text.now sig_text.now ≡ Err e) }
+{
+    judged_comment(scheme, pk_text.as_bytes(), sig_text.as_bytes(), message)
+}
+
+// Whether the comment says what is wanted, with the number that a record of these bytes holds for the field.
+fn is_kept(comment: &str, file: &str, numbering: Numbering, moment: u64, bytes: &[u8]) -> bool
+    ensures same { result ≡ true → (n : ℕ) × Says comment.now file.now numbering moment n × IsKeptOrNone numbering false (Some bytes.now) (Some n) }
+    ensures other { result ≡ false → (n : ℕ) → Says comment.now file.now numbering moment n → ¬ (IsKeptOrNone numbering false (Some bytes.now) (Some n)) }
+{
+    let Some(kept) = number_for(bytes, numbering) else {
+        return false;
+    };
+    match check_comment(comment, file, numbering, moment, kept) {
+        Ok(number) => number == kept,
+        Err(_) => false,
+    }
+}
+
+// What stands at the place.
+#[derive(Clone, Copy)]
+enum Standing {
+    // No file.
+    Nothing,
+    // Data that the texts vouch for.
+    Update,
+    // Other data.
+    Other,
+}
+
+// Reads the file at the place, and sees whether the texts vouch for it.
+fn look_at_place<S: Scheme, F: Folder>(
+    alloc: Global,
+    scheme: &S,
+    pk_text: &str,
+    sig_text: &str,
+    folder: &mut F,
+) -> Result<Standing, InstallFault>
+    ensures nothing { IfOk result (λ is. is ≡ Standing.Nothing → Known (F.run folder.old) (Calls (Finds Place None) (F.run folder.old) (F.run folder.new))) }
+    ensures update { IfOk result (λ is. is ≡ Standing.Update → (m : List ℕ) × ((c : List ℕ) × TextsVouchWith (S.accepts scheme.now) pk_text.now sig_text.now m false c)
+        × Known (F.run folder.old) (Calls (Finds Place (Some m)) (F.run folder.old) (F.run folder.new))) }
+    ensures other { IfOk result (λ is. is ≡ Standing.Other → (m : List ℕ) × ((f : Fault) × (verdict (S.accepts scheme.now) pk_text.now sig_text.now m false ≡ Err f))
+        × Known (F.run folder.old) (Calls (Finds Place (Some m)) (F.run folder.old) (F.run folder.new))) }
+    ensures refused { IfErr result (λ e. IsLibraryFault (IsReadingFault (F.folder_faults folder.old) (F.folder_faults folder.new)) e × Known (F.run folder.old) (CallsNothing (F.run folder.old) (F.run folder.new))) }
+    ensures no_new_fault { OnOk result (F.folder_faults folder.new ≡ F.folder_faults folder.old) }
+{
+    let Ok(mut message) = zeros(alloc, sig_text.len()) else {
+        return Err(NamedFault::OutOfMemory.into());
+    };
+    match folder.open_place() {
+        Ok(Some(handle)) => {
+            let mut state = State::new();
+            match read_back(alloc, folder, &handle, &mut state) {
+                Ok(()) => {
+                    if vouches(scheme, pk_text, sig_text, &mut state, &mut message) {
+                        Ok(Standing::Update)
+                    } else {
+                        Ok(Standing::Other)
+                    }
+                }
+                Err(fault) => Err(fault),
+            }
+        }
+        Ok(None) => Ok(Standing::Nothing),
+        Err(_) => Err(NamedFault::ReadingFailed.into()),
+    }
+}
+
+// Whether the two texts vouch for what the state was fed. The message of the second question is written to `message`, which
+// has room for it.
+fn vouches<S: Scheme>(
+    scheme: &S,
+    pk_text: &str,
+    sig_text: &str,
+    state: &mut State,
+    message: &mut [u8],
+) -> bool
+    requires { length sig_text.now ≤ length message.old }
+    ensures vouched { result ≡ true → (m : List ℕ) → IsFedState state.old m → (c : List ℕ) × TextsVouchWith (S.accepts scheme.now) pk_text.now sig_text.now m false c }
+    ensures refused { result ≡ false → (m : List ℕ) → IsFedState state.old m → (f : Fault) × (verdict (S.accepts scheme.now) pk_text.now sig_text.now m false ≡ Err f) }
+{
+    match decide(
+        scheme,
+        pk_text.as_bytes(),
+        sig_text.as_bytes(),
+        state,
+        message,
+    ) {
+        Ok(_) => true,
+        Err(_) => false,
+    }
+}
