@@ -108,7 +108,7 @@ static int64_t bring_in_part(char *part, size_t len, int kind)
     return (ended.tv_sec - begun.tv_sec) * (int64_t) 1000000000 + ended.tv_nsec - begun.tv_nsec;
 }
 
-/* Has the system bring in a large block behind its first part, huge pages first, as long as the block is in use. */
+/* Has the system bring in a large block after its first part, huge pages first, as long as the block is in use. */
 static void bring_in_rest(struct pages *pages)
 {
     int kind = MADV_HUGEPAGE;

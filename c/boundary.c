@@ -3,7 +3,7 @@
  *
  * It decides three things. A pointer that is NULL where its length is 0 is replaced by one that is not, which the
  * proved calls need. Where there are two copies of these calls, one built for x86-64-v2 and one for x86-64-v3,
- * it takes the second if the processor has what that needs. And behind a call that was given a secret, what it has
+ * it takes the second if the processor has what that needs. And after a call that was given a secret, what it has
  * left on the stack and in registers is cleared.
  *
  * SPDX-License-Identifier: MIT

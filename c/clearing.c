@@ -2,7 +2,7 @@
  * Clears what a call that was given a secret has left behind: the part of the stack that it has used, and each register
  * that a call need not keep for its caller.
  *
- * It is no C, as a compiler may put anything between a call and what is cleared behind it. The registers come first: a
+ * It is no C, as a compiler may put anything between a call and what is cleared after it. The registers come first: a
  * signal that comes later has the system write those that are cleared. The stack is written downwards, so that where
  * there is too little of it the page that guards it is met first.
  *

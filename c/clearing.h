@@ -14,7 +14,7 @@
  */
 #define CLEARED_BYTES 16384
 
-/* Has to be called by the function that made the call, right behind it. */
+/* Has to be called by the function that made the call, right after it. */
 void minisign_clear_used(void);
 
 #endif

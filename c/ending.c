@@ -11,13 +11,13 @@
 #include "files.h"
 
 /* Secrets, and files beside their places. */
-enum { MOST_CLEANERS = 2 };
+enum { MAX_CLEANERS = 2 };
 
-static void (*volatile cleaners[MOST_CLEANERS])(void);
+static void (*volatile cleaners[MAX_CLEANERS])(void);
 
 static void clean(void)
 {
-    for (int i = 0; i < MOST_CLEANERS; i++) {
+    for (int i = 0; i < MAX_CLEANERS; i++) {
         if (cleaners[i] != NULL) {
             cleaners[i]();
         }
@@ -76,7 +76,7 @@ void clean_at_end(void (*cleaner)(void))
 {
     static int count;
 
-    if (count == MOST_CLEANERS || (count == 0 && atexit(clean) != 0)) {
+    if (count == MAX_CLEANERS || (count == 0 && atexit(clean) != 0)) {
         fail("atexit()");
     }
     cleaners[count++] = cleaner;

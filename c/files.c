@@ -111,12 +111,12 @@ void flush_file(FILE *to)
 
 const char *name_beside(const char *file, const char *suffix)
 {
-    size_t len = strlen(file), behind = strlen(suffix) + 1;
-    char *name = malloc(len + behind);
+    size_t len = strlen(file), added = strlen(suffix) + 1;
+    char *name = malloc(len + added);
     if (name == NULL) {
         fail_at(file);
     }
     memcpy(name, file, len);
-    memcpy(name + len, suffix, behind);
+    memcpy(name + len, suffix, added);
     return name;
 }

@@ -55,7 +55,7 @@ struct held hold_file(int fd, const char *file);
 /* Writes all that was printed so far. */
 void flush_file(FILE *to);
 
-/* The name of a file with these letters behind it. */
+/* The name of a file with these letters after it. */
 const char *name_beside(const char *file, const char *suffix);
 
 #endif

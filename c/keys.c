@@ -35,7 +35,7 @@
 #define USUAL_LOG2 20
 
 /* Where memory is short, at least one of so many rows of a key derivation is kept. */
-#define MOST_ROWS_APART 256
+#define MAX_ROWS_APART 256
 
 struct secrets *secrets;
 
@@ -73,7 +73,7 @@ static void read_secret_text(const char *file)
 /* Whether fewer rows of a key derivation may do where memory did not: then one of so many is kept. */
 static bool keep_fewer(enum minisign_error error, uint32_t *rows)
 {
-    if (error != MINISIGN_OUT_OF_MEMORY || *rows > MOST_ROWS_APART / MINISIGN_KEEP_FEW_ROWS) {
+    if (error != MINISIGN_OUT_OF_MEMORY || *rows > MAX_ROWS_APART / MINISIGN_KEEP_FEW_ROWS) {
         return false;
     }
     *rows *= MINISIGN_KEEP_FEW_ROWS;
@@ -272,19 +272,19 @@ void refuse_over_key(const struct options *options, const char *file)
     }
 }
 
-/* Makes the folder of the secret key, for its owner alone, where its own folder is there. */
-static void make_folder(const char *file)
+/* Makes the directory of the secret key, for its owner alone, where its own directory is there. */
+static void make_directory(const char *file)
 {
-    char *folder = strdup(file);
-    char *slash = folder == NULL ? NULL : strrchr(folder, '/');
+    char *directory = strdup(file);
+    char *slash = directory == NULL ? NULL : strrchr(directory, '/');
 
-    if (slash != NULL && slash != folder) {
+    if (slash != NULL && slash != directory) {
         *slash = 0;
-        if (mkdir(folder, 0700) != 0 && errno != EEXIST) {
+        if (mkdir(directory, 0700) != 0 && errno != EEXIST) {
             fputs("Warning: you may have to create the parent directory\n", stderr);
         }
     }
-    free(folder);
+    free(directory);
 }
 
 /* Puts the pair in its places, of which one would take the other's away where they are the same. */
@@ -336,7 +336,7 @@ int generate_keys(const struct options *options)
     }
     make_text(options, (const uint8_t *) comment, strlen(comment));
     make_public_text(&public);
-    make_folder(options->secret_file);
+    make_directory(options->secret_file);
     put_pair(options, &public);
     printf("The secret key was saved as %s - Keep it secret!\n"
            "The public key was saved as %s - That one can be public.\n\n"

@@ -19,7 +19,7 @@ enum { PUBLIC_KEY_RECORD = 42, SIGNATURE_RECORD = 74, SIGNIFY_SECRET_KEY_RECORD 
 
 /* The letters of a public key's base64. */
 #define BARE_KEY_LETTERS 56
-#define MOST_LINES 4
+#define MAX_LINES 4
 #define TRUSTED_LABEL "trusted comment: "
 
 /* ---- Texts of others ---- */
@@ -63,7 +63,7 @@ static const struct front fronts[] = {
 };
 
 /* What binary OpenPGP is, by its first packet (RFC 9580, section 4.2): its header, of the old format or the new one,
- * then its length, and behind that the version. */
+ * then its length, and after that the version. */
 static const char *what_of_openpgp(const uint8_t *text, size_t len)
 {
     bool is_new = len > 1 && (text[0] & 0xc0) == 0xc0, is_old = len > 1 && (text[0] & 0xc0) == 0x80 && (text[0] & 3) != 3;
@@ -138,9 +138,9 @@ struct line {
     size_t len;
 };
 
-/* The lines of a text, and how many it has; what is behind the fourth is left out. */
+/* The lines of a text, and how many it has; what comes after the fourth is left out. */
 struct lines {
-    struct line line[MOST_LINES];
+    struct line line[MAX_LINES];
     size_t count;
 };
 
@@ -148,7 +148,7 @@ static struct lines lines_of(const uint8_t *text, size_t len)
 {
     struct lines lines = { .count = 0 };
 
-    while (len > 0 && lines.count < MOST_LINES) {
+    while (len > 0 && lines.count < MAX_LINES) {
         const uint8_t *end = memchr(text, '\n', len);
         size_t own = end == NULL ? len : (size_t) (end - text), next = end == NULL ? own : own + 1;
 
@@ -334,7 +334,7 @@ void say_if_cut(const char *name, const uint8_t *text, size_t len)
     static uint8_t record[RECORD_ROOM];
     struct lines lines = lines_of(text, len);
 
-    if (lines.count == MOST_LINES && decode(record, &lines.line[MOST_LINES - 1]) < COMMENT_SIGNATURE_BYTES) {
+    if (lines.count == MAX_LINES && decode(record, &lines.line[MAX_LINES - 1]) < COMMENT_SIGNATURE_BYTES) {
         fprintf(stderr, "%s: this signature is cut: its fourth line is too short\n", visible(name));
     }
 }

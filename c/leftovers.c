@@ -15,8 +15,8 @@
 
 #include <sodium.h>
 
-/* Of so many folders it is remembered that they were looked through. */
-#define MOST_FOLDERS 32
+/* Of so many directories it is remembered that they were looked through. */
+#define MAX_DIRECTORIES 32
 
 void draw_stage_name(char name[STAGE_NAME_BYTES])
 {
@@ -42,56 +42,56 @@ static bool is_stage_name(const char *name)
 }
 
 /* Removes a stage where it is a regular file that no run has locked. */
-static void remove_unlocked(int folder, const char *name)
+static void remove_unlocked(int directory, const char *name)
 {
-    int fd = openat(folder, name, O_RDWR | O_NOFOLLOW | O_NONBLOCK | O_CLOEXEC);
+    int fd = openat(directory, name, O_RDWR | O_NOFOLLOW | O_NONBLOCK | O_CLOEXEC);
     struct stat opened, named;
 
     if (fd < 0) {
         return;
     }
     if (fstat(fd, &opened) == 0 && S_ISREG(opened.st_mode) && flock(fd, LOCK_EX | LOCK_NB) == 0
-        && fstatat(folder, name, &named, AT_SYMLINK_NOFOLLOW) == 0 && named.st_dev == opened.st_dev
+        && fstatat(directory, name, &named, AT_SYMLINK_NOFOLLOW) == 0 && named.st_dev == opened.st_dev
         && named.st_ino == opened.st_ino) {
-        unlinkat(folder, name, 0);
+        unlinkat(directory, name, 0);
     }
     close(fd);
 }
 
-/* Whether this folder was looked through before, which is remembered. */
-static bool is_known(int folder)
+/* Whether this directory was looked through before, which is remembered. */
+static bool is_known(int directory)
 {
     static struct {
         dev_t device;
         ino_t inode;
-    } known[MOST_FOLDERS];
+    } known[MAX_DIRECTORIES];
     static unsigned count;
     struct stat found;
 
-    if (fstat(folder, &found) != 0) {
+    if (fstat(directory, &found) != 0) {
         return true;
     }
-    for (unsigned i = 0; i < count && i < MOST_FOLDERS; i++) {
+    for (unsigned i = 0; i < count && i < MAX_DIRECTORIES; i++) {
         if (known[i].device == found.st_dev && known[i].inode == found.st_ino) {
             return true;
         }
     }
-    known[count % MOST_FOLDERS].device = found.st_dev;
-    known[count % MOST_FOLDERS].inode = found.st_ino;
+    known[count % MAX_DIRECTORIES].device = found.st_dev;
+    known[count % MAX_DIRECTORIES].inode = found.st_ino;
     count++;
     return false;
 }
 
-void remove_leftovers(int folder)
+void remove_leftovers(int directory)
 {
     struct dirent *entry;
     DIR *entries;
     int fd;
 
-    if (is_known(folder)) {
+    if (is_known(directory)) {
         return;
     }
-    fd = openat(folder, ".", O_RDONLY | O_DIRECTORY | O_CLOEXEC);
+    fd = openat(directory, ".", O_RDONLY | O_DIRECTORY | O_CLOEXEC);
     entries = fd < 0 ? NULL : fdopendir(fd);
     if (entries == NULL) {
         if (fd >= 0) {
@@ -101,7 +101,7 @@ void remove_leftovers(int folder)
     }
     while ((entry = readdir(entries)) != NULL) {
         if (is_stage_name(entry->d_name)) {
-            remove_unlocked(folder, entry->d_name);
+            remove_unlocked(directory, entry->d_name);
         }
     }
     closedir(entries);

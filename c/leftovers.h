@@ -19,8 +19,8 @@ void draw_stage_name(char name[STAGE_NAME_BYTES]);
  * remove it. Where the file system has no locks it stays without one, and then no run removes it. */
 bool lock_stage(int fd);
 
-/* Removes the stages in a folder that no run has locked, as far as they can be removed; of each folder once in a
+/* Removes the stages in a directory that no run has locked, as far as they can be removed; of each directory once in a
  * run. */
-void remove_leftovers(int folder);
+void remove_leftovers(int directory);
 
 #endif

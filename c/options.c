@@ -1,5 +1,5 @@
 /* SPDX-License-Identifier: MIT */
-/* The command line of minisign, and the files by default. */
+/* The command line of minisign, and the default files. */
 #define _GNU_SOURCE
 
 #include "options.h"
@@ -15,10 +15,10 @@
 /* The version of Minisign whose flags, questions, files and exit statuses these are, and this implementation. */
 #define VERSION "minisign 0.11\nMinisign in Rattle " MINISIGN_VERSION_TEXT
 
-#define MOST_ROWS 1048576
+#define MAX_ROWS 1048576
 
 /* More than any key can ask for. */
-#define MOST_WORK 1073741824
+#define MAX_WORK 1073741824
 #define USUAL_WORK 16
 
 static _Noreturn void usage(void)
@@ -66,14 +66,14 @@ static _Noreturn void show_version(void)
     exit(GOOD);
 }
 
-/* The secret key by default, in the folder of the user's settings. */
+/* The default secret key, in the directory of the user's settings. */
 static const char *default_secret_file(void)
 {
-    const char *folder = getenv("MINISIGN_CONFIG_DIR");
+    const char *directory = getenv("MINISIGN_CONFIG_DIR");
     const char *home = getenv("HOME");
 
-    if (folder != NULL) {
-        return name_beside(folder, "/minisign.key");
+    if (directory != NULL) {
+        return name_beside(directory, "/minisign.key");
     }
     return home == NULL ? "minisign.key" : name_beside(home, "/.minisign/minisign.key");
 }
@@ -115,8 +115,8 @@ static struct options read_flags(int argc, char *argv[])
         case 'H': options.prehashed_only = true; break;
         case 'c': options.comment = optarg; break;
         case 'f': options.force = true; break;
-        case 'k': options.rows = read_number(optarg, MOST_ROWS); break;
-        case 'K': options.work = read_number(optarg, MOST_WORK); break;
+        case 'k': options.rows = read_number(optarg, MAX_ROWS); break;
+        case 'K': options.work = read_number(optarg, MAX_WORK); break;
         case 'l': options.legacy = true; break;
         case 'm': options.data_file = optarg; break;
         case 'o': options.output = true; break;

@@ -1,6 +1,6 @@
 /* SPDX-License-Identifier: MIT */
 /*
- * What the program minisign is asked to do: its command line, and the files by default.
+ * What the program minisign is asked to do: its command line, and the default files.
  */
 #ifndef OPTIONS_H
 #define OPTIONS_H
@@ -18,14 +18,14 @@ struct options {
     const char *data_file;
     /* Further files to be signed, ended by NULL. */
     char *const *further_files;
-    /* NULL: that of each data file, with .minisig behind its name. */
+    /* NULL: that of each data file, with .minisig after its name. */
     const char *signature_file;
     /* NULL for signing alone: none is compared with the secret key. */
     const char *public_file;
     /* The public key itself, as one line of base64, or NULL. */
     const char *public_key;
     const char *secret_file;
-    /* NULL: the one by default. */
+    /* NULL: the default one. */
     const char *comment;
     const char *trusted_comment;
     /* Of how many rows of a key derivation one is kept, from 1 on. */

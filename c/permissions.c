@@ -69,14 +69,14 @@ bool read_permissions_of(struct permissions *older, int fd)
     return read_list(older, fd);
 }
 
-bool read_permissions(struct permissions *older, int folder, const char *name)
+bool read_permissions(struct permissions *older, int directory, const char *name)
 {
     bool is_read;
     int fd, number;
 
-    AGAIN(fd, openat(folder, name, O_RDONLY | O_NONBLOCK | O_NOFOLLOW | O_CLOEXEC));
+    AGAIN(fd, openat(directory, name, O_RDONLY | O_NONBLOCK | O_NOFOLLOW | O_CLOEXEC));
     if (fd < 0 && errno == EACCES) {
-        AGAIN(fd, openat(folder, name, O_PATH | O_NOFOLLOW | O_CLOEXEC));
+        AGAIN(fd, openat(directory, name, O_PATH | O_NOFOLLOW | O_CLOEXEC));
     }
     if (fd < 0) {
         return false;
@@ -97,7 +97,7 @@ void replace_mode(struct permissions *older, mode_t mode)
 
 /* What each may do whom the older file does not hold for its owner: the group, all others, and those in the list. The
  * group's bits are an upper bound on what a list gives. */
-static mode_t common_rights(const struct permissions *older)
+static mode_t common_permissions(const struct permissions *older)
 {
     mode_t common = older->mode & (older->mode >> 3) & S_IRWXO;
 
@@ -161,11 +161,11 @@ bool give_permissions(int fd, const struct permissions *older)
     }
     has_group = give_group(fd, &own, older);
     if (!has_group || !older->is_list_known) {
-        return give_mode(fd, (older->mode & S_IRWXU) | common_rights(older));
+        return give_mode(fd, (older->mode & S_IRWXU) | common_permissions(older));
     }
     /* The list has the bits of the mode. */
     if (older->list_length > 0) {
-        return give_list(fd, older) || give_mode(fd, (older->mode & S_IRWXU) | common_rights(older));
+        return give_list(fd, older) || give_mode(fd, (older->mode & S_IRWXU) | common_permissions(older));
     }
     return give_mode(fd, older->mode);
 }

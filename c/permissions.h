@@ -27,8 +27,8 @@ struct permissions {
     uint8_t list[LIST_BYTES];
 };
 
-/* Reads those of the regular file of this name in a folder. No link at the end of the name is followed. */
-bool read_permissions(struct permissions *older, int folder, const char *name);
+/* Reads those of the regular file of this name in a directory. No link at the end of the name is followed. */
+bool read_permissions(struct permissions *older, int directory, const char *name);
 
 /* The same of a file that is open. */
 bool read_permissions_of(struct permissions *older, int fd);
@@ -37,7 +37,7 @@ bool read_permissions_of(struct permissions *older, int fd);
 void replace_mode(struct permissions *older, mode_t mode);
 
 /*
- * Gives a new file, which is open, those of an older one. A list that it has inherited from its folder is taken off.
+ * Gives a new file, which is open, those of an older one. A list that it has inherited from its directory is taken off.
  * Owner and group are given as far as the system allows that.
  *
  * Where it does not allow the group, or the list could not be read or be copied, the new file's group gets nothing. All

@@ -14,10 +14,10 @@
 #include "files.h"
 
 /* As many links as the system follows. */
-#define MOST_LINKS 40
+#define MAX_LINKS 40
 #define TARGET_BYTES 4096
 /* How often a place is looked for that others change meanwhile. */
-#define MOST_TRIES 100
+#define MAX_TRIES 100
 
 /* A mount of which no link is followed: an older C library has no name for it. */
 #ifndef ST_NOSYMFOLLOW
@@ -40,24 +40,24 @@ void close_older(struct place *place)
 void leave_place(struct place *place)
 {
     close_older(place);
-    if (place->folder >= 0) {
-        close(place->folder);
+    if (place->directory >= 0) {
+        close(place->directory);
     }
     free(place->name);
-    place->folder = -1;
+    place->directory = -1;
     place->name = NULL;
 }
 
 /* ---- Links ---- */
 
-/* Whether the system would follow this link of the folder. As with its setting protected_symlinks, that of a stranger
- * is not followed in a folder where all may write and only owners may remove. errno says why not. */
-static bool may_follow(int folder, const struct stat *link)
+/* Whether the system would follow this link of the directory. As with its setting protected_symlinks, that of a
+ * stranger is not followed in a directory where all may write and only owners may remove. errno says why not. */
+static bool may_follow(int directory, const struct stat *link)
 {
     struct statvfs mount;
     struct stat around;
 
-    if (fstatvfs(folder, &mount) != 0 || fstat(folder, &around) != 0) {
+    if (fstatvfs(directory, &mount) != 0 || fstat(directory, &around) != 0) {
         return false;
     }
     if ((mount.f_flag & ST_NOSYMFOLLOW) != 0) {
@@ -72,13 +72,13 @@ static bool may_follow(int folder, const struct stat *link)
     return true;
 }
 
-/* What a name in the folder is: a link, of which the text is copied to the target, or none; or errno says why it is not
- * known. */
+/* What a name in the directory is: a link, of which the text is copied to the target, or none; or errno says why it is
+ * not known. */
 enum step { IS_LINK, IS_NO_LINK, IS_UNKNOWN };
 
 static enum step read_link(const struct place *place, const char *name, char target[TARGET_BYTES])
 {
-    int link = openat(place->folder, name, O_PATH | O_NOFOLLOW | O_CLOEXEC), number;
+    int link = openat(place->directory, name, O_PATH | O_NOFOLLOW | O_CLOEXEC), number;
     enum step step = IS_UNKNOWN;
     struct stat found;
     ssize_t len;
@@ -89,7 +89,7 @@ static enum step read_link(const struct place *place, const char *name, char tar
     if (fstat(link, &found) == 0) {
         if (!S_ISLNK(found.st_mode)) {
             step = IS_NO_LINK;
-        } else if (place->older >= 0 || may_follow(place->folder, &found)) {
+        } else if (place->older >= 0 || may_follow(place->directory, &found)) {
             /* (of what stands there it is looked later whether it is what the system has opened) */
             len = readlinkat(link, "", target, TARGET_BYTES);
             if (len == TARGET_BYTES) {
@@ -106,23 +106,23 @@ static enum step read_link(const struct place *place, const char *name, char tar
     return step;
 }
 
-/* Goes from the folder of the place to the folder of a path, and answers the name behind it. */
-static const char *enter_folder(struct place *place, char *path)
+/* Goes from the directory of the place to the directory of a path, and answers the name after it. */
+static const char *enter_directory(struct place *place, char *path)
 {
     char *slash = strrchr(path, '/'), *name = slash == NULL ? path : slash + 1;
-    int from = place->folder < 0 ? AT_FDCWD : place->folder, folder;
+    int from = place->directory < 0 ? AT_FDCWD : place->directory, directory;
     char first = *name;
 
     *name = 0;
-    folder = openat(from, slash == NULL ? "." : path, O_PATH | O_DIRECTORY | O_CLOEXEC);
+    directory = openat(from, slash == NULL ? "." : path, O_PATH | O_DIRECTORY | O_CLOEXEC);
     *name = first;
-    if (folder < 0) {
+    if (directory < 0) {
         fail_at(place->file);
     }
-    if (place->folder >= 0) {
-        close(place->folder);
+    if (place->directory >= 0) {
+        close(place->directory);
     }
-    place->folder = folder;
+    place->directory = directory;
     return name;
 }
 
@@ -136,14 +136,14 @@ static char *copy_of(const char *text, const char *file)
     return copy;
 }
 
-/* Finds the folder and the name, with all links followed. */
+/* Finds the directory and the name, with all links followed. */
 static void follow_links(struct place *place)
 {
     static char target[TARGET_BYTES];
     char *path = copy_of(place->file, place->file);
 
-    for (int links = 0; links <= MOST_LINKS; links++) {
-        const char *name = enter_folder(place, path);
+    for (int links = 0; links <= MAX_LINKS; links++) {
+        const char *name = enter_directory(place, path);
 
         switch (*name == 0 ? IS_NO_LINK : read_link(place, name, target)) {
         case IS_LINK:
@@ -169,19 +169,19 @@ static bool is_found(const struct place *place)
 {
     struct stat named;
 
-    if (fstatat(place->folder, place->name, &named, AT_SYMLINK_NOFOLLOW) != 0) {
+    if (fstatat(place->directory, place->name, &named, AT_SYMLINK_NOFOLLOW) != 0) {
         return place->older < 0 && errno == ENOENT;
     }
     return place->older >= 0 && named.st_dev == place->found.st_dev && named.st_ino == place->found.st_ino;
 }
 
-/* Ends the program where the older file is another's in a folder where only owners may remove. */
+/* Ends the program where the older file is another's in a directory where only owners may remove. */
 static void expect_replaceable(const struct place *place)
 {
     struct stat around;
     uid_t user = geteuid();
 
-    if (fstat(place->folder, &around) != 0) {
+    if (fstat(place->directory, &around) != 0) {
         fail_at(place->file);
     }
     if ((around.st_mode & S_ISVTX) != 0 && user != 0 && user != place->found.st_uid && user != around.st_uid) {
@@ -192,8 +192,8 @@ static void expect_replaceable(const struct place *place)
 
 struct place find_place(const char *file)
 {
-    for (int i = 0; i < MOST_TRIES; i++) {
-        struct place place = { .file = file, .folder = -1, .older = open(file, O_WRONLY | O_NOCTTY | O_CLOEXEC) };
+    for (int i = 0; i < MAX_TRIES; i++) {
+        struct place place = { .file = file, .directory = -1, .older = open(file, O_WRONLY | O_NOCTTY | O_CLOEXEC) };
 
         if (place.older >= 0 ? fstat(place.older, &place.found) != 0 : errno != ENOENT) {
             fail_at(file);
@@ -229,6 +229,6 @@ bool is_same_place(const struct place *one, const struct place *other)
         return one->found.st_dev == other->found.st_dev && one->found.st_ino == other->found.st_ino;
     }
     return strcmp(one->name, other->name) == 0
-           && fstat(one->folder, &around) == 0 && fstat(other->folder, &others) == 0 && around.st_dev == others.st_dev
-           && around.st_ino == others.st_ino;
+           && fstat(one->directory, &around) == 0 && fstat(other->directory, &others) == 0
+           && around.st_dev == others.st_dev && around.st_ino == others.st_ino;
 }

@@ -1,7 +1,7 @@
 /* SPDX-License-Identifier: MIT */
 /*
- * Where a file goes: a folder, which is opened once, and a name in it. All that is made, renamed or removed there is
- * named in the folder that is open, so that nobody can put another one in its way.
+ * Where a file goes: a directory, which is opened once, and a name in it. All that is made, renamed or removed there is
+ * named in the directory that is open, so that nobody can put another one in its way.
  */
 #ifndef PLACES_H
 #define PLACES_H
@@ -12,9 +12,9 @@
 struct place {
     /* The file's name as it was given, for messages. */
     const char *file;
-    /* The folder, open as a path, and the name in it, in memory of malloc; -1 and NULL where the file is written in
+    /* The directory, open as a path, and the name in it, in memory of malloc; -1 and NULL where the file is written in
      * place. */
-    int folder;
+    int directory;
     char *name;
     /* What stands there, open for writing, and what it is; -1 where nothing does. */
     int older;
@@ -24,8 +24,8 @@ struct place {
 /*
  * Finds the place of a file and opens what stands there. Links are followed as the system follows them: what it opens
  * for the name is what stands there, and no other error than that there is none means that nothing does. A link that
- * leads to nothing yet is followed where the system would follow it, and none of a stranger in a folder where all may
- * write.
+ * leads to nothing yet is followed where the system would follow it, and none of a stranger in a directory where all
+ * may write.
  *
  * What is no regular file, and a regular one that has no name any more, is written in place.
  *
@@ -36,7 +36,7 @@ struct place find_place(const char *file);
 /* Whether this is written where it is. */
 bool is_written_in_place(const struct place *place);
 
-/* Whether both are one name of one folder, or what stands there is one file. */
+/* Whether both are one name of one directory, or what stands there is one file. */
 bool is_same_place(const struct place *one, const struct place *other);
 
 /* Closes what stands there, where it is open. */

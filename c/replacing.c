@@ -21,7 +21,7 @@
 #include "permissions.h"
 #include "places.h"
 
-#define MOST_NAMES 100
+#define MAX_NAMES 100
 /* So many bytes are read at once, as far as a person can tell. */
 #define QUICK_BYTES (1 << 20)
 /* A file that waits has two descriptors open; so many are left for all else. */
@@ -39,8 +39,8 @@ struct stage {
     volatile sig_atomic_t is_named;
     bool is_key;
     bool has_older;
-    /* Whether it is on the disk, or need not be. */
-    bool is_settled;
+    /* Whether it is synced, or need not be. */
+    bool is_synced;
     /* Whether it is whole and waits for others. */
     bool waits;
     /* The one that has to get its place as well, or else this one loses its own; and how it loses that. */
@@ -48,10 +48,10 @@ struct stage {
     volatile sig_atomic_t is_exchanged;
 };
 
-/* So many files wait for each other, as all are brought to the disk in little more time than one. One is staged beside
+/* So many files wait for each other, as all are synced in little more time than one. One is staged beside
  * them; a pair of keys has two stages, and none waits then. */
-enum { MOST_WAITING = 32, MOST_STAGES = MOST_WAITING + 1 };
-static struct stage stages[MOST_STAGES];
+enum { MAX_WAITING = 32, MAX_STAGES = MAX_WAITING + 1 };
+static struct stage stages[MAX_STAGES];
 static int waiting;
 
 /* ---- Names ---- */
@@ -72,13 +72,13 @@ static struct own_path own_path_of(int fd)
 /* Gives a stage without a name this one, which nothing may have. */
 static bool link_stage(const struct stage *stage, const char *name)
 {
-    return linkat(AT_FDCWD, own_path_of(stage->fd).bytes, stage->place.folder, name, AT_SYMLINK_FOLLOW) == 0;
+    return linkat(AT_FDCWD, own_path_of(stage->fd).bytes, stage->place.directory, name, AT_SYMLINK_FOLLOW) == 0;
 }
 
 /* Gives it a name beside its place. */
 static bool name_stage(struct stage *stage)
 {
-    for (int i = 0; i < MOST_NAMES; i++) {
+    for (int i = 0; i < MAX_NAMES; i++) {
         draw_stage_name(stage->name);
         stage->is_named = 1;
         if (link_stage(stage, stage->name)) {
@@ -99,7 +99,7 @@ static bool is_placed(const struct stage *stage)
 
     return stage->fd < 0
            || (fstat(stage->fd, &own) == 0
-               && fstatat(stage->place.folder, stage->place.name, &named, AT_SYMLINK_NOFOLLOW) == 0
+               && fstatat(stage->place.directory, stage->place.name, &named, AT_SYMLINK_NOFOLLOW) == 0
                && own.st_dev == named.st_dev && own.st_ino == named.st_ino);
 }
 
@@ -108,25 +108,26 @@ static bool is_placed(const struct stage *stage)
 /* Takes a stage out of its place where its partner has not got its own. May be called while a signal is handled. */
 static void undo_stage(struct stage *stage)
 {
+    const struct place *place = &stage->place;
+
     if (stage->partner == NULL || stage->fd < 0 || is_placed(stage->partner) || !is_placed(stage)) {
         return;
     }
     if (stage->is_exchanged) {
         /* Where that fails, the older file keeps the stage's name. */
-        stage->is_named =
-            renameat2(stage->place.folder, stage->name, stage->place.folder, stage->place.name, RENAME_EXCHANGE) == 0;
+        stage->is_named = renameat2(place->directory, stage->name, place->directory, place->name, RENAME_EXCHANGE) == 0;
     } else {
-        unlinkat(stage->place.folder, stage->place.name, 0);
+        unlinkat(place->directory, place->name, 0);
     }
 }
 
 /* May be called while a signal is handled. */
 static void drop_stages(void)
 {
-    for (struct stage *stage = stages; stage < stages + MOST_STAGES; stage++) {
+    for (struct stage *stage = stages; stage < stages + MAX_STAGES; stage++) {
         undo_stage(stage);
         if (stage->is_named) {
-            unlinkat(stage->place.folder, stage->name, 0);
+            unlinkat(stage->place.directory, stage->name, 0);
         }
     }
 }
@@ -150,7 +151,7 @@ static void watch_stages(void)
 
 static struct stage *free_stage(void)
 {
-    for (struct stage *stage = stages; stage < stages + MOST_STAGES; stage++) {
+    for (struct stage *stage = stages; stage < stages + MAX_STAGES; stage++) {
         if (stage->place.file == NULL) {
             stage->fd = -1;
             return stage;
@@ -164,7 +165,7 @@ static struct stage *free_stage(void)
 static void forget(struct stage *stage)
 {
     stage->partner = NULL;
-    if (stage->is_named && unlinkat(stage->place.folder, stage->name, 0) != 0 && errno != ENOENT) {
+    if (stage->is_named && unlinkat(stage->place.directory, stage->name, 0) != 0 && errno != ENOENT) {
         return;
     }
     if (stage->fd >= 0) {
@@ -188,7 +189,7 @@ static bool can_link(int fd)
 /* Opens and locks a new file without a name: false where the file system has none. */
 static bool open_unnamed(struct stage *stage, mode_t mode)
 {
-    int fd = openat(stage->place.folder, ".", O_TMPFILE | O_WRONLY | O_CLOEXEC, mode);
+    int fd = openat(stage->place.directory, ".", O_TMPFILE | O_WRONLY | O_CLOEXEC, mode);
 
     if (fd >= 0 && !(can_link(fd) && lock_stage(fd))) {
         close(fd);
@@ -202,12 +203,12 @@ static bool open_unnamed(struct stage *stage, mode_t mode)
  * locked. */
 static bool open_named(struct stage *stage, mode_t mode)
 {
-    for (int i = 0; i < MOST_NAMES; i++) {
+    for (int i = 0; i < MAX_NAMES; i++) {
         struct stat made;
 
         draw_stage_name(stage->name);
         stage->is_named = 1;
-        stage->fd = openat(stage->place.folder, stage->name, O_WRONLY | O_CREAT | O_EXCL | O_CLOEXEC, mode);
+        stage->fd = openat(stage->place.directory, stage->name, O_WRONLY | O_CREAT | O_EXCL | O_CLOEXEC, mode);
         if (stage->fd >= 0 && lock_stage(stage->fd) && fstat(stage->fd, &made) == 0 && made.st_nlink > 0) {
             return true;
         }
@@ -216,7 +217,7 @@ static bool open_named(struct stage *stage, mode_t mode)
             return false;
         }
         if (stage->fd >= 0) {
-            unlinkat(stage->place.folder, stage->name, 0);
+            unlinkat(stage->place.directory, stage->name, 0);
             close(stage->fd);
             stage->fd = -1;
         }
@@ -289,9 +290,9 @@ struct stage *stage_file(const char *file, enum kind kind, const uint8_t *bytes,
     }
     stage->is_key = kind != SIGNATURE;
     stage->has_older = stage->place.older >= 0;
-    stage->is_settled = !stage->is_key && !stage->has_older;
+    stage->is_synced = !stage->is_key && !stage->has_older;
     mode = is_secret || stage->has_older ? 0600 : 0666;
-    remove_leftovers(stage->place.folder);
+    remove_leftovers(stage->place.directory);
     if (!open_unnamed(stage, mode) && !open_named(stage, mode)) {
         fail_at(file);
     }
@@ -299,7 +300,7 @@ struct stage *stage_file(const char *file, enum kind kind, const uint8_t *bytes,
         take_over(stage);
     }
     write_whole(stage->fd, file, bytes, len);
-    if (stage->is_settled) {
+    if (stage->is_synced) {
         flush_stage(stage);
     } else {
         /* The disk begins, so that less is left to wait for. */
@@ -313,19 +314,19 @@ bool is_one_place(const struct stage *one, const struct stage *other)
     return is_same_place(&one->place, &other->place);
 }
 
-/* Waits until all stages are on the disk that have to be there. */
-static void settle_stages(void)
+/* Waits until all stages are synced that have to be. */
+static void sync_stages(void)
 {
-    for (struct stage *stage = stages; stage < stages + MOST_STAGES; stage++) {
-        if (stage->place.file != NULL && stage->fd >= 0 && !stage->is_settled) {
+    for (struct stage *stage = stages; stage < stages + MAX_STAGES; stage++) {
+        if (stage->place.file != NULL && stage->fd >= 0 && !stage->is_synced) {
             bool waits = stage->waits;
 
-            /* One that does not come to the disk is not put in its place when the program ends. */
+            /* One that cannot be synced is not put in its place when the program ends. */
             stage->waits = false;
             if (fsync(stage->fd) != 0) {
                 fail_at(stage->place.file);
             }
-            stage->is_settled = true;
+            stage->is_synced = true;
             stage->waits = waits;
         }
     }
@@ -344,20 +345,20 @@ static enum put rename_stage(struct stage *stage, bool over_older)
     struct stat older;
 
     if (!over_older) {
-        if (renameat2(place->folder, stage->name, place->folder, place->name, RENAME_NOREPLACE) == 0) {
+        if (renameat2(place->directory, stage->name, place->directory, place->name, RENAME_NOREPLACE) == 0) {
             stage->is_named = 0;
             return PUT;
         }
         if (errno == EEXIST
             || ((errno == EINVAL || errno == ENOSYS)
-                && fstatat(place->folder, place->name, &older, AT_SYMLINK_NOFOLLOW) == 0)) {
+                && fstatat(place->directory, place->name, &older, AT_SYMLINK_NOFOLLOW) == 0)) {
             return TAKEN;
         }
         if (errno != EINVAL && errno != ENOSYS) {
             return NOT_PUT;
         }
     }
-    if (renameat(place->folder, stage->name, place->folder, place->name) != 0) {
+    if (renameat(place->directory, stage->name, place->directory, place->name) != 0) {
         return NOT_PUT;
     }
     stage->is_named = 0;
@@ -388,7 +389,7 @@ static enum put put_stage(struct stage *stage, bool over_older)
     return rename_stage(stage, over_older);
 }
 
-/* Brings the new name of a file to the disk, where the system can do that for a folder. */
+/* Syncs the new name of a file, where the system can do that for a directory. */
 static void keep_name(const struct stage *stage)
 {
     int fd;
@@ -400,7 +401,7 @@ static void keep_name(const struct stage *stage)
     if (fsync(stage->fd) != 0) {
         fail_at(stage->place.file);
     }
-    fd = openat(stage->place.folder, ".", O_RDONLY | O_DIRECTORY | O_CLOEXEC);
+    fd = openat(stage->place.directory, ".", O_RDONLY | O_DIRECTORY | O_CLOEXEC);
     if (fd >= 0) {
         if (fsync(fd) != 0 && errno != EINVAL) {
             fail_at(stage->place.file);
@@ -413,8 +414,8 @@ bool put_in_place(struct stage *stage, bool over_older)
 {
     enum put put;
 
-    if (stage->fd >= 0 && !stage->is_settled) {
-        settle_stages();
+    if (stage->fd >= 0 && !stage->is_synced) {
+        sync_stages();
     }
     put = put_stage(stage, over_older);
     if (put == NOT_PUT) {
@@ -438,12 +439,14 @@ void replace_file(const char *file, enum kind kind, const uint8_t *bytes, size_t
  * locked as stages are. False where the file system does not exchange names. */
 static bool exchange_stage(struct stage *stage)
 {
+    const struct place *place = &stage->place;
+
     if (!stage->is_named && !name_stage(stage)) {
         return false;
     }
-    lock_stage(stage->place.older);
+    lock_stage(place->older);
     stage->is_exchanged = 1;
-    if (renameat2(stage->place.folder, stage->name, stage->place.folder, stage->place.name, RENAME_EXCHANGE) == 0) {
+    if (renameat2(place->directory, stage->name, place->directory, place->name, RENAME_EXCHANGE) == 0) {
         return true;
     }
     stage->is_exchanged = 0;
@@ -472,7 +475,7 @@ const char *put_both_in_place(struct stage *first, struct stage *last, bool over
     const char *taken = NULL;
     enum put put;
 
-    settle_stages();
+    sync_stages();
     put = put_with_partner(first, last, over_older);
     if (put == NOT_PUT) {
         fail_at(first->place.file);
@@ -503,8 +506,8 @@ const char *put_both_in_place(struct stage *first, struct stage *last, bool over
 /* Where the program ends early, what was whole before still gets its place. */
 static void finish_stages(void)
 {
-    for (struct stage *stage = stages; stage < stages + MOST_STAGES; stage++) {
-        if (stage->waits && ((!stage->is_settled && fsync(stage->fd) != 0) || put_stage(stage, true) != PUT)) {
+    for (struct stage *stage = stages; stage < stages + MAX_STAGES; stage++) {
+        if (stage->waits && ((!stage->is_synced && fsync(stage->fd) != 0) || put_stage(stage, true) != PUT)) {
             say_at(stage->place.file);
         }
     }
@@ -535,7 +538,7 @@ static int most_waiting(void)
         }
     }
     most = (free_ones - SPARE_DESCRIPTORS) / WAITING_DESCRIPTORS;
-    most = most < 1 ? 1 : most > MOST_WAITING ? MOST_WAITING : most;
+    most = most < 1 ? 1 : most > MAX_WAITING ? MAX_WAITING : most;
     return most;
 }
 
@@ -543,7 +546,7 @@ void replace_soon(const char *file, enum kind kind, const uint8_t *bytes, size_t
 {
     struct stage *stage = stage_file(file, kind, bytes, len);
 
-    if (stage->fd < 0 || stage->is_settled) {
+    if (stage->fd < 0 || stage->is_synced) {
         put_in_place(stage, true);
         return;
     }
@@ -557,8 +560,8 @@ void replace_soon(const char *file, enum kind kind, const uint8_t *bytes, size_t
 
 void replace_waiting(void)
 {
-    settle_stages();
-    for (struct stage *stage = stages; stage < stages + MOST_STAGES; stage++) {
+    sync_stages();
+    for (struct stage *stage = stages; stage < stages + MAX_STAGES; stage++) {
         if (stage->waits) {
             stage->waits = false;
             put_in_place(stage, true);
@@ -576,7 +579,7 @@ void replace_before_reading(const char *file)
         return;
     }
     is_quick = stat(file, &found) == 0 && S_ISREG(found.st_mode) && found.st_size < QUICK_BYTES;
-    for (struct stage *stage = stages; stage < stages + MOST_STAGES && is_quick; stage++) {
+    for (struct stage *stage = stages; stage < stages + MAX_STAGES && is_quick; stage++) {
         is_quick = !stage->waits || stage->place.found.st_ino != found.st_ino || stage->place.found.st_dev != found.st_dev;
     }
     if (!is_quick) {

@@ -11,9 +11,9 @@
 
 /* What a file is. A new secret key is its user's alone, with the mode 0600, whatever stood in its place; all else that
  * takes the place of an older file gets its mode, owner and access list. Keys, and what replaces an older file, are
- * brought to the disk before they are put in their place, so that a loss of power leaves the older file or the new one,
- * whole. The new name of a key is brought there too, so that the key is not lost once the program has ended well. A new
- * signature is not brought there, as it can be made again. */
+ * synced before they are put in their place, so that a loss of power leaves the older file or the new one,
+ * whole. The new name of a key is synced too, so that the key is not lost once the program has ended well. A new
+ * signature is not synced, as it can be made again. */
 enum kind { NEW_SECRET_KEY, CHANGED_SECRET_KEY, PUBLIC_KEY, SIGNATURE };
 
 /* A file that is written and has no place yet. */
@@ -22,7 +22,7 @@ struct stage;
 /*
  * Writes a file, whole, which has no name until it is put in its place, or one beside that where the file system cannot
  * do without or an older file is there: STAGE_NAME and 16 hexadecimal digits. It is locked (flock) as long as it is
- * used. What killed runs have left in the folder, which nobody holds, is removed first.
+ * used. What killed runs have left in the directory, which nobody holds, is removed first.
  *
  * Links are followed as places.h says; what is no regular file, such as a pipe or a device, is its own stage and is
  * written at once. Ends the program where that is not possible, and then nothing is left of it.
@@ -48,7 +48,7 @@ const char *put_both_in_place(struct stage *first, struct stage *last, bool over
 void replace_file(const char *file, enum kind kind, const uint8_t *bytes, size_t len);
 
 /*
- * The same for one of many files. One that has to be brought to the disk first waits for others, up to a certain
+ * The same for one of many files. One that has to be synced first waits for others, up to a certain
  * number, so that the disk is asked once for all of them. `replace_waiting` puts all that wait in their places, in
  * their order. Where the program ends early this is done, too, but not where a signal ends it.
  */

@@ -12,21 +12,23 @@
 /* The exit statuses. */
 enum status {
     INSTALLED = 0,
-    /* A file could not be used, memory ran out, or no random bytes came. */
+    /* A file could not be used, an allocation failed, or no random bytes came. */
     FAILED = 1,
     /* The words ask for nothing. */
-    MISUSED = 2,
-    REFUSED = 3,
+    USAGE_ERROR = 2,
+    REJECTED = 3,
     OLDER = 4,
     IN_USE = 5,
     /* The update stands at the place, and a crash may bring back what stood there before. */
-    NOT_ON_DISK = 6,
+    NOT_SYNCED = 6,
     /* No number of the field is kept beside the place. */
     UNRECORDED = 7,
-    /* The update has the number that is kept. */
+    /* The update has the number that is kept, and where it was to be installed, other data stands at the place. */
     SAME = 8,
     /* The update has expired. */
-    EXPIRED = 9
+    EXPIRED = 9,
+    /* The update stands at the place already. */
+    THERE_ALREADY = 10
 };
 
 /* Says of a file what is wrong with it. */

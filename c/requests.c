@@ -17,6 +17,8 @@
     "Installs DATA at PLACE if the texts of the public key PK and of the signature\n" \
     "SIG vouch for it as the update that is wanted.\n" \
     "\n" \
+    "  --again            install also where the number is the one that is kept, and\n" \
+    "                     other data stands at PLACE\n" \
     "  --check            do not install, but tell by SIG alone whether the update is\n" \
     "                     newer than what is kept beside PLACE: DATA is not named,\n" \
     "                     and nothing is written\n" \
@@ -48,8 +50,10 @@
     "  5  another installation is at work at this place\n" \
     "  6  the update stands there, but a crash may bring back what stood there before\n" \
     "  7  no number of FIELD is kept beside PLACE, and `--first` was not given\n" \
-    "  8  with `--check`: the update has the number that is kept\n" \
-    "  9  the update has expired\n"
+    "  8  the update has the number that is kept; without `--check` other data stands\n" \
+    "     at PLACE, and `--again` was not given\n" \
+    "  9  the update has expired\n" \
+    "  10 the update stands there already, and nothing was written\n"
 
 enum { PATHS = 4 };
 
@@ -62,8 +66,9 @@ static const char *const valued[VALUED] = { "--numbering", "--name", "--mode", "
 struct line {
     bool is_check;
     bool is_first;
+    bool again;
     const char *values[VALUED];
-    const char *keys[MOST_KEYS];
+    const char *keys[MAX_KEYS];
     int key_count;
     /* One more than there may be, if so many are named. */
     const char *paths[PATHS + 1];
@@ -83,7 +88,7 @@ static _Noreturn void misuse(const char *word, const char *what)
         fprintf(stderr, "error: %s\n", what);
     }
     fputs(USAGE " (--help shows the options)\n", stderr);
-    exit(MISUSED);
+    exit(USAGE_ERROR);
 }
 
 static void add_path(struct line *line, const char *word)
@@ -106,7 +111,7 @@ static void add_flag(bool *flag, const char *word)
 static void add_value(struct line *line, int option, const char *word, const char *value)
 {
     if (option == KEY) {
-        if (line->key_count == MOST_KEYS) {
+        if (line->key_count == MAX_KEYS) {
             misuse(word, "it came twice before");
         }
         line->keys[line->key_count++] = value;
@@ -123,7 +128,8 @@ static int paths_of(const struct line *line)
     return PATHS - (line->is_check ? 1 : 0) - (line->key_count > 0 ? 1 : 0);
 }
 
-/* Ends the program where there are more or fewer paths than there have to be, or what goes with an installation alone. */
+/* Ends the program where there are more or fewer paths than there have to be, or what goes with an installation
+ * alone. */
 static void judge_line(const struct line *line)
 {
     static const char *const fewer[] = { "there are fewer than two paths", "there are fewer than three paths",
@@ -135,6 +141,9 @@ static void judge_line(const struct line *line)
 
     if (line->count > wanted) {
         misuse(line->paths[wanted], more[wanted - 2]);
+    }
+    if (line->is_check && line->again) {
+        misuse("--again", "it does not go with `--check`");
     }
     for (int option = MODE; line->is_check && option <= MOST; option++) {
         if (line->values[option] != NULL) {
@@ -174,6 +183,8 @@ static struct line read_line(int argc, char *argv[])
             is_ended = true;
         } else if (strcmp(word, "--first") == 0) {
             add_flag(&line.is_first, word);
+        } else if (strcmp(word, "--again") == 0) {
+            add_flag(&line.again, word);
         } else if (strcmp(word, "--check") == 0) {
             add_flag(&line.is_check, word);
         } else if (option == VALUED) {
@@ -188,7 +199,7 @@ static struct line read_line(int argc, char *argv[])
     return line;
 }
 
-static _Noreturn void refuse_value(const char *value)
+static _Noreturn void reject_value(const char *value)
 {
     misuse(value, "the option before it has no such value");
 }
@@ -199,7 +210,7 @@ static enum minisign_numbering numbering_of(const char *text)
         return MINISIGN_NUMBERING_TIMESTAMP;
     }
     if (strcmp(text, "version") != 0) {
-        refuse_value(text);
+        reject_value(text);
     }
     return MINISIGN_NUMBERING_VERSION;
 }
@@ -210,7 +221,7 @@ static mode_t mode_of(const char *text)
     size_t len = strlen(text);
 
     if (strspn(text, "01234567") != len || !(len == 3 || (len == 4 && text[0] == '0'))) {
-        refuse_value(text);
+        reject_value(text);
     }
     return (mode_t) strtoul(text, NULL, 8);
 }
@@ -237,14 +248,15 @@ static uint64_t bytes_of(const char *text)
     errno = 0;
     number = strtoull(text, NULL, 10);
     if (len == 0 || strlen(text) != len + (unit > 1 ? 1 : 0) || errno != 0 || number > UINT64_MAX / unit) {
-        refuse_value(text);
+        reject_value(text);
     }
     return number * unit;
 }
 
 struct request read_request(int argc, char *argv[])
 {
-    struct request request = { .most = INT64_MAX };
+    struct request request = { .wanted.most = INT64_MAX };
+    struct wanted *wanted = &request.wanted;
     struct line line;
 
     for (int i = 1; i < argc; i++) {
@@ -260,21 +272,22 @@ struct request read_request(int argc, char *argv[])
     }
     line = read_line(argc, argv);
     request.is_check = line.is_check;
-    request.is_first = line.is_first;
-    request.numbering = numbering_of(line.values[NUMBERING]);
-    request.name = line.values[NAME];
+    wanted->is_first = line.is_first;
+    wanted->again = line.again;
+    wanted->numbering = numbering_of(line.values[NUMBERING]);
+    wanted->name = line.values[NAME];
     if (line.values[MODE] != NULL) {
-        request.has_mode = true;
-        request.mode = mode_of(line.values[MODE]);
+        wanted->has_mode = true;
+        wanted->mode = mode_of(line.values[MODE]);
     }
     if (line.values[MOST] != NULL) {
-        request.most = bytes_of(line.values[MOST]);
+        wanted->most = bytes_of(line.values[MOST]);
     }
     memcpy(request.keys, line.keys, sizeof request.keys);
-    request.key_count = line.key_count;
+    wanted->key_count = line.key_count;
     request.key = line.key_count > 0 ? NULL : line.paths[0];
-    request.data = line.is_check ? NULL : line.paths[line.count - 3];
+    wanted->shown = line.is_check ? NULL : line.paths[line.count - 3];
     request.signature = line.paths[line.count - 2];
-    request.place = line.paths[line.count - 1];
+    wanted->place = line.paths[line.count - 1];
     return request;
 }

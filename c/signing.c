@@ -33,7 +33,7 @@ struct comments {
     size_t trusted_len, untrusted_len;
 };
 
-/* The trusted comment by default: the time, and the last part of the file's name. */
+/* The default trusted comment: the time, and the last part of the file's name. */
 static const char *default_comment(const char *data_file, bool legacy)
 {
     static char comment[COMMENT_BYTES];
@@ -44,7 +44,7 @@ static const char *default_comment(const char *data_file, bool legacy)
     return comment;
 }
 
-/* Ends the program where the last part of the file's name cannot stand in the trusted comment by default: it is no
+/* Ends the program where the last part of the file's name cannot stand in the default trusted comment: it is no
  * comment that the user has given. */
 static void expect_comment(const char *data_file, bool legacy)
 {

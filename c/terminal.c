@@ -125,7 +125,7 @@ static ssize_t read_byte(const struct before *before, char *byte)
 /* How a line ended. */
 enum line { WHOLE, TOO_LONG, NONE };
 
-/* Reads one line, which ends for a password at its first carriage return, line feed or zero. Nothing behind its line
+/* Reads one line, which ends for a password at its first carriage return, line feed or zero. Nothing after its line
  * feed is read. */
 static enum line read_line(const struct before *before, struct password *password)
 {

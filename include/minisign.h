@@ -28,7 +28,7 @@
  *
  * The example, made by tools/header.py from c/examples/verify.c.
  *
- *     // verify PUBLIC_KEY DATA SIGNATURE: ends with the exit status 0, and prints the trusted comment, exactly where
+ *     // verify PUBLIC_KEY DATA SIGNATURE: exits with status 0, and prints the trusted comment, exactly where
  *     // the texts vouch for the data.
  *     #include <stdio.h>
  *     #include <stdlib.h>
@@ -96,7 +96,7 @@
  *         if (argc != 4 || sodium_init() < 0) {
  *             fail("usage: verify PUBLIC_KEY DATA SIGNATURE");
  *         }
- *         // The key and the text of the signature come first: what is refused of them is known before data is read.
+ *         // The key and the text of the signature come first: what is wrong with them is known before data is read.
  *         expect(minisign_read_public_key(text, read_text(argv[1]), &key));
  *         minisign_init(&state);
  *         // 0: no legacy signatures, which are over the data itself. The message is never longer than the text.
@@ -305,7 +305,7 @@ extern "C" {
  *   key, unopened or open, to zeros before its first use, and clear it after the last.
  * - The answers are those of an Ed25519 on exactly the questions that were asked.
  *
- * Wrong use that a state or a key shows is an error number and changes nothing: a state never begun (its first
+ * A usage error that a state or a key shows is an error number and changes nothing: a state never begun (its first
  * eight bytes are not those of minisign_init), data or questions after the digest was told, questions asked twice,
  * a verdict before the questions or the digest, opening a secret key that was not read, a text of one that was not
  * opened.
@@ -314,7 +314,7 @@ extern "C" {
 /* The version of the library, as MINISIGN_VERSION of the header that it came with. */
 uint32_t minisign_version(void);
 
-/* Numbers of errors: up to 15, and 63, of wrong use, of memory and of bytes that are not UTF-8, from 16 on of what the
+/* Numbers of errors: up to 15, and 63, of usage, of memory and of bytes that are not UTF-8, from 16 on of what the
  * texts say. */
 /* Numbers, made by tools/header.py. */
 enum minisign_error {
@@ -425,7 +425,7 @@ enum minisign_error {
     /* The number of the trusted comment is below the one that is kept. */
     MINISIGN_OLDER_UPDATE = 51,
     /* The update stands at the place, but a crash may still bring back what stood there before. */
-    MINISIGN_FOLDER_NOT_ON_DISK = 52,
+    MINISIGN_DIRECTORY_NOT_SYNCED = 52,
     /* The number that is kept is a timestamp and not a version, and this was not said to be the first
      * installation. */
     MINISIGN_KEPT_BY_TIMESTAMP = 53,
@@ -437,6 +437,9 @@ enum minisign_error {
     /* The trusted comment has more than one field for when the update expires, or one with no number in decimal
      * digits alone, or none below 2^64. */
     MINISIGN_BAD_EXPIRY = 56,
+    /* The number of the trusted comment is the one that is kept, other data stands at the place, and the caller did
+     * not ask for the update to be installed again. */
+    MINISIGN_SAME_NUMBER = 57,
     /* A secret key that is to be opened was not read. */
     MINISIGN_KEY_NOT_READ = 63,
     /* A source, a file or a prompt's reader failed at a read. */
@@ -490,7 +493,7 @@ typedef struct minisign_public_key {
 
 /*
  * Reads a public key: from its text, both lines of a file such as minisign.pub, or from its base64 alone, the 56
- * letters that stand in the second line and behind minisign -P, as an updater has it built in. Does not allocate.
+ * letters that stand in the second line and after minisign -P, as an updater has it built in. Does not allocate.
  *
  * The errors, in this order: MINISIGN_NOT_UTF8; of two lines MINISIGN_MISSING_PUBLIC_KEY_COMMENT,
  * MINISIGN_MISSING_PUBLIC_KEY, MINISIGN_PUBLIC_KEY_LENGTH, MINISIGN_PUBLIC_KEY_NOT_BASE64,
@@ -592,7 +595,7 @@ typedef struct minisign_unopened_key {
     /* 1 where the key wants a password, otherwise 0. */
     uint8_t is_sealed;
     /* What opening takes: of how many rows of 1 KiB the logarithm to base 2, which is at most 20, and how often all of
-     * them are made. Zeros where the key is not sealed, and where its limits are refused. */
+     * them are made. Zeros where the key is not sealed, and where its limits are rejected. */
     uint8_t log2_rows;
     uint32_t work;
     uint32_t reserved; /* 0 */
@@ -717,7 +720,7 @@ typedef struct minisign_sealing {
 #define MINISIGN_OPERATIONS_LIMIT 33554432
 #define MINISIGN_MEMORY_LIMIT 1073741824
 
-/* The comments that minisign -G writes; behind that of a public key stands its key ID as one little-endian number,
+/* The comments that minisign -G writes; after that of a public key stands its key ID as one little-endian number,
  * as printf writes it by "%" PRIX64. */
 #define MINISIGN_SECRET_KEY_COMMENT "minisign encrypted secret key"
 #define MINISIGN_PUBLIC_KEY_COMMENT "minisign public key "
@@ -768,17 +771,29 @@ MINISIGN_MUST_USE enum minisign_error minisign_public_key_text(
 /*
  * Installs an update at a place, beside which the number of the newest one is kept: nothing else gets there, no
  * older one either, and whatever comes between, a crash too, what stands there is whole. The library knows no
- * directory. It tells which call is due; you make it, and say how it went. A program that does no more than that, over
- * calls of the system relative to a directory that is open, is c/minisign-install.c of the sources.
+ * directory. It tells which call is due; you make it, and say how it went. A host that does no more than that, over
+ * calls of the system relative to a directory that is open, is c/installing.c of the sources.
  *
  * Both are files of one directory: the place, and the record with the number and the field that it stands in. A stage
- * is a new file beside them, of a name that nobody else has; what is renamed is always whole and on the disk.
+ * is a new file beside them, of a name that nobody else has; what is renamed is always whole and synced.
  *
  * What is outside, and what is required beyond the head of this page: the lock is held from MINISIGN_DUE_LOCK to the
  * end of the run, and others keep to it; you say that a call was done only where it was made and went well, and
  * what it is about is what this page says; and what you hand to minisign_install_piece is what the stage holds,
  * read through the descriptor that it was written by, from its first byte to its end. Where one of these is broken,
  * nothing is promised of the place.
+ *
+ * An update of the number that is kept may stand there already, and this is asked first: with the lock held, and
+ * before the installation is told anything. minisign_check_comment tells what the update is, and of the file at the
+ * place a state that is fed all of it tells whether the texts vouch for it:
+ *
+ *     MINISIGN_OFFER_SAME, and they vouch for it       it is installed already: nothing is due, and nothing written
+ *     MINISIGN_OFFER_SAME, and no file stands there    begin: the update is put back
+ *     MINISIGN_OFFER_SAME, and they do not vouch       reject it with MINISIGN_SAME_NUMBER, or begin where it was
+ *                                                      asked for
+ *     any other offer, and any error                   begin: the machine judges for itself
+ *
+ * Then keep the lock: when MINISIGN_DUE_LOCK is due, it is done.
  */
 
 /* What is due, in the order of a run that fails nowhere, but for the last four. */
@@ -798,31 +813,31 @@ enum minisign_due {
     MINISIGN_DUE_READ_BACK = 6,
     /* Have the signature scheme answer the two questions. */
     MINISIGN_DUE_ANSWER = 7,
-    /* Give the stage the rights of the file at the place. */
-    MINISIGN_DUE_TAKE_RIGHTS = 8,
-    /* Bring to the disk what the stage holds. */
-    MINISIGN_DUE_SETTLE = 9,
+    /* Give the stage the permissions of the file at the place. */
+    MINISIGN_DUE_TAKE_PERMISSIONS = 8,
+    /* Sync what the stage holds. */
+    MINISIGN_DUE_SYNC = 9,
     /* Draw a name, and make the stage of the record under it. */
     MINISIGN_DUE_CREATE_RECORD = 10,
     /* Write the number into the stage of the record. */
     MINISIGN_DUE_WRITE_RECORD = 11,
-    /* Bring to the disk what the stage of the record holds. */
-    MINISIGN_DUE_SETTLE_RECORD = 12,
+    /* Sync what the stage of the record holds. */
+    MINISIGN_DUE_SYNC_RECORD = 12,
     /* Give the stage of the record the record's name. */
     MINISIGN_DUE_RENAME_RECORD = 13,
-    /* Bring the record's name to the disk. */
-    MINISIGN_DUE_SETTLE_RECORD_NAME = 14,
+    /* Sync the directory; so the record keeps its name. */
+    MINISIGN_DUE_SYNC_RECORD_NAME = 14,
     /* Give the stage the place's name. */
     MINISIGN_DUE_RENAME = 15,
-    /* Bring the place's name to the disk. */
-    MINISIGN_DUE_SETTLE_NAME = 16,
-    /* Remove the stage of the record: the run is refused for this fault. */
+    /* Sync the directory; so the place keeps its name. */
+    MINISIGN_DUE_SYNC_NAME = 16,
+    /* Remove the stage of the record: the run is rejected for this error. */
     MINISIGN_DUE_REMOVE_RECORD = 17,
-    /* Remove the stage: the run is refused for this fault. */
+    /* Remove the stage: the run is rejected for this error. */
     MINISIGN_DUE_REMOVE = 18,
     /* Nothing: the update is installed. */
     MINISIGN_DUE_INSTALLED = 19,
-    /* Nothing: the run was refused for this fault. */
+    /* Nothing: the run was rejected for this error. */
     MINISIGN_DUE_REFUSED = 20
 };
 /* The end of the calls. */
@@ -875,7 +890,7 @@ MINISIGN_MUST_USE enum minisign_error minisign_install_more(minisign_installatio
  * The call that was due failed, also where it is one with a call of its own: MINISIGN_OUT_OF_MEMORY,
  * MINISIGN_READING_FAILED, MINISIGN_WRITING_FAILED or MINISIGN_RANDOM_SOURCE_FAILED, and of MINISIGN_DUE_LOCK also
  * MINISIGN_PLACE_IN_USE. What was made is then to be removed, and at the end that is what the run was rejected for.
- * Of MINISIGN_DUE_SETTLE_NAME it becomes MINISIGN_FOLDER_NOT_ON_DISK: the update stands at the place.
+ * Of MINISIGN_DUE_SYNC_NAME it becomes MINISIGN_DIRECTORY_NOT_SYNCED: the update stands at the place.
  *
  * MINISIGN_NOT_DUE for another number, and once the run has ended: nothing changes.
  */
@@ -924,7 +939,7 @@ MINISIGN_MUST_USE enum minisign_error minisign_install_ask(
     size_t room);
 
 /*
- * MINISIGN_DUE_ANSWER, then: what Ed25519 answered to the two questions. MINISIGN_OK, and MINISIGN_DUE_TAKE_RIGHTS
+ * MINISIGN_DUE_ANSWER, then: what Ed25519 answered to the two questions. MINISIGN_OK, and MINISIGN_DUE_TAKE_PERMISSIONS
  * is due, exactly where the texts vouch for what was read back, and the comment that was signed with it names the
  * file, has not expired, and has a number that is not below the one that is kept. Otherwise MINISIGN_DUE_REMOVE is
  * due, and the call answers the first reason: MINISIGN_SIGNATURE_REFUSED, MINISIGN_COMMENT_SIGNATURE_REFUSED,
@@ -944,7 +959,7 @@ MINISIGN_MUST_USE enum minisign_error minisign_install_answer(
 #define MINISIGN_NUMBER_TEXT_BYTES 30
 size_t minisign_install_number_text(const minisign_installation *installation, uint8_t *text, size_t room);
 
-/* MINISIGN_DUE_REFUSED: why the run was refused. MINISIGN_OK before its end, and where the update is installed. */
+/* MINISIGN_DUE_REFUSED: why the run was rejected. MINISIGN_OK before its end, and where the update is installed. */
 enum minisign_error minisign_install_error(const minisign_installation *installation);
 
 /*
@@ -976,8 +991,8 @@ enum minisign_offer {
 
 /*
  * Whether an update is newer than what is kept, by its signed comment: before its data is there. The comment is one
- * that minisign_comment_verdict has vouched for, which can be asked before a byte was fed: behind minisign_ask it
- * stands in the message, behind the 64 bytes of the signature. Nothing vouches for the data. The record is that of
+ * that minisign_comment_verdict has vouched for, which can be asked before a byte was fed: after minisign_ask it
+ * stands in the message, after the 64 bytes of the signature. Nothing vouches for the data. The record is that of
  * a place, as minisign_install_record takes it, read whole and without the lock; or there is none.
  *
  * Writes a number of enum minisign_offer, and the number of the update, which has to name the file and not to have

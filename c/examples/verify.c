@@ -1,5 +1,5 @@
 // SPDX-License-Identifier: MIT
-// verify PUBLIC_KEY DATA SIGNATURE: ends with the exit status 0, and prints the trusted comment, exactly where
+// verify PUBLIC_KEY DATA SIGNATURE: exits with status 0, and prints the trusted comment, exactly where
 // the texts vouch for the data.
 #include <stdio.h>
 #include <stdlib.h>
@@ -67,7 +67,7 @@ int main(int argc, char **argv)
     if (argc != 4 || sodium_init() < 0) {
         fail("usage: verify PUBLIC_KEY DATA SIGNATURE");
     }
-    // The key and the text of the signature come first: what is refused of them is known before data is read.
+    // The key and the text of the signature come first: what is wrong with them is known before data is read.
     expect(minisign_read_public_key(text, read_text(argv[1]), &key));
     minisign_init(&state);
     // 0: no legacy signatures, which are over the data itself. The message is never longer than the text.
