@@ -11,7 +11,7 @@ const ANSWER_NO = 0x6e6f;
 // A text of a key or of a signature is shorter than this.
 export const TEXT_BYTES = 65536;
 // Data is fed in pieces that are not longer, and not longer than the room that the module's memory has for one.
-const MOST_PIECE_BYTES = 4 * 1048576;
+const MAX_PIECE_BYTES = 4 * 1048576;
 
 // The structs of include/minisign.h: how long each is, and where in the questions each part begins.
 const STATE_BYTES = 512;
@@ -44,7 +44,7 @@ export class Library {
     this.text = room(TEXT_BYTES);
     this.message = room(TEXT_BYTES);
     this.piece = at;
-    this.pieceBytes = Math.min(MOST_PIECE_BYTES, Math.floor((this.memory.length - at) / TEXT_BYTES) * TEXT_BYTES);
+    this.pieceBytes = Math.min(MAX_PIECE_BYTES, Math.floor((this.memory.length - at) / TEXT_BYTES) * TEXT_BYTES);
     if (this.pieceBytes < TEXT_BYTES) {
       throw new Error("the module has too little memory");
     }

@@ -1,29 +1,22 @@
 # SPDX-License-Identifier: MIT
-"""Builds the shared library by `make -C c library`, of what the package carries or of the repository around it, or takes the
-one that the environment names MINISIGN_LIBRARY, and puts it into the wheel, which is for this kind of machine and any Python 3."""
+"""Builds the shared library with the installing host in it by the makefile of `c/`, of what the package carries or of the repository
+around it, and puts it into the wheel, which is for this kind of machine and any Python 3."""
 
 import os
-import shutil
-import subprocess
 
 from setuptools import Distribution, setup
 from setuptools.command.build_py import build_py
 from wheel.bdist_wheel import bdist_wheel
 
-HERE = os.path.dirname(os.path.abspath(__file__))
-CARRIED = os.path.join(HERE, "library")
-TOP = CARRIED if os.path.isdir(CARRIED) else os.path.join(HERE, "..", "..")
+TOP = "library" if os.path.isdir("library") else os.path.join("..", "..")
 
 
 class BuildWithLibrary(build_py):
     def run(self):
         super().run()
-        library = os.environ.get("MINISIGN_LIBRARY")
-        if not library:
-            out = os.path.abspath(os.path.join(self.build_lib, "..", "library"))
-            subprocess.run(["make", "-C", os.path.join(TOP, "c"), f"OUT={out}", "library"], check=True)
-            library = os.path.join(out, "libminisign.so")
-        shutil.copy(library, os.path.join(self.build_lib, "minisign_proved", "libminisign.so"))
+        out = os.path.abspath(os.path.join(self.build_lib, "..", "library"))
+        self.spawn(["make", "-C", os.path.join(TOP, "c"), f"OUT={out}", f"{out}/libminisign-installing.so"])
+        self.copy_file(f"{out}/libminisign-installing.so", os.path.join(self.build_lib, "minisign_proved", "libminisign.so"))
 
 
 class WheelForMachine(bdist_wheel):
@@ -31,9 +24,6 @@ class WheelForMachine(bdist_wheel):
         return ("py3", "none", super().get_tag()[2])
 
 
-class WithLibrary(Distribution):
-    def has_ext_modules(self):
-        return True
-
-
-setup(cmdclass={"build_py": BuildWithLibrary, "bdist_wheel": WheelForMachine}, distclass=WithLibrary)
+# (so the wheel is one for a kind of machine)
+Distribution.has_ext_modules = lambda self: True
+setup(cmdclass={"build_py": BuildWithLibrary, "bdist_wheel": WheelForMachine})

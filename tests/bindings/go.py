@@ -59,6 +59,7 @@ class Go:
 
 def check_sources(checks):
     """The package is small, calls C in one file alone, and has the errors of the header."""
+    shared_cases.check_readme(checks, "go")
     lines = 0
     for name in sorted(os.listdir(PACKAGE)):
         if not name.endswith(".go") or name.endswith("_test.go"):

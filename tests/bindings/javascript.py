@@ -7,7 +7,8 @@ program in an empty folder; in Node, and in a page and a worker of Chromium and 
 The module is that of PAGE, the one of `dist/` where none is named. What the package answers to kept keys and signatures, to
 damaged ones, to data in pieces of each kind, and to signatures that implementations of Ed25519 differ in is compared with
 `c/minisign` and with libsodium; why it refuses, the list of errors and the sizes of structs, with the header. The example of
-README.md runs, also over what npm installs. Many calls take no more memory, and threads get the same answers. Each of some
+README.md runs, also over what npm installs. It runs where there is nothing but the language and a few globals that browsers, Node,
+Deno and workers all have, and needs each of these. Many calls take no more memory, and threads get the same answers. Each of some
 planted bugs is noticed. Where there is no npm, the files that package.json names are taken. It prints a line for each failure;
 the last line is `N passed, M failed`.
 
@@ -40,6 +41,9 @@ PROGRAM = os.path.join(HERE, "javascript", "answers.mjs")
 BROWSERS = os.path.join(HERE, "javascript_browsers.py")
 MODULE = "module.js"
 LINES = 300
+# The globals that the package uses besides those of the language. All are of the web, and of the list that all of these have
+# (the "Minimum common web platform API").
+GLOBALS = ("Blob", "TextDecoder", "TextEncoder", "WebAssembly", "atob", "crypto")
 CALLS = 100_000
 # How many bytes may be in memory after all calls that were not after a tenth of them.
 GROWTH = 16 * 1048576
@@ -80,6 +84,7 @@ def text_of(name):
 def check_sources(checks, user):
     """The package is small, names its files and the header's version, calls the module in one file alone, and has the errors of
     the header that verifying has."""
+    shared_cases.check_readme(checks, "javascript")
     described = json.loads(text_of("package.json"))
     version = re.search(r'MINISIGN_VERSION_TEXT "(.*)"', read(shared_cases.HEADER).decode())[1]
     checks.check(described["version"] == version, f"package.json has the version {described['version']}, and the header {version}")
@@ -197,6 +202,26 @@ def check_readme(checks, program):
         checks.check((status, said) == (0, wanted) and why.startswith(refused) and bool(why) == bool(refused), f"the README's example of {name}: {said} {why}")
 
 
+def check_bare(checks, program):
+    """It needs no other globals than are named, in a context of its own and in a thread, and each of these."""
+    key, data, signature = (read(os.path.join(shared_cases.CORPUS, name)) for name in ("published.pub", "test", "published.minisig"))
+    case = shared_cases.lines_of([Case("published", key, data, signature)])
+    shutil.copy(os.path.join(HERE, "javascript", "bare.mjs"), program.user)
+    wanted = ["accepted timestamp:1556193335\tfile:test"] * 4 + ["refused SIGNATURE_REFUSED"]
+
+    def answers(where, names):
+        command = [program.node, "--no-warnings", "--experimental-vm-modules", "bare.mjs", where, *names]
+        status, said, why = run(command, folder=program.user, data=case)
+        return said.decode().splitlines(), f"{status} {why[-500:]}"
+
+    for where in ("context", "thread"):
+        said, why = answers(where, GLOBALS)
+        checks.check(said == wanted, f"in a bare {where}: {said} {why}")
+    for left_out in GLOBALS:
+        said, why = answers("context", [it for it in GLOBALS if it != left_out])
+        checks.check(said != wanted, f"without {left_out}, which it is said to use: {said} {why}")
+
+
 def check_npm(checks, program, room):
     """What `npm pack` made is installed without a network, and the example of the README runs over it."""
     npm = npm_path()
@@ -309,6 +334,7 @@ def main():
             check_vectors(checks, program, room, minisign)
             check_keys(checks, program)
             check_readme(checks, program)
+            check_bare(checks, program)
             check_npm(checks, program, room)
             check_browsers(checks, program, room, minisign)
             check_planted(checks, program, room, minisign)

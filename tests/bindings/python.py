@@ -37,8 +37,8 @@ PYTHON = "/usr/bin/python3"
 USER = os.path.join(HERE, "python_user.py")
 PACKAGE = "minisign_proved"
 KINDS = ("libsodium", "cryptography")
-# How many lines are written by hand: without the host of an installation, and of that. Docstrings do not count.
-LINES, LINES_OF_INSTALLING = 300, 250
+# How many lines are written by hand. Docstrings do not count.
+LINES = 300
 MADE = ("errors.py", "_header.py")
 # (another test may have the processor for long)
 SECONDS = 1800
@@ -132,12 +132,12 @@ def lines_of(path):
 
 
 def check_sources(checks):
-    """The package is small."""
+    """The package is small, and its README too."""
+    shared.check_readme(checks, "python")
     sources = os.path.join(shared.TOP, "bindings", "python")
     lines = {name: lines_of(path) for path in glob.glob(os.path.join(sources, "src", PACKAGE, "*.py")) if (name := os.path.basename(path)) not in MADE}
-    installing = lines.pop("installing.py")
     count = sum(lines.values()) + lines_of(os.path.join(sources, "setup.py"))
-    checks.check(count <= LINES and installing <= LINES_OF_INSTALLING, f"the package has {count} lines, and for installing {installing}")
+    checks.check(count <= LINES, f"the package has {count} lines: {lines}")
 
 
 def check_header(checks, room, python_path):
@@ -164,6 +164,33 @@ for name, struct in vars(_header).items():
     layout = {class_name(name.partition(".")[0].removeprefix("minisign_")) + "".join(name.partition(".")[1:]): at
               for name, at in shared.layout(room).items()}
     checks.check(places == layout, f"the structs are {places}, and in C {layout}")
+
+
+def check_host(checks, room, python_path):
+    """The structs of the installing host are those of c/installing.h, as far as the package has them."""
+    told = f"""
+import ctypes
+from {PACKAGE} import installing
+for struct in (installing.Wanted, installing.Installing):
+    for field, _ in struct._fields_:
+        print(struct.__name__.lower(), field, getattr(struct, field).offset, getattr(struct, field).size)
+print("wanted", ctypes.sizeof(installing.Wanted), installing.RECEIVING, installing.COPYING, installing.LONGEST)
+"""
+    _, said, why = shared.run([python_path, "-c", told])
+    fields = [line.split() for line in said.decode().splitlines()[:-1]]
+    inside = {"shown": "directory.trouble.shown", "cause": "directory.trouble.cause", "number": "directory.trouble.number"}
+    lines = ""
+    for struct, field, *_ in fields:
+        of = inside.get(field, field) if struct == "installing" else field
+        size = f"sizeof(((struct {struct} *) 0)->{of})"
+        lines += f'printf("{struct} {field} %zu %zu\\n", offsetof(struct {struct}, {of}), {size});\n'
+    lines += 'printf("wanted %zu %d %d %lld\\n", sizeof(struct wanted), RECEIVING, COPYING, (long long) INT64_MAX);\n'
+    path = shared.write(room, "host.c", f"#include <stdio.h>\n#include \"installing.h\"\nint main(void) {{\n{lines}return 0; }}\n".encode())
+    folders = [f"-I{os.path.join(shared.TOP, it)}" for it in ("c", "include")]
+    status, _, unbuilt = shared.run([needs.c_compiler(), *folders, "-o", f"{room}/host", path])
+    checks.check(status == 0 and len(fields) > 15, f"the program of the host's structs: {unbuilt[-500:]}{why[-500:]}")
+    wanted = shared.run([f"{room}/host"])[1] if status == 0 else b""
+    checks.check(said == wanted, f"the host's structs are {said.decode()}, and in C {wanted.decode()}")
 
 
 def class_name(name):
@@ -272,24 +299,26 @@ def check_examples(checks, python_path, room):
 # The file, what is changed in it, and the checks of the user's program that have to notice it.
 BUGS = [
     ("_header.py", "verdict(state, ANSWER_YES if first is True else", "verdict(state, ANSWER_YES if first is not None else", "answers"),
-    ("_calls.py", "message, key)\n", "message, key) or True\n", "answers"),
-    ("_verifying.py", "1 if allow_legacy else 0", "1", "answers"),
-    ("_signing.py", "        Verifier(PublicKey._of(", "        False and Verifier(PublicKey._of(", "keys"),
-    ("_ed25519.py", "second >= PRIME or second in SMALL_ORDER", "second in SMALL_ORDER", "vectors"),
-    ("_ed25519.py", "second >= PRIME or second in SMALL_ORDER", "second >= PRIME", "vectors"),
-    ("_ed25519.py", "is_refused(key) or is_refused(signature[:32]) or", "is_refused(key) or", "vectors"),
-    ("_verifying.py", "                self._held.append(piece)", "                self._held = [piece]", "pieces"),
-    ("_verifying.py", "        with self._turn:\n            calls.update(self._state, piece)", "        if True:\n            calls.update(self._state, piece)",
+    ("_keys.py", "self._message, key)\n", "self._message, key) or True\n", "answers"),
+    ("_keys.py", "1 if allow_legacy else 0", "1", "answers"),
+    ("_keys.py", "        Verifier(PublicKey(", "        False and Verifier(PublicKey(", "keys"),
+    ("_calls.py", "second >= PRIME or second in SMALL_ORDER", "second in SMALL_ORDER", "vectors"),
+    ("_calls.py", "second >= PRIME or second in SMALL_ORDER", "second >= PRIME", "vectors"),
+    ("_calls.py", "is_refused(key) or is_refused(signature[:32]) or", "is_refused(key) or", "vectors"),
+    ("_keys.py", "                self._held.append(piece)", "                self._held = [piece]", "pieces"),
+    ("_keys.py", "        with self._turn:\n            calls.update(self._state, piece)", "        if True:\n            calls.update(self._state, piece)",
      "threads"),
-    ("_verifying.py", "    if len(text) > TEXT_BYTES:", "    if len(text) > 2 * TEXT_BYTES:", "keys"),
-    ("_signing.py", "        ctypes.memset(pair, 0, ctypes.sizeof(pair))", "        pass", "keys"),
-    ("_verifying.py", "bytes(memoryview(piece))", "bytes(piece)", "keys"),
-    ("_signing.py", "        os.replace(fresh, path)", "        pass", "keys"),
-    ("_signing.py", "    path = os.path.realpath(path)", "    path = os.fspath(path)", "keys"),
-    ("installing.py", "isinstance(why, TROUBLES)", "isinstance(why, errors.MinisignError)", "installing"),
-    ("_signing.py", "os.O_EXCL | os.O_CLOEXEC, 0o600", "os.O_TRUNC | os.O_CLOEXEC, 0o644", "keys"),
-    ("installing.py", "            os.closerange(fd, fd + 1)", "            pass", "installing"),
-    ("installing.py", "        except BaseException as why:", "        except OSError as why:", "installing"),
+    ("_keys.py", "    if len(text) > TEXT_BYTES:", "    if len(text) > 2 * TEXT_BYTES:", "keys"),
+    ("_keys.py", "        ctypes.memset(pair, 0, ctypes.sizeof(pair))", "        pass", "keys"),
+    ("_keys.py", "bytes(memoryview(piece))", "bytes(piece)", "keys"),
+    ("_keys.py", "        os.replace(os.path.join(room, \"key\"), path)", "        pass", "keys"),
+    ("_keys.py", "    path = os.path.realpath(path)", "    path = os.fspath(path)", "keys"),
+    ("_keys.py", "os.O_EXCL | os.O_CLOEXEC, 0o600", "os.O_TRUNC | os.O_CLOEXEC, 0o644", "keys"),
+    ("installing.py", "            library.end_installing(begun)", "            pass", "installing"),
+    ("installing.py", "first, again, field, mode is not None", "True, again, field, mode is not None", "installing"),
+    ("installing.py", "bytes(key.contents)) else h.ANSWER_NO", "bytes(key.contents)) else h.ANSWER_YES", "installing"),
+    ("installing.py", "            if run.error != 0:", "            if run.error > 60:", "installing"),
+    ("installing.py", "file.fileno(), longest, first", "file.fileno(), LONGEST, first", "installing"),
     ("installing.py", "numbering: str = \"timestamp\"", "numbering: str = \"version\"", "installing"),
 ]
 
@@ -338,6 +367,7 @@ def main():
             beside = environment(room, "beside", wheel, "--system-site-packages")
             check_sources(checks)
             check_header(checks, room, alone)
+            check_host(checks, room, alone)
             check_types(checks, beside)
             check_examples(checks, alone, os.path.join(room, "examples"))
             answered = wanted_answers(program, room)

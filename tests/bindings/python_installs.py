@@ -10,9 +10,9 @@ import sys
 HERE = os.path.dirname(os.path.realpath(__file__))
 sys.path += [os.path.join(HERE, "..", it) for it in ("shared", "tool", "installer")]
 
-from installers import RECORD, RealInstaller
+from installers import RealInstaller
 from installing import Installing, cases, word_cases
-from running import Failure, Skip
+from running import Failure, Skip, build_preload
 
 PROGRAM = os.path.join(HERE, "python_installing.py")
 
@@ -20,15 +20,9 @@ PROGRAM = os.path.join(HERE, "python_installing.py")
 class PythonInstaller(RealInstaller):
     """`install` of the Python package, with a key that Minisign's own program makes in this folder."""
 
-    name = "minisign-install"
-    # (files are closed by a call that ignores failures)
-    failing = ("open", "openat", "write", "fsync", "renameat", "pread", "flock", "readdir", "fchmod", "fstat", "fstatat", "getrandom",
-               "fgetxattr", "fremovexattr")
-    # (Python itself makes interrupted calls again)
-    interrupted = ()
     has_checks = False
-    # The listing of the folder opens nothing, and that the record is read back is told as that.
-    calls = RealInstaller.calls.replace(f"open .\nopen {RECORD}\n", f"open {RECORD}\n")
+    # (before it reads the record alone, to its end)
+    looked_at = 3
 
 
 # What needs the words or the messages of a program, and not of a function.
@@ -44,8 +38,8 @@ def installer(python, room):
         file.write(f"#!{python}\n{text}")
     os.chmod(program, 0o755)
     it = Installing(program, PythonInstaller(room), room)
-    # (its calls are broken and traced by the program itself)
-    it.preload = it.trace = ""
+    # (what Python itself calls is neither broken nor traced)
+    it.preload, it.trace = (build_preload(it.room, name, "libminisign.so") for name in ("break_calls", "trace_calls"))
     return it
 
 

@@ -12,10 +12,10 @@ import threading
 from typing import IO, Callable, Iterator, List, Tuple, Type, cast
 
 import minisign_proved as minisign
-from minisign_proved import PublicKey, SecretKey, Signature, Verifier, _ed25519
+from minisign_proved import PublicKey, SecretKey, Signature, Verifier, _calls
 
 # What so many calls may take more memory than the first ones, in KiB.
-CALLS, FIRST_CALLS, MOST_GROWTH = 100_000, 5_000, 512
+CALLS, FIRST_CALLS, MAX_GROWTH = 100_000, 5_000, 512
 passed, failures = 0, []  # type: int, List[str]
 
 
@@ -88,7 +88,7 @@ def pieces() -> None:
 
 
 def vectors() -> None:
-    kind = _ed25519.ed25519()
+    kind = _calls.ed25519()
     for key, message, signature in read_cases():
         print("yes" if kind.accepts(signature, message, key) is True else "no")
 
@@ -121,7 +121,7 @@ def memory(room: str) -> None:
         except minisign.MinisignError:
             pass
     grown = resident() - grown
-    check(grown <= MOST_GROWTH, f"{CALLS} calls took {grown} KiB")
+    check(grown <= MAX_GROWTH, f"{CALLS} calls took {grown} KiB")
 
 
 def threads(room: str) -> None:
@@ -218,10 +218,10 @@ def keys(room: str) -> None:
     os.replace = replace
     check(os.listdir(away) == found, f"beside a key that was not replaced: {os.listdir(away)}")
     opening = os.open
-    os.open = lambda *_: (_ for _ in ()).throw(PermissionError())
+    os.open = lambda path, flags, *rest, **more: (_ for _ in ()).throw(PermissionError()) if flags & os.O_CREAT else opening(path, flags, *rest, **more)
     refuses(PermissionError, lambda: minisign.change_password(os.path.join(away, "app.key"), None, None), "a folder that nothing is written into")
     os.open = opening
-    ours = _ed25519.ed25519()
+    ours = _calls.ed25519()
     pair, pairing = ours.pair(), ours.pair
     setattr(ours, "pair", lambda: pair)
     taken = SecretKey.generate()
@@ -292,13 +292,18 @@ def installing(room: str) -> None:
     def refuse(done: int, size: int) -> None:
         raise minisign.SignatureRefused()
 
-    refuses(minisign.WritingFailed, lambda: minisign.install(key.public_key, path, two, place, numbering="version", progress=refuse),
+    refuses(minisign.SignatureRefused, lambda: minisign.install(key.public_key, path, two, place, numbering="version", progress=refuse),
             "an error of the package that progress raises")
     check(state() == (b"one", b"version:1", []), f"after progress raised an error of the package: {state()}")
+    for most, source in ((2, io.BytesIO(b"two")), (2, path), (-1, path)):
+        refuses(minisign.TooLong, lambda most=most, source=source: minisign.install(key.public_key, source, two, place, numbering="version", most=most),  # type: ignore[misc]
+                f"data of more than {most} bytes")
+    check(state() == (b"one", b"version:1", []), f"after data that was too long: {state()}")
+    refuses(minisign.SignatureRefused, lambda: minisign.install(key.public_key, io.BytesIO(b"2"), two, place, numbering="version", most=3), "other data")
     waits, end = os.pipe()
     os.set_blocking(waits, False)
     with open(waits, "rb", buffering=0) as pipe:
-        refuses(minisign.ReadingFailed, lambda: minisign.install(key.public_key, pipe, two, place, numbering="version"), "a pipe that has nothing yet")
+        refuses(TypeError, lambda: minisign.install(key.public_key, pipe, two, place, numbering="version"), "a pipe that has nothing yet")
     os.close(end)
     check(state() == (b"one", b"version:1", []), f"after a pipe that had nothing yet: {state()}")
 
@@ -313,8 +318,18 @@ def installing(room: str) -> None:
         refuses(KeyboardInterrupt, lambda: minisign.install(key.public_key, cast("IO[bytes]", Interrupted()), two, place, numbering="version"),
                 "a run that is interrupted")
     check(state() == (b"one", b"version:1", []), f"after an interruption: {state()}")
+
+    class Unable:
+        def accepts(self, *asked: bytes) -> bool:
+            raise KeyboardInterrupt()
+
+    chosen, sys.unraisablehook = _calls._chosen[:], lambda told: None
+    _calls._chosen[:] = [cast(_calls.Sodium, Unable())]
+    refuses(minisign.ReadingFailed, lambda: minisign.install(key.public_key, path, two, place, numbering="version"), "an Ed25519 that raises")
+    _calls._chosen[:], sys.unraisablehook = chosen, sys.__unraisablehook__
+    check(state() == (b"one", b"version:1", []), f"after an Ed25519 that raised: {state()}")
     with open(path, "rb") as file:
-        minisign.install(key.public_key, file, two, place, numbering="version", mode=0o755)
+        minisign.install(key.public_key, file, two, place, numbering="version", mode=0o755, most=3)
     check(state() == (b"two", b"version:2", []) and os.stat(place).st_mode & 0o777 == 0o755, f"a file that is open: {state()}")
     refuses(minisign.OlderUpdate, lambda: minisign.install(key.public_key, io.BytesIO(b"one"), one, place, numbering="version"), "an older update")
     refuses(minisign.KeptByVersion, lambda: minisign.install(key.public_key, path, two, place), "the other field")

@@ -107,6 +107,7 @@ class Cargo:
 
 def check_sources(checks):
     """The crate is small, and unsafe in one module alone; what is made of the header is what that says."""
+    shared_cases.check_readme(checks, "rust")
     lines = 0
     for name in BY_HAND:
         text = shared_cases.read(os.path.join(CRATE, name)).decode()

@@ -23,6 +23,7 @@ sys.path.append(os.path.join(HERE, "..", "shared"))
 import edges
 import needs
 import static_library
+from checks import Checks
 
 CORPUS = os.path.join(TOP, "tests", "corpus")
 HEADER = os.path.join(TOP, "include", "minisign.h")
@@ -41,26 +42,6 @@ class Case(NamedTuple):
     key: bytes
     data: bytes
     signature: bytes
-
-
-class Checks:
-    """The count of what holds, and what does not."""
-
-    def __init__(self):
-        self.passed, self.failures = 0, []
-
-    def check(self, holds, what):
-        if holds:
-            self.passed += 1
-        else:
-            self.failures.append(what)
-
-    def end(self):
-        """Prints the failures and the last line: the exit status."""
-        for failure in self.failures:
-            print(f"FAILED: {failure}")
-        print(f"{self.passed} passed, {len(self.failures)} failed")
-        return 1 if self.failures else 0
 
 
 def read(path):
@@ -103,6 +84,22 @@ def c_minisign(room):
     compiler = needs.libsodium()
     static_library.run_make(f"OUT={room}/c", f"CC={compiler}")
     return os.path.join(room, "c", "minisign")
+
+
+# How long a README may be, and what it has.
+README_LINES = 70
+README_PARTS = ["Install", "Verify", "Sign", "What is proved, and what is not", "Whose calls these are"]
+
+
+def check_readme(checks, package):
+    """The README of a package is one screen long and has its parts, and its key and signature are kept ones."""
+    text = read(os.path.join(TOP, "bindings", package, "README.md")).decode()
+    lines, parts = text.splitlines(), re.findall(r"^## (.*)$", text, re.M)
+    checks.check(len(lines) <= README_LINES, f"README.md has {len(lines)} lines")
+    checks.check([it for it in parts if it in README_PARTS] == README_PARTS, f"README.md has the parts {parts}")
+    kept = b"\n".join(read(os.path.join(CORPUS, name)) for name in ("published.pub", "published.minisig")).decode().split("\n")
+    for letters in re.findall(r"\bR[UW][A-Za-z0-9+/=]{54,}", text):
+        checks.check(letters in kept, f"README.md has other texts than the corpus: {letters}")
 
 
 # ---- Cases ----

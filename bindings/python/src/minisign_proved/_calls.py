@@ -1,15 +1,14 @@
 # SPDX-License-Identifier: MIT
-"""The library, by its calls, which `_header.py` has. What one answers as an error is raised as its exception."""
+"""What is outside of Python: the library, by its calls, which `_header.py` has, and Ed25519 by what is there: libsodium, or the package
+`cryptography`. What a call answers as an error is raised as its exception."""
 
-import ctypes
+import ctypes.util
 import os
-from typing import Callable, Tuple
+from typing import Dict, List, Type, Union
 
 from . import _header as h
 from .errors import BY_NUMBER, MinisignError
 
-# What Ed25519 answers: whether it accepts a signature (64 bytes) of a message under a public key (32 bytes).
-Accepts = Callable[[bytes, bytes, bytes], bool]
 # The 64 bytes of a secret key: the seed, and its public key.
 Secret = ctypes.Array[ctypes.c_ubyte]
 
@@ -24,12 +23,88 @@ def _must(number: int) -> None:
         raise error_of(number)
 
 
-calls = h.Calls(ctypes.CDLL(os.path.join(os.path.dirname(os.path.abspath(__file__)), "libminisign.so")), _must)
-if calls.version() != h.VERSION_MAJOR << 16 | h.VERSION_MINOR << 8 | h.VERSION_PATCH:
-    raise ImportError("libminisign.so is of another version than this package")
+library = ctypes.CDLL(os.path.join(os.path.dirname(os.path.abspath(__file__)), "libminisign.so"))
+calls = h.Calls(library, _must)
+
+# ---- Ed25519 ----
+
+# The prime of the field and the order of the group (RFC 8032, section 5.1), and the second coordinates of the eight points of
+# small order. A key or a first half that is such a point could belong to a signature of every message.
+PRIME, ORDER = 2**255 - 19, 2**252 + 27742317777372353535851937790883648493
+SMALL_ORDER = (0, 1, PRIME - 1, 0x7a03ac9277fdc74ec6cc392cfa53202a0f67100d760b3cba4fd84d3d706a17c7,
+               0x5fc536d880238b13933c6d305acdfd5f098eff289f4c345b027b2c28f95e826)
 
 
-def answers(accepts: Accepts, asked: h.Questions, message: bytes, first: bytes) -> Tuple[bool, bool]:
-    """What Ed25519 answers to both questions, of which the first is asked about these bytes, and the second about the message."""
-    key = bytes(asked.public_key)
-    return accepts(bytes(asked.signature), first, key), accepts(bytes(asked.comment_signature), message, key)
+def is_refused(point: bytes) -> bool:
+    """Whether libsodium refuses 32 bytes as a point: for their second coordinate, before the bit of the sign, or for their order."""
+    second = int.from_bytes(point, "little") % 2**255
+    return second >= PRIME or second in SMALL_ORDER
+
+
+class Sodium:
+    """libsodium, by its shared library."""
+
+    def __init__(self) -> None:
+        self._library = ctypes.CDLL(ctypes.util.find_library("sodium") or "libsodium.so.23")
+        if self._library.sodium_init() < 0:
+            raise OSError("libsodium could not be started")
+
+    def accepts(self, signature: bytes, message: bytes, key: bytes) -> bool:
+        return bool(self._library.crypto_sign_verify_detached(signature, message, ctypes.c_ulonglong(len(message)), key) == 0)
+
+    def sign(self, message: bytes, secret: Secret) -> bytes:
+        signature = ctypes.create_string_buffer(64)
+        _must(self._library.crypto_sign_detached(signature, None, message, ctypes.c_ulonglong(len(message)), secret))
+        return signature.raw
+
+    def pair(self) -> Secret:
+        pair = (ctypes.c_ubyte * 64)()
+        _must(self._library.crypto_sign_keypair((ctypes.c_ubyte * 32)(), pair))
+        return pair
+
+
+class Cryptography:
+    """The package `cryptography`, behind checks that make its verdict that of libsodium."""
+
+    def __init__(self) -> None:
+        from cryptography.hazmat.primitives.asymmetric import ed25519
+        self._of = ed25519
+
+    def accepts(self, signature: bytes, message: bytes, key: bytes) -> bool:
+        from cryptography.exceptions import InvalidSignature
+        if is_refused(key) or is_refused(signature[:32]) or int.from_bytes(signature[32:], "little") >= ORDER:
+            return False
+        try:
+            self._of.Ed25519PublicKey.from_public_bytes(key).verify(signature, message)
+        except (InvalidSignature, ValueError):
+            return False
+        return True
+
+    def sign(self, message: bytes, secret: Secret) -> bytes:
+        return self._of.Ed25519PrivateKey.from_private_bytes(bytes(secret)[:32]).sign(message)
+
+    def pair(self) -> Secret:
+        from cryptography.hazmat.primitives.serialization import Encoding, PublicFormat
+        seed = os.urandom(32)
+        key = self._of.Ed25519PrivateKey.from_private_bytes(seed).public_key().public_bytes(Encoding.Raw, PublicFormat.Raw)
+        return (ctypes.c_ubyte * 64)(*seed, *key)
+
+
+KINDS: Dict[str, Type[Union[Sodium, Cryptography]]] = {"libsodium": Sodium, "cryptography": Cryptography}
+_chosen: List[Union[Sodium, Cryptography]] = []
+
+
+def use_ed25519(name: str) -> None:
+    """Takes Ed25519 from `libsodium` or from `cryptography`; otherwise it is the first of them that is there. ImportError or
+    OSError where that one is not."""
+    _chosen[:] = [KINDS[name]()]
+
+
+def ed25519() -> Union[Sodium, Cryptography]:
+    """The Ed25519 that was chosen, or the first that is there."""
+    if not _chosen:
+        try:
+            use_ed25519("libsodium")
+        except OSError:
+            use_ed25519("cryptography")
+    return _chosen[0]

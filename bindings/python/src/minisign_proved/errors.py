@@ -316,7 +316,7 @@ class OlderUpdate(MinisignError):
     number = 51
 
 
-class FolderNotOnDisk(MinisignError):
+class DirectoryNotSynced(MinisignError):
     """The update stands at the place, but a crash may still bring back what stood there before."""
 
     number = 52
@@ -344,6 +344,12 @@ class BadExpiry(MinisignError):
     """The trusted comment has more than one field for when the update expires, or one with no number in decimal digits alone, or none below 2^64."""
 
     number = 56
+
+
+class SameNumber(MinisignError):
+    """The number of the trusted comment is the one that is kept, other data stands at the place, and the caller did not ask for the update to be installed again."""
+
+    number = 57
 
 
 class KeyNotRead(MinisignError):
@@ -422,11 +428,12 @@ BY_NUMBER: "dict[int, type[MinisignError]]" = {
     49: OtherFile,
     50: NoNumber,
     51: OlderUpdate,
-    52: FolderNotOnDisk,
+    52: DirectoryNotSynced,
     53: KeptByTimestamp,
     54: KeptByVersion,
     55: Expired,
     56: BadExpiry,
+    57: SameNumber,
     63: KeyNotRead,
     64: ReadingFailed,
     65: WritingFailed,

@@ -113,7 +113,7 @@ impl Reason {
     /// The number of the trusted comment is below the one that is kept.
     pub const OLDER_UPDATE: Reason = Reason(51);
     /// The update stands at the place, but a crash may still bring back what stood there before.
-    pub const FOLDER_NOT_ON_DISK: Reason = Reason(52);
+    pub const DIRECTORY_NOT_SYNCED: Reason = Reason(52);
     /// The number that is kept is a timestamp and not a version, and this was not said to be the first installation.
     pub const KEPT_BY_TIMESTAMP: Reason = Reason(53);
     /// The number that is kept is a version and not a timestamp, and this was not said to be the first installation.
@@ -123,6 +123,9 @@ impl Reason {
     /// The trusted comment has more than one field for when the update expires, or one with no number in decimal digits
     /// alone, or none below 2^64.
     pub const BAD_EXPIRY: Reason = Reason(56);
+    /// The number of the trusted comment is the one that is kept, other data stands at the place, and the caller did
+    /// not ask for the update to be installed again.
+    pub const SAME_NUMBER: Reason = Reason(57);
     /// A secret key that is to be opened was not read.
     pub const KEY_NOT_READ: Reason = Reason(63);
     /// A source, a file or a prompt's reader failed at a read.
@@ -159,15 +162,15 @@ pub const DUE_CREATE: u32 = 4;
 pub const DUE_COPY: u32 = 5;
 pub const DUE_READ_BACK: u32 = 6;
 pub const DUE_ANSWER: u32 = 7;
-pub const DUE_TAKE_RIGHTS: u32 = 8;
-pub const DUE_SETTLE: u32 = 9;
+pub const DUE_TAKE_PERMISSIONS: u32 = 8;
+pub const DUE_SYNC: u32 = 9;
 pub const DUE_CREATE_RECORD: u32 = 10;
 pub const DUE_WRITE_RECORD: u32 = 11;
-pub const DUE_SETTLE_RECORD: u32 = 12;
+pub const DUE_SYNC_RECORD: u32 = 12;
 pub const DUE_RENAME_RECORD: u32 = 13;
-pub const DUE_SETTLE_RECORD_NAME: u32 = 14;
+pub const DUE_SYNC_RECORD_NAME: u32 = 14;
 pub const DUE_RENAME: u32 = 15;
-pub const DUE_SETTLE_NAME: u32 = 16;
+pub const DUE_SYNC_NAME: u32 = 16;
 pub const DUE_REMOVE_RECORD: u32 = 17;
 pub const DUE_REMOVE: u32 = 18;
 pub const DUE_INSTALLED: u32 = 19;
