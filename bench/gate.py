@@ -3,7 +3,7 @@
 
     bench/gate.py LOG
 
-All is proved anew. What `.ci/run` says goes to the file LOG. The prover's processes are looked at twice a second, and told
+What `.ci/run` says goes to the file LOG. The prover's processes are looked at twice a second, and told
 apart by their words and their folder, so no other prover may be at work; what was too short to be seen is in the row of all
 else. Processor time grows with the work that others do on the host, also where `vmstat` shows none in its column `st`.
 
@@ -82,7 +82,7 @@ class Watch:
 def run(log, watch):
     """Runs the gate, and returns its status."""
     with open(log, "w", encoding="utf-8") as it:
-        gate = subprocess.Popen(["bash", os.path.join(TOP, ".ci", "run"), "--anew"], stdin=subprocess.DEVNULL, stdout=it,
+        gate = subprocess.Popen(["bash", os.path.join(TOP, ".ci", "run")], stdin=subprocess.DEVNULL, stdout=it,
                                 stderr=subprocess.STDOUT)
         waiting = threading.Thread(target=gate.wait)
         waiting.start()

@@ -25,9 +25,10 @@ import tempfile
 HERE = os.path.dirname(os.path.realpath(__file__))
 sys.path.append(os.path.join(HERE, "..", "shared"))
 
+import exports
 import needs
 import static_library
-from at_hand import Checks
+from checks import Checks
 from c_library import INCLUDE, PROGRAMS, STRICT
 
 TOP = os.path.realpath(os.path.join(HERE, "..", ".."))
@@ -120,8 +121,8 @@ def check_built(checks, it):
     """It is for this processor, and its structs are laid out as those of the library."""
     _, said = run(["readelf", "-h", f"{it.out}/minisign"])
     checks.check("AArch64" in said, f"the program is for another processor: {said}")
-    status, said = run([it.compiler, "-std=c11", *STRICT, "-I", INCLUDE, "-fsyntax-only", os.path.join(HERE, "layout.c")])
-    checks.check(status == 0, f"layout.c: {said[-600:]}")
+    status, said = run([it.compiler, "-std=c11", *STRICT, "-I", INCLUDE, "-fsyntax-only", exports.write_layout(it.room)])
+    checks.check(status == 0, f"the layout: {said[-600:]}")
     status, said = run(["make", "-s", "-C", static_library.FOLDER, *it.flags, f"OUT={it.out}", "check"], RUN=" ".join(it.emulator))
     checks.check(status == 0 and re.search(r"^(2[5-9]|[3-9]\d) passed, 0 failed$", said, re.M), f"make check: status {status}: {said[-600:]}")
     for compiler, flag in REFUSED:
@@ -176,7 +177,7 @@ def check_keys(checks, it):
 
 
 def check_installing(checks, it):
-    """An update, and an older one."""
+    """A first installation, an update, an older one, and one that is there already."""
     folder = tempfile.mkdtemp(dir=it.room)
     os.mkdir(f"{folder}/there")
     it.run(f"{it.out}/minisign", "-G", "-W", "-p", "a.pub", "-s", "a.key", folder=folder)
@@ -185,7 +186,7 @@ def check_installing(checks, it):
             file.write(f"version {number}\n")
         it.run(f"{it.out}/minisign", "-S", "-s", "a.key", "-m", number, "-t", f"version:{number}\tfile:app", folder=folder)
     words = ["--numbering", "version", "a.pub"]
-    for number, first, wanted, there in (("2", ["--first"], 0, "2"), ("1", [], 4, "2"), ("2", [], 0, "2")):
+    for number, first, wanted, there in (("1", ["--first"], 0, "1"), ("2", [], 0, "2"), ("1", [], 4, "2"), ("2", [], 10, "2")):
         status, said = it.run(f"{it.out}/minisign-install", *first, *words, number, f"{number}.minisig", "there/app", folder=folder)
         with open(f"{folder}/there/app", encoding="ascii") as file:
             checks.check(status == wanted and file.read() == f"version {there}\n", f"installing {number}: status {status}: {said}")
@@ -201,8 +202,7 @@ def main():
                 check(checks, emulated)
         except (needs.Missing, static_library.NotBuilt, OSError, subprocess.SubprocessError) as why:
             checks.check(False, str(why))
-    print(f"{checks.passed} passed, {checks.failed} failed")
-    return 1 if checks.failed else 0
+    return checks.end()
 
 
 if __name__ == "__main__":

@@ -152,6 +152,13 @@ static void refused(void)
         { HELLO_KEY, "x\nRUS4\ntrusted comment: y\nRUS4\n", MINISIGN_UNTRUSTED_COMMENT_PREFIX },
         { HELLO_KEY, "untrusted comment: x\nRUS!\ntrusted comment: y\nRUS4\n", MINISIGN_SIGNATURE_NOT_BASE64 },
         { HELLO_KEY, "untrusted comment: x\nRUS4\ntrusted comment: y\nRUS4\n", MINISIGN_RECORD_TOO_SHORT },
+        /* Padding may stand at the end alone (RFC 4648, section 4), and not after the 74 bytes that are read. */
+        { HELLO_KEY,
+          "untrusted comment: x\n"
+          "RUS4oO+OTGvmIe/AFUZesFY/ONgyTgR9P0wlXFBD98cDX7Pao0WBeMSBQywks6PdOxlxIHanFJJYpkqO7tBvYfnm/DXVQmwFYQ0=AAAA\n"
+          "trusted comment: a trusted comment\n"
+          "VFXOnLXSP360tFPUt7eqzsSHMo0p1bPS9fRkoO0MOvNy8kHZu0k9okhkkORQyQv79DEl+OdNXurVl1Qt+AMEAQ==\n",
+          MINISIGN_SIGNATURE_NOT_BASE64 },
     };
     minisign_state begun;
 

@@ -26,6 +26,7 @@ sys.path.append(os.path.join(HERE, "..", "shared"))
 
 import needs
 import static_library
+from checks import Checks
 
 TOP = os.path.realpath(os.path.join(HERE, "..", ".."))
 # What is in PATH: of Debian's base, of gcc, and of make and binutils.
@@ -37,20 +38,6 @@ ARCHIVE = "dist/calls-x86-64-v3.a"
 MAKE = "make -C c"
 # What the trusted comment of the download says.
 VERIFIED = "Signature and comment signature verified\nTrusted comment: timestamp:1556193335\tfile:test\n"
-
-
-class Checks:
-    """The count of what holds; a line for each failure."""
-
-    def __init__(self):
-        self.passed, self.failed = 0, 0
-
-    def check(self, holds, what):
-        if holds:
-            self.passed += 1
-        else:
-            self.failed += 1
-            print(f"FAILED: {what}")
 
 
 class Tree:
@@ -190,8 +177,7 @@ def main():
             check_kit(checks, tree)
         except (needs.Missing, OSError) as why:
             checks.check(False, str(why))
-    print(f"{checks.passed} passed, {checks.failed} failed")
-    return 1 if checks.failed else 0
+    return checks.end()
 
 
 if __name__ == "__main__":

@@ -3,7 +3,7 @@
 
     tests/c/c_library.py [LIBRARY]
 
-The layout of its structs as C and as C++ (`layout.c`), wrong use (`wrong_use.c`), what texts are asked about and the
+Its declarations beside the exports of the sources, the layout of its structs as C and as C++ (`exports.py`), wrong use (`wrong_use.c`), what texts are asked about and the
 number of each refusal (`asked_texts.c`), the text of each number (`error_texts.c`), an installation at each of its
 calls (`installations.c`), the texts of public keys (`public_keys.c`), what is taken from malloc and cleared before it
 is given back (`allocations.c`), each request for memory refused, of which verifying makes none (`out_of_memory.c`),
@@ -24,6 +24,7 @@ import tempfile
 HERE = os.path.dirname(os.path.realpath(__file__))
 sys.path.append(os.path.join(HERE, "..", "shared"))
 
+import exports
 import needs
 import static_library
 
@@ -46,15 +47,14 @@ def run(command):
     return ran.returncode, ran.stdout.decode(errors="replace")
 
 
-def layout_failures(compiler, cpp):
-    """What the compilers say of the layout, as C and as C++."""
-    source = os.path.join(HERE, "layout.c")
-    failures = []
+def header_failures(compiler, cpp, room):
+    """What does not fit the exports, and what the compilers say of the layout, as C and as C++."""
+    source, failures = exports.write_layout(room), exports.unfit_declarations()
     for command in ([compiler, "-x", "c", "-std=c11"], [cpp, "-x", "c++", "-std=c++11"]):
         status, said = run([*command, *STRICT, "-I", INCLUDE, "-fsyntax-only", source])
         if status != 0:
             failures.append(f"layout.c by {command[-1]}: {said[-1000:]}")
-    return failures, 2
+    return failures, 3
 
 
 def program_failures(compiler, library, name, flags, room):
@@ -81,7 +81,7 @@ def has_sanitizers(compiler, room):
 def run_all(library, room):
     """Runs everything: the failures, and how many checks hold."""
     compiler, cpp = needs.c_compiler(), needs.cpp_compiler()
-    failures, count = layout_failures(compiler, cpp)
+    failures, count = header_failures(compiler, cpp, room)
     count -= len(failures)
     kinds = [[]]
     if has_sanitizers(compiler, room):

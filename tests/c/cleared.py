@@ -34,7 +34,7 @@ import needles
 import needs
 import proved
 import static_library
-from at_hand import Checks
+from checks import Checks
 from running import build_preload
 from whole_running import put_files, record_of, sealed
 
@@ -305,8 +305,7 @@ def main():
             run_all(checks, room)
         except (needs.Missing, static_library.NotBuilt, OSError, subprocess.SubprocessError) as why:
             checks.check(False, str(why))
-    print(f"{checks.passed} passed, {checks.failed} failed")
-    return 1 if checks.failed else 0
+    return checks.end()
 
 
 if __name__ == "__main__":

@@ -84,15 +84,15 @@ static const struct row {
     { MINISIGN_DUE_COPY, MINISIGN_DUE_READ_BACK, MINISIGN_DUE_REMOVE },
     { MINISIGN_DUE_READ_BACK, 0, MINISIGN_DUE_REMOVE },
     { MINISIGN_DUE_ANSWER, 0, MINISIGN_DUE_REMOVE },
-    { MINISIGN_DUE_TAKE_RIGHTS, MINISIGN_DUE_SETTLE, MINISIGN_DUE_REMOVE },
-    { MINISIGN_DUE_SETTLE, MINISIGN_DUE_CREATE_RECORD, MINISIGN_DUE_REMOVE },
+    { MINISIGN_DUE_TAKE_PERMISSIONS, MINISIGN_DUE_SYNC, MINISIGN_DUE_REMOVE },
+    { MINISIGN_DUE_SYNC, MINISIGN_DUE_CREATE_RECORD, MINISIGN_DUE_REMOVE },
     { MINISIGN_DUE_CREATE_RECORD, MINISIGN_DUE_WRITE_RECORD, MINISIGN_DUE_REMOVE },
-    { MINISIGN_DUE_WRITE_RECORD, MINISIGN_DUE_SETTLE_RECORD, MINISIGN_DUE_REMOVE_RECORD },
-    { MINISIGN_DUE_SETTLE_RECORD, MINISIGN_DUE_RENAME_RECORD, MINISIGN_DUE_REMOVE_RECORD },
-    { MINISIGN_DUE_RENAME_RECORD, MINISIGN_DUE_SETTLE_RECORD_NAME, MINISIGN_DUE_REMOVE_RECORD },
-    { MINISIGN_DUE_SETTLE_RECORD_NAME, MINISIGN_DUE_RENAME, MINISIGN_DUE_REMOVE_RECORD },
-    { MINISIGN_DUE_RENAME, MINISIGN_DUE_SETTLE_NAME, MINISIGN_DUE_REMOVE },
-    { MINISIGN_DUE_SETTLE_NAME, MINISIGN_DUE_INSTALLED, MINISIGN_DUE_REMOVE },
+    { MINISIGN_DUE_WRITE_RECORD, MINISIGN_DUE_SYNC_RECORD, MINISIGN_DUE_REMOVE_RECORD },
+    { MINISIGN_DUE_SYNC_RECORD, MINISIGN_DUE_RENAME_RECORD, MINISIGN_DUE_REMOVE_RECORD },
+    { MINISIGN_DUE_RENAME_RECORD, MINISIGN_DUE_SYNC_RECORD_NAME, MINISIGN_DUE_REMOVE_RECORD },
+    { MINISIGN_DUE_SYNC_RECORD_NAME, MINISIGN_DUE_RENAME, MINISIGN_DUE_REMOVE_RECORD },
+    { MINISIGN_DUE_RENAME, MINISIGN_DUE_SYNC_NAME, MINISIGN_DUE_REMOVE },
+    { MINISIGN_DUE_SYNC_NAME, MINISIGN_DUE_INSTALLED, MINISIGN_DUE_REMOVE },
     { MINISIGN_DUE_REMOVE_RECORD, MINISIGN_DUE_REMOVE, MINISIGN_DUE_REMOVE },
     { MINISIGN_DUE_REMOVE, MINISIGN_DUE_REFUSED, MINISIGN_DUE_REFUSED },
     { MINISIGN_DUE_INSTALLED, 0, 0 },
@@ -240,7 +240,7 @@ static void order(void)
             CHECK_AT(due, minisign_install_answer(&i, YES, YES) == MINISIGN_NOT_ASKED && same(&i, &begun));
             CHECK_AT(due, ask(&i) == MINISIGN_OK && minisign_install_due(&i) == due);
             CHECK_AT(due, minisign_install_answer(&i, YES, YES) == MINISIGN_OK
-                              && minisign_install_due(&i) == MINISIGN_DUE_TAKE_RIGHTS);
+                              && minisign_install_due(&i) == MINISIGN_DUE_TAKE_PERMISSIONS);
         } else {
             CHECK_AT(due, ask(&i) == MINISIGN_NOT_DUE && same(&i, &begun));
             CHECK_AT(due, minisign_install_answer(&i, YES, YES) == MINISIGN_NOT_DUE && same(&i, &begun));
@@ -264,13 +264,13 @@ static void failures(void)
     static const enum minisign_error reasons[] = { MINISIGN_OUT_OF_MEMORY, MINISIGN_READING_FAILED, MINISIGN_WRITING_FAILED,
                                                    MINISIGN_RANDOM_SOURCE_FAILED, MINISIGN_PLACE_IN_USE };
     static const enum minisign_error none[] = { MINISIGN_OK, MINISIGN_NOT_DUE, MINISIGN_SIGNATURE_REFUSED,
-                                                MINISIGN_FOLDER_NOT_ON_DISK, (enum minisign_error) 999 };
+                                                MINISIGN_DIRECTORY_NOT_SYNCED, (enum minisign_error) 999 };
 
-    for (uint32_t due = MINISIGN_DUE_LOCK; due <= MINISIGN_DUE_SETTLE_NAME; due++) {
+    for (uint32_t due = MINISIGN_DUE_LOCK; due <= MINISIGN_DUE_SYNC_NAME; due++) {
         const minisign_installation begun = at(due);
 
         for (size_t n = 0; n < sizeof reasons / sizeof reasons[0]; n++) {
-            enum minisign_error why = due == MINISIGN_DUE_SETTLE_NAME ? MINISIGN_FOLDER_NOT_ON_DISK : reasons[n];
+            enum minisign_error why = due == MINISIGN_DUE_SYNC_NAME ? MINISIGN_DIRECTORY_NOT_SYNCED : reasons[n];
             minisign_installation i = begun;
 
             if (reasons[n] == MINISIGN_PLACE_IN_USE && due != MINISIGN_DUE_LOCK) {
@@ -408,7 +408,7 @@ static void gives(const char *kept, const char *signature, const char *file, uin
         CHECK(minisign_install_error(&i) == MINISIGN_OK && minisign_install_due(&i) == MINISIGN_DUE_ANSWER);
         CHECK(minisign_install_answer(&i, first, second) == answered);
     }
-    CHECK(minisign_install_due(&i) == (refused == MINISIGN_OK ? MINISIGN_DUE_TAKE_RIGHTS : MINISIGN_DUE_REMOVE));
+    CHECK(minisign_install_due(&i) == (refused == MINISIGN_OK ? MINISIGN_DUE_TAKE_PERMISSIONS : MINISIGN_DUE_REMOVE));
     if (refused != MINISIGN_OK) {
         CHECK(minisign_install_done(&i) == MINISIGN_OK && minisign_install_error(&i) == refused);
     }

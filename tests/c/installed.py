@@ -28,6 +28,7 @@ sys.path += [os.path.join(HERE, "..", it) for it in ("shared", "minisign")]
 
 import needs
 import static_library
+from checks import Checks
 from minisign_signing import MEMORY, sealed_key
 
 TOP = os.path.join(HERE, "..", "..")
@@ -54,19 +55,6 @@ SEALED = ("untrusted comment: minisign encrypted secret key\n"
 SEED_AT, PUBLIC_HALF_AT = 62, 94
 
 COMMENT = "version 2 \u00e9"
-
-
-class Checks:
-    """The count of what holds, and what does not."""
-
-    def __init__(self):
-        self.passed, self.failures = 0, []
-
-    def check(self, holds, what):
-        if holds:
-            self.passed += 1
-        else:
-            self.failures.append(what)
 
 
 def run(command, folder=None, environment=None):
@@ -284,9 +272,9 @@ def run_programs(checks, root, room, minisign):
     place = os.path.join(room, "place")
     run([minisign, "-S", "-s", "key.key", "-m", data, "-x", sig, "-t", "version:7\tfile:place"], room)
     install = os.path.join(root, "bin", "minisign-install")
-    for words, wanted in (([], 7), (["--first"], 0), ([], 0)):
+    for words, wanted in (([], 7), (["--first"], 0), ([], 10)):
         status, said, why = run([install, *words, "--numbering", "version", key, data, sig, place])
-        checks.check(status == wanted and not said and bool(why) == bool(wanted), f"minisign-install {words}: status {status}, {why!r}")
+        checks.check(status == wanted and not said and bool(why) == (wanted == 7), f"minisign-install {words}: status {status}, {why!r}")
     checks.check(read(place) == read(data) and read(os.path.join(room, ".place.number")) == b"version:7", "minisign-install: what was installed")
 
 
@@ -311,10 +299,7 @@ def main():
             use(checks, root, room, minisign)
         except (needs.Missing, static_library.NotBuilt) as why:
             checks.check(False, str(why))
-    for failure in checks.failures:
-        print(f"FAILED: {failure}")
-    print(f"{checks.passed} passed, {len(checks.failures)} failed")
-    return 1 if checks.failures else 0
+    return checks.end()
 
 
 if __name__ == "__main__":

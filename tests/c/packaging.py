@@ -31,7 +31,8 @@ sys.path.append(os.path.join(HERE, "..", "shared"))
 import installed
 import needs
 import static_library
-from at_hand import Checks, Tree
+from at_hand import Tree
+from checks import Checks
 
 TOP = os.path.realpath(os.path.join(HERE, "..", ".."))
 SECONDS = 300
@@ -242,8 +243,7 @@ def main():
             run_all(checks, room)
         except (needs.Missing, static_library.NotBuilt, OSError, subprocess.SubprocessError) as why:
             checks.check(False, str(why))
-    print(f"{checks.passed} passed, {checks.failed} failed")
-    return 1 if checks.failed else 0
+    return checks.end()
 
 
 if __name__ == "__main__":

@@ -21,7 +21,7 @@ sys.path.append(os.path.join(HERE, "..", "shared"))
 
 import needs
 import static_library
-from at_hand import Checks
+from checks import Checks
 
 CORPUS = os.path.join(HERE, "..", "corpus")
 SECONDS = 300
@@ -74,8 +74,7 @@ def main():
                     checks.check(status == (1 if wrong == copy else 0), f"{processor}, {wrong} with a wrong value: status {status}")
         except (needs.Missing, static_library.NotBuilt, OSError, subprocess.SubprocessError) as why:
             checks.check(False, str(why))
-    print(f"{checks.passed} passed, {checks.failed} failed")
-    return 1 if checks.failed else 0
+    return checks.end()
 
 
 if __name__ == "__main__":

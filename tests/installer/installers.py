@@ -16,16 +16,16 @@ SECONDS = 30
 PLACE, RECORD, LOCK = "place", ".place.number", ".place.lock"
 
 # The exit statuses of `minisign-install`.
-FAILED, MISUSED, REFUSED, OLDER, IN_USE, NOT_ON_DISK, UNRECORDED, SAME, EXPIRED = range(1, 10)
+FAILED, MISUSED, REFUSED, OLDER, IN_USE, NOT_ON_DISK, UNRECORDED, SAME, EXPIRED, THERE = range(1, 11)
 
 
 class Updater:
-    """`minisign_updater`, an example under the toy scheme, whose one option is `--first`."""
+    """`minisign_updater`, an example under the toy scheme, whose options are `--first` and, behind it, `--again`."""
 
     name = "minisign_updater"
     # Which ending of `minisign-install` the number of a fault stands for; all others refuse the update.
     endings = {0: 0, 1: MISUSED, 7: FAILED, 64: FAILED, 65: FAILED, 67: FAILED, 46: IN_USE, 47: UNRECORDED, 48: UNRECORDED, 51: OLDER,
-               52: NOT_ON_DISK, 53: UNRECORDED, 54: UNRECORDED, 55: EXPIRED}
+               52: NOT_ON_DISK, 53: UNRECORDED, 54: UNRECORDED, 55: EXPIRED, 57: SAME, 255: THERE}
     # Each of these calls fails in turn, and is interrupted in turn.
     failing = ("open", "openat", "write", "fsync", "rename", "read", "pread", "flock", "getdents64", "fchmod", "statx", "close")
     interrupted = ("open", "openat", "read", "write", "fsync", "rename", "unlink", "pread", "flock", "getdents64", "fchmod",
@@ -37,6 +37,8 @@ class Updater:
     # Whether it tells if there is anything newer, and takes keys that are named themselves.
     has_checks = False
     permissions = (COMMON,)
+    # By which call it reads what stands at the place, and the how-manieth of these is the first that does.
+    looking, looked_at = "pread", 1
     # What it leaves of the mode 751.
     kept_mode = 0o711
     # The calls of an installation by root over a file of another owner, in the order of docs/INSTALLING.md, as
@@ -44,6 +46,7 @@ class Updater:
     calls = f"""make {LOCK} new 600
 lock {LOCK}
 owner {LOCK}
+open {RECORD}
 open .
 open {RECORD}
 make S new 600
@@ -92,13 +95,16 @@ class RealInstaller:
     called = {**Updater.called, "rename": "renameat"}
     is_in_c = True
     has_checks = True
+    # (before it reads two texts, each to its end, and the record)
+    looking, looked_at = "read", 7
     permissions = (COMMON, WITH_LISTS, ASKED, ASKED_WITH_LISTS)
     kept_mode = 0o751
-    # The calls that are due, in the order of the machine: it is told of each.
+    # The calls that are due, in the order of the machine: it is told of each. Before them the record is looked at.
     calls = f"""open .
 make {LOCK} new 600
 lock {LOCK}
 owner {LOCK}
+open {RECORD}
 open .
 open {RECORD}
 make S new 600

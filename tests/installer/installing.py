@@ -35,7 +35,7 @@ sys.path += [os.path.join(HERE, "..", it) for it in ("shared", "tool")]
 
 from real_runs import count_over
 from crashing import Disk, check_image, crash, make_image
-from installers import EXPIRED, FAILED, IN_USE, LOCK, MISUSED, NOT_ON_DISK, OLDER, PLACE, RECORD, REFUSED, SAME, UNRECORDED, Updater
+from installers import EXPIRED, FAILED, IN_USE, LOCK, MISUSED, NOT_ON_DISK, OLDER, PLACE, RECORD, REFUSED, SAME, THERE, UNRECORDED, Updater
 from owners import owner_cases
 from permissions import permission_cases
 from running import NOBODY, SECONDS, Failure, Skip, build_preload, set_list
@@ -51,6 +51,7 @@ USAGE = b"usage: minisign-install [OPTION ..] PK DATA SIG PLACE (--help shows th
 PK = "key.pub"
 OLD, NEW = b"old" * 1000, b"new" * 50000
 LATER = b"later" * 40000
+OTHER_DATA = b"error: place: an update of this number was installed, and other data stands at the place (`--again` installs all the same)\n"
 
 
 def wait_until_read(pipe):
@@ -167,7 +168,7 @@ class Installing:
     # == One run ==
 
     def installs(self):
-        """A newer update, one of the same number, and what is kept of the file that was there."""
+        """A newer update, and what is kept of the file that was there."""
         with self.folder() as path:
             folder = Folder(path, self.kind)
             folder.offer("new", NEW, 6)
@@ -175,9 +176,161 @@ class Installing:
             folder.expect(NEW, b"6")
             if folder.mode() != self.kind.kept_mode:
                 raise Failure(f"the place has the mode {folder.mode():o}")
+
+    # == Whether it is there already ==
+
+    def finds_it_there(self, record=b"timestamp:6", options=()):
+        """What stands there already is not written again, whatever DATA holds: no call makes, writes, renames or removes anything."""
+        with self.folder() as path:
+            folder = self.installed(path)
+            self.check(folder, "new", 0)
+            folder.put(RECORD, record)
+            folder.put("new", LATER)
+            folder.put(STAGE + "0" * 32, b"left")
+            before = self.all_of(path)
+            told, says = os.pipe()
+            try:
+                ended, text = self.run(folder, folder.arguments("new", *options), {"LD_PRELOAD": self.trace, "TRACE_TO": str(says)}, [says])
+            finally:
+                os.close(says)
+            with os.fdopen(told) as pipe:
+                calls = pipe.read().splitlines()
+            if ended != THERE or text:
+                raise Failure(f"it ended with status {ended}, and said {text}")
+            if self.all_of(path) != before or not calls or {call.split(" ")[0] for call in calls} - {"open", "lock", "read-back"}:
+                raise Failure(f"its calls were {calls}")
+
+    def finds_other_data(self, options=(), change=lambda data: data[:-1] + b"x"):
+        """Other data of the kept number is refused, and replaced where that is asked for. Then it is there."""
+        with self.folder() as path:
+            folder = self.installed(path)
+            self.check(folder, "new", 0, *options)
+            folder.put(PLACE, change(NEW))
+            self.check(folder, "new", SAME, *options, said=OTHER_DATA)
+            folder.expect(change(NEW), b"6")
+            self.check(folder, "new", 0, *options, "--again")
+            folder.expect(NEW, b"6")
+            self.check(folder, "new", THERE, *options, "--again", said=b"")
+
+    def finds_other_update(self):
+        """Two updates have one number: the second is installed only where that is asked for."""
+        with self.folder() as path:
+            folder = self.installed(path)
+            self.check(folder, "new", 0)
             folder.offer("later", LATER, 6)
-            self.check(folder, "later", 0)
+            self.check(folder, "later", SAME, said=OTHER_DATA)
+            folder.expect(NEW, b"6")
+            self.check(folder, "later", 0, "--again")
             folder.expect(LATER, b"6")
+
+    def puts_it_back(self):
+        """A file that was removed is installed again."""
+        with self.folder() as path:
+            folder = self.installed(path)
+            self.check(folder, "new", 0)
+            os.remove(os.path.join(path, PLACE))
+            self.check(folder, "new", 0)
+            folder.expect(NEW, b"6")
+
+    def asks_with_the_lock(self):
+        """While another run holds the lock, nothing is said of what stands there."""
+        with self.folder() as path:
+            folder = self.installed(path)
+            self.check(folder, "new", 0)
+            with open(os.path.join(path, LOCK), "rb") as lock:
+                fcntl.flock(lock, fcntl.LOCK_EX)
+                self.check(folder, "new", IN_USE, said=b"error: place: another installation is at work at this place\n")
+            self.check(folder, "new", THERE)
+
+    def refuses_of_kept_number(self, said, number=6, status=REFUSED, **how):
+        """What is refused of a newer update is refused of one whose number is kept, though its data stands there."""
+        with self.folder() as path:
+            folder = self.installed(path)
+            self.check(folder, "new", 0)
+            folder.offer("bad", NEW, number, **how)
+            self.check(folder, "bad", status, said=said)
+            folder.expect(NEW, b"6")
+
+    def looks_at_no_other(self, make, said):
+        """A link at the place, or what is no file, is not read where the number is the kept one."""
+        with self.folder() as path:
+            folder = self.installed(path)
+            self.check(folder, "new", 0)
+            folder.put("behind", NEW)
+            os.remove(os.path.join(path, PLACE))
+            make(os.path.join(path, PLACE))
+            self.check(folder, "new", FAILED, said=b"error: place: " + said + b"\n")
+
+    def after_kill_between_renames(self):
+        """The record has the new number, and the place the older data: that is refused, and healed where it is asked for."""
+        with self.folder() as path:
+            folder = self.installed(path)
+            environment = {"LD_PRELOAD": self.preload, "BREAK_CALLS": self.kind.called["rename"], "BREAK_AT": "2",
+                           "BREAK_SIGNAL": str(int(signal.SIGKILL))}
+            status, said = self.run(folder, folder.arguments("new"), environment)
+            if status != -signal.SIGKILL or (folder.holds(), folder.holds(RECORD)) != (OLD, b"6"):
+                raise Failure(f"it ended with status {status}, and the record holds {folder.holds(RECORD)}")
+            self.check(folder, "new", SAME, said=OTHER_DATA)
+            self.check(folder, "new", 0, "--again")
+            folder.expect(NEW, b"6")
+            self.check(folder, "new", THERE, "--again")
+
+    def fails_to_look(self):
+        """The file at the place cannot be read: that is said, and nothing is installed."""
+        with self.folder() as path:
+            folder = self.installed(path)
+            self.check(folder, "new", 0)
+            before = self.all_of(path)
+            ended, text = self.run(folder, folder.arguments("new"), {"LD_PRELOAD": self.preload, "BREAK_CALLS": self.kind.looking,
+                                                                     "BREAK_AT": str(self.kind.looked_at), "BREAK_ERRNO": str(errno.EIO)})
+            if ended != FAILED or not self.kind.is_said(text, b"error: place: Input/output error (os error 5)\n") or self.all_of(path) != before:
+                raise Failure(f"it ended with status {ended}, and said {text}")
+
+    def finds_it_there_unfed(self):
+        """Through a pipe that nobody feeds nothing is waited for."""
+        with self.folder() as path:
+            folder = self.installed(path)
+            self.check(folder, "new", 0)
+            before = self.all_of(path)
+            says, told = os.pipe()
+            try:
+                ran = subprocess.run([self.program, PK, "/dev/stdin", "new.sig", PLACE], cwd=path, env={}, stdin=says,
+                                     stdout=subprocess.DEVNULL, stderr=subprocess.PIPE, timeout=SECONDS)
+            except subprocess.TimeoutExpired as why:
+                raise Failure("it waits for data that it does not need") from why
+            finally:
+                os.close(says)
+                os.close(told)
+            if ran.returncode != THERE or ran.stderr or self.all_of(path) != before:
+                raise Failure(f"it ended with status {ran.returncode}, and said {ran.stderr}")
+            folder.put(PLACE, OLD)
+            for words, status in (([], SAME), (["--again"], 0)):
+                ran = subprocess.run([self.program, *words, PK, "/dev/stdin", "new.sig", PLACE], cwd=path, env={}, input=NEW,
+                                     stdout=subprocess.DEVNULL, stderr=subprocess.PIPE, timeout=SECONDS)
+                if ran.returncode != status or ran.stderr != (OTHER_DATA if status else b""):
+                    raise Failure(f"it ended with status {ran.returncode}, and said {ran.stderr}")
+            folder.expect(NEW, b"6")
+
+    def is_overtaken(self):
+        """What comes through a pipe another run installs meanwhile: then it is there already."""
+        with self.folder() as path:
+            folder = self.installed(path)
+            os.rename(os.path.join(path, "new"), os.path.join(path, "whole"))
+            os.mkfifo(os.path.join(path, "new"))
+            process = subprocess.Popen([self.program, *folder.arguments("new")], cwd=path, env={}, stdin=subprocess.DEVNULL,
+                                       stdout=subprocess.DEVNULL, stderr=subprocess.PIPE)
+            with open(os.path.join(path, "new"), "r+b", buffering=0) as pipe:
+                pipe.write(NEW[:1000])
+                wait_until_read(pipe)
+                self.check_words(folder, [PK, "whole", "new.sig", PLACE], 0)
+                before = os.stat(os.path.join(path, PLACE))
+                pipe.write(NEW[1000:])
+            said = process.communicate(timeout=SECONDS)[1]
+            folder.expect(NEW, b"6")
+            if process.returncode != THERE or said or os.stat(os.path.join(path, PLACE)).st_ino != before.st_ino:
+                raise Failure(f"it ended with status {process.returncode}, and said {said}")
+
+    # == One run, further ==
 
     def keeps_field(self):
         """The record has the field's name beside the number, and a place stays with its field, but for `--first`."""
@@ -469,7 +622,7 @@ class Installing:
                 with open(os.path.join(path, "new"), "r+b", buffering=0) as pipe:
                     pipe.write(NEW[:1000])
                     wait_until_read(pipe)
-                    self.check(folder, "later", 0)
+                    self.check(folder, "later", 0 if is_killed else THERE)
                     folder.expect(LATER, b"7")
                     if is_killed:
                         process.kill()
@@ -503,7 +656,7 @@ class Installing:
             self.installed(path)
             ran = subprocess.run([self.program, PK, "/dev/stdin", "new.sig", "none/place"], cwd=path, env={}, input=NEW,
                                  stdout=subprocess.DEVNULL, stderr=subprocess.PIPE, timeout=SECONDS)
-            if ran.returncode != FAILED or not ran.stderr.endswith(b"error: none: there is no such folder\n"):
+            if ran.returncode != FAILED or not ran.stderr.endswith(b"error: none: there is no such directory\n"):
                 raise Failure(f"it ended with status {ran.returncode}, and said {ran.stderr}")
 
     def loses_lock(self):
@@ -605,6 +758,8 @@ class Installing:
                 state = (folder.holds(), folder.holds(RECORD))
                 if state != (NEW, b"6") and (status == 0 or state != (OLD, b"5")):
                     raise Failure(f"after status {status} the place holds {str(state[0])[:40]}, and the record {state[1]}")
+                folder.put(PLACE, OLD)
+                folder.put(RECORD, b"5")
 
             self.with_swapping(folder, swap, judge)
 
@@ -630,8 +785,11 @@ class Installing:
                         os.remove(at)
 
             def judge(status, said):
-                if status not in (0, FAILED):
+                if status not in (0, FAILED, SAME, THERE):
                     raise Failure(f"it ended with status {status}, and said {said}")
+                if status in (0, SAME):
+                    # (from then on it is looked at what stands there, until that was refused once)
+                    folder.put(RECORD, b"6" if status == 0 else b"5")
                 if folder.holds("behind") != b"behind" or folder.holds(RECORD) not in (b"5", b"6"):
                     raise Failure(f"what a link leads to is {folder.holds('behind')}, and the record {folder.holds(RECORD)}")
 
@@ -675,13 +833,28 @@ class Installing:
                 raise Failure("the place or the record is neither old nor new")
             seen.add(state)
             folder.offer("old", OLD, 5)
-            self.check(folder, "old", 0 if state[1] == b"5" else OLDER)
-            self.check(folder, "new", 0)
-            folder.expect(NEW, b"6")
+            self.check(folder, "old", THERE if state[1] == b"5" else OLDER)
+            self.finish(folder, state)
 
         self.break_each(judge)
         if len(seen) != 3:
             raise Failure(f"the kills left {len(seen)} states alone")
+
+    def finish(self, folder, state):
+        """The next run finishes what a run has left that was cut off: with the older data under the new number where that is
+        asked for."""
+        self.check(folder, "new", {(OLD, b"5"): 0, (OLD, b"6"): SAME, (NEW, b"6"): THERE}[state])
+        if state == (OLD, b"6"):
+            self.check(folder, "new", 0, "--again")
+        # (what stands there already, no run removes anything beside)
+        self.finish_leftovers(folder, state)
+        folder.expect(NEW, b"6")
+
+    def finish_leftovers(self, folder, state):
+        if state == (NEW, b"6"):
+            folder.offer("next", NEW, 7)
+            self.check(folder, "next", 0)
+            folder.put(RECORD, b"6")
 
     def is_spared(self, calls):
         """Whether the call that failed is none that a run needs: a file that is closed is done with, and libsodium, which is the
@@ -866,12 +1039,14 @@ class Installing:
             folder.expect(OLD, b"5")
             self.check(folder, "new", REFUSED, "--most", f"{len(NEW) // 1024}K", said=b"error: new: it is longer than it may be\n")
             self.check(folder, "new", 0, "--most", f"{len(NEW) // 1024 + 1}K")
+            folder.offer("new", NEW, 7)
             self.check(folder, "new", 0, "--most", str(len(NEW)))
-            folder.expect(NEW, b"6")
+            folder.expect(NEW, b"7")
+            folder.offer("new", NEW, 8)
             os.remove(os.path.join(path, "new"))
             os.symlink("/dev/zero", os.path.join(path, "new"))
             self.check(folder, "new", REFUSED, "--most", "1000000", said=b"error: new: it is longer than it may be\n")
-            folder.expect(NEW, b"6")
+            folder.expect(NEW, b"7")
             os.remove(os.path.join(path, PK))
             os.symlink("/dev/zero", os.path.join(path, PK))
             self.check(folder, "new", REFUSED, said=b"error: key.pub: it is longer than it may be\n")
@@ -1042,8 +1217,7 @@ class Installing:
             state = (folder.holds(), folder.holds(RECORD))
             if state not in ([(OLD, b"5"), (OLD, b"6"), (NEW, b"6")] if may_be_old else [(NEW, b"6")]):
                 raise Failure(f"the place holds {str(state[0])[:40]}, and the record {state[1]}")
-            self.check(folder, "new", 0)
-            folder.expect(NEW, b"6")
+            self.finish(folder, state)
         check_image(crashed)
         return state
 
@@ -1147,6 +1321,7 @@ class ReplacingByUpdates:
 def cases(it):
     yield "newer updates", it.installs
     yield "the first update", it.installs_first
+    yield from there_cases(it)
     yield "other data", lambda: it.refuses(b"error: bad: Signature verification failed\n", signed=LATER)
     yield "no data", lambda: it.refuses(b"error: bad: Signature verification failed\n", data=b"", signed=LATER)
     yield "an older update", lambda: it.refuses(b"error: bad: the update is older than what was installed\n", number=4, status=OLDER)
@@ -1181,7 +1356,7 @@ def cases(it):
     others = [("pipe", os.mkfifo, "what stands there is no regular file"),
               ("link", lambda at: os.symlink("behind", at), "a link stands there, which is not followed"),
               ("link to nothing", lambda at: os.symlink("nothing", at), "a link stands there, which is not followed"),
-              ("folder", os.mkdir, "a folder stands there")]
+              ("folder", os.mkdir, "a directory stands there")]
     for kind, make, said in others:
         for name, what in ((RECORD, "record"), (LOCK, "lock")):
             yield f"a {what} that is a {kind}", lambda name=name, make=make, said=said: it.refuses_beside(name, make, said)
@@ -1227,6 +1402,30 @@ def cases(it):
         yield from check_cases(it)
 
 
+def there_cases(it):
+    """The number is the kept one: the update stands there already, or other data does."""
+    yield "there already", it.finds_it_there
+    yield "there already, by a number alone", lambda: it.finds_it_there(b"6\n")
+    yield "there already, at a first installation", lambda: it.finds_it_there(options=("--first",))
+    yield "there already, though it is asked for again", lambda: it.finds_it_there(options=("--again",))
+    yield "other data of the kept number", it.finds_other_data
+    yield "shorter data of the kept number", lambda: it.finds_other_data(change=lambda data: data[:-1])
+    yield "no data of the kept number", lambda: it.finds_other_data(change=lambda data: b"")
+    yield "other data at a first installation", lambda: it.finds_other_data(("--first",))
+    yield "another update of the kept number", it.finds_other_update
+    yield "a file that was removed", it.puts_it_back
+    yield "there already, while another holds the lock", it.asks_with_the_lock
+    yield "a run killed between the renamings", it.after_kill_between_renames
+    yield "a place that cannot be read", it.fails_to_look
+    yield "there already, and older", lambda: it.refuses_of_kept_number(b"error: bad: the update is older than what was installed\n", 5, OLDER)
+    yield "there already, and expired", lambda: it.refuses_of_kept_number(b"error: bad.sig: the update has expired\n", 6, EXPIRED, more=PAST)
+    yield "there already, for another file", lambda: it.refuses_of_kept_number(
+        b"error: bad.sig: the signed comment does not name this file (place is wanted, by the place or `--name`)\n", names="other")
+    yield "there already, with a legacy signature", lambda: it.refuses_of_kept_number(b"error: bad.sig: Legacy signatures are not accepted\n", legacy=True)
+    yield "a link to it at the place", lambda: it.looks_at_no_other(lambda at: os.symlink("behind", at), b"a link stands there, which is not followed")
+    yield "a pipe at the place, of the kept number", lambda: it.looks_at_no_other(os.mkfifo, b"what stands there is no regular file")
+
+
 def program_cases(it):
     """What the example has not: each option, and more than paths of files that stand still."""
     yield "the field that a place is kept by", it.keeps_field
@@ -1241,6 +1440,8 @@ def program_cases(it):
     yield "a pipe that stands still", it.stalled_pipe
     yield "data through a pipe", it.through_pipe
     yield "a pipe and no folder", it.misses_folder_for_pipe
+    yield "there already, and a pipe that nobody feeds", it.finds_it_there_unfed
+    yield "a pipe, and another run that is faster", it.is_overtaken
 
 
 def expiry_cases(it):
@@ -1285,8 +1486,8 @@ def check_cases(it):
     for what, status, options, how in checks:
         yield f"a check: {what}", lambda status=status, options=options, how=how: it.checks(status, *options, **how)
     yield "a check: a changed comment", it.checks_changed_comment
-    yield "a check: no folder", lambda: it.checks_where("none/place", FAILED, b"error: none: there is no such folder\n")
-    yield "a check: a record that is a folder", lambda: it.checks_where(PLACE, FAILED, b"error: ./.place.number: a folder stands there\n")
+    yield "a check: no folder", lambda: it.checks_where("none/place", FAILED, b"error: none: there is no such directory\n")
+    yield "a check: a record that is a folder", lambda: it.checks_where(PLACE, FAILED, b"error: ./.place.number: a directory stands there\n")
     yield "a check: while the place is locked", it.checks_unlocked
     yield "a check: beside installations", it.checks_beside_installations
     yield "keys that are named themselves", it.names_keys
@@ -1353,7 +1554,7 @@ def word_cases(it):
         ("no key", ["none.pub", *paths[1:]], FAILED, b"error: none.pub: No such file or directory (os error 2)\n"),
         ("no data", [PK, "none", *paths[2:]], FAILED, b"error: none: No such file or directory (os error 2)\n"),
         ("no signature", [PK, "new", "none.sig", PLACE], FAILED, b"error: none.sig: No such file or directory (os error 2)\n"),
-        ("no folder", [*paths[:3], "none/place"], FAILED, b"error: none: there is no such folder\n"),
+        ("no folder", [*paths[:3], "none/place"], FAILED, b"error: none: there is no such directory\n"),
         ("a folder as key", [".", *paths[1:]], FAILED, b"error: .: Is a directory (os error 21)\n"),
         ("a key that is no text", ["new.sig", *paths[1:]], REFUSED, b"error: new.sig: "),
         ("a signature that is none", [PK, "new", PK, PLACE], REFUSED, b"error: key.pub: "),

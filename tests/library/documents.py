@@ -1,11 +1,13 @@
 #!/usr/bin/env python3
 """Compares what the documents name with what is there: functions and clauses, the calls that a CALLING.md quotes, the
-faults of docs/INSTALLING.md, blocks of code, links, paths, names, and the old texts of the must-fail edits. It also looks for
-crates that name the proofs of another one.
+faults of docs/INSTALLING.md, blocks of code, links, paths, names, and the old texts of the must-fail edits; and so the names in
+the comments of the sources, of `c/`, `include/`, `page/` and `bindings/`. It also looks for crates that name the proofs of
+another one.
 
 It prints a line for each name that is not there; the last line is `N passed, M failed`. Needs Python 3.9 or later.
 """
 
+import builtins
 import glob
 import os
 import re
@@ -15,6 +17,7 @@ import sys
 sys.path.append(os.path.join(os.path.dirname(os.path.realpath(__file__)), "..", "..", "tools"))
 
 import sources
+from checks import Checks
 from sources import NAME, ROOT, read
 
 FORMATS = "docs/FORMATS.md"
@@ -22,6 +25,10 @@ INSTALLING = "docs/INSTALLING.md"
 ARCHITECTURE = "docs/ARCHITECTURE.md"
 # What a script makes from the sources, and checks itself.
 MADE = "docs/TRUSTED.md"
+# Fewer lines than these have its first two parts together.
+FIRST_PARTS_LINES = 530
+# Theorems that compute known values of the definitions of the hash and the derivation.
+KNOWN_FILES = ("crates/minisign_hash/proofs/Facts.antt", "crates/minisign_kdf/proofs/Facts.antt")
 CALLS = re.compile(r"crates/([^/]+)/CALLING\.md")
 FOLDERS = ("tests/", "crates/", "bench/", ".ci/", "docs/", "tools/", "examples/", "c/")
 QUOTED = re.compile(r"`([^`]+)`")
@@ -30,11 +37,27 @@ PATH_NAME = re.compile(r"[A-Za-z_]\w*(?:::(?:[A-Za-z_]\w*|\.\.))*$")
 TEXT = re.compile(r'"((?:[^"\\]|\\.)*)"')
 
 
+# Files with comments, by their endings, and of those the ones whose comments are looked through.
+CODE = (".rt", ".antt", ".c", ".h", ".js", ".mjs", ".ts", ".go", ".rs", ".py", ".sh", ".html", ".toml", ".json")
+COMMENTED = re.compile(r"(?:crates/\w+/(?:src|specs)|c|include|page|bindings)/.*\.(?:rt|antt|c|h|js|mjs|ts|go|rs|py)$")
+# Of antt and of Python; what has other comments has them as Rattle has.
+OTHER_COMMENTS = {".antt": re.compile(r"(?<!\S)--(?=\s)[^\n]*"), ".py": re.compile(r'#[^\n]*|""".*?"""', re.S)}
+# Names by their form: with an underscore, or with a capital letter inside.
+NAMES_IN_COMMENTS = re.compile(r"(?<![\w`./:-])(?:[A-Za-z]\w+_\w+|[A-Z][a-z0-9]+[A-Z]\w*)(?![\w`])")
+# What looks like a name, and is one of the world.
+OTHER_NAMES = {"OpenPGP", "WebAssembly", "crypto_pwhash_scryptsalsa208sha256"}
+
+
+def comments_in(path, text):
+    form = OTHER_COMMENTS.get(os.path.splitext(path)[1], sources.OPAQUE)
+    return [it[0] for it in form.finditer(text) if form is not sources.OPAQUE or it[0].startswith(("//", "/*"))]
+
+
 class Index:
     """The names of all crates."""
 
     def __init__(self, files):
-        self.library = sources.Library(own=True)
+        self.library = sources.Library()
         self.sources = {name: self.library.crate_sources(name) for name in self.library.crates}
         self.all_sources = [source for read_all in self.sources.values() for source in read_all]
         self.items = [item for source in self.all_sources for item in source.items]
@@ -45,9 +68,16 @@ class Index:
         # Items, clauses, parameters, fields, variants, definitions, and all names in code.
         self.known = {*self.library.crates, *(it.name for it in self.items if it.what == "mod"), *(it.name for it in self.definitions)}
         self.known.update(os.path.basename(file).partition(".")[0] for file in files)
-        texts = [it.text for it in self.definitions] + [re.sub(r"//[^\n]*", "", it.text) for it in self.all_sources]
-        for text in [*texts, *(read(file) for file in files if file.endswith((".py", ".c")))]:
+        # Those of the crates and of C alone, which a comment in a crate may name; comments in Python name what that has.
+        self.of_crates = set(self.known)
+        self.known.update(dir(builtins))
+        for file in (it for it in files if it.endswith(CODE) or it.endswith("Makefile")):
+            text = read(file)
+            for comment in comments_in(file, text):
+                text = text.replace(comment, " ")
             self.known.update(NAME.findall(text))
+            if file.startswith(("crates/", "c/", "include/")):
+                self.of_crates.update(NAME.findall(text))
 
     def clauses_of(self, function):
         """The clauses of a function, and of the trait's that it stands for."""
@@ -76,7 +106,7 @@ def places(document, text):
 def check_installing(report, index):
     """Each fault that installing adds stands in its table with its name and its text."""
     rows = [row.split("|")[2] for row in read(INSTALLING).split("\n") if row.count("|") == 4]
-    faults = re.findall(r'^install_row (\w+) = record \{ kind = \w+; text = codes "([^"]*)"',
+    faults = re.findall(r'^install_row (\w+) =\s+record \{ kind = \w+; text = codes "([^"]*)"',
                         read("crates/minisign_install/specs/Faults.antt"), re.M)
     report.check(faults, "specs/Faults.antt", "no fault is read")
     for name, said in faults:
@@ -216,6 +246,19 @@ def check_names(report, document, text, index):
                 report.check(there, where, f"{owners[-1]} has no {last}")
 
 
+def check_comments(report, path, index):
+    """Each name in a comment is one of the sources, where it is quoted, or has the form of a name."""
+    text = read(path)
+    for comment in comments_in(path, text):
+        quoted = [re.sub(r"\(.*\)$", "", it) for it in QUOTED.findall(comment)]
+        names = [it for it in quoted if PATH_NAME.match(it) and not re.fullmatch(r"[a-zA-Z]{1,8}|[A-Z][A-Z0-9]*|.*::\.\.", it)]
+        known = index.of_crates if path.startswith("crates/") else index.known
+        for name in {*names, *NAMES_IN_COMMENTS.findall(comment)} - OTHER_NAMES:
+            # (what ends with an underscore begins a name)
+            holds = all(it in known or it.endswith("_") and any(other.startswith(it) for other in known) for it in name.split("::"))
+            report.check(holds, path, f"a comment names `{name}`, which no source has")
+
+
 def check_clauses(report, index, document, text):
     """The clauses that a sentence names of a function: the clause `x` of `f`."""
     for where, line in places(document, text):
@@ -269,14 +312,25 @@ def check_layers(report, index, files):
                 report.check(is_own, where, f"it names proofs of {other}")
 
 
+def reasons_of(shown, lines):
+    """The lines of an edit that say why it is wrong and of which function it is, and all others. Of an edit of must-fail/,
+    which `rt check` reads too, they stand in the README.md beside it."""
+    if "/wrong-bodies/" in shown:
+        reasons = [it for it in lines if it.startswith(("why: ", "fn: "))]
+        return reasons, [it for it in lines if it not in reasons]
+    name = os.path.basename(shown).removesuffix(".edit")
+    told = re.findall(rf"(?m)^- `{re.escape(name)}`, in `(\S+)`: (.+)$", read(f"{os.path.dirname(shown)}/README.md"))
+    return [part for fn, why in told for part in (f"why: {why}", f"fn: {fn}")], lines
+
+
 def check_edit(report, shown):
     """A must-fail edit says first why it is wrong, and each of its old texts stands exactly once in its file."""
-    crate, lines = "/".join(shown.split("/")[:2]), read(shown).split("\n")
+    crate = "/".join(shown.split("/")[:2])
+    reasons, lines = reasons_of(shown, read(shown).split("\n"))
     path, old, texts, pairs = None, None, {}, 0
-    functions = [line for line in lines if line.startswith("fn: ")]
-    report.check(len(functions) == 1, shown, f"{len(functions)} lines fn:, and not one")
-    says_why = lines[0].startswith("why: ") and len(lines[0]) > len("why: ")
-    report.check(says_why, shown, "its first line does not say why: which clause is false, and of what input")
+    report.check(sum(it.startswith("fn: ") for it in reasons) == 1, shown, "it does not name one function")
+    says_why = len(reasons) == 2 and reasons[0].startswith("why: ")
+    report.check(says_why, shown, "it does not say first why: which clause is false, and of what input")
     for where, line in places(shown, "\n".join(lines)):
         if line.startswith("file: "):
             path = f"{crate}/{line[len('file: '):].strip()}"
@@ -291,9 +345,21 @@ def check_edit(report, shown):
             # The texts behind it are looked for in the text that it leaves.
             texts[path] = texts.get(path, "").replace(old, line[len("new:"):].removeprefix(" "))
             old, pairs = None, pairs + 1
-        elif line and line not in functions and not line.startswith(("why: ", "by hand: ")):
-            report.check(False, where, f"neither why:, nor by hand:, nor file:, nor old: and then new: but {line!r}")
+        elif line:
+            report.check(False, where, f"neither file:, nor old: and then new: but {line!r}")
     report.check(pairs and old is None, shown, "no pair of old: and new:")
+
+
+def check_trusted(report):
+    """The first two parts of what is trusted are short: a caller has to believe them who knows the hash and the derivation by their
+    standards. And the theorems that compute known values are named, each with its function."""
+    text = read(MADE)
+    lines = [int(row.split("|")[3]) for row in text.split("\n") if re.match(r"\| [12]\. ", row)]
+    report.check(len(lines) == 2 and sum(lines) < FIRST_PARTS_LINES, MADE, f"its first two parts have {lines} lines")
+    named = set(re.findall(r"`([^`]+)` of `(\w+)`", text.partition("### Known values")[2].partition("\n## ")[0]))
+    there = {(it.name, re.search(r":\s+\(?(\w+)", it.text)[1]) for file in KNOWN_FILES
+             for it in sources.read_module(os.path.join(ROOT, file)).definitions.values() if it.text.startswith("pub ")}
+    report.check(named == there, MADE, f"of the known values it names too much or too little: {sorted(named ^ there)}")
 
 
 def check_version(report, documents):
@@ -306,7 +372,7 @@ def check_version(report, documents):
 
 
 def main():
-    report, files = sources.Report(), [os.path.relpath(file, ROOT) for file in sources.files_below(ROOT)]
+    report, files = Checks(), [os.path.relpath(file, ROOT) for file in sources.files_below(ROOT)]
     index, paths = Index(files), Paths(files)
     documents = {path: read(path) for path in files if path.endswith(".md")}
     for document, text in documents.items():
@@ -325,12 +391,15 @@ def main():
             check_blocks(report, document, text, index)
         check_names(report, document, text, index)
         check_clauses(report, index, document, text)
+    for path in filter(COMMENTED.match, files):
+        check_comments(report, path, index)
     check_installing(report, index)
     check_texts(report, index)
     check_architecture(report, index)
     check_layers(report, index, files)
     for edit in (it for it in files if re.match(r"crates/[^/]+/(?:must-fail|wrong-bodies)/.*\.edit$", it)):
         check_edit(report, edit)
+    check_trusted(report)
     check_version(report, documents)
     return report.end()
 

@@ -16,13 +16,13 @@ import ctypes
 import os
 import subprocess
 import sys
-import tempfile
 
 HERE = os.path.dirname(os.path.realpath(__file__))
 TOP = os.path.join(HERE, "..", "..")
 sys.path += [os.path.join(HERE, "..", "shared"), os.path.join(HERE, "..", "c")]
 
 import edges
+import ending
 import installed_verify
 import needs
 import static_library
@@ -157,17 +157,5 @@ def run_all(room):
     return failures, 4 * len(edges.vectors()) + 3 * len(commands)
 
 
-def main():
-    with tempfile.TemporaryDirectory(prefix="ed25519-") as room:
-        try:
-            failures, count = run_all(room)
-        except (needs.Missing, static_library.NotBuilt) as why:
-            failures, count = [str(why)], 1
-    for failure in failures:
-        print(f"FAILED: {failure}")
-    print(f"{count - len(failures)} passed, {len(failures)} failed")
-    return 1 if failures else 0
-
-
 if __name__ == "__main__":
-    sys.exit(main())
+    sys.exit(ending.main("ed25519", run_all))

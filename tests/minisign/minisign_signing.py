@@ -134,8 +134,8 @@ def differing_keys(text, checked):
     for length in (1023, 5000):
         yield "a secret key's comment of over 1,022 bytes", joined([head + b"a" * (length - len(head)), encoded]), None
     yield "a secret key's comment that is not UTF-8", joined([head + b"\xff", encoded]), None
-    yield "carriage returns behind a secret key", text.replace(b"\n", b"\r\r\n"), None
-    yield "carriage returns behind a secret key", joined([head, encoded + b"\rHIDDEN"]), None
+    yield "carriage returns after a secret key", text.replace(b"\n", b"\r\r\n"), None
+    yield "carriage returns after a secret key", joined([head, encoded + b"\rHIDDEN"]), None
     for at in SEED_AT, PUBLIC_HALF_AT, PUBLIC_HALF_AT + 31:
         changed = record[:at] + bytes([record[at] ^ 1]) + record[at + 1:]
         yield "signing with a key whose halves do not belong together", joined([head, base64.b64encode(changed)]), None

@@ -10,7 +10,7 @@ from minisign_cases import Case, joined, lines, sign_by_libsodium, with_comment,
 HERE = os.path.dirname(os.path.realpath(__file__))
 CORPUS = os.path.join(HERE, "..", "corpus")
 # More than the page holds of the data of a legacy signature.
-MOST_LEGACY_BYTES = 64 * 1048576
+MAX_LEGACY_BYTES = 64 * 1048576
 
 
 @dataclass(frozen=True)

@@ -147,10 +147,7 @@ def main():
         except Exception as why:
             traceback.print_exc()
             checks.failures.append(f"the tests ended early: {why!r:.300}")
-    for failure in checks.failures:
-        print(f"FAILED: {failure}")
-    print(f"{checks.passed} passed, {len(checks.failures)} failed")
-    return 1 if checks.failures else 0
+    return checks.end()
 
 
 if __name__ == "__main__":

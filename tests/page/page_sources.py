@@ -8,6 +8,7 @@ import sys
 
 import build
 import cases
+import exports
 
 TOP = os.path.join(os.path.dirname(os.path.realpath(__file__)), "..", "..")
 
@@ -32,8 +33,7 @@ def check_numbers(checks):
     """The numbers of calls.js are those of the header, and words.js has words for each that a call can answer."""
     with open(os.path.join(TOP, "include", "minisign.h"), encoding="utf-8") as file:
         header = file.read()
-    with open(os.path.join(TOP, "tests", "c", "layout.c"), encoding="utf-8") as file:
-        layout = file.read()
+    layout = exports.Layouts().text()
     script = build.read(f"{build.PACKAGE}/calls.js")
     for name in ("YES", "NO"):
         number = re.search(rf"MINISIGN_ANSWER_{name} = (0x\w+)", header)[1]

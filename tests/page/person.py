@@ -2,24 +2,16 @@
 
 import os
 
+import checks
+
 # The head of each row.
 VERIFIED, NOT_VERIFIED = "\u2713 Verified", "\u2717 NOT verified"
 STANDS = {"good": VERIFIED, "bad": NOT_VERIFIED, "waiting": "\u2026 Not verified yet", "reading": "\u2026 Not verified yet",
           "stopped": "\u2013 Stopped: nothing is known of this file"}
 
 
-class Checks:
+class Checks(checks.Checks):
     """What holds and what does not."""
-
-    def __init__(self):
-        self.passed, self.failures = 0, []
-
-    def check(self, holds, what):
-        if holds:
-            self.passed += 1
-        else:
-            self.failures.append(what)
-        return holds
 
     def same(self, found, wanted, what):
         return self.check(found == wanted, f"{what}: {found!r:.300}, and not {wanted!r:.300}")

@@ -111,7 +111,7 @@ def check_faults(person, minisign, meaning):
     checks.same(len(set(said)), len(faults), "the number of different words")
     # A legacy signature of more than the page holds.
     path = person.put("large", b"")
-    os.truncate(path, cases.MOST_LEGACY_BYTES + 1)
+    os.truncate(path, cases.MAX_LEGACY_BYTES + 1)
     minisign.run("-S", "-l", "-s", "first.key", "-m", path, "-x", f"{path}.minisig")
     row = person.verdict("a large legacy file", person.put("first.pub", pk), path, f"{path}.minisig")
     person.expect(row, 30, "a large legacy file")

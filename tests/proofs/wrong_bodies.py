@@ -10,17 +10,14 @@ The crate has to be proved as it stands, by `rt ci` where this runs beside it (t
 of the functions that the edits change. What is proved so is assumed in the copies: its body is a loop without an end, and
 its proof a hole, so that a check tries the wrong bodies alone. An edit that is not refused beside others is tried once more alone.
 
-An edit passes if the search for a proof of one of the function's own goals came to its end and found none. It counts
-apart, and not as passed, if the search gave up at one of its limits, so that the goal may hold, or if only the
-function's written proof no longer fits: both happen to right bodies too, so what shows that the clause is false is the
-edit's line `why:`. Such an edit has a line `by hand:` and is tried only where it is named or --all is given; without
-that line it fails. But some limits of a search are limits of time and come sooner where other work goes on: so without that
-line it is tried once more alone, when all else of the gate has ended. It fails too if the function is proved, if the prover could not tell, and if all that is left is a
-limit at which it stopped in a written proof. tests/proofs/wrong_bodies.txt says how many edits each crate has and how
-many of these have that line: it fails too on other numbers.
+An edit passes if the search for a proof of one of the function's own goals came to its end and found none. It fails if
+the search gave up at one of its limits, so that the goal may hold, or if only the function's written proof no longer fits:
+both happen to right bodies too. But some limits of a search are limits of time and come sooner where other work goes on: an
+edit whose search gave up is tried once more alone, when all else of the gate has ended. It fails too if the function is
+proved, if the prover could not tell, and if all that is left is a limit at which it stopped in a written proof.
+tests/proofs/wrong_bodies.txt says how many edits each crate has: it fails too on other numbers.
 
-usage: wrong_bodies.py [--all] [--unchanged] [CRATE[/NAME]..]
-  --all          tries those too that have a line `by hand:`
+usage: wrong_bodies.py [--unchanged] [CRATE[/NAME]..]
   --unchanged    leaves the changes out, and passes what is proved: so a refusal comes from a change and not from copying
 """
 
@@ -78,7 +75,7 @@ class WrongBody:
 
     def __init__(self, crate, file, number):
         self.label = f"{crate}/{os.path.basename(file)[: -len('.edit')]}"
-        self.path = self.function = self.by_hand = self.fault = ""
+        self.path = self.function = self.fault = ""
         self.changes, self.is_alone, self.is_unchanged, old = [], False, False, ""
         # Where its function begins and ends in the file, if it is written into a copy of it, and what the name gets.
         self.copied, self.suffix = None, f"{COPY}{number}"
@@ -90,8 +87,6 @@ class WrongBody:
                 self.path = value
             elif key == "fn":
                 self.function = value
-            elif key == "by hand":
-                self.by_hand = value
             elif key == "old":
                 old = value
             elif key == "new":
@@ -147,7 +142,7 @@ class WrongBody:
 
 
 class Verdict:
-    """What there is to say of a wrong body: it is refused, refused in a way that counts apart, or neither; or, where it
+    """What there is to say of a wrong body: it is refused, refused in a way that shows nothing, or neither; or, where it
     was left unchanged, that it is proved."""
 
     REFUSED, GAVE_UP, APART, FAILED, PROVED = ("refused", "refused by a search that gave up at a limit",
@@ -155,7 +150,6 @@ class Verdict:
 
     def __init__(self, body, outcome, why):
         self.body, self.label, self.crate, self.outcome = body, body.label, body.label.partition("/")[0], outcome
-        self.by_hand = body.by_hand
         self.text = f"wrong body {body.label}: {outcome}: {why[:240]}"
 
 
@@ -167,10 +161,9 @@ def bodies_of(crate):
 
 
 def listed():
-    """Returns how many edits the list says each crate has, and how many of them are tried by hand."""
+    """Returns how many edits the list says each crate has."""
     with open(LIST, encoding="utf-8") as it:
-        found = re.findall(r"(?m)^(\w+): (\d+) edits, (\d+) by hand$", it.read())
-    return {crate: (int(edits), int(by_hand)) for crate, edits, by_hand in found}
+        return {crate: int(edits) for crate, edits in re.findall(r"(?m)^(\w+): (\d+)$", it.read())}
 
 
 def free_memory():
@@ -411,7 +404,7 @@ def groups_of(bodies):
 
 def try_all(tasks):
     """Tries the wrong bodies of each crate once it is proved as it stands, and yields what there is to say of each; at the end
-    of those whose search gave up and that are in the gate, by a trial alone."""
+    of those whose search gave up, by a trial alone."""
     told, left, works, places = queue.SimpleQueue(), sum(len(bodies) for bodies in tasks.values()), [], Places()
     trials, gave_up = {crate: Trial(crate, places, told.put) for crate in tasks}, []
     with ThreadPoolExecutor(places.most) as pool, ThreadPoolExecutor(max(1, len(tasks))) as beginning:
@@ -422,7 +415,7 @@ def try_all(tasks):
             with suppress(queue.Empty):
                 verdict = told.get(timeout=1)
                 left -= 1
-                if verdict.outcome != Verdict.GAVE_UP or verdict.by_hand:
+                if verdict.outcome != Verdict.GAVE_UP:
                     yield verdict
                 else:
                     gave_up.append(verdict.body)
@@ -439,37 +432,32 @@ def wrong_numbers(bodies, names):
     """Returns what is wrong with the numbers of edits, of the named crates or of all."""
     told, wanted = listed(), {it.partition("/")[0] for it in names}
     crates = {it for it in {*told, *bodies} if not wanted or it in wanted}
-    has = lambda it: (len(bodies.get(it, [])), sum(bool(one.by_hand) for one in bodies.get(it, [])))
-    differ = [(it, told.get(it, (0, 0)), has(it)) for it in sorted(crates)]
-    return [f"{LIST} says that {it} has {said[0]} edits, {said[1]} by hand, and it has {has[0]}, {has[1]} by hand"
-            for it, said, has in differ if said != has]
+    differ = [(it, told.get(it, 0), len(bodies.get(it, []))) for it in sorted(crates)]
+    return [f"{LIST} says that {it} has {said} edits, and it has {has}" for it, said, has in differ if said != has]
 
 
 def main(words):
-    flags, names = {"--all", "--unchanged"} & {*words}, [it for it in words if it not in ("--all", "--unchanged")]
+    is_unchanged, names = "--unchanged" in words, [it for it in words if it != "--unchanged"]
     os.chdir(proved.ROOT)
     bodies = {it: found for it in proved.crates() for found in [bodies_of(it)] if found}
     wrong = wrong_numbers(bodies, names)
     found = {name for crate in bodies for name in (crate, *(it.label for it in bodies[crate]))}
     wrong += [f"no wrong body is named {it}" for it in names if it not in found]
-    is_named = lambda it: not names or it.label.partition("/")[0] in names
-    is_tried = lambda it: it.label in names or is_named(it) and ("--all" in flags or not it.by_hand)
+    is_tried = lambda it: not names or it.label in names or it.label.partition("/")[0] in names
     tasks = {crate: [it for it in bodies[crate] if is_tried(it)] for crate in bodies}
-    left = sum(is_named(it) and not is_tried(it) for crate in bodies for it in bodies[crate])
-    for it in (it for crate in tasks for it in tasks[crate] if "--unchanged" in flags):
+    for it in (it for crate in tasks for it in tasks[crate] if is_unchanged):
         it.leave_unchanged()
     tasks = {crate: tasks[crate] for crate in tasks if tasks[crate]}
     outcomes = {crate: Counter() for crate in tasks}
     for verdict in try_all(tasks):
         print(verdict.text, flush=True)
         outcomes[verdict.crate][verdict.outcome] += 1
-        if verdict.outcome in (Verdict.GAVE_UP, Verdict.APART) and not verdict.by_hand:
-            wrong.append(f"{verdict.label} is {verdict.outcome} and has no line `by hand:`")
+        if verdict.outcome in (Verdict.GAVE_UP, Verdict.APART):
+            wrong.append(f"{verdict.label} is {verdict.outcome}: aim it at a smaller function")
     for crate, counted in outcomes.items():
         kinds = (Verdict.REFUSED, Verdict.GAVE_UP, Verdict.APART, Verdict.FAILED)
-        kinds = kinds if "--unchanged" not in flags else (Verdict.PROVED, Verdict.FAILED)
+        kinds = (Verdict.PROVED, Verdict.FAILED) if is_unchanged else kinds
         print(f"{crate}: " + ", ".join(f"{counted[it]} {it}" for it in kinds))
-    print(f"{left} are tried by hand")
     for it in wrong:
         print(f"FAILED: {it}")
     passed = sum(it[Verdict.REFUSED] + it[Verdict.PROVED] for it in outcomes.values())

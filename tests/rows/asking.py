@@ -5,9 +5,10 @@ hexadecimal, as a number, a flag or None, or as one of the devices below.
 """
 
 import os
-import re
 import subprocess
 from dataclasses import dataclass, field
+
+from named_errors import ERRORS
 
 ROOT = os.path.dirname(os.path.dirname(os.path.dirname(os.path.realpath(__file__))))
 PROGRAM = f"{ROOT}/crates/minisign_compare/out/minisign_compare"
@@ -62,15 +63,8 @@ def ask(name, *words):
     return " ".join([name, *map(spelled, words)])
 
 
-def named_faults():
-    """Returns the kind and the text of each named fault, as docs/FORMATS.md has them. (`minisign_vectors` compares them
-    with a table from outside.)"""
-    with open(f"{ROOT}/docs/FORMATS.md", encoding="utf-8") as it:
-        rows = re.findall(r"(?m)^\| `(\w+)` \| \d+ \|(?: `\w+`)? \| (\w+) \| `([^`]*)` \|", it.read())
-    return {name: (kind, text) for name, kind, text in rows}
-
-
-FAULTS = named_faults()
+# The kind and the text of each named error.
+FAULTS = {name: (kind, text) for name, _, kind, text in ERRORS}
 
 
 @dataclass(frozen=True)

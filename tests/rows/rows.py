@@ -5,7 +5,8 @@
 
 Each expected value comes from outside: from a standard, from Python's hashlib and base64, from the upstream tool, or
 worked out by hand from a definition. None is what a crate of this repository answered. A module has a function `rows`,
-which is given an empty folder that is its own and yields rows. The last line is `N passed, M failed`.
+which is given an empty folder that is its own and yields rows. The named errors of docs/FORMATS.md are compared too.
+The last line is `N passed, M failed`.
 """
 
 import importlib
@@ -13,14 +14,18 @@ import os
 import sys
 import tempfile
 
+import named_errors
 from asking import run
 
 HERE = os.path.dirname(os.path.realpath(__file__))
-MODULES = sorted(it[:-3] for it in os.listdir(HERE) if it.endswith(".py") and it not in ("asking.py", "rows.py"))
+MODULES = sorted({it[:-3] for it in os.listdir(HERE) if it.endswith(".py")} - {"asking", "named_errors", "rows"})
 
 
 def main(names):
-    passed = failed = 0
+    wrong = [*named_errors.differences()]
+    for it in wrong:
+        print(f"FAILED: {it}")
+    passed, failed = len(named_errors.ERRORS), len(wrong)
     for name in names or MODULES:
         with tempfile.TemporaryDirectory(prefix="minisign-rows-") as folder:
             well, badly = run([*importlib.import_module(name).rows(folder)], folder)

@@ -178,10 +178,15 @@ def odd_fourth_lines():
     """Of a comment signature the first 64 bytes count: another one that is accepted, a short one, a longer one, and
     none."""
     changed = COMMENT_SIGNATURE[:31] + b"\xf2" + COMMENT_SIGNATURE[32:63] + bytes([COMMENT_SIGNATURE[63] ^ 0xF2])
+    long = base64.b64encode(changed + bytes(range(151)))
     for name, fourth, outcome in (
         ("both halves changed alike", base64.b64encode(changed), ACCEPTED),
         ("short", base64.b64encode(changed[:63]), COMMENT_REFUSED),
         ("longer", base64.b64encode(changed + b"\x07"), ACCEPTED),
+        ("much longer", long, ACCEPTED),
+        ("much longer, with a letter that is none", long[:74] + b"!" + long[75:], NOT_BASE64),
+        ("much longer, with a letter that is none behind its 64 bytes", long[:200] + b"!" + long[201:], NOT_BASE64),
+        ("much longer, with padding inside", long[:86] + b"==" + long[88:], NOT_BASE64),
         ("empty", b"", COMMENT_REFUSED),
         ("blanks", " \u00a0".encode(), COMMENT_REFUSED),
     ):
@@ -190,9 +195,10 @@ def odd_fourth_lines():
 
 def a_longer_second_line():
     """What stands behind a record is not read, and is not written again."""
-    text = toy.lines(FIRST, base64.b64encode(PREHASHED_RECORD + b"x"), THIRD, FOURTH)
-    yield from judged("a longer second line, verified", text, ACCEPTED)
-    yield read("a longer second line, read", text, holds(PREHASHED_RECORD, PREHASHED_TEXT))
+    for more in (1, 60):
+        text = toy.lines(FIRST, base64.b64encode(PREHASHED_RECORD + bytes(range(more))), THIRD, FOURTH)
+        yield from judged(f"a second line with {more} bytes more, verified", text, ACCEPTED)
+        yield read(f"a second line with {more} bytes more, read", text, holds(PREHASHED_RECORD, PREHASHED_TEXT))
 
 
 def letters():

@@ -3,7 +3,7 @@
    BREAK_ERRNO is set, the call fails so. With BREAK_SHORT a write takes half of its bytes first, and the next one fails.
    With BREAK_GOES_ON a call is made after the signal, as one that stops the program, and the next write too. Calls of `write` count
    where they go to a regular file that the program has opened itself; those that only look, and getrandom, where they
-   are named. Says so by one byte on the descriptor BREAK_SAYS. With BREAK_UNNAMED no file without a name can be made, as on
+   are named, and only calls from the library ONLY_IN, where it is compiled with the name of one. Says so by one byte on the descriptor BREAK_SAYS. With BREAK_UNNAMED no file without a name can be made, as on
    file systems that have none. */
 #define _GNU_SOURCE
 #include <dirent.h>
@@ -74,6 +74,26 @@ static int is_broken_if_named(const char *name)
 {
     return getenv("BREAK_CALLS") && is_broken(name);
 }
+
+#ifdef ONLY_IN
+/* What trace_calls.c says, where it is preloaded too and hands on what it was called for. */
+extern int is_for_others(void) __attribute__((weak));
+
+/* Whether it is the library that calls. */
+static int is_from_there(const void *caller)
+{
+    Dl_info found;
+
+    if (dladdr(caller, &found) == 0)
+        return 0;
+    if (strstr(found.dli_fname, "trace_calls") != NULL)
+        return is_for_others != NULL && !is_for_others();
+    return strstr(found.dli_fname, ONLY_IN) != NULL;
+}
+
+#define is_broken(name) (is_from_there(__builtin_return_address(0)) && is_broken(name))
+#define is_broken_if_named(name) (is_from_there(__builtin_return_address(0)) && is_broken_if_named(name))
+#endif
 
 /* The rights of a file that may be made: only then is there a third argument. */
 static mode_t mode_of(int flags, va_list more)

@@ -26,6 +26,8 @@ WASM = "wasm64-unknown-unknown"
 
 # The last verdict line of each static library that was built here.
 verdicts = {}
+# What a finished `rt ci` said whose results are taken.
+finished = []
 
 
 class NotBuilt(Exception):
@@ -65,21 +67,27 @@ def kit():
     return os.path.dirname(os.path.realpath(ran.stdout.decode().strip()))
 
 
+def take_over(path):
+    """Has what a finished `rt ci` left be taken for proved, as it said in this file."""
+    with open(path, encoding="utf-8", errors="replace") as it:
+        finished.append(it.read())
+
+
 def said():
-    """What `rt ci` has said, beside which this runs; nothing where there is none."""
-    if not os.environ.get(SAID):
-        return ""
+    """What `rt ci` has said, beside or after which this runs; nothing where there is none."""
+    if finished or not os.environ.get(SAID):
+        return "".join(finished)
     with open(os.environ[SAID], encoding="utf-8", errors="replace") as it:
         return it.read()
 
 
 def is_under_way():
     """Whether `rt ci` runs beside this."""
-    return bool(os.environ.get(SAID)) and not re.search(rf"(?m)^{ENDED}$", said())
+    return not finished and bool(os.environ.get(SAID)) and not re.search(rf"(?m)^{ENDED}$", said())
 
 
 def has(names):
-    """Whether `rt ci` has proved all of these crates, in this run or in an earlier one that it keeps."""
+    """Whether `rt ci` has proved all of these crates, in this run or, by a kit that keeps them, in an earlier one."""
     words = said()
     return all(re.search(rf"(?m)^rt: {it} (proved$|is kept: )", words) for it in names)
 
@@ -107,8 +115,11 @@ def place_of(library):
 
 
 def are_left(libraries):
-    """Whether `rt ci` has proved these libraries, and left them built."""
-    return has(libraries) and all(os.path.isdir(place_of(it)) for it in libraries)
+    """Whether `rt ci` has proved these libraries, and left them built. At its end it puts back what checks before it had built
+    of another state of the sources, maybe: that has a stamp."""
+    places = [os.path.dirname(place_of(it)) for it in libraries]
+    return has(libraries) and all(os.path.isdir(place_of(it)) for it in libraries) and not any(
+        os.path.exists(f"{it}/stamp") for it in places)
 
 
 def supply(libraries):

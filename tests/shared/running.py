@@ -659,11 +659,12 @@ def runs_as_nobody(program):
     return True
 
 
-def build_preload(room, name="refuse_memory"):
-    """Compiles a library that is preloaded into the program, and answers its path."""
+def build_preload(room, name="refuse_memory", only_in=None):
+    """Compiles a library that is preloaded into the program, and answers its path. With the name of a library it leaves alone
+    what others call."""
     made = os.path.join(room, name + ".so")
     source = os.path.join(HERE, name + ".c")
-    ran = subprocess.run([needs.c_compiler(), "-shared", "-fPIC", "-O1", "-o", made, source, "-ldl"], stderr=subprocess.PIPE)
+    ran = subprocess.run([needs.c_compiler(), "-shared", "-fPIC", "-O1", "-o", made, *([f'-DONLY_IN="{only_in}"'] if only_in else []), source, "-ldl"], stderr=subprocess.PIPE)
     if ran.returncode:
         raise needs.Missing(f"{name}.c was not compiled: {ran.stderr.decode(errors='replace')[-300:]}")
     os.chmod(made, 0o755)

@@ -2,7 +2,8 @@
    back, locks, syncs, renames or removes a file below the working folder: what was really done, with the last part of
    the file's path. With TAKE_AWAY a step is left out or done wrongly, as if it had succeeded: `sync` of files,
    `folder` for syncs of folders, `new` for O_EXCL, `mode`, `rights`, `owner`, `lock`, `rename`, or `digit` for the
-   last digit of a number that is written. With SLOW each of these calls waits first, for up to as many microseconds. */
+   last digit of a number that is written. With SLOW each of these calls waits first, for up to as many microseconds.
+   Compiled with ONLY_IN, the name of a library, it leaves alone what others call. */
 #define _GNU_SOURCE
 #include <dlfcn.h>
 #include <fcntl.h>
@@ -13,11 +14,32 @@
 #include <sys/stat.h>
 #include <unistd.h>
 
+/* Whether somebody else makes the call. */
+static __thread int is_others;
+
+#ifdef ONLY_IN
+static void look_at(const void *caller)
+{
+    Dl_info found;
+
+    is_others = dladdr(caller, &found) == 0 || strstr(found.dli_fname, ONLY_IN) == NULL;
+}
+
+int is_for_others(void)
+{
+    return is_others;
+}
+
+#define LOOK look_at(__builtin_return_address(0))
+#else
+#define LOOK (void)is_others
+#endif
+
 static int is_taken(const char *step)
 {
     const char *away = getenv("TAKE_AWAY");
 
-    return away && strcmp(away, step) == 0;
+    return !is_others && away && strcmp(away, step) == 0;
 }
 
 /* Waits for a while that differs from call to call and from process to process. */
@@ -26,7 +48,7 @@ static void wait_first(void)
     static unsigned long seed;
     const char *most = getenv("SLOW");
 
-    if (!most)
+    if (!most || is_others)
         return;
     seed = (seed ? seed : (unsigned long)getpid()) * 6364136223846793005ul + 1442695040888963407ul;
     usleep((useconds_t)((seed >> 33) % (unsigned long)(atol(most) + 1)));
@@ -63,7 +85,7 @@ static void say(const char *call, const char *name, const char *more)
     char line[600];
     int length = snprintf(line, sizeof line, "%s %s%s%s\n", call, name, *more ? " " : "", more);
 
-    if (to && length > 0 && put(atoi(to), line, (size_t)length) < 0)
+    if (to && !is_others && length > 0 && put(atoi(to), line, (size_t)length) < 0)
         abort();
 }
 
@@ -90,6 +112,7 @@ static int say_open(int folder, const char *path, int flags, mode_t mode)
 
 int open(const char *path, int flags, ...)
 {
+    LOOK;
     mode_t mode = 0;
     va_list more;
 
@@ -102,6 +125,7 @@ int open(const char *path, int flags, ...)
 
 int openat(int folder, const char *path, int flags, ...)
 {
+    LOOK;
     mode_t mode = 0;
     va_list more;
 
@@ -124,6 +148,7 @@ static int is_record(const char *bytes, size_t length)
 
 ssize_t write(int fd, const void *bytes, size_t length)
 {
+    LOOK;
     ssize_t (*real)(int, const void *, size_t) = (ssize_t (*)(int, const void *, size_t))dlsym(RTLD_NEXT, "write");
     char room[4096];
     const char *name = fd > 2 ? name_of(fd, room, sizeof room) : NULL;
@@ -141,6 +166,7 @@ ssize_t write(int fd, const void *bytes, size_t length)
 
 ssize_t pread(int fd, void *bytes, size_t length, off_t at)
 {
+    LOOK;
     ssize_t (*real)(int, void *, size_t, off_t) = (ssize_t (*)(int, void *, size_t, off_t))dlsym(RTLD_NEXT, "pread");
     char room[4096];
     const char *name = name_of(fd, room, sizeof room);
@@ -153,6 +179,7 @@ ssize_t pread(int fd, void *bytes, size_t length, off_t at)
 
 int fsync(int fd)
 {
+    LOOK;
     int (*real)(int) = (int (*)(int))dlsym(RTLD_NEXT, "fsync");
     char room[4096];
     const char *name = name_of(fd, room, sizeof room);
@@ -175,6 +202,7 @@ static int say_rename(int answer, const char *from, const char *to)
 
 int rename(const char *from, const char *to)
 {
+    LOOK;
     int (*real)(const char *, const char *) = (int (*)(const char *, const char *))dlsym(RTLD_NEXT, "rename");
 
     wait_first();
@@ -183,6 +211,7 @@ int rename(const char *from, const char *to)
 
 int renameat(int from_folder, const char *from, int to_folder, const char *to)
 {
+    LOOK;
     int (*real)(int, const char *, int, const char *) = (int (*)(int, const char *, int, const char *))dlsym(RTLD_NEXT, "renameat");
 
     wait_first();
@@ -191,6 +220,7 @@ int renameat(int from_folder, const char *from, int to_folder, const char *to)
 
 int unlink(const char *path)
 {
+    LOOK;
     int (*real)(const char *) = (int (*)(const char *))dlsym(RTLD_NEXT, "unlink");
 
     say("remove", last_part(path), "");
@@ -199,6 +229,7 @@ int unlink(const char *path)
 
 int unlinkat(int folder, const char *path, int flags)
 {
+    LOOK;
     int (*real)(int, const char *, int) = (int (*)(int, const char *, int))dlsym(RTLD_NEXT, "unlinkat");
 
     say("remove", last_part(path), "");
@@ -207,6 +238,7 @@ int unlinkat(int folder, const char *path, int flags)
 
 int flock(int fd, int operation)
 {
+    LOOK;
     int (*real)(int, int) = (int (*)(int, int))dlsym(RTLD_NEXT, "flock");
     char room[4096];
     const char *name = name_of(fd, room, sizeof room);
@@ -220,6 +252,7 @@ int flock(int fd, int operation)
 
 int fchmod(int fd, mode_t mode)
 {
+    LOOK;
     int (*real)(int, mode_t) = (int (*)(int, mode_t))dlsym(RTLD_NEXT, "fchmod");
     char room[4096], more[16];
     const char *name = name_of(fd, room, sizeof room);
@@ -233,6 +266,7 @@ int fchmod(int fd, mode_t mode)
 
 int fchown(int fd, uid_t owner, gid_t group)
 {
+    LOOK;
     int (*real)(int, uid_t, gid_t) = (int (*)(int, uid_t, gid_t))dlsym(RTLD_NEXT, "fchown");
     char room[4096];
     const char *name = name_of(fd, room, sizeof room);

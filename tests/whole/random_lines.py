@@ -27,6 +27,7 @@ import time
 HERE = os.path.dirname(os.path.realpath(__file__))
 sys.path += [os.path.join(HERE, "..", it) for it in ("shared", "minisign", "tool")]
 
+import ending
 import needs
 import static_library
 from running import Failure, build_preload
@@ -311,23 +312,13 @@ def run_all(seed, numbers, room):
     return failures, count
 
 
-def main():
-    heed_signals()
-    seed = int(sys.argv[1]) if len(sys.argv) > 1 else random.SystemRandom().randrange(2**32)
-    numbers = [int(sys.argv[2])] if len(sys.argv) > 2 else list(range(LINES))
+def main(words):
+    seed = int(words[0]) if words else random.SystemRandom().randrange(2**32)
+    numbers = [int(words[1])] if len(words) > 1 else list(range(LINES))
     print(f"seed {seed}", flush=True)
-    with tempfile.TemporaryDirectory(prefix="random-lines-") as room:
-        try:
-            failures, count = run_all(seed, numbers, room)
-        except (needs.Missing, static_library.NotBuilt, RuntimeError) as why:
-            print(f"FAILED: {why}")
-            print("0 passed, 1 failed")
-            return 1
-    for failure in failures:
-        print(f"FAILED: {failure}")
-    print(f"{max(count - len(failures), 0)} passed, {len(failures)} failed")
-    return 1 if failures else 0
+    return ending.main("random-lines", lambda room: run_all(seed, numbers, room), RuntimeError)
 
 
 if __name__ == "__main__":
-    sys.exit(main())
+    heed_signals()
+    sys.exit(main(sys.argv[1:]))

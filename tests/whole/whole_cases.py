@@ -324,7 +324,7 @@ def signing(keys):
                    theirs=(0,), ours=(2,), judge=nothing_left("data.minisig"))
     yield Case("signed with white space around the trusted comment", (Step(("-S", *key, "-t", " t")),), files,
                row="white space around a trusted comment that is signed", theirs=(0,), ours=(2,), judge=nothing_left("data.minisig"))
-    yield Case("signed with a key that is a folder", (Step(("-S", "-s", "home", "-m", "data")),), files, row="a folder in place of a key",
+    yield Case("signed with a key that is a folder", (Step(("-S", "-s", "home", "-m", "data")),), files, row="a directory in place of a key",
                theirs=(2,), ours=(2,), judge=says(b"home: Is a directory"))
     yield Case("signed with the longest comments of Minisign", (Step(("-S", *key, "-t", "t" * 4077, "-c", "u" * 1003)),), files)
     yield Case("signed with longer comments", (Step(("-S", *key, "-t", "t" * 8173, "-c", "u" * 1003)), Step(("-V", "-m", "data", "-p", PUBLIC))),
@@ -349,8 +349,8 @@ def verifying(keys, signature, legacy):
                row="data of a legacy signature from a pipe", theirs=(2,), ours=(0,))
     yield Case("verified other legacy data of a pipe", (Step(("-Vm", "/dev/stdin", "-x", "legacy.minisig", "-p", PUBLIC), DATA["more"]),), files,
                row="data of a legacy signature from a pipe", theirs=(2,), ours=(1,))
-    yield Case("verified with a folder in place of a signature", (Step(("-Vm", "data", "-x", "home", "-p", PUBLIC)),), files,
-               row="a folder in place of a signature", theirs=(2,), ours=(2,), judge=says(b"home: Is a directory"))
+    yield Case("verified with a directory in place of a signature", (Step(("-Vm", "data", "-x", "home", "-p", PUBLIC)),), files,
+               row="a directory in place of a signature", theirs=(2,), ours=(2,), judge=says(b"home: Is a directory"))
     for what, arguments in (("by default", ("-Vm", "data")), ("with a signature file of no name", ("-Vm", "data", "-x", "")),
                             ("with a key file of no name", ("-Vm", "data", "-p", "")), ("with two keys", ("-Vm", "data", "-p", PUBLIC, "-P", inline)),
                             ("of a folder", ("-Vm", "home", "-x", "data.minisig"))):

@@ -93,8 +93,8 @@ ROWS = {
     "zero bytes in a text of a key": lambda text: b"\0" in text,
     "a secret key's comment of over 1,022 bytes": lambda text: max(len(key_line(text, 0)), len(key_line(text, 1)) - LETTERS + LONGEST_LINE) > LONGEST_LINE,
     "a secret key's record with a byte more": lambda text: len(key_record(text)) > RECORD_BYTES,
-    "bits behind the last byte of a key": lambda text: not differences.is_bare_of_bits(key_line(text, 1)),
-    "carriage returns behind a secret key": lambda text: b"\r" in key_line(text, 1) or b"\r" in key_line(text, 0),
+    "bits after the last byte of a key": lambda text: not differences.is_bare_of_bits(key_line(text, 1)),
+    "carriage returns after a secret key": lambda text: b"\r" in key_line(text, 1) or b"\r" in key_line(text, 0),
     "signing with a key of another algorithm": lambda text: key_record(text)[:2] != b"Ed",
     "signing with a key of another checksum algorithm": lambda text: key_record(text)[4:6] != b"B2",
     "a wrong checksum of an open key": lambda text: key_record(text)[2:4] == bytes(2)

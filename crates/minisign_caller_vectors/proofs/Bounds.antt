@@ -4,7 +4,7 @@ use Rattle.std.proofs.lemmas.Bool.{cases_Bool, cond-true, cond-false, eq-eqb, ne
 use Rattle.std.proofs.lemmas.Slice.Eq.{bytes_eq-Decides}
 use Rattle.std.specs.declared.alloc.Global.{Global}
 use Rattle.std.specs.Prelude.{◌==◌, ◌||◌, bytes_eq}
-use Rattle.minisign_install.specs.Folders.{GivesRights, HasCreated, HasStepped, KeepsOwn, OthersLeave, Moment}
+use Rattle.minisign_install.specs.Folders.{GivesRights, HasCreated, HasStepped, OwnsTheSame, OtherProcesses, Moment}
 use Rattle.minisign_caller_vectors.specs.Memory.{Past, after, beginning, is_file, is_same, past, past_from, count_of, owned_by, past_of, rested, run_of, known_run, with_own}
 use Rattle.minisign_install.specs.declared.folders.Name.{Name}
 use Rattle.minisign_caller_vectors.specs.declared.memory.calls.Call.{Call}
@@ -111,7 +111,7 @@ pub alone : (folder : MemoryFolder) → (past_of folder).now.busy ≡ false
 alone folder = (plain folder).alone
 
 -- nobody else does anything
-pub nobody : (owns : List ℕ → Bool) (m : Moment) → OthersLeave true owns m m
+pub nobody : (owns : List ℕ → Bool) (m : Moment) → OtherProcesses true owns m m
 nobody owns m = record {
   stages = λ s o. refl;
   holds = λ s f o e. refl;
@@ -135,16 +135,16 @@ other_bytes s name differs = elim (cases_Bool (bytes_eq s name)) [
 
 -- a call that changed nothing
 pub rested_step : (folder new : MemoryFolder) (call : Moment → Moment → Type 0) → past_of new ≡ rested 1 (past_of folder) → new.owned ≡ folder.owned → call (past_of folder).now (past_of folder).now
-    → HasStepped (run_of folder) (run_of new) call × KeepsOwn (run_of folder) (run_of new)
+    → HasStepped (run_of folder) (run_of new) call × OwnsTheSame (run_of folder) (run_of new)
 rested_step folder new call is own this =
     let p = past_of folder in
     let owns = owned_by folder.owned in
-    let at : HasStepped (known_run p owns) (known_run (rested 1 p) owns) call × KeepsOwn (known_run p owns) (known_run (rested 1 p) owns) = (
+    let at : HasStepped (known_run p owns) (known_run (rested 1 p) owns) call × OwnsTheSame (known_run p owns) (known_run (rested 1 p) owns) = (
       record { before = p.now; others = nobody owns p.now; this = this; noted = refl; known = refl; locked = λ l. l },
       record { owns = refl },
     ) in
-    subst (λ o. HasStepped (known_run p owns) (known_run (past_of new) (owned_by o)) call × KeepsOwn (known_run p owns) (known_run (past_of new) (owned_by o))) (sym own)
-    (subst (λ q. HasStepped (known_run p owns) (known_run q owns) call × KeepsOwn (known_run p owns) (known_run q owns)) (sym is) at)
+    subst (λ o. HasStepped (known_run p owns) (known_run (past_of new) (owned_by o)) call × OwnsTheSame (known_run p owns) (known_run (past_of new) (owned_by o))) (sym own)
+    (subst (λ q. HasStepped (known_run p owns) (known_run q owns) call × OwnsTheSame (known_run p owns) (known_run q owns)) (sym is) at)
 
 -- everyone has all rights
 pub rights_given : (folder : MemoryFolder) (file : ℕ) → GivesRights file (past_of folder).now (past_of folder).now

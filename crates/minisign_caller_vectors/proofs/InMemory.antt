@@ -3,7 +3,7 @@ use Rattle.std.proofs.Common.{◌≡◌, inl, ⊎_elim, ℕ, Bool, true, List, O
 use Rattle.std.proofs.lemmas.Bool.{true≢false}
 use Rattle.std.specs.declared.result.Result.{Result}
 use Rattle.minisign.specs.Acceptance.{Verifier}
-use Rattle.minisign_install.specs.Folders.{HasLocked, HasStepped, IsBusy, IsFound, LeavesRecord, Moment, Run}
+use Rattle.minisign_install.specs.Folders.{HasLocked, HasStepped, IsBusy, IsFound, RecordUnchanged, Moment, Run}
 use Rattle.minisign_caller_vectors.specs.InMemory.{InstallsAt}
 use Rattle.minisign_install.specs.Installing.{Terms}
 use Rattle.minisign_caller_vectors.specs.Memory.{past_of, run_of}
@@ -13,7 +13,7 @@ use Rattle.minisign_install.specs.declared.folders.Name.TheVariants.{Record}
 use Rattle.minisign_caller_vectors.specs.declared.memory.MemoryFolder.{MemoryFolder}
 use Rattle.minisign_caller_vectors.proofs.Bounds.{alone}
 
-found_before : (m m' : Moment) (found : Option (List ℕ)) → LeavesRecord m m' → IsFound m' Record found → IsFound m Record found
+found_before : (m m' : Moment) (found : Option (List ℕ)) → RecordUnchanged m m' → IsFound m' Record found → IsFound m Record found
 found_before m m' None leaves none = sym leaves.leads ∙ none
 found_before m m' (Some bytes) leaves (f, leads, holds) =
     let there : m.leads Record ≡ Some f = sym leaves.leads ∙ leads in

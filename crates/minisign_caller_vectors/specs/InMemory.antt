@@ -20,8 +20,10 @@ faults_of folder = count_of folder.faults
 
 -- Where memory is found and no device fails: by what the record holds at this moment and by the data ahead, the update
 -- is installed exactly where it can be, and the first reason is said where it cannot.
-abbrev pub InstallsAt : {T : Type 0} → Verifier → Terms → Bool → Option (List ℕ) → Counts → Counts → Moment → Result T InstallFault → Type 0
+abbrev pub InstallsAt : {T : Type 0} → Verifier → Terms → Bool → Option (List ℕ) → Counts → Counts → Moment
+    → Result T InstallFault → Type 0
 InstallsAt accepts terms first ahead before after m answer =
     IfErr answer (λ e. e ≢ Library (Named OutOfMemory)) → ¬ (HasFailed before after)
     → (found : Option (List ℕ)) × IsFound m Record found × ((message : List ℕ) × IsAhead ahead message
-    × MatchResult answer (λ _. CanBeInstalled accepts terms first found message) (CannotBeInstalled accepts terms first found message))
+    × MatchResult answer (λ _. CanBeInstalled accepts terms first found message)
+    (CannotBeInstalled accepts terms first found message))

@@ -3,13 +3,16 @@
 //!
 //! The texts are of the toy scheme, under its key of 32 zeros; `tests/shared/toy.py` makes such texts.
 
-use crate::folders::{folder_path, make_empty, path_of};
 use crate::memory::{MemoryFolder, install_in_memory};
 use minisign::{ErrorKind, NamedFault};
 use minisign_base::devices::random_sources::FixedRandom;
 use minisign_base::devices::sources::SliceSource;
 use minisign_base::toy::ToyScheme;
-use minisign_install::{InstallFault, Name, Numbering, Offer, Wanted, check_update};
+use minisign_fixtures::folders::{folder_path, make_empty, path_of};
+use minisign_install::{
+    Folder, InstallFault, Installed, Name, Numbering, Offer, StageName, Wanted, check_update,
+    install_unless_there,
+};
 use minisign_install_files::{FileFolder, install_files};
 use std::alloc::Global;
 use std::fs;
@@ -246,6 +249,7 @@ fn installs_at(rt: &HostRuntime, place: &str, mode: u32) -> bool {
         &ToyScheme::new(),
         wanted,
         true,
+        false,
         &mut update,
         &mut folder,
     )
@@ -326,9 +330,9 @@ fn each_fault_shows_its_text(rt: HostRuntime) {
         ),
         shows(
             alloc,
-            FolderNotOnDisk,
+            DirectoryNotSynced,
             Io,
-            "installed, but the folder could not be brought to the disk",
+            "installed, but the directory could not be synced",
         ),
         shows(alloc, Expired, Verify, "the update has expired"),
         shows(
@@ -337,8 +341,14 @@ fn each_fault_shows_its_text(rt: HostRuntime) {
             Verify,
             "the signed comment does not say once, in a number, when it expires",
         ),
+        shows(
+            alloc,
+            SameNumber,
+            Verify,
+            "an update of this number was installed, and other data stands at the place",
+        ),
     ];
-    assert!(rt; shown == [true; 12]);
+    assert!(rt; shown == [true; 13]);
 }
 
 // What is wanted of a signature's text at a moment.
@@ -420,4 +430,81 @@ fn a_check_needs_a_comment_that_the_key_has_signed(rt: HostRuntime) {
     assert!(rt; named(&refusal) == Some(NamedFault::CommentSignatureRefused));
     let refusal = offer(alloc, &mut folder, KEY_TEXT, NOW, true).err();
     assert!(rt; matches!(refusal, Some(InstallFault::Library(_))));
+}
+
+// Installs an update of the file `app`, unless it is there.
+fn install_unless(
+    alloc: Global,
+    folder: &mut MemoryFolder,
+    data: &[u8],
+    sig_text: &str,
+    moment: u64,
+    again: bool,
+) -> Result<Installed, InstallFault> {
+    install_unless_there(
+        alloc,
+        &ToyScheme::new(),
+        &mut FixedRandom::new(&DRAWN),
+        wanted_at(sig_text, moment),
+        false,
+        again,
+        &mut SliceSource::new(data),
+        folder,
+    )
+}
+
+// Whether a file of these bytes now stands at the name.
+fn puts(folder: &mut MemoryFolder, to: Name, bytes: &[u8]) -> bool {
+    let Ok(name) = StageName::draw(&mut FixedRandom::new(&[9; 16])) else {
+        return false;
+    };
+    let Ok(handle) = folder.create(&name) else {
+        return false;
+    };
+    folder.write(&handle, bytes).is_ok()
+        && folder.rename(&name, to).is_ok()
+        && stands(folder, to, bytes)
+}
+
+#[test]
+fn an_update_that_is_there_is_not_installed_again(rt: HostRuntime) {
+    let alloc = rt.alloc();
+    let mut folder = MemoryFolder::new(alloc);
+    assert!(rt; installs(alloc, &mut folder, b"first", FIRST, true, b"timestamp:5"));
+    let now = install_unless(alloc, &mut folder, b"second", SECOND, NOW, false).ok();
+    assert!(rt; now == Some(Installed::Now) && holds(&folder, b"second", b"timestamp:6"));
+    // What is ahead is not read.
+    let there = install_unless(alloc, &mut folder, b"other", SECOND, NOW, false).ok();
+    assert!(rt; there == Some(Installed::Already));
+    let there = install_unless(alloc, &mut folder, b"other", EXPIRING, NOW, true).ok();
+    assert!(rt; there == Some(Installed::Already));
+    let refusal = install_unless(alloc, &mut folder, b"second", EXPIRING, 2000, false).err();
+    assert!(rt; matches!(refusal, Some(InstallFault::Expired)));
+    let refusal = install_unless(alloc, &mut folder, b"second", CHANGED, NOW, false).err();
+    assert!(rt; named(&refusal) == Some(NamedFault::CommentSignatureRefused));
+    let refusal = install_unless(alloc, &mut folder, b"first", FIRST, NOW, true).err();
+    assert!(rt; matches!(refusal, Some(InstallFault::OlderUpdate)));
+    assert!(rt; holds(&folder, b"second", b"timestamp:6"));
+}
+
+#[test]
+fn other_data_of_the_kept_number_is_replaced_where_that_is_asked_for(rt: HostRuntime) {
+    let alloc = rt.alloc();
+    let mut folder = MemoryFolder::new(alloc);
+    assert!(rt; installs(alloc, &mut folder, b"second", SECOND, true, b"timestamp:6"));
+    assert!(rt; puts(&mut folder, Name::Place, b"Second"));
+    let refusal = install_unless(alloc, &mut folder, b"second", SECOND, NOW, false).err();
+    assert!(rt; matches!(refusal, Some(InstallFault::SameNumber)));
+    assert!(rt; holds(&folder, b"Second", b"timestamp:6"));
+    let now = install_unless(alloc, &mut folder, b"second", SECOND, NOW, true).ok();
+    assert!(rt; now == Some(Installed::Now) && holds(&folder, b"second", b"timestamp:6"));
+}
+
+#[test]
+fn a_file_that_was_removed_is_put_back(rt: HostRuntime) {
+    let alloc = rt.alloc();
+    let mut folder = MemoryFolder::new(alloc);
+    assert!(rt; puts(&mut folder, Name::Record, b"timestamp:6"));
+    let now = install_unless(alloc, &mut folder, b"second", SECOND, NOW, false).ok();
+    assert!(rt; now == Some(Installed::Now) && holds(&folder, b"second", b"timestamp:6"));
 }

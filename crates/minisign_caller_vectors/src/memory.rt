@@ -249,6 +249,15 @@ impl Folder for MemoryFolder {
             Err(_) => Err(self.fail()),
         }
     }
+
+    fn open_place(&mut self) -> Result<Option<MemoryHandle>, DeviceFault> {
+        let found = lead(self.entries.as_slice(), Name::Place);
+        self.pass();
+        match found {
+            Some(file) => Ok(Some(MemoryHandle { file })),
+            None => Ok(None),
+        }
+    }
 }
 
 /// Installs the data ahead of `update` in a folder in memory, as `install_update` does in any

@@ -1,4 +1,105 @@
-//! Blake2b and words.
+//! The names of `minisign_hash` through the library: a state that is stored, sizes, numbers in little endian bytes, copying, and
+//! writers of numbers. `tests/rows/hashing.py` has the digests, and how bytes are compared.
 
-mod blake2b;
-mod words;
+use minisign::minisign_hash::{
+    BLAKE2B_BLOCKBYTES, BLAKE2B_KEYBYTES, BLAKE2B_OUTBYTES, BLAKE2B_PERSONALBYTES,
+    BLAKE2B_SALTBYTES, Blake2b, StoredBlake2b, WriteExt, copy_memory, fixed_time_eq, read_u64v_le,
+    write_u32_le, write_u64_le, write_u64v_le,
+};
+use minisign_fixtures::keys::DIGEST_OF_ABC;
+use std::io;
+use std::test::Fail;
+
+#[test]
+fn numbers_are_little_endian(rt: HostRuntime) {
+    let mut four = [9u8; 4];
+    write_u32_le(&mut four, 0x01020304);
+    assert!(rt; four == [4, 3, 2, 1]);
+    let mut eight = [9u8; 8];
+    write_u64_le(&mut eight, 0x0102030405060708);
+    assert!(rt; eight == [8, 7, 6, 5, 4, 3, 2, 1]);
+    let bytes = [
+        1, 0, 0, 0, 0, 0, 0, 0, 255, 255, 255, 255, 255, 255, 255, 255,
+    ];
+    let mut numbers = [9u64; 2];
+    read_u64v_le(&mut numbers, &bytes);
+    assert!(rt; numbers == [1, 18446744073709551615]);
+    let mut sixteen = [9u8; 16];
+    write_u64v_le(&mut sixteen, &numbers);
+    assert!(rt; sixteen == bytes);
+    let mut three = [9u8; 3];
+    copy_memory(&[1, 2], &mut three);
+    assert!(rt; three == [1, 2, 9]);
+}
+
+#[test]
+fn writers_take_numbers(rt: HostRuntime) -> Result<(), Fail> {
+    let mut bytes: Vec<u8> = Vec::new(rt.alloc());
+    bytes.write_u8(0xab)?;
+    bytes.write_u32_le(0x01020304)?;
+    bytes.write_u64_le(0x1112131415161718)?;
+    assert!(rt; bytes.as_slice() == WRITTEN.as_slice());
+    Ok(())
+}
+
+const WRITTEN: [u8; 13] = [
+    0xab, 4, 3, 2, 1, 0x18, 0x17, 0x16, 0x15, 0x14, 0x13, 0x12, 0x11,
+];
+
+// Whether the answer is that of a writer that is full.
+fn is_full(answer: io::Result<()>) -> bool {
+    match &answer {
+        Ok(()) => false,
+        Err(error) => error.kind() == io::ErrorKind::WriteZero,
+    }
+}
+
+// Whether the writer takes a number of one byte and one of four, and then none.
+fn has_room_for_two(writer: &mut &mut [u8]) -> bool {
+    let first = writer.write_u8(1);
+    let second = writer.write_u32_le(2);
+    first.is_ok() && second.is_ok() && has_no_room(writer)
+}
+
+// Whether the writer is full for numbers of each width.
+fn has_no_room(writer: &mut &mut [u8]) -> bool {
+    let one = is_full(writer.write_u8(3));
+    let four = is_full(writer.write_u32_le(3));
+    let eight = is_full(writer.write_u64_le(3));
+    one && four && eight
+}
+
+// Room for five bytes: one, four, and then none.
+#[test]
+fn full_writers_take_no_numbers(rt: HostRuntime) {
+    let mut room = [9u8; 5];
+    assert!(rt; has_room_for_two(&mut room.as_mut_slice()));
+    assert!(rt; room == [1, 2, 0, 0, 0]);
+}
+
+// RFC 7693, 2.1 and 2.5.
+#[test]
+fn sizes_of_blake2b(rt: HostRuntime) {
+    assert!(rt; BLAKE2B_BLOCKBYTES == 128 && BLAKE2B_KEYBYTES == 64 && BLAKE2B_OUTBYTES == 64);
+    assert!(rt; BLAKE2B_SALTBYTES == 16 && BLAKE2B_PERSONALBYTES == 16);
+}
+
+#[test]
+fn a_state_is_stored(rt: HostRuntime) {
+    let mut digest = [0u8; BLAKE2B_OUTBYTES];
+    Blake2b::blake2b(&mut digest, b"abc");
+    assert!(rt; fixed_time_eq(&digest, &DIGEST_OF_ABC));
+    assert!(rt; digest_by_a_stored_state() == DIGEST_OF_ABC);
+}
+
+// The digest of `abc` by a state that is stored behind `ab`.
+fn digest_by_a_stored_state() -> [u8; 64] {
+    let mut state = Blake2b::new(64);
+    state.update(b"ab");
+    let mut digest = [0; BLAKE2B_OUTBYTES];
+    if let Some(mut again) = StoredBlake2b::store(&state).restore() {
+        again.update(b"c");
+        again.finalize(&mut digest);
+    }
+    digest
+}

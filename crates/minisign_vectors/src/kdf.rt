@@ -1,6 +1,6 @@
-//! HMAC, PBKDF2 and scrypt.
+//! HMAC, PBKDF2, and scrypt where no request to `minisign_compare` says it: parameters, rows that are not kept, and memory
+//! that is refused. `tests/rows/deriving.py` has the keys.
 
 mod kept_rows;
 mod key_derivation;
-mod plain;
 mod refused_allocations;

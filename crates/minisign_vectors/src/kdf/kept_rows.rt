@@ -1,14 +1,11 @@
-//! scrypt with every k-th row kept: published vectors for many k, how many rows are kept, and every
-//! k from 1 to N + 1 beside the plain body.
+//! scrypt with every k-th row kept: published vectors for many k, and how many rows are kept.
 //!
 //! The block and what becomes of it: RFC 7914, sections 9 and 10. Keys: RFC 7914, section 12, and
 //! Python's hashlib (OpenSSL).
 
-ghost use Rattle.std.specs.Prelude.{◌≡◌, ◌*◌, ◌^◌, ◌<◌, ◌≤◌, IfOk, length, vec_len};
+ghost use Rattle.std.specs.Prelude.{◌≡◌, ◌<◌, ◌≤◌, IfOk, length, vec_len};
 
-use super::plain::plain_key;
 use crate::shown::shows;
-use minisign_fixtures::plain::scrypt::plain_rom_mix;
 use minisign_kdf::{KdfError, Params, Rows, mix_kept, scrypt_keeping};
 use std::alloc::{AllocError, Global};
 use std::test::Fail;
@@ -205,67 +202,6 @@ fn rows_of_the_greatest_cost(rt: HostRuntime) {
     assert!(rt; matches!(refused, Err(KdfError::OutOfMemory)));
     assert!(rt; keeps_the_block(rt.alloc(), 63, 9223372036854775808));
     assert!(rt; keeps_the_block(rt.alloc(), 63, 18446744073709551615));
-}
-
-#[test]
-fn keys_of_every_number_are_the_plain_ones(rt: HostRuntime) {
-    for n_log2 in 1..7u8 {
-        assert!(rt; agrees(rt.alloc(), n_log2, 1, 1), "at {n_log2}, 1, 1");
-        assert!(rt; agrees(rt.alloc(), n_log2, 2, 1), "at {n_log2}, 2, 1");
-        assert!(rt; agrees(rt.alloc(), n_log2, 3, 2), "at {n_log2}, 3, 2");
-    }
-}
-
-// Whether the key is the plain one for every k from 1 to N + 1.
-fn agrees(alloc: Global, n_log2: u8, r: u32, p: u32) -> bool
-    requires n_log2 { n_log2 < 8 }
-    requires r_some { 1 ≤ r }
-    requires r { r < 16 }
-    requires p { p < 16 }
-{
-    let Ok(params) = Params::new(n_log2, r, p) else {
-        return false;
-    };
-    let Some(plain) = plain_key(alloc, n_log2, r, p) else {
-        return false;
-    };
-    let n = 1u64 << n_log2;
-    for k in 1..n + 2 {
-        if !is_key(alloc, &params, (k, n.div_ceil(k)), &plain) {
-            return false;
-        }
-    }
-    true
-}
-
-// Whether this is the key where every k-th row is kept, of so many.
-fn is_key(alloc: Global, params: &Params, (k, count): (u64, u64), expected: &[u8; 104]) -> bool {
-    let mut key = [0u8; 104];
-    let kept = scrypt_keeping(alloc, b"password", b"some salt", params, k.max(1), &mut key);
-    kept == Ok(count) && key == *expected
-}
-
-#[test]
-fn rows_of_every_number_are_mixed_as_the_plain_ones(rt: HostRuntime) -> Result<(), Fail> {
-    for n_log2 in 1..7u8 {
-        assert!(rt; is_mixed_plainly(rt.alloc(), n_log2)?, "at {n_log2}");
-    }
-    Ok(())
-}
-
-// Whether mixing over every k-th row is the plain one for every k from 1 to N + 1.
-fn is_mixed_plainly(alloc: Global, n_log2: u8) -> Result<bool, Fail>
-    requires even { 1 ≤ n_log2 }
-    requires cost { n_log2 < 8 }
-{
-    let plain = plain_rom_mix(alloc, n_log2, &BLOCK)?;
-    for k in 1..(1u64 << n_log2) + 2 {
-        let (out, _) = mixed_over_rows(alloc, n_log2, k)?;
-        if out != plain {
-            return Ok(false);
-        }
-    }
-    Ok(true)
 }
 
 // An output that no key can have is refused whatever is kept, and a refusal leaves it.

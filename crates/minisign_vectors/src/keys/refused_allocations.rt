@@ -1,0 +1,177 @@
+//! Calls on keys whose result is right or is out of memory, whichever growth is refused: with ample
+//! memory each test sees its call succeed, and `tests/library/refused_memory.py` runs it with each of its
+//! requests refused in turn. A buffer that cannot grow is a sink that fails, so that a call with
+//! one may fail to write too.
+
+use crate::keys::sealed::in_parts::sealed_in_parts;
+use crate::keys::texts::is_text_of;
+use crate::signatures::calls::has_text;
+use minisign::{KeyPair, PublicKey, Result, SecretKey, SecretKeyBox};
+use minisign_base::devices::random_sources::FixedRandom;
+use minisign_base::devices::sinks::VecSink;
+use minisign_base::devices::sources::SliceSource;
+use minisign_base::prompt::Prompt;
+use minisign_base::toy::ToyScheme;
+use minisign_fixtures::devices::sinks::Counting;
+use minisign_fixtures::keys::{CHECKSUM, secret_record};
+use minisign_fixtures::outcomes::{counted, is_so_or_out_of_memory, is_so_or_unwritten};
+use minisign_fixtures::texts::{
+    COUNTED_PUBLIC_TEXT, COUNTED_SEALED_UNDER_NOTHING, KEY_TEXT, SEALED, SECRET_TEXT,
+};
+use std::alloc::Global;
+
+// A prompt into which these bytes are typed, that asks for no memory.
+fn typed<'a>(bytes: &'a [u8]) -> Prompt<SliceSource<'a>, Counting> {
+    Prompt::new(SliceSource::new(bytes), Counting { bytes: 0 })
+}
+
+// The text of a public key.
+fn public_text(alloc: Global, key: &PublicKey) -> Result<String> {
+    let pk_box = key.to_box(alloc)?;
+    Ok(pk_box.into_string())
+}
+
+// The text of a secret key, with the comment by default.
+fn secret_text(alloc: Global, key: &SecretKey) -> Result<String> {
+    let sk_box = key.to_box(alloc, None)?;
+    Ok(sk_box.into_string())
+}
+
+// Whether a pair that is not sealed is made as it should be, and its secret key can be copied.
+fn made_raw(alloc: Global) -> Result<bool> {
+    let scheme = ToyScheme::new();
+    let pair = KeyPair::generate_unencrypted_keypair(&scheme, &mut FixedRandom::new(&counted()))?;
+    let copy = pair.clone()?;
+    has_text(public_text(alloc, &copy.pk), COUNTED_PUBLIC_TEXT)
+}
+
+// The same, written to two buffers.
+fn wrote_raw(alloc: Global) -> Result<bool> {
+    let mut public = VecSink::new(alloc);
+    let mut secret = VecSink::new(alloc);
+    let pair = KeyPair::generate_and_write_unencrypted_keypair(
+        alloc,
+        &ToyScheme::new(),
+        &mut FixedRandom::new(&counted()),
+        &mut public,
+        &mut secret,
+    )?;
+    has_records(&pair, public.as_slice(), secret.as_slice())
+}
+
+// Whether the keys of these records are those of the pair.
+fn has_records(pair: &KeyPair, public: &[u8], secret: &[u8]) -> Result<bool> {
+    let pk = PublicKey::from_bytes(public)?;
+    let sk = SecretKey::from_bytes(secret)?;
+    Ok(pk == pair.pk && sk == pair.sk)
+}
+
+// Whether this is the text of the pair that is sealed under the empty password.
+fn is_sealed_text(bytes: &[u8]) -> bool {
+    is_text_of(
+        bytes,
+        "rsign encrypted secret key",
+        COUNTED_SEALED_UNDER_NOTHING,
+    )
+}
+
+// Whether a sealed pair is made with an empty password that is typed.
+fn made_sealed(alloc: Global) -> Result<bool> {
+    let pair = KeyPair::generate_encrypted_keypair(
+        alloc,
+        &ToyScheme::new(),
+        &mut FixedRandom::new(&counted()),
+        None,
+        &mut typed(b"\n\n"),
+    )?;
+    let text = secret_text(alloc, &pair.sk)?;
+    Ok(is_sealed_text(text.as_bytes()))
+}
+
+// The same, written to two buffers.
+fn wrote_sealed(alloc: Global) -> Result<bool> {
+    let mut public = VecSink::new(alloc);
+    let mut secret = VecSink::new(alloc);
+    KeyPair::generate_and_write_encrypted_keypair(
+        alloc,
+        &ToyScheme::new(),
+        &mut FixedRandom::new(&counted()),
+        &mut public,
+        &mut secret,
+        None,
+        None,
+        &mut typed(b"\n\n"),
+    )?;
+    let written = public.as_slice() == COUNTED_PUBLIC_TEXT.as_bytes();
+    Ok(written && is_sealed_text(secret.as_slice()))
+}
+
+// Whether the key is key A, which is sealed no more.
+fn is_opened(key: &SecretKey) -> Result<bool> {
+    let opened = SecretKey::from_bytes(&secret_record(b"Sc", &CHECKSUM))?;
+    Ok(*key == opened && !key.is_encrypted())
+}
+
+// Whether the text of key A, sealed, opens with every third row kept.
+fn opened_in_less_memory(alloc: Global) -> Result<bool> {
+    let sk_box = SecretKeyBox::from_string(alloc, SEALED)?;
+    let key = SecretKey::from_box_keeping(alloc, sk_box, None, &mut typed(b"password\n"), 3)?;
+    is_opened(&key)
+}
+
+// Whether key A opens that was sealed in many parts.
+fn opened_in_parts(alloc: Global) -> Result<bool> {
+    let sk_box = sealed_in_parts(alloc)?;
+    let key = SecretKey::from_box(alloc, sk_box, None, &mut typed(b"password\n"))?;
+    is_opened(&key)
+}
+
+// Whether the text of key A's public half comes out as it was worked out.
+fn public_written(alloc: Global) -> Result<bool> {
+    let secret = SecretKey::from_bytes(&secret_record(&[0, 0], &CHECKSUM))?;
+    let public = PublicKey::from_secret_key(&secret)?;
+    has_text(public_text(alloc, &public), KEY_TEXT)
+}
+
+// Whether the text of key A comes out again as it was read.
+fn secret_written_again(alloc: Global) -> Result<bool> {
+    let sk_box = SecretKeyBox::from_string(alloc, SECRET_TEXT)?;
+    let sk = sk_box.into_unencrypted_secret_key()?;
+    has_text(secret_text(alloc, &sk), SECRET_TEXT)
+}
+
+#[test]
+fn making_a_raw_pair(rt: HostRuntime) {
+    assert!(rt; is_so_or_out_of_memory(made_raw(rt.alloc())));
+}
+
+#[test]
+fn writing_a_raw_pair(rt: HostRuntime) {
+    assert!(rt; is_so_or_unwritten(wrote_raw(rt.alloc())));
+}
+
+#[test]
+fn making_a_sealed_pair(rt: HostRuntime) {
+    assert!(rt; is_so_or_out_of_memory(made_sealed(rt.alloc())));
+}
+
+#[test]
+fn writing_a_sealed_pair(rt: HostRuntime) {
+    assert!(rt; is_so_or_unwritten(wrote_sealed(rt.alloc())));
+}
+
+#[test]
+fn opening_with_every_third_row(rt: HostRuntime) {
+    assert!(rt; is_so_or_out_of_memory(opened_in_less_memory(rt.alloc())));
+}
+
+#[test]
+fn opening_in_many_parts(rt: HostRuntime) {
+    assert!(rt; is_so_or_out_of_memory(opened_in_parts(rt.alloc())));
+}
+
+#[test]
+fn texts_of_keys(rt: HostRuntime) {
+    assert!(rt; is_so_or_out_of_memory(public_written(rt.alloc())));
+    assert!(rt; is_so_or_out_of_memory(secret_written_again(rt.alloc())));
+}

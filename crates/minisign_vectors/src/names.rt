@@ -1,0 +1,187 @@
+//! The names at the roots of the crates, which a caller of `minisign` writes: its own, those of the devices, the scheme and the
+//! parameters, and `minisign_base` through it. Each is called, and gives the worked values. `hash` has those of
+//! `minisign_hash`.
+
+use minisign::minisign_base::{
+    Identifier, fill_from, get_password, load_u64_le, put_and_flush, put_line, raw_scrypt_params,
+    store_u64_le, unix_timestamp, write_all,
+};
+use minisign::{
+    DEFAULT_COMMENT, DeviceFault, FileSource, FixedRandom, Params, Prompt, RandomSource,
+    ReaderSource, Rereader, Result, SIG_DEFAULT_CONFIG_DIR, SIG_DEFAULT_CONFIG_DIR_ENV_VAR,
+    SIG_DEFAULT_PKFILE, SIG_DEFAULT_SKFILE, SIG_SUFFIX, Scheme, Sink, SliceSource, Source,
+    SourceRandom, ToyScheme, Triple, VecSink, WriterSink, sign_texts, verify_texts,
+};
+use minisign_fixtures::keys::IDENTIFIER;
+use minisign_fixtures::outcomes::Outcome::Accepted;
+use minisign_fixtures::outcomes::{ends_in, gives_text, is_so};
+use minisign_fixtures::texts::{KEY_TEXT, SAID, SECRET_TEXT, SIGNATURE_TEXT};
+use std::alloc::Global;
+use std::io::Cursor;
+
+// The random bytes of the text.
+const ZEROS: [u8; 128] = [0; 128];
+
+#[test]
+fn the_names_of_files_and_of_a_folder(rt: HostRuntime) {
+    for (name, expected) in [
+        (SIG_DEFAULT_CONFIG_DIR_ENV_VAR, "RSIGN_CONFIG_DIR"),
+        (SIG_DEFAULT_CONFIG_DIR, ".rsign"),
+        (SIG_DEFAULT_PKFILE, "rsign.pub"),
+        (SIG_DEFAULT_SKFILE, "rsign.key"),
+        (SIG_SUFFIX, ".minisig"),
+        (DEFAULT_COMMENT, "signature from rsign secret key"),
+    ] {
+        assert!(rt; name == expected, "at {expected}");
+    }
+}
+
+// Key A signs the data, with the comments `c` and `t`.
+fn signed<S: Scheme, R: Source, Z: RandomSource>(
+    alloc: Global,
+    scheme: &S,
+    data: &mut R,
+    random: &mut Z,
+) -> Result<String> {
+    let mut prompt = Prompt::new(SliceSource::new(b""), VecSink::new(alloc));
+    sign_texts(
+        alloc,
+        scheme,
+        SECRET_TEXT,
+        None,
+        &mut prompt,
+        data,
+        Some("t"),
+        Some("c"),
+        random,
+        7,
+    )
+}
+
+// The text is verified, and the data copied.
+fn verified<S: Scheme, R: Rereader, W: Sink, O: Sink>(
+    alloc: Global,
+    scheme: &S,
+    data: &mut R,
+    status: &mut W,
+    out: &mut O,
+) -> Result<()> {
+    verify_texts(
+        alloc,
+        scheme,
+        KEY_TEXT,
+        SIGNATURE_TEXT,
+        data,
+        false,
+        true,
+        false,
+        status,
+        out,
+    )
+}
+
+#[test]
+fn data_is_signed_over_each_source(rt: HostRuntime) {
+    let alloc = rt.alloc();
+    let scheme = ToyScheme::new();
+    let mut read = ReaderSource::new(b"abc".as_slice());
+    let mut fixed = FixedRandom::new(&ZEROS);
+    assert!(rt;
+        gives_text(
+            signed(alloc, &scheme, &mut read, &mut fixed),
+            SIGNATURE_TEXT
+        )
+    );
+    let mut slice = SliceSource::new(b"abc");
+    let mut drawn = SourceRandom::new(SliceSource::new(&ZEROS));
+    assert!(rt;
+        gives_text(
+            signed(alloc, &scheme, &mut slice, &mut drawn),
+            SIGNATURE_TEXT
+        )
+    );
+}
+
+// Whether a file is verified and copied, over a status that is a writer.
+fn is_copied(alloc: Global) -> bool {
+    let data: &[u8] = b"abc";
+    let mut status = Vec::new(alloc);
+    let mut out = VecSink::new(alloc);
+    let answer = verified(
+        alloc,
+        &ToyScheme::new(),
+        &mut FileSource::new(Cursor::new(data)),
+        &mut WriterSink::new(&mut status),
+        &mut out,
+    );
+    let came = ends_in(answer, Accepted);
+    came && status.as_slice() == SAID && out.as_slice() == b"abc".as_slice()
+}
+
+#[test]
+fn data_is_verified_and_copied(rt: HostRuntime) {
+    assert!(rt; is_copied(rt.alloc()));
+}
+
+#[test]
+fn a_table_and_a_reader(rt: HostRuntime) {
+    let triples = [Triple {
+        message: b"m",
+        public_key: [1; 32],
+        signature: [2; 64],
+    }];
+    let scheme = ToyScheme::with_table(&triples);
+    assert!(rt; scheme.verify(b"m", &[1; 32], &[2; 64]));
+    assert!(rt; !scheme.verify(b"n", &[1; 32], &[2; 64]));
+    let marked = ReaderSource::new(b"abc".as_slice()).mark();
+    assert!(rt; marked == Err(DeviceFault));
+}
+
+// Whether the usual limits give the usual parameters.
+fn limits_are_usual() -> bool {
+    match (
+        raw_scrypt_params(33554432, 1048576, 20),
+        Params::new(15, 8, 1),
+    ) {
+        (Ok(limits), Ok(usual)) => limits == usual,
+        _ => false,
+    }
+}
+
+// Whether an identifier is shown as the tools show it.
+fn is_identifier_shown(alloc: Global) -> Result<bool> {
+    let shown = format!(in alloc; "{}", Identifier(IDENTIFIER))?;
+    Ok(shown.as_str() == "0807060504030201")
+}
+
+#[test]
+fn the_helpers_through_the_library(rt: HostRuntime) {
+    assert!(rt; limits_are_usual());
+    assert!(rt; store_u64_le(255) == [255, 0, 0, 0, 0, 0, 0, 0]);
+    assert!(rt; load_u64_le(&store_u64_le(255)) == 255);
+    assert!(rt; matches!(unix_timestamp(&rt), Ok(moment) if moment > 1700000000));
+    assert!(rt; is_so(is_identifier_shown(rt.alloc())));
+    assert!(rt; is_filled());
+}
+
+// Whether a buffer is filled from a source.
+fn is_filled() -> bool {
+    let mut front = [0u8; 2];
+    let filled = fill_from(&mut SliceSource::new(b"abc"), &mut front);
+    filled.is_ok() && front == *b"ab"
+}
+
+// Whether a password is asked for, and what is put behind the question.
+fn is_asked(alloc: Global) -> Result<bool> {
+    let mut prompt = Prompt::new(SliceSource::new(b"p\n"), VecSink::new(alloc));
+    let password = get_password(alloc, &mut prompt, "Password: ")?;
+    let (_, mut asked) = prompt.into_parts();
+    let put = write_all(&mut asked, b"a").is_ok() && put_and_flush(&mut asked, b"b").is_ok();
+    put_line(alloc, &mut asked, b"c", b"d")?;
+    Ok(put && password.as_str() == "p" && asked.as_slice() == b"Password: abcd\n".as_slice())
+}
+
+#[test]
+fn prompts_and_sinks_through_the_library(rt: HostRuntime) {
+    assert!(rt; is_so(is_asked(rt.alloc())));
+}

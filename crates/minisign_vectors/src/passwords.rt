@@ -1,0 +1,44 @@
+//! A caller that signs with the text of a sealed key and its password. `callers` runs it.
+
+ghost use Rattle.std.specs.Prelude.{◌≡◌, None, Ok, string_bytes, IfOk};
+ghost use Rattle.minisign.specs.Headline.{SigningHeadline};
+ghost use Rattle.minisign.specs.Opening.{key_with_password};
+ghost use Rattle.minisign.specs.Records.{SecretKeyRecord};
+ghost use Rattle.minisign.specs.Signing.{given_comments};
+
+use minisign::{Result, sign_texts};
+use minisign_base::devices::random_sources::RandomSource;
+use minisign_base::devices::sources::SliceSource;
+use minisign_base::prompt::Prompt;
+use minisign_base::scheme::Scheme;
+use std::alloc::Global;
+
+/// Signs the message with the key that a sealed text gives under the password, and returns the text
+/// of the signature. It verifies under the public key of the very key that the password opens:
+/// nothing is left open about which password that was.
+pub fn sign_with_password<S: Scheme, Z: RandomSource>(
+    alloc: Global,
+    scheme: &S,
+    sk_text: &str,
+    password: String,
+    message: &[u8],
+    random: &mut Z,
+    moment: u64,
+) -> Result<String>
+    ensures { (key : SecretKeyRecord) → key_with_password sk_text.now (string_bytes password) ≡ Ok key →
+        IfOk result (λ t. SigningHeadline (S.accepts scheme.now) (S.public_of scheme.now) key message.now
+        (given_comments None None moment) (string_bytes t)) }
+{
+    sign_texts(
+        alloc,
+        scheme,
+        sk_text,
+        Some(password),
+        &mut Prompt::silent(),
+        &mut SliceSource::new(message),
+        None,
+        None,
+        random,
+        moment,
+    )
+}

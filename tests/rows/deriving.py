@@ -1,0 +1,89 @@
+"""scrypt, and the parameters that limits lead to. Keys are those of RFC 7914, section 12, and of Python's hashlib
+(OpenSSL)."""
+
+import hashlib
+
+from asking import Row, ask, gives, refused
+
+# Password, salt, the logarithm of N, r, p, and the key. (The fourth vector takes a gigabyte.)
+VECTORS = (
+    (b"", b"", 4, 1, 1, "77d6576238657b203b19ca42c18a0497f16b4844e3074ae8dfdffa3fede21442"
+                        "fcd0069ded0948f8326a753a0fc81f17e8d3e0fb2e0d3628cf35e20c38d18906"),
+    (b"password", b"NaCl", 10, 8, 16, "fdbabe1c9d3472007856e7190d01e9fe7c6ad7cbc8237830e77376634b373162"
+                                      "2eaf30d92e22a3886ff109279d9830dac727afb94a83ee6d8360cbdfa2cc0640"),
+    (b"pleaseletmein", b"SodiumChloride", 14, 8, 1,
+     "7023bdcb3afd7348461c06cd81fd38ebfda8fbba904f8e3ea9b543f6545da1f2"
+     "d5432955613f0fcf62d49705242a9af9e61e85dc0d651e40dfcf017b45575887"),
+)
+
+
+def derived(password, salt, n_log2, r, p, length=64):
+    """A row of a key of so many bytes."""
+    key = hashlib.scrypt(password, salt=salt, n=1 << n_log2, r=r, p=p, dklen=length, maxmem=1 << 26)
+    name = f"scrypt: {n_log2}, {r}, {p}, {length} bytes of {password[:12]} and {salt[:12]}"
+    return Row(name, ask("scrypt", n_log2, r, p, length, password, salt), gives(out=key))
+
+
+def keys():
+    """The published vectors, each r and p with small N, each length of a key about the ends of its blocks, and passwords
+    about the length of a block of SHA-256."""
+    for password, salt, n_log2, r, p, key in VECTORS:
+        request = ask("scrypt", n_log2, r, p, 64, password, salt)
+        yield Row(f"scrypt: the vector of {password}", request, gives(out=bytes.fromhex(key)))
+    for n_log2 in range(1, 7):
+        for r in (1, 2, 3, 8):
+            for p in (1, 2, 3):
+                yield derived(b"password", b"some salt", n_log2, r, p, 104)
+    for r in range(1, 33):
+        yield derived(b"password", b"some salt", 3, r, 1, 104)
+    for length in (1, 31, 32, 33, 63, 64, 65, 100):
+        yield derived(b"pw", b"na", 1, 1, 1, length)
+    for length in (0, 1, 63, 64, 65, 128, 200):
+        yield derived(b"k" * length, b"some salt", 2, 1, 1)
+        yield derived(b"pw", b"s" * length, 2, 1, 1)
+    yield derived(b"", b"", 15, 8, 1)
+
+
+def asked(name, numbers, fault):
+    """A row of a key that is refused so."""
+    return Row(f"scrypt: {name}: {numbers}", ask("scrypt", *numbers, b"pw", b"salt"), refused(fault))
+
+
+def refusals():
+    """An output of no bytes, rows that no memory holds, and parameters that scrypt does not take."""
+    for n_log2, r, p in ((4, 1, 1), (53, 8, 1)):
+        yield asked("no bytes", (n_log2, r, p, 0), "InvalidOutputLength")
+    for n_log2, r, p in ((53, 8, 1), (54, 7, 1), (63, 8, 1)):
+        fault = "OutOfMemory" if 128 * r << n_log2 < 1 << 64 else "InvalidParameters"
+        yield asked("no memory", (n_log2, r, p, 32), fault)
+    for n_log2, r, p in ((0, 8, 1), (1, 0, 1), (1, 1, 0), (16, 1, 1), (32, 2, 1), (1, 32768, 32768), (1, 8, 134217728)):
+        yield asked("no parameters", (n_log2, r, p, 32), "InvalidParameters")
+
+
+def limits():
+    """What the limits of memory and of operations lead to, worked out by hand; in the first that is refused no
+    parallelization is left of 32 bits."""
+    for memory, operations, n_log2, p in (
+        (33554432, 1048576, 15, 1),
+        (1073741824, 33554432, 20, 1),
+        (2147483648, 0, 10, 1),
+        (0, 0, 1, 512),
+        (33554432, 1048575, 14, 1),
+        (0, (1 << 64) - 1, 1, 134217727),
+    ):
+        request = ask("raw_scrypt_params", memory, operations, 20)
+        yield Row(f"limits: {memory} and {operations}", request, gives(n_log2=n_log2, r=8, p=p))
+    for memory, operations, greatest, fault in (
+        (0, 1 << 40, 20, "InvalidParameters"),
+        (1 << 31, 1 << 40, 20, "ParametersTooHigh"),
+        (33554432, 1048576, 14, "ParametersTooHigh"),
+    ):
+        request = ask("raw_scrypt_params", memory, operations, greatest)
+        yield Row(f"limits: not {memory} and {operations}", request, refused(fault))
+
+
+def rows(folder):
+    """Yields all rows; none needs a folder."""
+    yield from keys()
+    yield from refusals()
+    yield from limits()

@@ -1,0 +1,22 @@
+"""How a script counts what it checks."""
+
+
+class Checks:
+    """The count of what holds, and a line for each that does not."""
+
+    def __init__(self):
+        self.passed, self.failures = 0, []
+
+    def check(self, holds, *what):
+        if holds:
+            self.passed += 1
+        else:
+            self.failures.append(": ".join(map(str, what)))
+        return bool(holds)
+
+    def end(self):
+        """Prints the failures and the last line: the exit status."""
+        for failure in self.failures:
+            print(f"FAILED: {failure}")
+        print(f"{self.passed} passed, {len(self.failures)} failed")
+        return 1 if self.failures else 0

@@ -1,0 +1,23 @@
+"""How scripts of tests begin and end: in a directory of their own, and with a last line `N passed, M failed`."""
+
+import tempfile
+
+import needs
+import static_library
+
+
+def main(name, run, *stops):
+    """Has a function run cases in an empty directory, prints what failed, and returns the exit status. The function returns
+    the failures, how many cases there were, and where it has them how many differ by intent, by their names. What is not
+    here or was not built is a failure, and so are these exceptions."""
+    with tempfile.TemporaryDirectory(prefix=f"{name}-") as room:
+        try:
+            failures, count, *shown = run(room)
+        except (needs.Missing, static_library.NotBuilt, *stops) as why:
+            failures, count, shown = [str(why)], 1, []
+    for row, times in sorted(it for rows in shown for it in rows.items()):
+        print(f"differs by intent: {row}: {times} cases")
+    for failure in failures:
+        print(f"FAILED: {failure}")
+    print(f"{max(count - len(failures), 0)} passed, {len(failures)} failed")
+    return 1 if failures else 0

@@ -1,0 +1,121 @@
+"""What the sources of the crates say of the calls from C, beside `minisign.h`: each function that it declares has an export of
+the crate `minisign_c` of the same name and with the same types, and each export a declaration; and the layout of its structs is
+that of the crates, as assertions in a file that is compiled as C or as C++, and not run.
+
+What Rattle hands over as a slice is a pointer and a length in C.
+Needs Python 3.9 or later.
+"""
+
+import os
+import re
+import sys
+
+sys.path.append(os.path.join(os.path.dirname(os.path.realpath(__file__)), "..", "..", "tools"))
+
+import boundary
+import c_header
+import sources
+
+# The numbers and the structs by their names in Rattle.
+KINDS = {"u32": "uint32_t", "u64": "uint64_t", "usize": "size_t", "State": "minisign_state",
+         "PublicKeyValue": "minisign_public_key", "Questions": "minisign_questions", "UnopenedKeyValue": "minisign_unopened_key",
+         "SecretKeyValue": "minisign_secret_key", "Sealing": "minisign_sealing", "Installation": "minisign_installation"}
+# The structs whose fields are the library's alone.
+CLOSED = ("minisign_state", "minisign_installation")
+SIZES = {"u8": 1, "u32": 4, "u64": 8}
+
+EXPORT = re.compile(r'^pub extern "C" fn (minisign_\w+)\((.*?)\)(?: -> (\w+))?\s*$', re.M | re.S)
+FIELD = re.compile(r"^    (?:pub(?:\(crate\))? )?(\w+): ([^;,]+(?:; \w+\])?),$", re.M)
+HEAD = """\
+#include <assert.h>
+#include <stddef.h>
+
+#include "minisign.h"
+
+#ifdef __cplusplus
+#define ALIGNMENT(type) alignof(type)
+#else
+#define ALIGNMENT(type) _Alignof(type)
+#endif
+
+#define IS_LAID_OUT(type, size, alignment) \\
+    static_assert(sizeof(type) == (size) && ALIGNMENT(type) == (alignment), #type)
+#define IS_AT(type, field, offset, size) \\
+    static_assert(offsetof(type, field) == (offset) && sizeof(((type *) 0)->field) == (size), #type "." #field)
+"""
+
+
+def kinds_in_c(kind):
+    """The types in C of what Rattle calls this; one that is not known is said."""
+    if kind == "Global":
+        return []
+    lent, is_mut, to = re.fullmatch(r"(&?)(mut )?(.*)", kind).groups()
+    const, octets = "" if is_mut else "const ", re.fullmatch(r"\[u8(; \d+)?\]", to)
+    if lent and octets:
+        return [f"{const}uint8_t *", *([] if octets[1] else ["size_t"])]
+    known = KINDS.get(to, f"{to}, which this script does not know")
+    return [f"{const}{known} *" if lent else known]
+
+
+def exported(crate):
+    """The types in C of the exports of the crate, by their names: those of the parameters, and of the result."""
+    return {name: ([kind for it in re.split(r",\s*(?![^\[]*\])", parameters.strip().rstrip(",")) if it
+                    for kind in kinds_in_c(it.partition(":")[2].strip())], kinds_in_c(result)[0] if result else "void")
+            for name, parameters, result in EXPORT.findall(crate)}
+
+
+def unfit_declarations():
+    """A line for each declaration and each export that have not the same types."""
+    exports = exported(sources.read("crates/minisign_c/src/lib.rt"))
+    declared = {it.name: ([boundary.plain_parameter(one) for one in it.parameters], boundary.plain(it.answer))
+                for it in boundary.proved_calls(c_header.Header(sources.read(c_header.FILE)))}
+    return [f"{c_header.FILE} declares {name} with {declared.get(name)}, and the crate has {exports.get(name)}"
+            for name in sorted({*declared, *exports}) if declared.get(name) != exports.get(name)]
+
+
+class Layouts:
+    """The structs that have the layout of C, and the constants that say how long their arrays are."""
+
+    def __init__(self):
+        self.structs, self.lengths = {}, {}
+        for file in sources.files_below(os.path.join(sources.ROOT, "crates"), ".rt"):
+            text = sources.read(file)
+            if "#[repr(C)]" in text:
+                self.structs.update((it.name, it.text) for it in sources.read_source(file).items
+                                    if it.what == "struct" and "#[repr(C)]" in it.text)
+            self.lengths.update(re.findall(r"const (\w+): usize = (\d+);", text))
+
+    def size_and_alignment(self, kind):
+        """The size and the alignment of a type, in bytes."""
+        array = re.fullmatch(r"\[(.+); (\w+)\]", kind)
+        if array:
+            size, alignment = self.size_and_alignment(array[1])
+            return size * int(self.lengths.get(array[2], array[2])), alignment
+        return (SIZES[kind], SIZES[kind]) if kind in SIZES else self.layout(kind)[1:]
+
+    def layout(self, struct):
+        """The fields of a struct with their offsets and sizes, and its own size and alignment, as C lays it out."""
+        at, greatest, placed = 0, 1, []
+        for name, kind in FIELD.findall(self.structs[struct]):
+            size, alignment = self.size_and_alignment(kind)
+            at += -at % alignment
+            placed.append((name, at, size))
+            at, greatest = at + size, max(greatest, alignment)
+        return placed, at + -at % greatest, greatest
+
+    def text(self):
+        """The assertions, on each struct of the header."""
+        lines, names = [HEAD], {name: struct for struct, name in KINDS.items()}
+        for name in c_header.Header(sources.read(c_header.FILE)).structs:
+            fields, size, alignment = self.layout(names[name])
+            lines.append(f"IS_LAID_OUT({name}, {size}, {alignment});")
+            lines += [f"IS_AT({name}, {field}, {at}, {length});" for field, at, length in fields if name not in CLOSED]
+        return "\n".join([*lines, ""])
+
+
+def write_layout(room):
+    """Writes the assertions into a directory, and returns the path."""
+    path = os.path.join(room, "layout.c")
+    with open(path, "w", encoding="utf-8") as file:
+        file.write(Layouts().text())
+    return path
