@@ -5,7 +5,7 @@
 // Where the browser, or whoever serves the page, allows no such threads, all is done in the page's own.
 
 // How long a thread may take to say that it is there, in milliseconds.
-const MOST_MILLISECONDS = 10000;
+const MAX_MILLISECONDS = 10000;
 const THREADS = 3;
 // How many bytes of the file a thread reads and hashes at a time. Of a slice there are two copies for a moment, and the page is
 // to take at most 32 MiB more than an empty one.
@@ -133,7 +133,7 @@ class FarEngine {
     const trusted = globalThis.trustedTypes?.createPolicy("minisign-thread", {createScriptURL: () => address});
     const threads = Array.from({length: THREADS}, () => new Worker(trusted ? trusted.createScriptURL("") : address));
     try {
-      const late = new Promise((_, reject) => setTimeout(reject, MOST_MILLISECONDS));
+      const late = new Promise((_, reject) => setTimeout(reject, MAX_MILLISECONDS));
       const [slice] = await Promise.race([Promise.all(threads.map(thread => answerOf(thread))), late]);
       return new FarEngine(threads, slice);
     } catch (why) {

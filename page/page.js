@@ -5,7 +5,7 @@
 const SIGNATURE_ENDING = ".minisig";
 const KEY_ENDING = ".pub";
 // The data of a signature of the older kind is held in memory as a whole, up to this many bytes.
-const MOST_LEGACY_BYTES = 64 * 1048576;
+const MAX_LEGACY_BYTES = 64 * 1048576;
 // How many milliseconds a progress that is shown stays at least: showing it takes longer than one may think.
 const SHOWN_MILLISECONDS = 100;
 
@@ -278,7 +278,7 @@ async function verdictOn(download, run) {
     return {kind: "bad", why: "The signature cannot be read, or is longer than a signature."};
   }
   // What is wrong with the texts is known before any data is read.
-  const verification = new Verification(library, run.key.bytes, text, data.size <= MOST_LEGACY_BYTES);
+  const verification = new Verification(library, run.key.bytes, text, data.size <= MAX_LEGACY_BYTES);
   const {questions} = verification;
   if (verification.number !== 0) {
     return refused(verification.number, questions);

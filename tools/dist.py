@@ -11,7 +11,7 @@ beside `rt ci`, and builds over what that proves (`tests/shared/proved.py`).
 
 With another kit of the same logic the bytes may differ, and so may the page's where another wasm-opt lowered it. `--check` then
 says so; of the page it compares all but the module. (What the archives of dist/ do, all of tests/c shows.) It says of which files
-the bytes are the same, and prints a line for each failure; the last line is `N passed, M failed`.
+the bytes are the same, and prints a line for each failure; the last line is `N passed, M failed`. The head of PROVED is by hand.
 
 Needs Python 3.9 or later, the kit, and what `page/build.py` needs.
 """
@@ -34,6 +34,7 @@ import build
 import needs
 import proved
 import sources
+from checks import Checks
 
 DIST = os.path.join(ROOT, "dist")
 PROVED, SUMS = "PROVED", "SHA256SUMS"
@@ -44,36 +45,30 @@ ARCHIVES = {"calls-x86-64-v2.a": [], "calls-x86-64-v3.a": ["--cpu=x86-64-v3"],
             "calls-aarch64.a": ["--target", "aarch64-unknown-linux-gnu"]}
 # The files that SHA256SUMS lists.
 LISTED = [*ARCHIVES, PAGE_FILE, PROVED]
+# What PROVED says, in this order.
+SAID_OF = ["kit", "sources of the calls", *ARCHIVES, "sources of the page", PAGE_FILE, LOWERED]
 # The parts, with the crate of each.
 PARTS = {"calls": CALLS, "page": PAGE}
-
-HEAD = """\
-The files beside this one were proved and built by the Rattle kit from the sources of this repository, by tools/dist.py.
-`python3 tools/dist.py --check` proves and builds them again, and compares. The sums over the sources are those of
-tools/sources.sh; the line of a file is the verdict of its proof.
-"""
-
-
-class NoKit(Exception):
-    """There is no kit, which only those need who prove."""
-
 
 # A file of dist/ as it was built now, with the lines that PROVED has of it.
 Built = namedtuple("Built", "name data lines")
 
 
+def said_by(*command):
+    """What a command says."""
+    return subprocess.run(command, stdout=subprocess.PIPE, check=True, timeout=60).stdout.decode().strip()
+
+
 def kit_line():
     """What `rt version` says."""
     if shutil.which("rt") is None:
-        raise NoKit("there is no rt: proving needs the Rattle kit, which README.md tells of; `make -C c` builds over dist/ without it")
-    ran = subprocess.run(["rt", "version"], stdout=subprocess.PIPE, check=True, timeout=60)
-    return ran.stdout.decode().strip()
+        raise needs.Missing("there is no rt: proving needs the Rattle kit, which README.md tells of; `make -C c` builds without it")
+    return said_by("rt", "version")
 
 
 def sources_sum(part):
     """The sum over the sources of a part."""
-    ran = subprocess.run(["sh", os.path.join(HERE, "sources.sh"), part], stdout=subprocess.PIPE, check=True)
-    return ran.stdout.decode().strip()
+    return said_by("sh", os.path.join(HERE, "sources.sh"), part)
 
 
 def read(name):
@@ -82,10 +77,10 @@ def read(name):
         return file.read()
 
 
-def lines_of_proved():
-    """What PROVED says, by what it says it of."""
-    text = read(PROVED).decode().removeprefix(HEAD) if os.path.exists(os.path.join(DIST, PROVED)) else ""
-    return dict(line.split(": ", 1) for line in text.splitlines() if ": " in line)
+def said_by_proved():
+    """The head of PROVED, and what the rest says, by what it says it of."""
+    head, _, lines = read(PROVED).decode().partition("\n\n")
+    return head, dict(line.split(": ", 1) for line in lines.splitlines())
 
 
 # ---------------------------------------------------------------------------------------------------------------
@@ -118,9 +113,8 @@ def lowered_by(page):
 
 def built(parts):
     """All files of these parts."""
-    builders = {"calls": built_calls, "page": built_page}
     with tempfile.TemporaryDirectory(prefix="dist-") as room:
-        return [it for part in parts for it in builders[part](room)]
+        return [it for part in parts for it in (built_calls if part == "calls" else built_page)(room)]
 
 
 def write(name, data):
@@ -133,21 +127,16 @@ def write(name, data):
 
 def make(parts):
     """Proves, builds and writes these parts."""
-    kit, lines = kit_line(), lines_of_proved()
-    if lines.get("kit", kit) != kit and {*parts} != {*PARTS}:
-        raise NoKit(f"dist/ was made by {lines['kit']}, and here is {kit}: name no part, so that all is made by one kit")
-    files = built(parts)
-    os.makedirs(DIST, exist_ok=True)
-    for it in files:
+    kit, (head, lines) = kit_line(), said_by_proved()
+    if lines["kit"] != kit and {*parts} != {*PARTS}:
+        raise needs.Missing(f"dist/ was made by {lines['kit']}, and here is {kit}: name no part, so that all is made by one kit")
+    lines["kit"] = kit
+    for it in built(parts):
         write(it.name, it.data)
         lines.update(it.lines)
-    lines["kit"] = kit
-    wanted = ["kit", "sources of the calls", *ARCHIVES, "sources of the page", PAGE_FILE, LOWERED]
-    write(PROVED, (HEAD + "\n" + "".join(f"{it}: {lines[it]}\n" for it in wanted if it in lines)).encode())
-    there = [it for it in LISTED if os.path.exists(os.path.join(DIST, it))]
-    write(SUMS, "".join(f"{hashlib.sha256(read(it)).hexdigest()}  {it}\n" for it in there).encode())
-    for it in files:
         print(f"dist: {it.name}, {len(it.data)} bytes")
+    write(PROVED, (head + "\n\n" + "".join(f"{it}: {lines[it]}\n" for it in SAID_OF)).encode())
+    write(SUMS, "".join(f"{hashlib.sha256(read(it)).hexdigest()}  {it}\n" for it in LISTED).encode())
 
 
 # ---------------------------------------------------------------------------------------------------------------
@@ -194,9 +183,7 @@ def check_built(report, it, lines, kit):
 
 def check(parts):
     """Compares these parts with what is proved and built now."""
-    report, lines, kit = sources.Report(), lines_of_proved(), kit_line()
-    if "kit" not in lines:
-        raise proved.NotBuilt("there is no dist/PROVED: run tools/dist.py")
+    report, (_, lines), kit = Checks(), said_by_proved(), kit_line()
     check_files(report)
     check_sources(report, parts, lines)
     logics = [re.search(r"logic \S+", it)[0] for it in (lines["kit"], kit)]
@@ -208,16 +195,6 @@ def check(parts):
     return report.end()
 
 
-def take_over(said):
-    """Has what a finished `rt ci` left be taken for proved, as it said."""
-    room = tempfile.NamedTemporaryFile("w", prefix="dist-said-", encoding="utf-8")
-    with open(said, encoding="utf-8", errors="replace") as file:
-        room.write(file.read() + f"\n{proved.ENDED}\n")
-    room.flush()
-    os.environ[proved.SAID] = room.name
-    return room
-
-
 def main(words):
     parser = argparse.ArgumentParser(usage="tools/dist.py [--check] [--after SAID] [calls] [page]")
     parser.add_argument("--check", action="store_true")
@@ -227,17 +204,15 @@ def main(words):
     parts, unknown = given.parts or [*PARTS], {*given.parts} - {*PARTS}
     if unknown:
         parser.error(f"there is no part {' '.join(sorted(unknown))}")
-    kept = take_over(given.after) if given.after else None
     try:
+        if given.after:
+            proved.take_over(given.after)
         if given.check:
             return check(parts)
         make(parts)
-    except (needs.Missing, proved.NotBuilt, NoKit) as why:
+    except (needs.Missing, proved.NotBuilt, OSError) as why:
         print(f"FAILED: {why}" + ("\n0 passed, 1 failed" if given.check else ""))
         return 1
-    finally:
-        if kept:
-            kept.close()
     return 0
 
 

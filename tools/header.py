@@ -1,15 +1,13 @@
 #!/usr/bin/env python3
-"""Makes what `include/minisign.h` and docs/FORMATS.md say of numbers, and `tests/c/layout.c`, from the sources of the
-crates: the numbers, names and comments of wrong uses and faults, the texts, and the sizes and offsets of the structs.
-From the header and the exports of the crate `minisign_c` it makes the boundary between them (`boundary.py`), and it
-copies the examples of `c/examples` into the header. From the header it makes its manual page (`manual.py`).
+"""Makes what `include/minisign.h` and docs/FORMATS.md say of numbers from the sources of the crates: the numbers, as definitions
+have them, and the names, comments and texts of wrong uses and faults. It copies the examples of `c/examples` into the header,
+and makes of that the boundary before the proved calls (`boundary.py`), and its manual page (`manual.py`).
 
     tools/header.py            writes them
     tools/header.py --check    fails where one is not up to date; the last line is `N passed, M failed`
 
-A name in C is the name in the source, in capitals behind `MINISIGN_`, or the one of `NAMES`. The comment is the first
-sentence of the source's. The heads of `c/boundary.c` and `tests/c/layout.c`, and the head and the end of the manual page, are
-written by hand there, and kept.
+A name in C is the name in the source, in capitals after `MINISIGN_`, or the one of `NAMES`. The comment is the first sentence
+of the source's. The head of `c/boundary.c`, and the head and the end of the manual page, are written by hand there, and kept.
 Needs Python 3.9 or later.
 """
 
@@ -21,28 +19,17 @@ from collections import namedtuple
 import boundary
 import manual
 import sources
-from boundary import Unfit
-from sources import ROOT, read
+from c_header import FILE as HEADER, Header
+from sources import ROOT, Unfit, read
 
-HEADER = "include/minisign.h"
 FORMATS = "docs/FORMATS.md"
-LAYOUT = "tests/c/layout.c"
 EXAMPLES = "c/examples"
 
 FAULTS = "crates/minisign_base/src/faults.rt"
 FAULT_ROWS = "crates/minisign_base/specs/Faults.antt"
-STATE = "crates/minisign_external/src/state.rt"
 NUMBERS = "crates/minisign_external/src/numbers.rt"
-BLAKE2B = "crates/minisign_hash/src/blake2b.rt"
-EXPORTS = "crates/minisign_c/src/lib.rt"
-INSTALL_FAULTS = "crates/minisign_install/src/faults.rt"
-INSTALL_ROWS = "crates/minisign_install/specs/Faults.antt"
-HOST_NUMBERS = "crates/minisign_install/src/host_numbers.rt"
-HOSTED = "crates/minisign_install/src/hosted.rt"
-# Where the structs of C stand.
-STRUCT_FILES = (STATE, "crates/minisign_external/src/public_keys.rt", "crates/minisign_external/src/unopened_keys.rt",
-                "crates/minisign_external/src/secrets.rt",
-                "crates/minisign_hash/src/blake2b/stored.rt", "crates/minisign/src/making.rt", HOSTED)
+INSTALL = "crates/minisign_install"
+INSTALL_NUMBERS = f"{INSTALL}/specs/HostNumbers.antt"
 
 # Named faults with this number or a greater one are answered by no call of the header, but for those that a host may tell.
 UNANSWERED = 46
@@ -65,17 +52,22 @@ NAMES = {
 # How long a line of the header may be.
 COLUMNS = 116
 
-# The structs whose fields are the library's alone.
-CLOSED = ("minisign_state", "minisign_installation")
-SIZES = {"u8": 1, "u32": 4, "u64": 8}
-
-
 class Number(namedtuple("Number", "number variant comment")):
-    """A number of an error: its name in the source, and its first sentence there."""
+    """A number of an error, or of another choice: its name in the source, and its first sentence there."""
 
     @property
     def name(self):
-        return "MINISIGN_" + NAMES.get(self.variant, re.sub(r"(?<=[a-z0-9])(?=[A-Z])", "_", self.variant).upper())
+        return NAMES.get(self.variant, re.sub(r"(?<=[a-z0-9])(?=[A-Z])", "_", self.variant).upper())
+
+
+# The enums of the header that are ones of Rattle: what one is called where it stands, what its names begin with, where the enum is,
+# and where the definition of its numbers is.
+Choice = namedtuple("Choice", "place prefix enum file numbers")
+CHOICES = (
+    Choice("Calls of installing", "DUE", "Due", f"{INSTALL}/src/order.rt", f"{INSTALL}/specs/Order.antt"),
+    Choice("Numberings", "NUMBERING", "Numbering", f"{INSTALL}/src/comments.rt", INSTALL_NUMBERS),
+    Choice("Offers", "OFFER", "Offer", f"{INSTALL}/src/checking.rt", INSTALL_NUMBERS),
+)
 
 
 def item_text(file, what, path):
@@ -97,25 +89,18 @@ def comments_of(file, enum):
     return {variant: re.match(r"(?:`[^`]*`|[^.`])*\.", text)[0].replace("`", "") for variant, text in bare.items()}
 
 
-def arms_of(file, path, pattern):
-    """What the arms of the `match` of a function give, by the variants."""
-    text = item_text(file, "fn", path)
-    rows = dict(re.findall(pattern, text))
-    if len(rows) != text.count("=>"):
-        raise Unfit(f"{path}: {text.count('=>')} arms, of which {len(rows)} are read")
-    return rows
-
-
-def numbers_of(comments, numbers):
-    """The numbers of the variants of an enum, which have to be those that have comments."""
-    if {*comments} != {*numbers}:
-        raise Unfit(f"variants and their numbers differ in {', '.join(sorted({*comments} ^ {*numbers}))}")
-    return [Number(int(numbers[it]), it, comments[it]) for it in comments]
+def numbers_of(comments, file, definition):
+    """The numbers of the variants of an enum, by the definition that has a line for each."""
+    lines = re.findall(rf"^{definition} \(?(\w+)[^=]*= (\d+)$", read(file), re.M)
+    if {*comments} != {variant for variant, _ in lines}:
+        raise Unfit(f"{file}: {definition} has not one number for each of {', '.join(sorted(comments))}")
+    return sorted(Number(int(number), variant, comments[variant]) for variant, number in lines)
 
 
 def misuses():
     """The wrong uses."""
-    return numbers_of(comments_of(STATE, "Misuse"), arms_of(NUMBERS, "Misuse::number", r"Misuse::(\w+) => (\d+),"))
+    comments = comments_of("crates/minisign_external/src/state.rt", "Misuse")
+    return numbers_of(comments, "crates/minisign_external/specs/Numbers.antt", "misuse_number")
 
 
 def fault_rows():
@@ -128,15 +113,14 @@ def fault_rows():
     return [(name, number, kind, longer.get(name, text)) for name, number, kind, text in rows]
 
 
-def install_rows():
+def install_rows(comments):
     """The faults that installing adds, in the same form."""
-    numbers = arms_of(HOST_NUMBERS, "InstallFault::number", r"(\w+)(?:\(fault\))? => ([\w:]+)[(,]")
-    texts = re.findall(r'^install_row (\w+) = record \{ kind = (\w+); text = codes "([^"]*)" \}$', read(INSTALL_ROWS), re.M)
-    texts = {name: (kind, text) for name, kind, text in texts}
-    comments = comments_of(INSTALL_FAULTS, "InstallFault")
-    if not {*texts, "Library"} == {*numbers} == {*comments}:
-        raise Unfit("the faults of installing, their numbers and their texts differ")
-    return [(name, numbers[name], *texts[name]) for name in comments if name != "Library"]
+    added = {name: comment for name, comment in comments.items() if name != "Library"}
+    numbers = {it.variant: str(it.number) for it in numbers_of(added, INSTALL_NUMBERS, "install_number")}
+    rows = re.findall(r'^install_row (\w+) =\s+record \{ kind = (\w+); text = codes "([^"]*)" \}$',
+                      read(f"{INSTALL}/specs/Faults.antt"), re.M)
+    texts = {name: (kind, text) for name, kind, text in rows}
+    return [(name, numbers[name], *texts[name]) for name in added]
 
 
 def all_numbers(rows, comments):
@@ -156,28 +140,14 @@ def enum_text(enum, numbers, prefix="", first=()):
     for it in numbers:
         lines = textwrap.wrap(f"/* {it.comment}\u00a0*/", COLUMNS, initial_indent="    ", subsequent_indent="     * ",
                               break_long_words=False, break_on_hyphens=False)
-        lines += [f"    {it.name.replace('MINISIGN_', 'MINISIGN_' + prefix, 1)} = {it.number}"]
-        told.append("\n".join(lines).replace("\u00a0", " "))
+        told.append("\n".join([*lines, f"    MINISIGN_{prefix}{it.name} = {it.number}"]).replace("\u00a0", " "))
     return f"enum minisign_{enum} {{\n" + ",\n".join([*first, *told]) + "\n};\n"
 
 
-def due_text():
-    """The enum of the calls that may be due."""
-    numbers = arms_of(HOSTED, "Due::number", r"(\w+)(?:\(_\))? => (\d+),")
-    return enum_text("due", numbers_of(comments_of("crates/minisign_install/src/order.rt", "Due"), numbers), "DUE_")
-
-
-def numbering_text():
-    """The enum of the numberings."""
-    found = re.findall(r"(\d+) => Some\(Numbering::(\w+)\),", read(HOST_NUMBERS))
-    comments = comments_of("crates/minisign_install/src/comments.rt", "Numbering")
-    return enum_text("numbering", sorted(numbers_of(comments, {name: number for number, name in found})), "NUMBERING_")
-
-
-def offer_text():
-    """The enum of what an update is beside the kept number."""
-    numbers = arms_of(HOST_NUMBERS, "Offer::number", r"Offer::(\w+) => (\d+),")
-    return enum_text("offer", numbers_of(comments_of("crates/minisign_install/src/checking.rt", "Offer"), numbers), "OFFER_")
+def choice_text(choice):
+    name = choice.prefix.lower()
+    numbers = numbers_of(comments_of(choice.file, choice.enum), choice.numbers, f"{name}_number")
+    return enum_text(name, numbers, f"{choice.prefix}_")
 
 
 def answers_text(numbers):
@@ -203,47 +173,6 @@ def table(head, rows):
     return "\n".join(lines).replace("|  |", "| |")
 
 
-# ---------------------------------------------------------------------------------------------------------------
-# Sizes and offsets.
-
-
-def size_and_alignment(kind):
-    """The size and the alignment of a type, in bytes."""
-    array = re.fullmatch(r"\[(.+); (\w+)\]", kind)
-    if array:
-        size, alignment = size_and_alignment(array[1])
-        number = array[2] if array[2].isdigit() else re.search(rf"const {array[2]}: usize = (\d+);", read(BLAKE2B))[1]
-        return size * int(number), alignment
-    return (SIZES[kind], SIZES[kind]) if kind in SIZES else layout(kind)[1:]
-
-
-def layout(struct):
-    """The fields of a struct with their offsets and sizes, and its own size and alignment, as C lays it out."""
-    text = item_text(next((it for it in STRUCT_FILES if f"struct {struct} " in read(it)), STATE), "struct", struct)
-    if "#[repr(C)]" not in text:
-        raise Unfit(f"{struct} has not the layout of C")
-    at, greatest, placed = 0, 1, []
-    for name, kind in re.findall(r"^    (?:pub(?:\(crate\))? )?(\w+): ([^;,]+(?:; \w+\])?),$", text, re.M):
-        size, alignment = size_and_alignment(kind)
-        at += -at % alignment
-        placed.append((name, at, size))
-        at, greatest = at + size, max(greatest, alignment)
-    return placed, at + -at % greatest, greatest
-
-
-def layout_text():
-    """The assertions, behind the head that stands there."""
-    lines = [read(LAYOUT).partition("\n\nIS_LAID_OUT")[0]]
-    for struct, name in boundary.STRUCTS.items():
-        fields, size, alignment = layout(struct)
-        lines += ["", f"IS_LAID_OUT({name}, {size}, {alignment});"]
-        lines += [f"IS_AT({name}, {field}, {at}, {length});" for field, at, length in fields if name not in CLOSED]
-    return "\n".join([*lines, ""])
-
-
-# ---------------------------------------------------------------------------------------------------------------
-
-
 def between(text, begin, end, made):
     """The text with what is made between these two lines."""
     before, found, rest = text.partition(begin + "\n")
@@ -256,11 +185,11 @@ def between(text, begin, end, made):
 def header_text(numbers):
     """The header."""
     header = read(HEADER)
-    parts = {"Numbers": ("numbers", enum_text("error", numbers, first=["    MINISIGN_OK = 0"])), "Answers": ("answers", answers_text(numbers)),
-             "Calls of installing": ("calls", due_text()), "Numberings": ("numberings", numbering_text()),
-             "Offers": ("offers", offer_text())}
-    for begin, (end, made) in parts.items():
-        header = between(header, f"/* {begin}, made by tools/header.py. */", f"/* The end of the {end}. */", made)
+    parts = {"Numbers": enum_text("error", numbers, first=["    MINISIGN_OK = 0"]), "Answers": answers_text(numbers),
+             **{choice.place: choice_text(choice) for choice in CHOICES}}
+    for place, made in parts.items():
+        end = f"/* The end of the {place.split()[0].lower()}. */"
+        header = between(header, f"/* {place}, made by tools/header.py. */", end, made)
     for name in ("verify.c", "sign.c"):
         begin = f" * The example, made by tools/header.py from {EXAMPLES}/{name}."
         header = between(header, begin, " * The end of the example.", example_text(name))
@@ -269,9 +198,9 @@ def header_text(numbers):
 
 def formats_text(numbers, rows, comments):
     """The document with the table of wrong uses, and that of all faults with the names of those that C knows."""
-    texts = arms_of(NUMBERS, "Misuse::text", r'Misuse::(\w+) => (?:\{\s*)?"((?:[^"\\]|\\.)*)"')
-    in_c = {it.variant: f"`{it.name}`" for it in numbers}
-    uses = [(str(it.number), f"`{it.name}`", it.comment, f"`{texts[it.variant]}`") for it in misuses()]
+    texts = re.findall(r'Misuse::(\w+) => (?:\{\s*)?"((?:[^"\\]|\\.)*)"', item_text(NUMBERS, "fn", "Misuse::text"))
+    in_c = {it.variant: f"`MINISIGN_{it.name}`" for it in numbers}
+    uses = [(str(it.number), in_c[it.variant], it.comment, f"`{dict(texts)[it.variant]}`") for it in misuses()]
     told = [(f"`{name}`", number, in_c.get(name, ""), kind, f"`{text}`", comments[name]) for name, number, kind, text in rows]
     tables = {"numbers": table(("Number", "Name in C", "When", "Text"), uses),
               "faults": table(("Name", "Number", "Name in C", "Kind", "Text", "When"), told)}
@@ -283,26 +212,16 @@ def formats_text(numbers, rows, comments):
 
 def made():
     """The files that are made, in whole or in part, with their texts."""
-    rows, comments = [*fault_rows(), *install_rows()], comments_of(FAULTS, "NamedFault") | comments_of(INSTALL_FAULTS, "InstallFault")
+    comments, installing = comments_of(FAULTS, "NamedFault"), comments_of(f"{INSTALL}/src/faults.rt", "InstallFault")
+    rows, comments = [*fault_rows(), *install_rows(installing)], comments | installing
     numbers = all_numbers(rows, comments)
-    header, exports = header_text(numbers), read(EXPORTS)
+    header = header_text(numbers)
     yield HEADER, header
-    yield boundary.FILE, boundary.boundary_text(header, exports)
+    yield boundary.FILE, boundary.boundary_text(Header(header))
+    yield "c/names", boundary.names_text(Header(header))
     yield manual.FILE, manual.manual_text(header)
-    yield "c/names", boundary.names_text(header, exports)
     yield FORMATS, formats_text(numbers, rows, comments)
-    yield LAYOUT, layout_text()
-
-
-def main():
-    report = sources.Report()
-    try:
-        for file, text in made():
-            report.keep(file, text)
-    except (Unfit, KeyError) as why:
-        report.check(False, "tools/header.py", why)
-    return report.end()
 
 
 if __name__ == "__main__":
-    sys.exit(main())
+    sys.exit(sources.keep_all(made))

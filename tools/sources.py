@@ -1,5 +1,5 @@
 """What scripts know of the sources: the items of `.rt` files with their clauses, the definitions of `.antt` files,
-where a name that one of them imports is defined, and how a script says what it compared.
+where a name that one of them imports is defined, and how a script writes or compares what it makes.
 
 The forms are read by their brackets and not by a grammar: enough for names, clauses and texts.
 Needs Python 3.9 or later.
@@ -10,10 +10,14 @@ import os
 import re
 import shutil
 import sys
+import textwrap
 from collections import namedtuple
 from dataclasses import dataclass, field
 
 ROOT = os.path.dirname(os.path.dirname(os.path.realpath(__file__)))
+sys.path.append(os.path.join(ROOT, "tests", "shared"))
+
+from checks import Checks
 
 # What holds no brackets that count: comments, texts and characters.
 OPAQUE = re.compile(r'//[^\n]*|/\*.*?\*/|r"[^"]*"|"(?:[^"\\]|\\.)*"|\'(?:\\[^\n]+?|[^\\\'\n])\'', re.S)
@@ -23,37 +27,31 @@ ITEM = re.compile(
 )
 HEADER_END = re.compile(r"[(\[]|(?P<end>[{;]|\b(?:requires|ensures)\b)")
 CLAUSE = re.compile(r"\s*(?P<kind>(?:requires|ensures|decreases)\*?)\s*(?P<name>\w*)\s*(?=\{)")
-ABOVE = re.compile(r"(?P<blank>\n[ \t]*)?(?P<comment>(?:\n[ \t]*//[^\n]*)*)\n[ \t]*$")
+# What stands right above a clause, and right above an item.
+ABOVE = re.compile(r"(?P<blank>\n[ \t]*)?(?P<comment>(?:\n[ \t]*//[^\n]*)*)\n[ \t]*\Z")
+ABOVE_ITEM = re.compile(r"\n(?P<comment>(?:[ \t]*(?!//!)(?://|#)[^\n]*\n)*[ \t]*)\Z")
 USE = re.compile(r"use\s+(?P<module>[^\s;{]+?)(?:\.\{(?P<names>[^}]*)\}|\s+as\s+(?P<alias>\w+))?\s*;?\s*$", re.S)
 NAME = re.compile(r"[^\W\d]\w*")
 
 
-class Report:
-    """What was compared, and a line for each that was not as it has to be."""
+class Unfit(Exception):
+    """Forms of the sources that do not fit each other, or that these scripts do not read."""
 
-    def __init__(self):
-        self.passed = self.failed = 0
 
-    def check(self, holds, where, what):
-        self.passed += bool(holds)
-        if not holds:
-            self.failed += 1
-            print(f"FAILED: {where}: {what}", flush=True)
-
-    def keep(self, path, made):
-        """Writes a file of the repository that is made, or compares it with what stands there."""
-        if "--check" in sys.argv[1:]:
-            is_kept = os.path.exists(os.path.join(ROOT, path)) and read(path) == made
-            self.check(is_kept, path, f"it is not up to date: run tools/{os.path.basename(sys.argv[0])}")
-        else:
-            with open(os.path.join(ROOT, path), "w", encoding="utf-8") as opened:
-                opened.write(made)
-            self.passed += 1
-
-    def end(self):
-        """Says the numbers, and returns the exit status."""
-        print(f"{self.passed} passed, {self.failed} failed")
-        return 1 if self.failed else 0
+def keep_all(made):
+    """Writes the files that a script makes, or compares them; it yields their paths and texts. Returns the exit status."""
+    if sys.argv[1:] not in ([], ["--check"]):
+        sys.exit(sys.modules["__main__"].__doc__)
+    checks, is_check = Checks(), sys.argv[1:] == ["--check"]
+    try:
+        for path, text in made():
+            if not is_check:
+                with open(os.path.join(ROOT, path), "w", encoding="utf-8") as opened:
+                    opened.write(text)
+            checks.check(read(path) == text, path, f"it is not up to date: run {sys.argv[0]}")
+    except (Unfit, KeyError) as why:
+        checks.check(False, sys.argv[0], why)
+    return checks.end()
 
 
 def read(path):
@@ -75,9 +73,9 @@ def files_below(folder, ending=""):
 # Items of Rattle.
 
 
-# A `requires` or an `ensures`; the name is empty where it has none. With the comment right above it, and whether a blank line
-# stands above both.
-Clause = namedtuple("Clause", "kind name text comment is_apart")
+# A `requires` or an `ensures`; the name is empty where it has none. With what stands in its braces, the whole as it stands, the
+# comment right above it, and whether a blank line stands above both.
+Clause = namedtuple("Clause", "kind name text whole comment is_apart")
 # A `.rt` file: its items, nested ones too, and what its ghost code imports: by the name in the file the module, and the name there,
 # which is empty for a whole module.
 Source = namedtuple("Source", "file text items imports")
@@ -120,19 +118,13 @@ def in_one_line(text):
     return re.sub(r",? (?=[)\]])", "", re.sub(r"(?<=[(\[]) ", "", bare))
 
 
-def last_name(text):
-    """The last name of a path."""
-    names = NAME.findall(text.replace("&", " ").replace("'", " "))
-    return names[-1] if names else text.strip()
-
-
 def trait_and_type(header):
     """What an `impl` implements, and of what: their last names, without what stands in angle brackets."""
     bare, left = header[len("impl"):].replace("->", "→"), None
     while bare != left:
         left, bare = bare, re.sub(r"<[^<>]*>", "", bare)
     trait, _, kind = re.sub(r"\bwhere\b.*", "", bare).rpartition(" for ")
-    return last_name(trait), last_name(kind)
+    return [(NAME.findall(re.sub("[&']", " ", it)) or [it.strip()])[-1] for it in (trait, kind)]
 
 
 def take_use(imports, text):
@@ -170,6 +162,14 @@ class Reader:
             at = self.closed.get(found.start(), len(self.text))
         return len(self.text)
 
+    def above(self, form, at):
+        """What stands in a form right above a place."""
+        return form.search(self.text, max(0, at - 5000), at)
+
+    def lines(self, begin, end):
+        """The text from the line of one place to another, moved to the margin."""
+        return textwrap.dedent(self.text[self.text.rfind("\n", 0, begin) + 1:end])
+
     def end_of_statement(self, at):
         return self.after(re.compile(r"[(\[{]|(?P<end>;)"), at) + 1
 
@@ -190,48 +190,34 @@ class Reader:
             return end
         if word.endswith("!") or word == "ghost impl":
             return self.closed[re.compile(r"[(\[{]").search(self.bare, found.end()).start()]
-        stop, above = self.after(HEADER_END, found.end()), self.above(begin)
-        item = Item(word, "", self.source.file, text.count("\n", 0, begin) + 1, (found["public"] or "").strip() == "pub",
-                    in_one_line(text[begin:stop]), text[above:begin])
-        name = NAME.search(text, found.end())
-        item.name = name[0] if name else ""
+        stop, above, name = self.after(HEADER_END, found.end()), self.above(ABOVE_ITEM, begin), NAME.search(text, found.end())
+        comment, is_public = above["comment"] if above else "", (found["public"] or "").strip() == "pub"
+        item = Item(word, name[0] if name else "", self.source.file, text.count("\n", 0, begin) + 1, is_public,
+                    in_one_line(text[begin:stop]), comment)
         if blocks:
             block = blocks[-1][1]
             block.members.append(item)
             if block.what != "mod":
                 item.owner, item.trait, item.block = block.owner or block.name, block.trait, block.header
-        end = self.read_fn(item, stop) if word == "fn" else self.end_of(item, stop)
+        has_body = word in ("impl", "trait", "mod", "struct", "enum", "union") and self.bare.startswith("{", stop)
+        end = self.read_fn(item, stop) if word == "fn" else self.closed[stop] if has_body else self.end_of_statement(stop)
         if word == "impl":
-            item.name, (item.trait, item.owner) = item.header, trait_and_type(item.header)
-        item.text = text[above:end]
+            item.trait, item.owner = trait_and_type(item.header)
+            item.name = f"{item.trait} for {item.owner}"
+        item.text = self.lines(begin - len(comment.lstrip()), end)
         self.source.items.append(item)
-        if word in ("impl", "trait", "mod") and self.bare.startswith("{", stop):
+        if word in ("impl", "trait", "mod") and has_body:
             blocks.append((end, item))
             return stop + 1
         return end
 
-    def above(self, at):
-        """Where the comment and the attributes right above an item begin."""
-        line = self.text.rfind("\n", 0, at) + 1
-        while line:
-            before = self.text.rfind("\n", 0, line - 1) + 1
-            told = self.text[before:line].lstrip(" ")
-            if not told.startswith(("//", "#")) or told.startswith("//!"):
-                break
-            at, line = line - len(told), before
-        return at
-
-    def end_of(self, item, stop):
-        if self.bare.startswith("{", stop) and item.what in ("impl", "trait", "mod", "struct", "enum", "union"):
-            return self.closed[stop]
-        return self.end_of_statement(stop)
-
     def read_fn(self, item, at):
         while found := CLAUSE.match(self.bare, at):
-            at = self.closed[found.end()]
-            above = ABOVE.search(self.text[max(0, found.start("kind") - 5000):found.start("kind")])
+            at, begin = self.closed[found.end()], found.start("kind")
+            above = self.above(ABOVE, begin)
             comment = (above["comment"].strip(), bool(above["blank"])) if above else ("", False)
-            item.clauses.append(Clause(found["kind"], found["name"], self.text[found.end() + 1:at - 1].strip(), *comment))
+            text, whole = self.text[found.end() + 1:at - 1].strip(), self.lines(begin, at)
+            item.clauses.append(Clause(found["kind"], found["name"], text, whole, *comment))
         at = re.compile(r"\s*").match(self.bare, at).end()
         return self.closed[at] if self.bare.startswith("{", at) else at + 1
 
@@ -274,35 +260,28 @@ def read_module(file):
     """The definitions of an `.antt` file."""
     module, comment, current, indent = Module({}, {}, {}), [], None, ""
     for number, raw in enumerate(read(file).split("\n"), 1):
-        line = raw[len(indent):] if raw.startswith(indent) else raw
+        line = raw.removeprefix(indent)
         if line.startswith("--"):
             comment.append(line)
             continue
-        if not line.strip():
-            comment = []
-            continue
         if line.startswith("module "):
             # (what stands in a module is set in)
-            indent, comment, current = raw[: len(raw) - len(raw.lstrip())] + "  ", [], None
-            continue
-        if indent and not raw.startswith(indent):
-            line, indent = raw, ""
-        if line.startswith((" ", "}", ")")):
-            if current is not None:
+            indent, current = raw[: len(raw) - len(raw.lstrip())] + "  ", None
+        elif line.strip():
+            if not raw.startswith(indent):
+                line, indent = raw, ""
+            is_new = not line.startswith((" ", "}", ")"))
+            other, begins = is_new and OTHER.match(line), is_new and KEYWORDS.match(line) and BEGINS.match(line)
+            if other and other["word"] == "use":
+                for imports in (module.imports, module.passed_on) if "pub" in other["before"] else (module.imports,):
+                    take_use(imports, line)
+            if other:
+                current = None
+            elif begins:
+                current = Definition(begins["name"], file, number - len(comment), begins["kind"] or "word", [line], comment)
+                module.definitions.setdefault(begins["name"], current)
+            elif current is not None:
                 current.lines.append(line)
-            continue
-        other, begins = OTHER.match(line), BEGINS.match(line)
-        if other:
-            current = None
-            if other["word"] == "use":
-                take_use(module.imports, line)
-                if "pub" in other["before"]:
-                    take_use(module.passed_on, line)
-        elif KEYWORDS.match(line) and begins:
-            current = Definition(begins["name"], file, number - len(comment), begins["kind"] or "word", [line], comment)
-            module.definitions.setdefault(begins["name"], current)
-        elif current is not None:
-            current.lines.append(line)
         comment = []
     return module
 
@@ -329,13 +308,10 @@ class Library:
     MOUNTS = {"lib": "logic/Lib", "mir": "logic/Mir", "denote": "logic/Denote",
               "mathlib": "antt/port/mathlib/src", "native": "antt/lib/native/src"}
 
-    def __init__(self, own=False):
-        """With `own`, what stands in the kit is not looked for."""
-        self.own, self.kit = own, find_kit()
-        crates = os.path.join(ROOT, "crates")
-        self.crates = {name: os.path.join(crates, name) for name in sorted(os.listdir(crates))
-                       if os.path.isdir(os.path.join(crates, name))}
-        self.resolved, self.referred = {}, {}
+    def __init__(self):
+        self.kit = find_kit()
+        crates = sorted(os.scandir(os.path.join(ROOT, "crates")), key=lambda it: it.name)
+        self.crates = {it.name: it.path for it in crates if it.is_dir()}
 
     def is_own(self, file):
         return os.path.commonpath([ROOT, file]) == ROOT
@@ -353,6 +329,8 @@ class Library:
         """The files that a module may stand in."""
         first, *rest = module.split(".")
         if first == "Rattle" and len(rest) >= 2:
+            # (what a crate passes on of others, its definitions name in specs/Lib.antt)
+            rest += ["Lib"] if rest[1:] == ["specs"] else []
             return [os.path.join(folder, *rest[1:]) + ".antt" for folder in self.folders_of(rest[0])]
         return [os.path.join(self.kit, self.MOUNTS[first], *rest) + ".antt"] if self.kit and first in self.MOUNTS else []
 
@@ -381,42 +359,24 @@ class Library:
                             return item
         return None
 
-    def passed_by(self, module):
-        """The module that the definitions of a crate pass on under this name (`specs/Lib.antt`), or the same one."""
-        parts = module.split(".")
-        if len(parts) == 4 and parts[2] == "specs":
-            for folder in self.folders_of(parts[1]):
-                file = os.path.join(folder, "specs", "Lib.antt")
-                if os.path.exists(file):
-                    other, name = read_module(file).passed_on.get(parts[3], (module, ""))
-                    return module if name else other
-        return module
-
-    def resolve(self, module, name, depth=0):
-        """The definition, or the item of a `.rt` file, that a module has under a name, or None."""
-        module = self.passed_by(module)
-        if (module, name) not in self.resolved:
-            self.resolved[module, name] = self.declared(module, name) or self.look_up(module, name, depth)
-        return self.resolved[module, name]
-
-    def look_up(self, module, name, depth):
-        found = self.module(module)
-        if found is None or depth > 8:
-            return None
-        if name in found.definitions:
-            return found.definitions[name]
-        tables = [table for table in (found.passed_on, found.imports) if table.get(name, ("", ""))[1]]
-        return self.resolve(*tables[0][name], depth + 1) if tables else None
-
-    def origin(self, module, name):
-        """The module that has a name itself, at the end of those that pass it on."""
+    def chain(self, module, name):
+        """A module and a name in it, and then where that one has it from, to its origin. Each as it is passed on there."""
         for _ in range(8):
+            yield module, name
             found = self.module(module)
-            table = {**found.imports, **found.passed_on} if found else {}
-            if not table.get(name, ("", ""))[1]:
-                break
-            module, name = table[name]
-        return module
+            module, name = {**found.imports, **found.passed_on}.get(name, ("", "")) if found else ("", "")
+            if not name:
+                return
+
+    @functools.lru_cache(maxsize=None)
+    def resolve(self, module, name):
+        """The definition, or the item of a `.rt` file, that a module has under a name, or None."""
+        found = (self.declared(at, it) or self.definitions_of(at).get(it) for at, it in self.chain(module, name))
+        return next(filter(None, found), None)
+
+    def definitions_of(self, module):
+        found = self.module(module)
+        return found.definitions if found else {}
 
     def named_in(self, text, imports, definitions):
         """What a text names: definitions of its own file, and what the file imports. Yields the name in the
@@ -426,20 +386,11 @@ class Library:
             if is_named(name, tokens):
                 yield name, "", name, definition
         for name, (module, source) in imports.items():
-            is_looked_for = not self.own or module.startswith("Rattle.") and module.split(".")[1] in self.crates
-            if is_looked_for and source and name not in definitions and is_named(name, tokens):
+            if source and name not in definitions and is_named(name, tokens):
                 yield name, module, source, self.resolve(module, source)
         for alias, module in ((alias, module) for alias, (module, source) in imports.items() if not source):
             for name in re.findall(rf"(?<![\w.]){re.escape(alias)}\.(\w+)", text):
                 yield name, module, name, self.resolve(module, name)
-
-    def references(self, definition):
-        """What a definition of antt names, as `named_in` has it."""
-        if definition not in self.referred:
-            module = read_module(definition.file)
-            own = {name: other for name, other in module.definitions.items() if other is not definition}
-            self.referred[definition] = list(self.named_in(definition.text, module.imports, own))
-        return self.referred[definition]
 
     def crate_sources(self, crate):
         """The `.rt` files of a crate."""

@@ -1,0 +1,64 @@
+"""What scripts know of `include/minisign.h`: its constants, enums, structs and calls. What stands there in another form than
+these fails, so that nothing is passed over.
+"""
+
+import re
+from collections import namedtuple
+
+from sources import Unfit
+
+FILE = "include/minisign.h"
+
+NUMBER = re.compile(r"^#define MINISIGN_(\w+) (\d+|UINT32_MAX)$", re.M)
+TEXT = re.compile(r'^#define MINISIGN_(\w+) ("[^"]*")$', re.M)
+SIZE = re.compile(r"^#define MINISIGN_(\w+)\(([\w, ]+)\) \((\d+)(?: \+ \(size_t\) \(\w+\))+\)$", re.M)
+ENUM = re.compile(r"^enum minisign_(\w+) \{(.*?)^\};", re.M | re.S)
+MEMBER = re.compile(r"(?:/\*((?:(?!\*/).)*)\*/\s*)?MINISIGN_(\w+) = (0x[0-9a-f]+|\d+)", re.S)
+STRUCT = re.compile(r"^typedef struct (minisign_\w+) \{(.*?)^\} \1;", re.M | re.S)
+CALL = re.compile(r"^((?:enum )?\w+) (minisign_\w+)\(([^)]*)\);", re.M)
+VALUE = re.compile(r"(const )?((?:enum )?\w+) (\*?)(\w+)(?:\[(\d+)\])?")
+
+
+# The names in what follows are without `MINISIGN_`. A size grows with the lengths of what is put in.
+Size = namedtuple("Size", "name number lengths")
+Member = namedtuple("Member", "comment name number")
+Call = namedtuple("Call", "answer name parameters")
+# A parameter, or a field of a struct: as it is declared, and in parts. The count of an array is a number, and empty of others.
+Value = namedtuple("Value", "text const kind star name count")
+
+
+def value(text):
+    text = " ".join(text.split())
+    found = VALUE.fullmatch(text)
+    if not found:
+        raise Unfit(f"{FILE}: {text} is no parameter and no field that is read")
+    return Value(text, *(it or "" for it in found.groups()))
+
+
+class Header:
+    """What the text of the header declares."""
+
+    def __init__(self, text):
+        self.text = text
+        self.numbers = [(name, number.replace("UINT32_MAX", "0xffffffff")) for name, number in NUMBER.findall(text)]
+        self.texts = TEXT.findall(text)
+        self.sizes = [Size(name, number, lengths.split(", ")) for name, lengths, number in SIZE.findall(text)]
+        self.enums = {name: members(body) for name, body in ENUM.findall(text)}
+        bare = re.sub(r"(?m)^#.*\n|/\*(?:.|\n)*?\*/", "", text).replace("MINISIGN_MUST_USE ", "")
+        self.structs = {name: [value(it) for it in body.split(";")[:-1]] for name, body in STRUCT.findall(bare)}
+        self.calls = [Call(answer, name, [value(it) for it in parameters.split(",") if it.strip() != "void"])
+                      for answer, name, parameters in CALL.findall(bare)]
+        if len(self.calls) != len(re.findall(r"\bminisign_\w+\(", bare)):
+            raise Unfit(f"{FILE}: a call is not read")
+
+    @property
+    def errors(self):
+        return [it for it in self.enums["error"] if it.number]
+
+
+def members(body):
+    found = [Member(" ".join(comment.replace("*", " ").split()), name, int(number, 0))
+             for comment, name, number in MEMBER.findall(body)]
+    if len(found) != body.count(" = "):
+        raise Unfit(f"{FILE}: a member of an enum is not read:{body}")
+    return found
