@@ -1,16 +1,16 @@
--- The files that a folder in memory has made have numbers below that of the next one.
+-- The files that a directory in memory has made have numbers below that of the next one.
 use Rattle.std.proofs.Common.{Vec, ◌≡◌, ◌≢◌, inl, inr, ⊎_elim, ℕ, suc, ◌<◌, Bool, true, false, List, [], ◌∷◌, Option, Some, None, ap, sym, subst, ◌∙◌, refl, cond, arith}
 use Rattle.std.proofs.lemmas.Bool.{cases_Bool, cond-true, cond-false, eq-eqb, ne_eqb}
 use Rattle.std.proofs.lemmas.Slice.Eq.{bytes_eq-Decides}
 use Rattle.std.specs.declared.alloc.Global.{Global}
 use Rattle.std.specs.Prelude.{◌==◌, ◌||◌, bytes_eq}
-use Rattle.minisign_install.specs.Folders.{GivesRights, HasCreated, HasStepped, OwnsTheSame, OtherProcesses, Moment}
+use Rattle.minisign_install.specs.Directories.{GivesPermissions, HasCreated, HasStepped, OwnsTheSame, OtherProcesses, Moment}
 use Rattle.minisign_caller_vectors.specs.Memory.{Past, after, beginning, is_file, is_same, past, past_from, count_of, owned_by, past_of, rested, run_of, known_run, with_own}
-use Rattle.minisign_install.specs.declared.folders.Name.{Name}
+use Rattle.minisign_install.specs.declared.directories.Name.{Name}
 use Rattle.minisign_caller_vectors.specs.declared.memory.calls.Call.{Call}
-use Rattle.minisign_caller_vectors.specs.declared.memory.calls.Call.TheVariants.{Created, Written, Settled, Renamed, NamesSettled, Removed, Cleared}
+use Rattle.minisign_caller_vectors.specs.declared.memory.calls.Call.TheVariants.{Created, Written, Synced, Renamed, DirectorySynced, Removed, Cleared}
 use Rattle.minisign_caller_vectors.specs.declared.memory.calls.Entry.{Entry}
-use Rattle.minisign_caller_vectors.specs.declared.memory.MemoryFolder.{MemoryFolder}
+use Rattle.minisign_caller_vectors.specs.declared.memory.MemoryDirectory.{MemoryDirectory}
 
 pub record IsBounded (p : Past) : Type 0 where
   pub stages : (s : List ℕ) (f : ℕ) → p.now.stages s ≡ Some f → f < p.made
@@ -50,7 +50,7 @@ bounded_after p (Created name) b = record {
   left = λ n f e. omega (arith, b.left n f e);
 }
 bounded_after p (Written file bytes) b = record { stages = b.stages; leads = b.leads; left = b.left }
-bounded_after p (Settled file) b = record { stages = b.stages; leads = b.leads; left = b.left }
+bounded_after p (Synced file) b = record { stages = b.stages; leads = b.leads; left = b.left }
 bounded_after p (Renamed name to) b = record {
   stages = λ s f e. either (bytes_eq s name.items) None (p.now.stages s) f p.made e (λ none. absurd (none_some f none)) (b.stages s f);
   leads = λ n f e. either (is_same n to) (p.now.stages name.items) (p.now.leads n) f p.made e (b.stages name.items f) (b.leads n f);
@@ -58,7 +58,7 @@ bounded_after p (Renamed name to) b = record {
       (λ some. or_left (p.now.left n f) (is_file (p.now.leads n) f) f p.made some (b.left n f) (λ lead. file_left (p.now.leads n) f p.made lead (b.leads n)))
       (b.left n f);
 }
-bounded_after p NamesSettled b = record { stages = b.stages; leads = b.leads; left = λ n f e. absurd (false_true e) }
+bounded_after p DirectorySynced b = record { stages = b.stages; leads = b.leads; left = λ n f e. absurd (false_true e) }
 bounded_after p (Removed name) b = record {
   stages = λ s f e. either (bytes_eq s name.items) None (p.now.stages s) f p.made e (λ none. absurd (none_some f none)) (b.stages s f);
   leads = b.leads;
@@ -77,38 +77,38 @@ bounded_from p (e ∷ es) b =
 bounded_beginning : IsBounded beginning
 bounded_beginning = record { stages = λ s f e. absurd (none_some f e); leads = λ n f e. absurd (none_some f e); left = λ n f e. absurd (false_true e) }
 
-pub bounded : (folder : MemoryFolder) → IsBounded (past_of folder)
-bounded folder = bounded_rested (count_of folder.stills) (past folder.entries.items) (bounded_from beginning folder.entries.items bounded_beginning)
+pub bounded : (directory : MemoryDirectory) → IsBounded (past_of directory)
+bounded directory = bounded_rested (count_of directory.stills) (past directory.entries.items) (bounded_from beginning directory.entries.items bounded_beginning)
 
--- nobody else holds the lock, and everyone has all rights
+-- nobody else holds the lock, and everyone has all permissions
 record IsPlain (m : Moment) : Type 0 where
-  rights : (f : ℕ) → m.rights f ≡ true
+  permissions : (f : ℕ) → m.permissions f ≡ true
   alone : m.busy ≡ false
 
 plain_after : (p : Past) (call : Call) → IsPlain p.now → IsPlain (after p call).now
-plain_after p (Created name) plain = record { rights = plain.rights; alone = plain.alone }
-plain_after p (Written file bytes) plain = record { rights = plain.rights; alone = plain.alone }
-plain_after p (Settled file) plain = record { rights = plain.rights; alone = plain.alone }
-plain_after p (Renamed name to) plain = record { rights = plain.rights; alone = plain.alone }
-plain_after p NamesSettled plain = record { rights = plain.rights; alone = plain.alone }
-plain_after p (Removed name) plain = record { rights = plain.rights; alone = plain.alone }
-plain_after p Cleared plain = record { rights = plain.rights; alone = plain.alone }
+plain_after p (Created name) plain = record { permissions = plain.permissions; alone = plain.alone }
+plain_after p (Written file bytes) plain = record { permissions = plain.permissions; alone = plain.alone }
+plain_after p (Synced file) plain = record { permissions = plain.permissions; alone = plain.alone }
+plain_after p (Renamed name to) plain = record { permissions = plain.permissions; alone = plain.alone }
+plain_after p DirectorySynced plain = record { permissions = plain.permissions; alone = plain.alone }
+plain_after p (Removed name) plain = record { permissions = plain.permissions; alone = plain.alone }
+plain_after p Cleared plain = record { permissions = plain.permissions; alone = plain.alone }
 
 plain_from : (p : Past) (es : List Entry) → IsPlain p.now → IsPlain (past_from p es).now
 plain_from p [] plain = plain
 plain_from p (e ∷ es) plain =
-    plain_from (after (rested (count_of e.stills) p) e.call) es (plain_after (rested (count_of e.stills) p) e.call (record { rights = plain.rights; alone = plain.alone }))
+    plain_from (after (rested (count_of e.stills) p) e.call) es (plain_after (rested (count_of e.stills) p) e.call (record { permissions = plain.permissions; alone = plain.alone }))
 
-plain : (folder : MemoryFolder) → IsPlain (past_of folder).now
-plain folder =
-    let is = plain_from beginning folder.entries.items (record { rights = λ f. refl; alone = refl }) in
-    record { rights = is.rights; alone = is.alone }
+plain : (directory : MemoryDirectory) → IsPlain (past_of directory).now
+plain directory =
+    let is = plain_from beginning directory.entries.items (record { permissions = λ f. refl; alone = refl }) in
+    record { permissions = is.permissions; alone = is.alone }
 
-pub all_rights : (folder : MemoryFolder) (f : ℕ) → (past_of folder).now.rights f ≡ true
-all_rights folder = (plain folder).rights
+pub all_permissions : (directory : MemoryDirectory) (f : ℕ) → (past_of directory).now.permissions f ≡ true
+all_permissions directory = (plain directory).permissions
 
-pub alone : (folder : MemoryFolder) → (past_of folder).now.busy ≡ false
-alone folder = (plain folder).alone
+pub alone : (directory : MemoryDirectory) → (past_of directory).now.busy ≡ false
+alone directory = (plain directory).alone
 
 -- nobody else does anything
 pub nobody : (owns : List ℕ → Bool) (m : Moment) → OtherProcesses true owns m m
@@ -116,7 +116,7 @@ nobody owns m = record {
   stages = λ s o. refl;
   holds = λ s f o e. refl;
   on_disk = λ s f o e. refl;
-  rights = λ s f o e. refl;
+  permissions = λ s f o e. refl;
   apart = λ s f o e a. a;
   record_left = λ l. record { leads = refl; left = λ f e. inr e; holds = λ f lead. refl; on_disk = λ f lead e. e };
 }
@@ -134,11 +134,11 @@ other_bytes s name differs = elim (cases_Bool (bytes_eq s name)) [
 ]
 
 -- a call that changed nothing
-pub rested_step : (folder new : MemoryFolder) (call : Moment → Moment → Type 0) → past_of new ≡ rested 1 (past_of folder) → new.owned ≡ folder.owned → call (past_of folder).now (past_of folder).now
-    → HasStepped (run_of folder) (run_of new) call × OwnsTheSame (run_of folder) (run_of new)
-rested_step folder new call is own this =
-    let p = past_of folder in
-    let owns = owned_by folder.owned in
+pub rested_step : (directory new : MemoryDirectory) (call : Moment → Moment → Type 0) → past_of new ≡ rested 1 (past_of directory) → new.owned ≡ directory.owned → call (past_of directory).now (past_of directory).now
+    → HasStepped (run_of directory) (run_of new) call × OwnsTheSame (run_of directory) (run_of new)
+rested_step directory new call is own this =
+    let p = past_of directory in
+    let owns = owned_by directory.owned in
     let at : HasStepped (known_run p owns) (known_run (rested 1 p) owns) call × OwnsTheSame (known_run p owns) (known_run (rested 1 p) owns) = (
       record { before = p.now; others = nobody owns p.now; this = this; noted = refl; known = refl; locked = λ l. l },
       record { owns = refl },
@@ -146,15 +146,15 @@ rested_step folder new call is own this =
     subst (λ o. HasStepped (known_run p owns) (known_run (past_of new) (owned_by o)) call × OwnsTheSame (known_run p owns) (known_run (past_of new) (owned_by o))) (sym own)
     (subst (λ q. HasStepped (known_run p owns) (known_run q owns) call × OwnsTheSame (known_run p owns) (known_run q owns)) (sym is) at)
 
--- everyone has all rights
-pub rights_given : (folder : MemoryFolder) (file : ℕ) → GivesRights file (past_of folder).now (past_of folder).now
-rights_given folder file = record {
+-- everyone has all permissions
+pub permissions_given : (directory : MemoryDirectory) (file : ℕ) → GivesPermissions file (past_of directory).now (past_of directory).now
+permissions_given directory file = record {
   spoils = record {
-    only = record { leads = refl; left = refl; holds = λ f other. refl; on_disk = λ f other. refl; rights = λ f other. refl };
+    only = record { leads = refl; left = refl; holds = λ f other. refl; on_disk = λ f other. refl; permissions = λ f other. refl };
     stages = refl;
   };
   same = refl;
-  given = all_rights folder file;
+  given = all_permissions directory file;
 }
 
 -- a stage is made under a name that is free
@@ -169,7 +169,7 @@ made_at p owns v b free = record {
         left = refl;
         holds = λ f other. cond-false (f == p.made) [] (p.now.holds f) (ne_eqb f p.made other);
         on_disk = λ f other. cond-false (f == p.made) false (p.now.on_disk f) (ne_eqb f p.made other);
-        rights = λ f other. refl;
+        permissions = λ f other. refl;
       };
       apart = λ n lead. ⊎_elim (λ e. not_itself p.made (b.leads n p.made e)) (λ e. not_itself p.made (b.left n p.made e)) lead;
       fresh = λ s e. not_itself p.made (b.stages s p.made e);
@@ -188,12 +188,12 @@ made_at p owns v b free = record {
   };
 }
 
-pub created : (folder : MemoryFolder) (q : Past) (owned : List ℕ → Bool) (v : Vec ℕ Global) (name : List ℕ) (file : ℕ) → (past_of folder).now.stages name ≡ None → v.items ≡ name
-    → file ≡ (past_of folder).made → q ≡ after (past_of folder) (Created v) → owned ≡ with_own (owned_by folder.owned) name → HasCreated name file (run_of folder) (known_run q owned)
-created folder q owned v name file free named numbered is own =
-    let p = past_of folder in
-    let owns = owned_by folder.owned in
-    let at = made_at p owns v (bounded folder) (ap (λ s. p.now.stages s) named ∙ free) in
+pub created : (directory : MemoryDirectory) (q : Past) (owned : List ℕ → Bool) (v : Vec ℕ Global) (name : List ℕ) (file : ℕ) → (past_of directory).now.stages name ≡ None → v.items ≡ name
+    → file ≡ (past_of directory).made → q ≡ after (past_of directory) (Created v) → owned ≡ with_own (owned_by directory.owned) name → HasCreated name file (run_of directory) (known_run q owned)
+created directory q owned v name file free named numbered is own =
+    let p = past_of directory in
+    let owns = owned_by directory.owned in
+    let at = made_at p owns v (bounded directory) (ap (λ s. p.now.stages s) named ∙ free) in
     subst (λ o. HasCreated name file (known_run p owns) (known_run q o)) (sym own)
     (subst (λ r. HasCreated name file (known_run p owns) (known_run r (with_own owns name))) (sym is)
     (subst (λ f. HasCreated name f (known_run p owns) (known_run (after p (Created v)) (with_own owns name))) (sym numbered)

@@ -1,16 +1,16 @@
--- Installing in a folder in memory: nobody else changes the record or holds the lock.
+-- Installing in a directory in memory: nobody else changes the record or holds the lock.
 use Rattle.std.proofs.Common.{◌≡◌, inl, ⊎_elim, ℕ, Bool, true, List, Option, Some, None, ap, sym, subst, ◌∙◌, refl}
 use Rattle.std.proofs.lemmas.Bool.{true≢false}
 use Rattle.std.specs.declared.result.Result.{Result}
 use Rattle.minisign.specs.Acceptance.{Verifier}
-use Rattle.minisign_install.specs.Folders.{HasLocked, HasStepped, IsBusy, IsFound, RecordUnchanged, Moment, Run}
+use Rattle.minisign_install.specs.Directories.{HasLocked, HasStepped, IsBusy, IsFound, RecordUnchanged, Moment, Run}
 use Rattle.minisign_caller_vectors.specs.InMemory.{InstallsAt}
 use Rattle.minisign_install.specs.Installing.{Terms}
 use Rattle.minisign_caller_vectors.specs.Memory.{past_of, run_of}
 use Rattle.minisign_install.specs.Refusals.{Counts, InstallsExactly}
 use Rattle.minisign_install.specs.declared.faults.InstallFault.{InstallFault}
-use Rattle.minisign_install.specs.declared.folders.Name.TheVariants.{Record}
-use Rattle.minisign_caller_vectors.specs.declared.memory.MemoryFolder.{MemoryFolder}
+use Rattle.minisign_install.specs.declared.directories.Name.TheVariants.{Record}
+use Rattle.minisign_caller_vectors.specs.declared.memory.MemoryDirectory.{MemoryDirectory}
 use Rattle.minisign_caller_vectors.proofs.Bounds.{alone}
 
 found_before : (m m' : Moment) (found : Option (List ℕ)) → RecordUnchanged m m' → IsFound m' Record found → IsFound m Record found
@@ -26,12 +26,12 @@ found_at_lock found old locked held got there =
     found_before old.now s.before found (s.others.record_left held) (subst (λ m. IsFound m Record found) s.this.0 there)
 
 -- the lock is not held by another run
-never_in_use : (old : Run) (new : MemoryFolder) → HasStepped old (run_of new) IsBusy → ⊥
+never_in_use : (old : Run) (new : MemoryDirectory) → HasStepped old (run_of new) IsBusy → ⊥
 never_in_use old new s =
     let (same, busy) = s.this in
     true≢false (sym busy ∙ sym (ap (λ m. m.busy) same) ∙ alone new)
 
-pub installs_at : {T : Type 0} (accepts : Verifier) (terms : Terms) (first : Bool) (ahead : Option (List ℕ)) (before after : Counts) (old new : MemoryFolder) (r : Result T InstallFault)
+pub installs_at : {T : Type 0} (accepts : Verifier) (terms : Terms) (first : Bool) (ahead : Option (List ℕ)) (before after : Counts) (old new : MemoryDirectory) (r : Result T InstallFault)
     → InstallsExactly accepts terms first ahead before after (run_of old) (run_of new) r → InstallsAt accepts terms first ahead before after (past_of old).now r
 installs_at accepts terms first ahead before after old new r exactly memory no_new_fault =
     ⊎_elim (λ (busy, said). absurd (never_in_use (run_of old) new busy))

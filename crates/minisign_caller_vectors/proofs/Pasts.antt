@@ -1,8 +1,8 @@
--- What calls make of a folder in memory.
+-- What calls make of a directory in memory.
 use Rattle.std.proofs.Common.{◌≡◌, ℕ, List, [], ◌∷◌, ◌++◌, Option, Some, ap, ◌∙◌, refl}
-use Rattle.minisign_install.specs.Folders.{Moment}
+use Rattle.minisign_install.specs.Directories.{Moment}
 use Rattle.minisign_caller_vectors.specs.Memory.{Past, after, beginning, count_of, made_after, moment_after, past, past_from, rested}
-use Rattle.minisign_install.specs.declared.folders.Name.{Name}
+use Rattle.minisign_install.specs.declared.directories.Name.{Name}
 use Rattle.minisign_caller_vectors.specs.declared.memory.calls.Entry.{Entry}
 
 -- one more entry

@@ -1,10 +1,10 @@
--- A folder in memory, known by its calls.
+-- A directory in memory, known by its calls.
 use Rattle.std.specs.Prelude.{ℕ, suc, zero, Bool, true, false, List, [], ◌∷◌, ◌++◌, ◌==◌, ◌||◌, if◌then◌else◌, Option, Some, None, bytes_eq}
-use Rattle.minisign_install.specs.Folders.{Moment, Run, RunStep}
-use Rattle.minisign_install.specs.declared.folders.Name.{Name}
-use Rattle.minisign_install.specs.declared.folders.Name.TheVariants.{Place, Record}
+use Rattle.minisign_install.specs.Directories.{Moment, Run, RunStep}
+use Rattle.minisign_install.specs.declared.directories.Name.{Name}
+use Rattle.minisign_install.specs.declared.directories.Name.TheVariants.{Place, Record}
 use Rattle.minisign_caller_vectors.specs.declared.memory.calls.Call.{Call}
-use Rattle.minisign_caller_vectors.specs.declared.memory.calls.Call.TheVariants.{Created, Written, Settled, Renamed, NamesSettled, Removed, Cleared}
+use Rattle.minisign_caller_vectors.specs.declared.memory.calls.Call.TheVariants.{Created, Written, Synced, Renamed, DirectorySynced, Removed, Cleared}
 use Rattle.minisign_caller_vectors.specs.declared.memory.calls.Change.{Change}
 use Rattle.minisign_caller_vectors.specs.declared.memory.calls.Change.TheVariants.{Made, Gone, Stays}
 use Rattle.minisign_caller_vectors.specs.declared.memory.calls.Entry.{Entry}
@@ -12,10 +12,10 @@ use Rattle.minisign_caller_vectors.specs.declared.memory.tally.Tally.{Tally}
 use Rattle.minisign_caller_vectors.specs.declared.memory.tally.Tally.TheVariants.{Nothing, More'}
 use Rattle.minisign_caller_vectors.specs.declared.memory.owned.Owned.{Owned}
 use Rattle.minisign_caller_vectors.specs.declared.memory.owned.Owned.TheVariants.{Nothing as NoneMade, Made' as MadeMore, LetGo'}
-use Rattle.minisign_caller_vectors.specs.declared.memory.MemoryFolder.{MemoryFolder}
+use Rattle.minisign_caller_vectors.specs.declared.memory.MemoryDirectory.{MemoryDirectory}
 use Rattle.minisign_install.specs.Names.{drawn_bytes}
 
--- a run of a folder in memory, and how many files it made: the next one has that number
+-- a run of a directory in memory, and how many files it made: the next one has that number
 pub record Past : Type 0 where
   pub now : Moment
   pub steps : List RunStep
@@ -42,13 +42,13 @@ moment_after made m (Written file bytes) = record m {
   holds = λ g. if g == file then m.holds g ++ bytes.items else m.holds g;
   on_disk = λ g. if g == file then false else m.on_disk g;
 }
-moment_after made m (Settled file) = record m { on_disk = λ g. if g == file then true else m.on_disk g }
+moment_after made m (Synced file) = record m { on_disk = λ g. if g == file then true else m.on_disk g }
 moment_after made m (Renamed name to) = record m {
   leads = λ n. if is_same n to then m.stages name.items else m.leads n;
   stages = λ s. if bytes_eq s name.items then None else m.stages s;
   left = λ n g. if is_same n to then (m.left n g || is_file (m.leads n) g) else m.left n g;
 }
-moment_after made m NamesSettled = record m { left = λ _ _. false }
+moment_after made m DirectorySynced = record m { left = λ _ _. false }
 moment_after made m (Removed name) = record m { stages = λ s. if bytes_eq s name.items then None else m.stages s }
 moment_after made m Cleared = record m { stages = λ _. None }
 
@@ -61,9 +61,9 @@ changed Stays made before = before
 abbrev pub made_after : ℕ → Call → ℕ
 made_after made (Created name) = suc made
 made_after made (Written file bytes) = made
-made_after made (Settled file) = made
+made_after made (Synced file) = made
 made_after made (Renamed name to) = made
-made_after made NamesSettled = made
+made_after made DirectorySynced = made
 made_after made (Removed name) = made
 made_after made Cleared = made
 
@@ -88,7 +88,7 @@ still_steps (suc n) m steps = record { before = m; after = m } ∷ still_steps n
 abbrev pub rested : ℕ → Past → Past
 rested n p = record { now = p.now; steps = still_steps n p.now p.steps; made = p.made }
 
--- an empty folder
+-- an empty directory
 abbrev pub beginning : Past
 beginning = record {
   now = record {
@@ -97,7 +97,7 @@ beginning = record {
     holds = λ _. [];
     on_disk = λ _. false;
     left = λ _ _. false;
-    rights = λ _. true;
+    permissions = λ _. true;
     fixed = λ _. false;
     busy = false;
   };
@@ -113,9 +113,9 @@ past_from p (e ∷ es) = past_from (after (rested (count_of e.stills) p) e.call)
 abbrev pub past : List Entry → Past
 past es = past_from beginning es
 
--- what is past of a folder in memory
-abbrev pub past_of : MemoryFolder → Past
-past_of folder = rested (count_of folder.stills) (past folder.entries.items)
+-- what is past of a directory in memory
+abbrev pub past_of : MemoryDirectory → Past
+past_of directory = rested (count_of directory.stills) (past directory.entries.items)
 
 -- one more name is the run's own, or one is not any longer
 abbrev pub with_own : (List ℕ → Bool) → List ℕ → List ℕ → Bool
@@ -130,9 +130,9 @@ owned_by NoneMade = λ _. false
 owned_by (MadeMore name marker before) = with_own (owned_by before) (drawn_bytes name.value)
 owned_by (LetGo' name marker before) = without_own (owned_by before) (drawn_bytes name.value)
 
--- All the run of the folder is known. Nobody else uses the folder, so its lock is always held.
+-- All the run of the directory is known. Nobody else uses the directory, so its lock is always held.
 abbrev pub known_run : Past → (List ℕ → Bool) → Run
 known_run p owns = record { known = true; now = p.now; steps = p.steps; owns = owns; locked = true }
 
-abbrev pub run_of : MemoryFolder → Run
-run_of folder = known_run (past_of folder) (owned_by folder.owned)
+abbrev pub run_of : MemoryDirectory → Run
+run_of directory = known_run (past_of directory) (owned_by directory.owned)

@@ -1,19 +1,19 @@
-//! Updates that are installed in a folder in memory: what stands at the place and in the record
+//! Updates that are installed in a directory in memory: what stands at the place and in the record
 //! after each call, and what is refused; and one over real files, with permissions that are asked for.
 //!
 //! The texts are of the toy scheme, under its key of 32 zeros; `tests/shared/toy.py` makes such texts.
 
-use crate::memory::{MemoryFolder, install_in_memory};
+use crate::memory::{MemoryDirectory, install_in_memory};
 use minisign::{ErrorKind, NamedFault};
 use minisign_base::devices::random_sources::FixedRandom;
 use minisign_base::devices::sources::SliceSource;
 use minisign_base::toy::ToyScheme;
 use minisign_fixtures::folders::{folder_path, make_empty, path_of};
 use minisign_install::{
-    Folder, InstallFault, Installed, Name, Numbering, Offer, StageName, Wanted, check_update,
+    Directory, InstallFault, Installed, Name, Numbering, Offer, StageName, Wanted, check_update,
     install_unless_there,
 };
-use minisign_install_files::{FileFolder, install_files};
+use minisign_install_files::{FileDirectory, install_files};
 use std::alloc::Global;
 use std::fs;
 use std::os::unix::fs::MetadataExt;
@@ -58,7 +58,7 @@ const DRAWN: [u8; 32] = [
 // Installs an update of the file `app`.
 fn install(
     alloc: Global,
-    folder: &mut MemoryFolder,
+    directory: &mut MemoryDirectory,
     drawn: &[u8],
     data: &[u8],
     sig_text: &str,
@@ -71,13 +71,13 @@ fn install(
         numbering: Numbering::Timestamp,
         moment: NOW,
     };
-    install_wanted(alloc, folder, drawn, data, wanted, is_first)
+    install_wanted(alloc, directory, drawn, data, wanted, is_first)
 }
 
 // Installs what is wanted.
 fn install_wanted(
     alloc: Global,
-    folder: &mut MemoryFolder,
+    directory: &mut MemoryDirectory,
     drawn: &[u8],
     data: &[u8],
     wanted: Wanted<'_>,
@@ -90,7 +90,7 @@ fn install_wanted(
         wanted,
         is_first,
         &mut SliceSource::new(data),
-        folder,
+        directory,
     )
 }
 
@@ -103,20 +103,20 @@ fn named(refusal: &Option<InstallFault>) -> Option<NamedFault> {
 }
 
 // Whether just these bytes stand at the place and in the record.
-fn holds(folder: &MemoryFolder, place: &[u8], record: &[u8]) -> bool {
-    stands(folder, Name::Place, place) && stands(folder, Name::Record, record)
+fn holds(directory: &MemoryDirectory, place: &[u8], record: &[u8]) -> bool {
+    stands(directory, Name::Place, place) && stands(directory, Name::Record, record)
 }
 
-fn stands(folder: &MemoryFolder, name: Name, bytes: &[u8]) -> bool {
-    match folder.find(name) {
+fn stands(directory: &MemoryDirectory, name: Name, bytes: &[u8]) -> bool {
+    match directory.find(name) {
         Ok(Some(found)) => found.as_slice() == bytes,
         _ => false,
     }
 }
 
 // Whether nothing stands at the name.
-fn is_free(folder: &MemoryFolder, name: Name) -> bool {
-    match folder.find(name) {
+fn is_free(directory: &MemoryDirectory, name: Name) -> bool {
+    match directory.find(name) {
         Ok(None) => true,
         _ => false,
     }
@@ -125,14 +125,14 @@ fn is_free(folder: &MemoryFolder, name: Name) -> bool {
 // Whether the update is installed, and stands with this number.
 fn installs(
     alloc: Global,
-    folder: &mut MemoryFolder,
+    directory: &mut MemoryDirectory,
     update: &[u8],
     sig_text: &str,
     is_first: bool,
     record: &[u8],
 ) -> bool {
-    let installed = install(alloc, folder, &DRAWN, update, sig_text, is_first).is_ok();
-    installed && holds(folder, update, record)
+    let installed = install(alloc, directory, &DRAWN, update, sig_text, is_first).is_ok();
+    installed && holds(directory, update, record)
 }
 
 // Why the update is refused behind `second`, where that stays.
@@ -142,12 +142,19 @@ fn refusal_behind_second(
     update: &[u8],
     sig_text: &str,
 ) -> Option<InstallFault> {
-    let mut folder = MemoryFolder::new(alloc);
-    if !installs(alloc, &mut folder, b"second", SECOND, true, b"timestamp:6") {
+    let mut directory = MemoryDirectory::new(alloc);
+    if !installs(
+        alloc,
+        &mut directory,
+        b"second",
+        SECOND,
+        true,
+        b"timestamp:6",
+    ) {
         return None;
     }
-    let refusal = install(alloc, &mut folder, drawn, update, sig_text, false).err();
-    if holds(&folder, b"second", b"timestamp:6") {
+    let refusal = install(alloc, &mut directory, drawn, update, sig_text, false).err();
+    if holds(&directory, b"second", b"timestamp:6") {
         refusal
     } else {
         None
@@ -157,10 +164,28 @@ fn refusal_behind_second(
 #[test]
 fn updates_are_installed_one_after_another(rt: HostRuntime) {
     let alloc = rt.alloc();
-    let mut folder = MemoryFolder::new(alloc);
-    assert!(rt; installs(alloc, &mut folder, b"first", FIRST, true, b"timestamp:5"));
-    assert!(rt; installs(alloc, &mut folder, b"second", SECOND, false, b"timestamp:6"));
-    assert!(rt; installs(alloc, &mut folder, b"second", SECOND, false, b"timestamp:6"));
+    let mut directory = MemoryDirectory::new(alloc);
+    assert!(rt; installs(alloc, &mut directory, b"first", FIRST, true, b"timestamp:5"));
+    assert!(rt;
+        installs(
+            alloc,
+            &mut directory,
+            b"second",
+            SECOND,
+            false,
+            b"timestamp:6"
+        )
+    );
+    assert!(rt;
+        installs(
+            alloc,
+            &mut directory,
+            b"second",
+            SECOND,
+            false,
+            b"timestamp:6"
+        )
+    );
 }
 
 #[test]
@@ -178,10 +203,10 @@ fn what_the_texts_do_not_vouch_for_is_refused(rt: HostRuntime) {
 // Whether an update that is not the first one is refused where no number is kept, and nothing is
 // installed.
 fn is_refused_without_a_number(alloc: Global) -> bool {
-    let mut folder = MemoryFolder::new(alloc);
-    let answer = install(alloc, &mut folder, &DRAWN, b"first", FIRST, false);
+    let mut directory = MemoryDirectory::new(alloc);
+    let answer = install(alloc, &mut directory, &DRAWN, b"first", FIRST, false);
     let refused = matches!(answer, Err(InstallFault::NoRecord));
-    refused && is_free(&folder, Name::Place) && is_free(&folder, Name::Record)
+    refused && is_free(&directory, Name::Place) && is_free(&directory, Name::Record)
 }
 
 #[test]
@@ -197,8 +222,15 @@ fn a_sign_before_a_number_is_refused(rt: HostRuntime) {
 
 // Why an update by its version is refused behind `second`, which is kept by its timestamp, where that stays.
 fn refusal_by_version(alloc: Global, is_first: bool) -> Option<InstallFault> {
-    let mut folder = MemoryFolder::new(alloc);
-    if !installs(alloc, &mut folder, b"second", SECOND, true, b"timestamp:6") {
+    let mut directory = MemoryDirectory::new(alloc);
+    if !installs(
+        alloc,
+        &mut directory,
+        b"second",
+        SECOND,
+        true,
+        b"timestamp:6",
+    ) {
         return None;
     }
     let wanted = Wanted {
@@ -208,8 +240,8 @@ fn refusal_by_version(alloc: Global, is_first: bool) -> Option<InstallFault> {
         numbering: Numbering::Version,
         moment: NOW,
     };
-    let refusal = install_wanted(alloc, &mut folder, &DRAWN, b"second", wanted, is_first).err();
-    if holds(&folder, b"second", b"timestamp:6") {
+    let refusal = install_wanted(alloc, &mut directory, &DRAWN, b"second", wanted, is_first).err();
+    if holds(&directory, b"second", b"timestamp:6") {
         refusal
     } else {
         None
@@ -233,13 +265,13 @@ fn a_name_that_is_drawn_twice_is_refused(rt: HostRuntime) {
 
 // Whether a first update is installed at this path, with these permissions.
 fn installs_at(rt: &HostRuntime, place: &str, mode: u32) -> bool {
-    let Some(mut folder) = FileFolder::of_place(rt, place, Some(mode)) else {
+    let Some(mut directory) = FileDirectory::of_place(rt, place, Some(mode)) else {
         return false;
     };
     let wanted = Wanted {
         pk_text: KEY_TEXT,
         sig_text: FIRST,
-        file: folder.name(),
+        file: directory.name(),
         numbering: Numbering::Timestamp,
         moment: NOW,
     };
@@ -251,7 +283,7 @@ fn installs_at(rt: &HostRuntime, place: &str, mode: u32) -> bool {
         true,
         false,
         &mut update,
-        &mut folder,
+        &mut directory,
     )
     .is_ok()
 }
@@ -260,12 +292,12 @@ fn installs_at(rt: &HostRuntime, place: &str, mode: u32) -> bool {
 fn a_new_file_gets_the_permissions_that_are_asked_for(
     rt: HostRuntime,
 ) -> std::result::Result<(), Fail> {
-    let folder = folder_path(&rt, "installing")?;
-    make_empty(&rt, folder.as_str())?;
-    let place = path_of(&rt, folder.as_str(), "app")?;
+    let directory = folder_path(&rt, "installing")?;
+    make_empty(&rt, directory.as_str())?;
+    let place = path_of(&rt, directory.as_str(), "app")?;
     assert!(rt; installs_at(&rt, place.as_str(), 0o640));
     assert!(rt; fs::metadata(&rt, place.as_str())?.mode() & 0o777 == 0o640);
-    fs::remove_dir_all(&rt, folder.as_str())?;
+    fs::remove_dir_all(&rt, directory.as_str())?;
     Ok(())
 }
 
@@ -365,17 +397,25 @@ fn wanted_at(sig_text: &str, moment: u64) -> Wanted<'_> {
 #[test]
 fn an_update_is_installed_until_it_expires(rt: HostRuntime) {
     let alloc = rt.alloc();
-    let mut folder = MemoryFolder::new(alloc);
+    let mut directory = MemoryDirectory::new(alloc);
     let at_its_end = wanted_at(EXPIRING, 2000);
-    let refusal = install_wanted(alloc, &mut folder, &DRAWN, b"second", at_its_end, true).err();
+    let refusal = install_wanted(alloc, &mut directory, &DRAWN, b"second", at_its_end, true).err();
     assert!(rt; matches!(refusal, Some(InstallFault::Expired)));
-    let refusal = install(alloc, &mut folder, &DRAWN, b"second", EXPIRING_TWICE, true).err();
+    let refusal = install(
+        alloc,
+        &mut directory,
+        &DRAWN,
+        b"second",
+        EXPIRING_TWICE,
+        true,
+    )
+    .err();
     assert!(rt; matches!(refusal, Some(InstallFault::BadExpiry)));
-    assert!(rt; is_free(&folder, Name::Place) && is_free(&folder, Name::Record));
+    assert!(rt; is_free(&directory, Name::Place) && is_free(&directory, Name::Record));
     assert!(rt;
         installs(
             alloc,
-            &mut folder,
+            &mut directory,
             b"second",
             EXPIRING,
             true,
@@ -387,7 +427,7 @@ fn an_update_is_installed_until_it_expires(rt: HostRuntime) {
 // What a check answers of the text of a signature.
 fn offer(
     alloc: Global,
-    folder: &mut MemoryFolder,
+    directory: &mut MemoryDirectory,
     sig_text: &str,
     moment: u64,
     is_first: bool,
@@ -398,44 +438,53 @@ fn offer(
         &scheme,
         wanted_at(sig_text, moment),
         is_first,
-        folder,
+        directory,
     )
 }
 
 #[test]
 fn a_check_tells_what_an_update_is_beside_the_kept_one(rt: HostRuntime) {
     let alloc = rt.alloc();
-    let mut folder = MemoryFolder::new(alloc);
-    let refusal = offer(alloc, &mut folder, FIRST, NOW, false).err();
+    let mut directory = MemoryDirectory::new(alloc);
+    let refusal = offer(alloc, &mut directory, FIRST, NOW, false).err();
     assert!(rt; matches!(refusal, Some(InstallFault::NoRecord)));
-    let told = offer(alloc, &mut folder, FIRST, NOW, true).ok();
+    let told = offer(alloc, &mut directory, FIRST, NOW, true).ok();
     assert!(rt; told == Some((Offer::Newer, 5)));
-    assert!(rt; is_free(&folder, Name::Place) && is_free(&folder, Name::Record));
-    assert!(rt; installs(alloc, &mut folder, b"first", FIRST, true, b"timestamp:5"));
-    assert!(rt; offer(alloc, &mut folder, FIRST, NOW, false).ok() == Some((Offer::Same, 5)));
-    assert!(rt; offer(alloc, &mut folder, SECOND, NOW, false).ok() == Some((Offer::Newer, 6)));
-    assert!(rt; installs(alloc, &mut folder, b"second", SECOND, false, b"timestamp:6"));
-    assert!(rt; offer(alloc, &mut folder, FIRST, NOW, true).ok() == Some((Offer::Older, 5)));
-    assert!(rt; offer(alloc, &mut folder, EXPIRING, NOW, false).ok() == Some((Offer::Same, 6)));
-    let refusal = offer(alloc, &mut folder, EXPIRING, 2000, false).err();
+    assert!(rt; is_free(&directory, Name::Place) && is_free(&directory, Name::Record));
+    assert!(rt; installs(alloc, &mut directory, b"first", FIRST, true, b"timestamp:5"));
+    assert!(rt; offer(alloc, &mut directory, FIRST, NOW, false).ok() == Some((Offer::Same, 5)));
+    assert!(rt; offer(alloc, &mut directory, SECOND, NOW, false).ok() == Some((Offer::Newer, 6)));
+    assert!(rt;
+        installs(
+            alloc,
+            &mut directory,
+            b"second",
+            SECOND,
+            false,
+            b"timestamp:6"
+        )
+    );
+    assert!(rt; offer(alloc, &mut directory, FIRST, NOW, true).ok() == Some((Offer::Older, 5)));
+    assert!(rt; offer(alloc, &mut directory, EXPIRING, NOW, false).ok() == Some((Offer::Same, 6)));
+    let refusal = offer(alloc, &mut directory, EXPIRING, 2000, false).err();
     assert!(rt; matches!(refusal, Some(InstallFault::Expired)));
-    assert!(rt; holds(&folder, b"second", b"timestamp:6"));
+    assert!(rt; holds(&directory, b"second", b"timestamp:6"));
 }
 
 #[test]
 fn a_check_needs_a_comment_that_the_key_has_signed(rt: HostRuntime) {
     let alloc = rt.alloc();
-    let mut folder = MemoryFolder::new(alloc);
-    let refusal = offer(alloc, &mut folder, CHANGED, NOW, true).err();
+    let mut directory = MemoryDirectory::new(alloc);
+    let refusal = offer(alloc, &mut directory, CHANGED, NOW, true).err();
     assert!(rt; named(&refusal) == Some(NamedFault::CommentSignatureRefused));
-    let refusal = offer(alloc, &mut folder, KEY_TEXT, NOW, true).err();
+    let refusal = offer(alloc, &mut directory, KEY_TEXT, NOW, true).err();
     assert!(rt; matches!(refusal, Some(InstallFault::Library(_))));
 }
 
 // Installs an update of the file `app`, unless it is there.
 fn install_unless(
     alloc: Global,
-    folder: &mut MemoryFolder,
+    directory: &mut MemoryDirectory,
     data: &[u8],
     sig_text: &str,
     moment: u64,
@@ -449,62 +498,71 @@ fn install_unless(
         false,
         again,
         &mut SliceSource::new(data),
-        folder,
+        directory,
     )
 }
 
 // Whether a file of these bytes now stands at the name.
-fn puts(folder: &mut MemoryFolder, to: Name, bytes: &[u8]) -> bool {
+fn puts(directory: &mut MemoryDirectory, to: Name, bytes: &[u8]) -> bool {
     let Ok(name) = StageName::draw(&mut FixedRandom::new(&[9; 16])) else {
         return false;
     };
-    let Ok(handle) = folder.create(&name) else {
+    let Ok(handle) = directory.create(&name) else {
         return false;
     };
-    folder.write(&handle, bytes).is_ok()
-        && folder.rename(&name, to).is_ok()
-        && stands(folder, to, bytes)
+    directory.write(&handle, bytes).is_ok()
+        && directory.rename(&name, to).is_ok()
+        && stands(directory, to, bytes)
 }
 
 #[test]
 fn an_update_that_is_there_is_not_installed_again(rt: HostRuntime) {
     let alloc = rt.alloc();
-    let mut folder = MemoryFolder::new(alloc);
-    assert!(rt; installs(alloc, &mut folder, b"first", FIRST, true, b"timestamp:5"));
-    let now = install_unless(alloc, &mut folder, b"second", SECOND, NOW, false).ok();
-    assert!(rt; now == Some(Installed::Now) && holds(&folder, b"second", b"timestamp:6"));
+    let mut directory = MemoryDirectory::new(alloc);
+    assert!(rt; installs(alloc, &mut directory, b"first", FIRST, true, b"timestamp:5"));
+    let now = install_unless(alloc, &mut directory, b"second", SECOND, NOW, false).ok();
+    assert!(rt; now == Some(Installed::Now) && holds(&directory, b"second", b"timestamp:6"));
     // What is ahead is not read.
-    let there = install_unless(alloc, &mut folder, b"other", SECOND, NOW, false).ok();
+    let there = install_unless(alloc, &mut directory, b"other", SECOND, NOW, false).ok();
     assert!(rt; there == Some(Installed::Already));
-    let there = install_unless(alloc, &mut folder, b"other", EXPIRING, NOW, true).ok();
+    let there = install_unless(alloc, &mut directory, b"other", EXPIRING, NOW, true).ok();
     assert!(rt; there == Some(Installed::Already));
-    let refusal = install_unless(alloc, &mut folder, b"second", EXPIRING, 2000, false).err();
+    let refusal = install_unless(alloc, &mut directory, b"second", EXPIRING, 2000, false).err();
     assert!(rt; matches!(refusal, Some(InstallFault::Expired)));
-    let refusal = install_unless(alloc, &mut folder, b"second", CHANGED, NOW, false).err();
+    let refusal = install_unless(alloc, &mut directory, b"second", CHANGED, NOW, false).err();
     assert!(rt; named(&refusal) == Some(NamedFault::CommentSignatureRefused));
-    let refusal = install_unless(alloc, &mut folder, b"first", FIRST, NOW, true).err();
+    let refusal = install_unless(alloc, &mut directory, b"first", FIRST, NOW, true).err();
     assert!(rt; matches!(refusal, Some(InstallFault::OlderUpdate)));
-    assert!(rt; holds(&folder, b"second", b"timestamp:6"));
+    assert!(rt; holds(&directory, b"second", b"timestamp:6"));
 }
 
 #[test]
 fn other_data_of_the_kept_number_is_replaced_where_that_is_asked_for(rt: HostRuntime) {
     let alloc = rt.alloc();
-    let mut folder = MemoryFolder::new(alloc);
-    assert!(rt; installs(alloc, &mut folder, b"second", SECOND, true, b"timestamp:6"));
-    assert!(rt; puts(&mut folder, Name::Place, b"Second"));
-    let refusal = install_unless(alloc, &mut folder, b"second", SECOND, NOW, false).err();
+    let mut directory = MemoryDirectory::new(alloc);
+    assert!(rt;
+        installs(
+            alloc,
+            &mut directory,
+            b"second",
+            SECOND,
+            true,
+            b"timestamp:6"
+        )
+    );
+    assert!(rt; puts(&mut directory, Name::Place, b"Second"));
+    let refusal = install_unless(alloc, &mut directory, b"second", SECOND, NOW, false).err();
     assert!(rt; matches!(refusal, Some(InstallFault::SameNumber)));
-    assert!(rt; holds(&folder, b"Second", b"timestamp:6"));
-    let now = install_unless(alloc, &mut folder, b"second", SECOND, NOW, true).ok();
-    assert!(rt; now == Some(Installed::Now) && holds(&folder, b"second", b"timestamp:6"));
+    assert!(rt; holds(&directory, b"Second", b"timestamp:6"));
+    let now = install_unless(alloc, &mut directory, b"second", SECOND, NOW, true).ok();
+    assert!(rt; now == Some(Installed::Now) && holds(&directory, b"second", b"timestamp:6"));
 }
 
 #[test]
 fn a_file_that_was_removed_is_put_back(rt: HostRuntime) {
     let alloc = rt.alloc();
-    let mut folder = MemoryFolder::new(alloc);
-    assert!(rt; puts(&mut folder, Name::Record, b"timestamp:6"));
-    let now = install_unless(alloc, &mut folder, b"second", SECOND, NOW, false).ok();
-    assert!(rt; now == Some(Installed::Now) && holds(&folder, b"second", b"timestamp:6"));
+    let mut directory = MemoryDirectory::new(alloc);
+    assert!(rt; puts(&mut directory, Name::Record, b"timestamp:6"));
+    let now = install_unless(alloc, &mut directory, b"second", SECOND, NOW, false).ok();
+    assert!(rt; now == Some(Installed::Now) && holds(&directory, b"second", b"timestamp:6"));
 }

@@ -1,4 +1,4 @@
-//! Installing over a folder in memory, run as tests.
+//! Installing over a directory in memory, run as tests.
 //!
 //! Each expected value comes from outside, or was worked out by hand from a definition. None is what a crate of this
 //! repository answered.

@@ -1,12 +1,12 @@
-//! A folder in memory, which meets the contracts of a folder and of which all is known: they can be met
-//! together where what happens is known. For tests of what is built on folders.
+//! A directory in memory, which meets the contracts of a directory and of which all is known: they can be met
+//! together where what happens is known. For tests of what is built on directories.
 
 mod calls;
 mod owned;
 mod tally;
 
 ghost use Rattle.std.specs.Prelude.{◌≡◌, ◌+◌, ◌<◌, ◌≤◌, ℕ, true, suc, [], OnOk, OnErr, IfOk, IfErr, option_map, take, drop, length};
-ghost use Rattle.minisign_install.specs.Folders.{HasCounted, HasLocked, IsFound, Run};
+ghost use Rattle.minisign_install.specs.Directories.{HasCounted, HasLocked, IsFound, Run};
 ghost use Rattle.minisign_caller_vectors.specs.InMemory.{InstallsAt, faults_of};
 ghost use Rattle.minisign_install.specs.Installing.{HasInstalled, InstallsOnlyUpdates, terms_of};
 ghost use Rattle.minisign_caller_vectors.specs.Memory.{after, beginning, count_of, past_of, rested, run_of};
@@ -19,17 +19,17 @@ use minisign_base::devices::DeviceFault;
 use minisign_base::devices::random_sources::RandomSource;
 use minisign_base::devices::sources::Source;
 use minisign_base::scheme::Scheme;
-use minisign_install::{Folder, Handle, InstallFault, Name, StageName, Wanted, install_update};
+use minisign_install::{Directory, Handle, InstallFault, Name, StageName, Wanted, install_update};
 use owned::Owned;
 use std::alloc::Global;
 use tally::Tally;
 
-/// A folder in memory, which is empty at first. It keeps all calls that changed something, and
+/// A directory in memory, which is empty at first. It keeps all calls that changed something, and
 /// what it holds is what they made of it. One run at a time uses it: nobody else changes it, and
 /// its lock is always free. A call fails where memory is refused, where a stage is created under a
 /// name that is taken, and where one is renamed or removed that is not there; then nothing changed.
 #[derive(Drop)]
-pub struct MemoryFolder {
+pub struct MemoryDirectory {
     alloc: Global,
     entries: Vec<Entry>,
     stills: Tally,
@@ -37,7 +37,7 @@ pub struct MemoryFolder {
     faults: Tally,
 }
 
-/// A file of a folder in memory, by its number.
+/// A file of a directory in memory, by its number.
 #[derive(Drop)]
 pub struct MemoryHandle {
     file: usize,
@@ -47,12 +47,12 @@ impl Handle for MemoryHandle {
     ghost file = { λ h. h.file };
 }
 
-impl MemoryFolder {
-    /// An empty folder.
-    pub fn new(alloc: Global) -> MemoryFolder
+impl MemoryDirectory {
+    /// An empty directory.
+    pub fn new(alloc: Global) -> MemoryDirectory
         ensures { past_of result ≡ beginning }
     {
-        MemoryFolder {
+        MemoryDirectory {
             alloc,
             entries: Vec::new(alloc),
             stills: Tally::new(),
@@ -136,12 +136,12 @@ impl MemoryFolder {
     }
 }
 
-impl Folder for MemoryFolder {
+impl Directory for MemoryDirectory {
     type Handle = MemoryHandle;
 
     ghost run = { λ f. run_of f };
 
-    ghost folder_faults = { λ f. count_of f.faults };
+    ghost directory_faults = { λ f. count_of f.faults };
 
     ghost read_fails = { true };
 
@@ -199,14 +199,14 @@ impl Folder for MemoryFolder {
         self.faults.raise();
     }
 
-    // Everyone has all rights to a folder in memory.
-    fn take_rights(&mut self, _handle: &MemoryHandle) -> Result<(), DeviceFault> {
+    // Everyone has all permissions to a directory in memory.
+    fn take_permissions(&mut self, _handle: &MemoryHandle) -> Result<(), DeviceFault> {
         self.pass();
         Ok(())
     }
 
-    fn settle(&mut self, handle: &MemoryHandle) -> Result<(), DeviceFault> {
-        self.note(Call::Settled(handle.file))
+    fn sync(&mut self, handle: &MemoryHandle) -> Result<(), DeviceFault> {
+        self.note(Call::Synced(handle.file))
     }
 
     fn rename(&mut self, name: &StageName, to: Name) -> Result<(), DeviceFault> {
@@ -225,8 +225,8 @@ impl Folder for MemoryFolder {
         }
     }
 
-    fn settle_names(&mut self) -> Result<(), DeviceFault> {
-        self.note(Call::NamesSettled)
+    fn sync_directory(&mut self) -> Result<(), DeviceFault> {
+        self.note(Call::DirectorySynced)
     }
 
     fn remove(&mut self, name: &StageName) -> Result<(), DeviceFault> {
@@ -260,8 +260,8 @@ impl Folder for MemoryFolder {
     }
 }
 
-/// Installs the data ahead of `update` in a folder in memory, as `install_update` does in any
-/// folder. Nobody else uses such a folder, so what is promised stands on no premise on the folder.
+/// Installs the data ahead of `update` in a directory in memory, as `install_update` does in any
+/// directory. Nobody else uses such a directory, so what is promised stands on no premise on the directory.
 pub fn install_in_memory<S: Scheme, Z: RandomSource, R: Source>(
     alloc: Global,
     scheme: &S,
@@ -269,23 +269,23 @@ pub fn install_in_memory<S: Scheme, Z: RandomSource, R: Source>(
     wanted: Wanted<'_>,
     is_first: bool,
     update: &mut R,
-    folder: &mut MemoryFolder,
+    directory: &mut MemoryDirectory,
 ) -> Result<(), InstallFault>
     // Where memory is found and no device fails, the update is installed exactly where the record
     // had a number for the field before the call, or it is the first installation, the two texts
     // vouch for the data, and the signed comment names the file, has not expired, and has a number
     // that is not below the kept one; and where it is not installed, the first of these that fails
     // is returned (`CanBeInstalled`, `CannotBeInstalled`).
-    ensures exactly { InstallsAt (S.accepts scheme.now) (terms_of wanted.entry) is_first (R.ahead update.old) (counts (Z.random_faults random.old) (R.faults update.old) (faults_of folder.old)) (counts (Z.random_faults random.new) (R.faults update.new) (faults_of folder.new)) (past_of folder.old).now result }
+    ensures exactly { InstallsAt (S.accepts scheme.now) (terms_of wanted.entry) is_first (R.ahead update.old) (counts (Z.random_faults random.old) (R.faults update.old) (faults_of directory.old)) (counts (Z.random_faults random.new) (R.faults update.new) (faults_of directory.new)) (past_of directory.old).now result }
 
-    // What `install_update` promises of a folder whose run is known holds of this one with no
+    // What `install_update` promises of a directory whose run is known holds of this one with no
     // premise.
-    ensures headline { InstallsOnlyUpdates (S.accepts scheme.now) (terms_of wanted.entry) is_first (run_of folder.old) (run_of folder.new) }
-    ensures installed { OnOk result ((locked : Run) × HasLocked (run_of folder.old) locked × HasInstalled (S.accepts scheme.now) (terms_of wanted.entry) is_first (R.ahead update.old) locked (run_of folder.new)) }
-    ensures refused { IfErr result (λ e. IsRefusal (S.accepts scheme.now) (terms_of wanted.entry) is_first (R.ahead update.old) (counts (Z.random_faults random.old) (R.faults update.old) (faults_of folder.old)) (counts (Z.random_faults random.new) (R.faults update.new) (faults_of folder.new)) (run_of folder.old) (run_of folder.new) e) }
-    ensures lets_go { OwnsNoMore (run_of folder.old) (run_of folder.new) }
+    ensures headline { InstallsOnlyUpdates (S.accepts scheme.now) (terms_of wanted.entry) is_first (run_of directory.old) (run_of directory.new) }
+    ensures installed { OnOk result ((locked : Run) × HasLocked (run_of directory.old) locked × HasInstalled (S.accepts scheme.now) (terms_of wanted.entry) is_first (R.ahead update.old) locked (run_of directory.new)) }
+    ensures refused { IfErr result (λ e. IsRefusal (S.accepts scheme.now) (terms_of wanted.entry) is_first (R.ahead update.old) (counts (Z.random_faults random.old) (R.faults update.old) (faults_of directory.old)) (counts (Z.random_faults random.new) (R.faults update.new) (faults_of directory.new)) (run_of directory.old) (run_of directory.new) e) }
+    ensures lets_go { OwnsNoMore (run_of directory.old) (run_of directory.new) }
 {
-    install_update(alloc, scheme, random, wanted, is_first, update, folder)
+    install_update(alloc, scheme, random, wanted, is_first, update, directory)
 }
 
 // Copies what is held from an offset on, as far as there is room, and returns how much.

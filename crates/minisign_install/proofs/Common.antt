@@ -22,7 +22,7 @@ pub use Rattle.minisign_install.specs.Checking.{IsOffered, signed_comment}
 pub use Rattle.minisign_install.specs.Comments.{first_of, ExpiresAt, IsExpiryRefused, IsNumberText, IsUnexpired, Numbering, Says, Timestamp, Version, fields, file_label, number_label, values_in, values_of}
 pub use Rattle.minisign_install.specs.Driving.{AreNamed, HasMade, IsNamed, Knows, MayCall, Names, WantsNoMemory, Went, calls_left, done_or, host, made_or, number_or, setting}
 pub use Rattle.minisign_install.specs.Faults.{Fault, InstallFault, Library, Named, NotUtf8, OutOfMemory, PlaceInUse, RandomSourceFailed, ReadingFailed, Rose, WritingFailed}
-pub use Rattle.minisign_install.specs.Folders.{Appends, Clears, ClearsAll, Creates, Finds, GivesRights, HasCounted, HasCreated, HasLocked, HasRenamed, HasStepped, HasTried, IsApart, IsBusy, IsFound, IsStill, MaySyncDirectory, OwnsTheSame, Known, RecordUnchanged, MayFind, MayLead, Moment, Name, OtherProcesses, OwnsLess, OwnsMore, Perhaps, Place, Record, Removes, Renames, Run, RunStep, Syncs, SyncsDirectory, Spoils, HasOnDisk, TouchesOnly}
+pub use Rattle.minisign_install.specs.Directories.{Appends, Clears, ClearsAll, Creates, Finds, GivesPermissions, HasCounted, HasCreated, HasLocked, HasRenamed, HasStepped, HasTried, IsApart, IsBusy, IsFound, IsStill, MaySyncDirectory, OwnsTheSame, Known, RecordUnchanged, MayFind, MayLead, Moment, Name, OtherProcesses, OwnsLess, OwnsMore, Perhaps, Place, Record, Removes, Renames, Run, RunStep, Syncs, SyncsDirectory, Spoils, HasOnDisk, TouchesOnly}
 pub use Rattle.minisign_install.specs.HostNumbers.{install_number}
 pub use Rattle.minisign_install.specs.Hosted.{GivesUpdate, IsAsking, IsDue, IsJudged, failure, numbering_of, read_outcome, wanted_by}
 pub use Rattle.minisign_install.specs.Hosting.{HasBegun, HasObeyed, Obeys, TellsAnswers, TellsFailure, TellsOutcome, TellsRecord, TellsRefusal, Told, by_field}
@@ -32,7 +32,7 @@ pub use Rattle.minisign_install.specs.Names.{drawn_bytes}
 pub use Rattle.minisign_install.specs.Order.{Answer, Clear, Copy, Create, CreateRecord, Done, Due, Failed, Installed, Lock, More, Number, Outcome, ReadBack, ReadRecord, Remove, RemoveRecord, Rename, RenameRecord, Sync, SyncName, SyncRecord, SyncRecordName, TakePermissions, WriteRecord, after_done, after_failed, has_ended, next}
 pub use Rattle.minisign_install.specs.RecordTexts.{HasNoNumber, IsFieldText, IsNumberFor, record_of, record_text}
 pub use Rattle.minisign_install.specs.Refusals.{CanBeInstalled, CannotBeInstalled, Counts, HasFailed, HasNamed, InstallsExactly, IsCallFault, IsCause, IsCommentRefused, IsDataCause, IsDataRefusal, IsDataRefused, IsLibraryFault, IsLockedRefusal, IsReadingFault, IsRecordFault, IsRecordRefused, IsRefusal, OnlyLocked, counts}
-pub use Rattle.minisign_install.specs.Runs.{Publishes, PublishesNothing, PublishesOnly, HasCleared, IsNumberFrom, IsPublished, RecordHolds, RecordHoldsAt, OwnsNoMore, rights_of}
+pub use Rattle.minisign_install.specs.Runs.{Publishes, PublishesNothing, PublishesOnly, HasCleared, IsNumberFrom, IsPublished, RecordHolds, RecordHoldsAt, OwnsNoMore, permissions_of}
 pub use Rattle.minisign_install.specs.declared.calls.Stage.{Stage}
 pub use Rattle.minisign_install.specs.declared.calls.Work.{Work}
 pub use Rattle.minisign_install.specs.declared.hosted.HostRefusal.{HostRefusal}

@@ -1,4 +1,4 @@
--- An installation over a folder, from call to call: what stands fast between two of them, and what that says at the end.
+-- An installation over a directory, from call to call: what stands fast between two of them, and what that says at the end.
 use Rattle.minisign_install.proofs.Common.{◌≡◌, inl, inr, ⊎_elim, ℕ, List, [], Option, Some, None, Bool, true, false, ap, sym, subst, ◌∙◌, refl, true≢false, Verifier, HasInstalled, InstallsOnlyUpdates, IsVouched, Terms, Rose, InstallFault, AreNamed, HasMade, IsNamed, Knows, MayCall, Names, setting, HasLocked, Run, DeviceFails, Explains, Host, Setting, drawn_bytes, has_ended, next, Due, Lock, Clear, ReadRecord, Create, Copy, ReadBack, Answer, TakePermissions, Sync, CreateRecord, WriteRecord, SyncRecord, RenameRecord, SyncRecordName, Rename, SyncName, RemoveRecord, Remove, Installed, Outcome, Done, More, Number, Failed, Counts, IsCause, IsCallFault, IsDataCause, IsLibraryFault, IsRefusal, OwnsNoMore, Stage, Work}
 use Rattle.minisign_install.specs.Order.{Refused}
 use Rattle.minisign_install.proofs.Driving.{Called}
@@ -12,20 +12,20 @@ ready s a Clear h known going (lock, mine, same) = (lock.stepped.known ∙ known
 ready s a ReadRecord h known going (l, lock, mine, clear, same) = (clear.0.known ∙ lock.stepped.known ∙ known, clear.0.locked lock.held)
 ready s a (Create kept) h known going (front, same) = (front.known, front.held)
 ready s a (TakePermissions n) h known going (kept, x, given, update) = (x.works.stage.known, x.works.stage.locked)
-ready s a (Sync n) h known going (kept, x, given, update, rights) = (x.works.stage.known, x.works.stage.locked)
+ready s a (Sync n) h known going (kept, x, given, update, permissions) = (x.works.stage.known, x.works.stage.locked)
 ready s a (CreateRecord n) h known going x = (x.staging.works.stage.known, x.staging.works.stage.locked)
 ready s a (WriteRecord n) h known going (t, x, made) = (made.stepped.known ∙ x.staging.works.stage.known, made.stepped.locked x.staging.works.stage.locked)
 ready s a (SyncRecordName n) h known going (v, x, holds, on_disk, renamed) = (renamed.stepped.known ∙ x.works.stage.known, renamed.stepped.locked x.works.stage.locked)
 ready s a (Rename n) h known going x = ((still_staged s a h.run n x).stage.known, (still_staged s a h.run n x).stage.locked)
 ready s a (SyncName n) h known going (w, x, renamed) = (renamed.stepped.known ∙ (still_staged s a w n x).stage.known, renamed.stepped.locked (still_staged s a w n x).stage.locked)
-ready s a (RemoveRecord e) h known going x = (x.places.brings.known ∙ x.front.known, x.places.brings.locked x.front.held)
-ready s a (Remove e) h known going x = (x.places.brings.known ∙ x.front.known, x.places.brings.locked x.front.held)
+ready s a (RemoveRecord e) h known going x = (x.places.publishes.known ∙ x.front.known, x.places.publishes.locked x.front.held)
+ready s a (Remove e) h known going x = (x.places.publishes.known ∙ x.front.known, x.places.publishes.locked x.front.held)
 ready s a Installed h known going x = absurd (true≢false going)
 ready s a (Refused e) h known going x = absurd (true≢false going)
 ready s a due h known going x = (x.0.works.stage.known, x.0.works.stage.locked)
 
 module _ (accepts : Verifier) (terms : Terms) (first : Bool) where
-  -- What is so of any folder: no device failed so far, and from some point on the texts vouch for some data; or the run
+  -- What is so of any directory: no device failed so far, and from some point on the texts vouch for some data; or the run
   -- will be refused for this fault, and why that may be.
   abbrev pub Counted : Counts → Due InstallFault → Counts → Type 0
   Counted before (Sync n) after = (after ≡ before) × IsVouched accepts terms
@@ -60,8 +60,8 @@ module _ (accepts : Verifier) (terms : Terms) (first : Bool) where
   count before names w (Answer kept) (Failed e) h h' going why knows same = ⊎_elim (λ refused. inr (inl (h.read, kept, refused))) (λ fails. device before h h' e same fails) why
   count before names w (TakePermissions n) Done h h' going why knows same = (why ∙ same, knows)
   count before names w (TakePermissions n) (Failed e) h h' going why knows same = device before h h' e same why
-  count before names w (Rename n) (Failed e) h h' going (writing, rose) knows (same, vouched) = inl (_, writing, inr (inr (inl (refl, subst (λ f. Rose f.folder h'.faults.folder) same rose))))
-  count before names w (SyncName n) (Failed e) h h' going (folder, rose) knows (same, vouched) = inr (inr (folder, subst (λ f. Rose f.folder h'.faults.folder) same rose))
+  count before names w (Rename n) (Failed e) h h' going (writing, rose) knows (same, vouched) = inl (_, writing, inr (inr (inl (refl, subst (λ f. Rose f.directory h'.faults.directory) same rose))))
+  count before names w (SyncName n) (Failed e) h h' going (directory, rose) knows (same, vouched) = inr (inr (directory, subst (λ f. Rose f.directory h'.faults.directory) same rose))
   count before names w Lock o h h' going why knows same = why ∙ same
   count before names w Clear o h h' going why knows same = why ∙ same
   count before names w ReadRecord o h h' going why knows same = why ∙ same

@@ -1,4 +1,4 @@
--- An installation over a folder makes each call as it is due: what each call that went does to what is held between two.
+-- An installation over a directory makes each call as it is due: what each call that went does to what is held between two.
 use Rattle.minisign_install.proofs.Common.{◌≡◌, inl, inr, ℕ, Fault, Named, OutOfMemory, Counts, HasFailed, IsCallFault, counts, ◌≢◌, ◌⊎◌, ⊎_elim, List, Option, Some, None, Bool, true, ap, subst, refl, OnOk, OnErr, IfErr, IfOk, IsNone, IsSomeAnd, MatchResult, Result, Ok, Err, true≢false, Consumes, IsAtEnd, concat, IsFedState, State, AreNamed, HasMade, IsNamed, Knows, MayCall, Names, Went, done_or, host, made_or, number_or, setting, InstallFault, Library, PlaceInUse, RandomSourceFailed, ReadingFailed, Rose, WritingFailed, Finds, HasCounted, HasCreated, HasLocked, HasStepped, IsBusy, IsStill, OwnsTheSame, Record, Run, Blames, Calls, CallsNothing, DeviceFails, Host, Makes, Writes, WritesInPart, IsKeptNumber, IsUpdate, Terms, Verifier, drawn_bytes, Answer, Copy, Create, CreateRecord, Done, Due, Failed, Lock, Outcome, ReadBack, ReadRecord, next, IsDataRefused, IsLibraryFault, IsReadingFault, IsRecordFault, IsRecordRefused, Stage, Work}
 
 pub not_failed : (before after : Counts) (e : Fault) → ¬ (HasFailed before after) → IsCallFault before after e → e ≡ Named OutOfMemory
@@ -13,20 +13,20 @@ same_counts r r' u u' f f' a b c = cc
 
 -- == Why a call failed ==
 
-pub writing_fails : (before after : Counts) → Rose before.folder after.folder → IsLibraryFault (IsCallFault before after) (Library (Named WritingFailed))
+pub writing_fails : (before after : Counts) → Rose before.directory after.directory → IsLibraryFault (IsCallFault before after) (Library (Named WritingFailed))
 writing_fails before after rose = (_, refl, inr (inr (inl (refl, rose))))
 
-reading_fails : (h h' : Host) (e : InstallFault) → (e ≡ Library (Named ReadingFailed)) × Rose h.faults.folder h'.faults.folder → DeviceFails e h h'
+reading_fails : (h h' : Host) (e : InstallFault) → (e ≡ Library (Named ReadingFailed)) × Rose h.faults.directory h'.faults.directory → DeviceFails e h h'
 reading_fails h h' e (is, rose) = (_, is, inr (inl (refl, inr rose)))
 
 creating_fails : (h h' : Host) (e : InstallFault)
-    → ((e ≡ Library (Named WritingFailed)) × Rose h.faults.folder h'.faults.folder) ⊎ ((e ≡ Library (Named RandomSourceFailed)) × Rose h.faults.random h'.faults.random)
+    → ((e ≡ Library (Named WritingFailed)) × Rose h.faults.directory h'.faults.directory) ⊎ ((e ≡ Library (Named RandomSourceFailed)) × Rose h.faults.random h'.faults.random)
     → DeviceFails e h h' × (e ≢ Library (Named OutOfMemory))
 creating_fails h h' e (inl (is, rose)) = ((_, is, inr (inr (inl (refl, rose)))), λ memory. cc)
 creating_fails h h' e (inr (is, rose)) = ((_, is, inr (inr (inr (refl, rose)))), λ memory. cc)
 
--- (only the folder's count may have changed)
-reading_back_fails : (h h' : Host) (e : InstallFault) → (h'.faults.folder ≡ h.faults.folder → h'.faults ≡ h.faults) → IsLibraryFault (IsReadingFault h.faults.folder h'.faults.folder) e → DeviceFails e h h'
+-- (only the directory's count may have changed)
+reading_back_fails : (h h' : Host) (e : InstallFault) → (h'.faults.directory ≡ h.faults.directory → h'.faults ≡ h.faults) → IsLibraryFault (IsReadingFault h.faults.directory h'.faults.directory) e → DeviceFails e h h'
 reading_back_fails h h' e same (fault, is, (inl (memory, no_fault))) = (fault, is, inl (memory, same no_fault))
 reading_back_fails h h' e same (fault, is, (inr (reading, rose))) = (fault, is, inr (inl (reading, inr rose)))
 
@@ -40,15 +40,15 @@ record_wants first P R e (inl ((later, (inr (inr (inl is)))), rest)) memory = cc
 record_wants first P R e (inl ((later, (inr (inr (inr is)))), rest)) memory = cc
 record_wants first P R e (inr (is, rest)) memory = cc
 
--- a source and a folder that are as they were have counted no fault
-pub untouched : {A B : Type 0} (source_faults : A → ℕ) (folder_faults : B → ℕ) (random : ℕ) (u u' : A) (f f' : B) (r : Result Unit InstallFault)
+-- a source and a directory that are as they were have counted no fault
+pub untouched : {A B : Type 0} (source_faults : A → ℕ) (directory_faults : B → ℕ) (random : ℕ) (u u' : A) (f f' : B) (r : Result Unit InstallFault)
     → IfErr r (λ e. ((e ≡ Library (Named OutOfMemory)) × (f' ≡ f) × (u' ≡ u)) ⊎ ((e ≡ Library (Named ReadingFailed)) × Rose (source_faults u) (source_faults u'))
-    ⊎ ((e ≡ Library (Named WritingFailed)) × Rose (folder_faults f) (folder_faults f')))
-    → IfErr r (IsLibraryFault (IsCallFault (counts random (source_faults u) (folder_faults f)) (counts random (source_faults u') (folder_faults f'))))
-untouched source_faults folder_faults random u u' f f' (Ok x) why = tt
-untouched source_faults folder_faults random u u' f f' (Err e) (inl (is, folder, source)) = (_, is, inl (refl, same_counts _ _ _ _ _ _ refl (ap source_faults source) (ap folder_faults folder)))
-untouched source_faults folder_faults random u u' f f' (Err e) (inr (inl (is, rose))) = (_, is, inr (inl (refl, inl rose)))
-untouched source_faults folder_faults random u u' f f' (Err e) (inr (inr (is, rose))) = (_, is, inr (inr (inl (refl, rose))))
+    ⊎ ((e ≡ Library (Named WritingFailed)) × Rose (directory_faults f) (directory_faults f')))
+    → IfErr r (IsLibraryFault (IsCallFault (counts random (source_faults u) (directory_faults f)) (counts random (source_faults u') (directory_faults f'))))
+untouched source_faults directory_faults random u u' f f' (Ok x) why = tt
+untouched source_faults directory_faults random u u' f f' (Err e) (inl (is, directory, source)) = (_, is, inl (refl, same_counts _ _ _ _ _ _ refl (ap source_faults source) (ap directory_faults directory)))
+untouched source_faults directory_faults random u u' f f' (Err e) (inr (inl (is, rose))) = (_, is, inr (inl (refl, inl rose)))
+untouched source_faults directory_faults random u u' f f' (Err e) (inr (inr (is, rose))) = (_, is, inr (inr (inl (refl, rose))))
 
 pub map_ok : {A E : Type 0} {P Q : Type 0} (r : Result A E) → (P → Q) → OnOk r P → OnOk r Q
 map_ok (Ok a) f p = f p
@@ -85,7 +85,7 @@ module _ (accepts : Verifier) (terms : Terms) (first : Bool) {H : Type 0} (file_
       × ((names : Names) → AreNamed file_of new names → AreNamed file_of old names × Went (setting accepts terms first names) due o h (after then)))
   gone due o old new h after read same (has, known, went) = (has, (read, subst (Knows accepts terms (next due o) new) same known, went))
 
-  -- a call of the folder, which fails for this fault
+  -- a call of the directory, which fails for this fault
   pub called : {D : Type 0} (due : Due InstallFault) (w : Work H) (h h' : Host) (r : Result Unit D) (e : InstallFault)
       → HasMade (next due Done) w × Knows accepts terms (next due Done) w h'.read → HasMade (next due (Failed e)) w × Knows accepts terms (next due (Failed e)) w h'.read
       → ((names : Names) → AreNamed file_of w names → h.run.known ≡ true → MayCall due h.run
@@ -100,14 +100,14 @@ module _ (accepts : Verifier) (terms : Terms) (first : Bool) {H : Type 0} (file_
       → HasMade (next due Done) w × Knows accepts terms (next due Done) w h'.read → HasMade (next due (Failed e)) w × Knows accepts terms (next due (Failed e)) w h'.read
       → ((names : Names) → AreNamed file_of w names → h.run.known ≡ true → MayCall due h.run
       → MatchResult r (λ _. Makes (setting accepts terms first names) due Done h h') (λ _. Makes (setting accepts terms first names) due (Failed e) h h'))
-      → HasCounted h.faults.folder h'.faults.folder r → (h'.faults.folder ≡ h.faults.folder → h'.faults ≡ h.faults)
-      → ((names : Names) → Rose h.faults.folder h'.faults.folder → Blames (setting accepts terms first names) due e h h') → e ≢ Library (Named OutOfMemory) → Called due (made_or r e) w w h h'
+      → HasCounted h.faults.directory h'.faults.directory r → (h'.faults.directory ≡ h.faults.directory → h'.faults ≡ h.faults)
+      → ((names : Names) → Rose h.faults.directory h'.faults.directory → Blames (setting accepts terms first names) due e h h') → e ≢ Library (Named OutOfMemory) → Called due (made_or r e) w w h h'
   counted_call {D} due w h h' (Ok x) e done failed makes counted same blames wants = called {D = D} due w h h' (Ok x) e done failed makes (same counted.no_new_fault) wants
   counted_call {D} due w h h' (Err x) e done failed makes counted same blames wants = called {D = D} due w h h' (Err x) e done failed makes (λ names. blames names counted.fault) wants
 
   pub lock_goes : (w : Work H) (h h' : Host) (r : Result Unit InstallFault) → HasMade {E = InstallFault} Lock w → (h'.ahead ≡ h.ahead) × (h'.read ≡ h.read)
       → (h.run.known ≡ true → MatchResult r (λ _. HasLocked h.run h'.run × OwnsTheSame h.run h'.run) (λ _. Calls IsStill h.run h'.run))
-      → IfErr r (λ e. ((e ≡ PlaceInUse) × (h.run.known ≡ true → HasStepped h.run h'.run IsBusy)) ⊎ ((e ≡ Library (Named ReadingFailed)) × Rose h.faults.folder h'.faults.folder))
+      → IfErr r (λ e. ((e ≡ PlaceInUse) × (h.run.known ≡ true → HasStepped h.run h'.run IsBusy)) ⊎ ((e ≡ Library (Named ReadingFailed)) × Rose h.faults.directory h'.faults.directory))
       → OnOk r (h'.faults ≡ h.faults) → Called Lock (done_or r) w w h h'
   lock_goes w h h' (Ok x) made same locked why no_new_fault = (made, tt, λ names named. (named, record { made = λ known may. (locked known, same.0, same.1); explained = no_new_fault; memory = tt }))
   lock_goes w h h' (Err e) made same locked (inl busy) no_new_fault = ((tt, tt), tt, λ names named. (named, record { made = λ known may. (locked known, same.0, same.1); explained = inl busy; memory = λ no memory. let (is, rest) = busy in cc }))
@@ -118,7 +118,7 @@ module _ (accepts : Verifier) (terms : Terms) (first : Bool) {H : Type 0} (file_
       → IfOk r (λ kept. h.run.known ≡ true → (found : Option (List ℕ)) × Calls (Finds Record found) h.run h'.run × IsKeptNumber terms.numbering first found kept)
       → OnErr r (h.run.known ≡ true → Calls IsStill h.run h'.run)
       → IfErr r (λ e. (IsRecordFault first e × (h.run.known ≡ true → (found : Option (List ℕ)) × HasStepped h.run h'.run (Finds Record found) × IsRecordRefused terms.numbering first found e))
-      ⊎ ((e ≡ Library (Named ReadingFailed)) × Rose h.faults.folder h'.faults.folder))
+      ⊎ ((e ≡ Library (Named ReadingFailed)) × Rose h.faults.directory h'.faults.directory))
       → OnOk r (h'.faults ≡ h.faults) → Called ReadRecord (number_or r) w w h h'
   read_goes w h h' (Ok kept) made same number still why no_new_fault = (made, tt, λ names named. (named, record { made = λ known may. (number known, same.0, same.1); explained = no_new_fault; memory = tt }))
   read_goes w h h' (Err e) made same number still why no_new_fault =
@@ -133,7 +133,7 @@ module _ (accepts : Verifier) (terms : Terms) (first : Bool) {H : Type 0} (file_
   HasDrawn old new h h' r =
       OnOk r (IsSomeAnd new (λ stage. h.run.known ≡ true → h.run.locked ≡ true → HasCreated (drawn_bytes stage.name) (file_of stage.handle) h.run h'.run))
       × OnErr r ((new ≡ old) × (h.run.known ≡ true → h.run.locked ≡ true → CallsNothing h.run h'.run))
-      × IfErr r (λ e. ((e ≡ Library (Named WritingFailed)) × Rose h.faults.folder h'.faults.folder) ⊎ ((e ≡ Library (Named RandomSourceFailed)) × Rose h.faults.random h'.faults.random))
+      × IfErr r (λ e. ((e ≡ Library (Named WritingFailed)) × Rose h.faults.directory h'.faults.directory) ⊎ ((e ≡ Library (Named RandomSourceFailed)) × Rose h.faults.random h'.faults.random))
       × OnOk r (h'.faults ≡ h.faults)
 
   pub create_goes : (kept : ℕ) (w : Work H) (made : Option (Stage H)) (h h' : Host) (r : Result Unit InstallFault) → HasMade {E = InstallFault} (Create kept) w → (h'.ahead ≡ h.ahead) × (h'.read ≡ h.read)
@@ -189,7 +189,7 @@ module _ (accepts : Verifier) (terms : Terms) (first : Bool) {H : Type 0} (file_
   pub read_back_step : (kept : ℕ) (w : Work H) (state : State) (old new : Run) (ahead : Option (List ℕ)) (read : List ℕ) (before after : Counts) (r : Result Unit InstallFault)
       → HasMade {E = InstallFault} (ReadBack kept) w → new ≡ old
       → (stage : Stage H) → w.stage ≡ Some stage → (OnOk r ((m : List ℕ) × IsFedState state m × (old.known ≡ true → old.now.holds (file_of stage.handle) ≡ m)))
-      → IfErr r (IsLibraryFault (IsReadingFault before.folder after.folder)) → OnOk r (after ≡ before) → (after.folder ≡ before.folder → after ≡ before)
+      → IfErr r (IsLibraryFault (IsReadingFault before.directory after.directory)) → OnOk r (after ≡ before) → (after.directory ≡ before.directory → after ≡ before)
       → (then : List ℕ) × Called (ReadBack kept) (done_or r) w (record w { state = state }) (host old ahead before read) (host new ahead after then)
   read_back_step kept w state old new ahead read before after (Ok x) has still stage is (m, is_fed, all) why no_new_fault same =
       (m, (has, is_fed, λ names named. (named, record { made = λ known may. (still, at_stage file_of (λ name file. old.now.holds file ≡ m) w.stage stage names.name names.file is named.0 (all known)); explained = no_new_fault; memory = tt })))

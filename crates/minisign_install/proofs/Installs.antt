@@ -1,6 +1,6 @@
 -- What the parts of an installation bring together.
-use Rattle.minisign_install.proofs.Common.{◌≡◌, ◌≤◌, ◌<◌, ◌^◌, inl, inr, ⊎_elim, ℕ, Bool, false, List, Option, Some, None, ap, sym, subst, ◌∙◌, true, arith, Verifier, TextsVouchWith, IsAhead, InstallsLocked, MayBePublished, IsInstalled, IsKeptNumber, MayBeInstalled, MayBeRecorded, IsUpdate, NeverFalls, RecordsFirst, PublishesInOrder, Terms, Says, Numbering, Clears, HasStepped, IsFound, RecordUnchanged, Moment, Finds, Run, RunStep, Name, Place, Record, IsNumberFor, record_of, PublishesNothing, PublishesOnly, IsNumberFrom, IsPublished, RecordHolds, rights_of}
-use Rattle.minisign_install.proofs.Works.{lasting_keeps, PublishesBut, PublishesBeside, HasRecorded, IsKept, IsOnly, brings_nothing, brings_trans, brings_weaken}
+use Rattle.minisign_install.proofs.Common.{◌≡◌, ◌≤◌, ◌<◌, ◌^◌, inl, inr, ⊎_elim, ℕ, Bool, false, List, Option, Some, None, ap, sym, subst, ◌∙◌, true, arith, Verifier, TextsVouchWith, IsAhead, InstallsLocked, MayBePublished, IsInstalled, IsKeptNumber, MayBeInstalled, MayBeRecorded, IsUpdate, NeverFalls, RecordsFirst, PublishesInOrder, Terms, Says, Numbering, Clears, HasStepped, IsFound, RecordUnchanged, Moment, Finds, Run, RunStep, Name, Place, Record, IsNumberFor, record_of, PublishesNothing, PublishesOnly, IsNumberFrom, IsPublished, RecordHolds, permissions_of}
+use Rattle.minisign_install.proofs.Works.{lasting_keeps, PublishesBut, PublishesBeside, HasRecorded, IsKept, IsOnly, publishes_nothing, publishes_trans, publishes_weaken}
 use Rattle.minisign_install.proofs.RecordTexts.{record_reads, same_number}
 
 no_record : Record ≡ Place → ⊥
@@ -28,19 +28,19 @@ module _ (accepts : Verifier) (terms : Terms) (kept : ℕ) where
   pub update_brought : (update : List ℕ) (n : ℕ) (old new : Run) → IsUpdate accepts terms kept update n → PublishesOnly (IsOnly Place update) old new
       → PublishesOnly (MayBePublished accepts terms kept) old new
   update_brought update n old new is brings =
-      brings_weaken (IsOnly Place update) (MayBePublished accepts terms kept) old new
+      publishes_weaken (IsOnly Place update) (MayBePublished accepts terms kept) old new
       (λ name b only. subst (λ x. MayBePublished accepts terms kept x b) (sym only.0) (n, subst (λ u. IsUpdate accepts terms kept u n) (sym only.1) is)) brings
 
   pub placed : (name : List ℕ) (file : ℕ) (n : ℕ) (old staged mid new : Run) → PublishesOnly (MayBePublished accepts terms kept) old mid → IsUpdate accepts terms kept (staged.now.holds file) n
       → IsKept staged mid name file → PublishesBut (IsOnly Place (mid.now.holds file)) name file mid new → PublishesOnly (MayBePublished accepts terms kept) old new
   placed name file n old staged mid new so_far is same goes =
-      brings_trans (MayBePublished accepts terms kept) old mid new so_far
-      (update_brought (mid.now.holds file) n mid new (subst (λ u. IsUpdate accepts terms kept u n) (sym same.holds) is) goes.brings)
+      publishes_trans (MayBePublished accepts terms kept) old mid new so_far
+      (update_brought (mid.now.holds file) n mid new (subst (λ u. IsUpdate accepts terms kept u n) (sym same.holds) is) goes.publishes)
 
   pub installed : (name : List ℕ) (file : ℕ) (n : ℕ) (ahead : Option (List ℕ)) (staged mid : Run) (steps : List RunStep) → IsAhead ahead (staged.now.holds file) → IsUpdate accepts terms kept (staged.now.holds file) n
-      → staged.now.rights file ≡ true → IsKept staged mid name file → HasRecorded (record_of terms.numbering n) mid
-      → (p : IsPublished Place (mid.now.holds file) mid.steps steps) × (rights_of p ≡ mid.now.rights file) → IsInstalled accepts terms kept ahead steps
-  installed name file n ahead staged mid steps given is rights same recorded (published, has) = record {
+      → staged.now.permissions file ≡ true → IsKept staged mid name file → HasRecorded (record_of terms.numbering n) mid
+      → (p : IsPublished Place (mid.now.holds file) mid.steps steps) × (permissions_of p ≡ mid.now.permissions file) → IsInstalled accepts terms kept ahead steps
+  installed name file n ahead staged mid steps given is permissions same recorded (published, has) = record {
     bytes = mid.now.holds file;
     n = n;
     read = subst (IsAhead ahead) (sym same.holds) given;
@@ -49,22 +49,22 @@ module _ (accepts : Verifier) (terms : Terms) (kept : ℕ) where
     recorded = mid.steps;
     number_first = recorded.published;
     published = published;
-    rights = has ∙ same.rights ∙ rights;
+    permissions = has ∙ same.permissions ∙ permissions;
   }
 
   pub record_brought : (update : List ℕ) (n : ℕ) (old new : Run) → IsUpdate accepts terms kept update n → PublishesOnly (IsOnly Record (record_of terms.numbering n)) old new
       → PublishesOnly (MayBeRecorded accepts terms kept) old new
   record_brought update n old new is brings =
-      brings_weaken (IsOnly Record (record_of terms.numbering n)) (MayBeRecorded accepts terms kept) old new (λ name b only. (only.0, (n, update, is, only.1))) brings
+      publishes_weaken (IsOnly Record (record_of terms.numbering n)) (MayBeRecorded accepts terms kept) old new (λ name b only. (only.0, (n, update, is, only.1))) brings
 
   pub places_record : (old new : Run) → PublishesOnly (MayBeRecorded accepts terms kept) old new → PublishesInOrder accepts terms kept old new
   places_record old new brings = record {
-    brings = brings_weaken (MayBeRecorded accepts terms kept) P old new (λ name b is. subst (λ x. MayBePublished accepts terms kept x b) (sym is.0) is.1) brings;
+    publishes = publishes_weaken (MayBeRecorded accepts terms kept) P old new (λ name b is. subst (λ x. MayBePublished accepts terms kept x b) (sym is.0) is.1) brings;
     order = inl brings;
   }
 
   pub places_nothing : (old new : Run) → PublishesNothing old new → PublishesInOrder accepts terms kept old new
-  places_nothing old new none = places_record old new (brings_nothing (MayBeRecorded accepts terms kept) old new none)
+  places_nothing old new none = places_record old new (publishes_nothing (MayBeRecorded accepts terms kept) old new none)
 
   places_behind : (n : ℕ) (old point new : Run) → PublishesOnly (MayBeRecorded accepts terms kept) old point → point.locked ≡ true → RecordHolds terms.numbering n point.now → PublishesOnly (MayBeInstalled accepts terms kept n) point new
       → RecordsFirst accepts terms kept old new
@@ -78,35 +78,35 @@ module _ (accepts : Verifier) (terms : Terms) (kept : ℕ) where
       → PublishesInOrder accepts terms kept old new
   places_update name file n old staged mid new locked before is recording recorded same goes =
       let Q = MayBeRecorded accepts terms kept in
-      let to_record : PublishesOnly Q old mid = brings_trans Q old staged mid (brings_nothing Q old staged before) (record_brought (staged.now.holds file) n staged mid is recording.brings) in
+      let to_record : PublishesOnly Q old mid = publishes_trans Q old staged mid (publishes_nothing Q old staged before) (record_brought (staged.now.holds file) n staged mid is recording.publishes) in
       let there : IsUpdate accepts terms kept (mid.now.holds file) n = subst (λ u. IsUpdate accepts terms kept u n) (sym same.holds) is in
-      let placed = brings_weaken (IsOnly Place (mid.now.holds file)) (MayBeInstalled accepts terms kept n) mid new
-      (λ name b only. (only.0, subst (λ u. IsUpdate accepts terms kept u n) (sym only.1) there)) goes.brings in
+      let placed = publishes_weaken (IsOnly Place (mid.now.holds file)) (MayBeInstalled accepts terms kept n) mid new
+      (λ name b only. (only.0, subst (λ u. IsUpdate accepts terms kept u n) (sym only.1) there)) goes.publishes in
       let keeps : RecordHolds terms.numbering n mid.now = lasting_keeps terms.numbering n mid.now (record_of terms.numbering n) recorded.lasts (number_from terms.numbering n n is.says.number.bound (omega arith)) in
       record {
-        brings = brings_trans P old mid new (brings_weaken Q P old mid (λ name b q. subst (λ x. MayBePublished accepts terms kept x b) (sym q.0) q.1) to_record)
-            (brings_weaken (MayBeInstalled accepts terms kept n) P mid new (λ name b q. subst (λ x. MayBePublished accepts terms kept x b) (sym q.0) (n, q.1)) placed);
+        publishes = publishes_trans P old mid new (publishes_weaken Q P old mid (λ name b q. subst (λ x. MayBePublished accepts terms kept x b) (sym q.0) q.1) to_record)
+            (publishes_weaken (MayBeInstalled accepts terms kept n) P mid new (λ name b q. subst (λ x. MayBePublished accepts terms kept x b) (sym q.0) (n, q.1)) placed);
         order = inr (places_behind n old mid new to_record (to_record.locked locked) keeps placed);
       }
 
   pub places_after : (old mid new : Run) → PublishesNothing old mid → PublishesInOrder accepts terms kept mid new → PublishesInOrder accepts terms kept old new
   places_after old mid new before places = record {
-    brings = brings_trans P old mid new (brings_nothing P old mid before) places.brings;
+    publishes = publishes_trans P old mid new (publishes_nothing P old mid before) places.publishes;
     order = ⊎_elim
-        (λ recorded. inl (brings_trans (MayBeRecorded accepts terms kept) old mid new (brings_nothing (MayBeRecorded accepts terms kept) old mid before) recorded))
+        (λ recorded. inl (publishes_trans (MayBeRecorded accepts terms kept) old mid new (publishes_nothing (MayBeRecorded accepts terms kept) old mid before) recorded))
         (λ behind. inr (places_behind behind.n old behind.point new
-        (brings_trans (MayBeRecorded accepts terms kept) old mid behind.point (brings_nothing (MayBeRecorded accepts terms kept) old mid before) behind.recorded)
+        (publishes_trans (MayBeRecorded accepts terms kept) old mid behind.point (publishes_nothing (MayBeRecorded accepts terms kept) old mid before) behind.recorded)
         behind.locked behind.there behind.placed))
         places.order;
   }
 
   pub places_more : (old mid new : Run) → PublishesNothing mid new → PublishesInOrder accepts terms kept old mid → PublishesInOrder accepts terms kept old new
   places_more old mid new more places = record {
-    brings = brings_trans P old mid new places.brings (brings_nothing P mid new more);
+    publishes = publishes_trans P old mid new places.publishes (publishes_nothing P mid new more);
     order = ⊎_elim
-        (λ recorded. inl (brings_trans (MayBeRecorded accepts terms kept) old mid new recorded (brings_nothing (MayBeRecorded accepts terms kept) mid new more)))
+        (λ recorded. inl (publishes_trans (MayBeRecorded accepts terms kept) old mid new recorded (publishes_nothing (MayBeRecorded accepts terms kept) mid new more)))
         (λ behind. inr (places_behind behind.n old behind.point new behind.recorded behind.locked behind.there
-        (brings_trans (MayBeInstalled accepts terms kept behind.n) behind.point mid new behind.placed (brings_nothing (MayBeInstalled accepts terms kept behind.n) mid new more))))
+        (publishes_trans (MayBeInstalled accepts terms kept behind.n) behind.point mid new behind.placed (publishes_nothing (MayBeInstalled accepts terms kept behind.n) mid new more))))
         places.order;
   }
 
@@ -158,7 +158,7 @@ installs accepts terms first found kept old read new locked before there number 
     let all = places_after accepts terms kept old read new before places in
     record {
       only = inr (record { found = found; kept = kept; there = there; number = number; places = all });
-      never_falls = never_falls_newer accepts terms first found kept old new locked there number all.brings;
+      never_falls = never_falls_newer accepts terms first found kept old new locked there number all.publishes;
     }
 
 pub is_update : (accepts : Verifier) (terms : Terms) (kept : ℕ) (bytes comment text : List ℕ) (n : ℕ) → TextsVouchWith accepts terms.pk_text terms.sig_text bytes false comment → text ≡ comment

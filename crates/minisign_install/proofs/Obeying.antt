@@ -181,7 +181,7 @@ module _ (s : Setting) (i i' : Installation) (h h' : Host) where
       answers_texts s.accepts t.key s.terms.sig_text h.read signed opens t.questions t.message t.first t.second are (t.digest h.read (x.fed refl)) t.to_first t.to_second
       s.terms.pk_text t.keyed in
       elim (t.told s.terms kept h.read s.accepts asked answers) [
-        | inl (is, update, rights, so) ↦ (Number update, (t.still, so), record { due = rights; field = t.field ∙ t.asked_field ∙ x.field; first = λ e. no e; fed = λ e. no e })
+        | inl (is, update, permissions, so) ↦ (Number update, (t.still, so), record { due = permissions; field = t.field ∙ t.asked_field ∙ x.field; first = λ e. no e; fed = λ e. no e })
         | inr (some, e, is, remove, why) ↦ fails s (Answer kept) i i' h h' x t.number t.still remove (t.field ∙ t.asked_field)
       ]
 

@@ -3,7 +3,7 @@
 use Rattle.minisign_install.proofs.Common.{◌≡◌, ◌≢◌, ◌⊎◌, inl, inr, ⊎_elim, ℕ, List, [], ◌∷◌, ◌++◌, true, Option, ap, sym, subst, ◌∙◌, refl, append_assoc, append-nil, Ok, Err, Consumes-nil, Consumes-trans, Consumes-whole, Consumes, concat, IsAhead, HasInstalled, InstallsLocked, MayBePublished, IsKeptNumber, MayBeRecorded, IsUpdate, PublishesInOrder, ClearsAll, HasCreated, HasLocked, HasRenamed, HasStepped, IsFound, IsStill, MaySyncDirectory, OwnsTheSame, OwnsLess, Perhaps, Finds, Removes, Run, Name, Place, Record, Calls, CallsNothing, Event, HasRun, Host, Makes, RunHasInstalled, RunsSafely, Setting, Writes, WritesInPart, next, Due, Lock, Clear, ReadRecord, Create, Copy, ReadBack, Answer, TakePermissions, Sync, CreateRecord, WriteRecord, SyncRecord, RenameRecord, SyncRecordName, Rename, SyncName, RemoveRecord, Remove, Installed, Outcome, Done, More, Number, Failed, record_of, PublishesNothing, PublishesOnly, HasCleared, OwnsNoMore}
 use Rattle.minisign_install.specs.Order.{Refused}
 use Rattle.minisign_install.proofs.Installs.{found_first, installed, installs, nothing_locked, places_more, places_nothing, places_record, places_update, record_brought}
-use Rattle.minisign_install.proofs.Works.{PublishesBut, PublishesBeside, HasRecorded, HasStage, IsKept, IsOnly, WorksOn, appending, brings_none, brings_nothing, brings_trans, cleared_step, cleared_then, clearing, created_brings, created_goes, created_stage, giving, goes_trans, kept_no_more, lasting, less_let_go, let_go_after, let_go_more, made_let_go, names_go, names_settled, no_more_trans, own_none, perhaps, perhaps_renamed_goes, published, removed_brings, renamed_goes, resting_brings, settling, spoiling, works_goes, works_none, works_trans}
+use Rattle.minisign_install.proofs.Works.{PublishesBut, PublishesBeside, HasRecorded, HasStage, IsKept, IsOnly, WorksOn, appending, publishes_none, publishes_nothing, publishes_trans, cleared_step, cleared_then, clearing, created_publishes, created_goes, created_stage, giving, goes_trans, kept_no_more, lasting, less_let_go, let_go_after, let_go_more, made_let_go, names_go, directory_synced, no_more_trans, own_none, perhaps, perhaps_renamed_goes, published, removed_publishes, renamed_goes, resting_publishes, syncing, spoiling, works_goes, works_none, works_trans}
 
 -- == What stands fast ==
 
@@ -29,13 +29,13 @@ pub record Staging (s : Setting) (a : Host) (now : Run) (kept : ℕ) : Type 0 wh
   pub made : HasCreated s.name s.file ready begun
   pub works : WorksOn s.name s.file begun now
 
--- it holds an update, which is all the data that was ahead, is on the disk and has its rights
+-- it holds an update, which is all the data that was ahead, is on the disk and has its permissions
 pub record Staged (s : Setting) (a : Host) (now : Run) (n : ℕ) : Type 0 where
   pub kept : ℕ
   pub staging : Staging s a now kept
   pub given : IsAhead a.ahead (now.now.holds s.file)
   pub update : IsUpdate s.accepts s.terms kept (now.now.holds s.file) n
-  pub rights : now.now.rights s.file ≡ true
+  pub permissions : now.now.permissions s.file ≡ true
   pub on_disk : now.now.on_disk s.file ≡ true
 
 -- then the stage of the record was made, and only worked on
@@ -80,7 +80,7 @@ Holds s a (ReadBack kept) h = Staging s a h.run kept × IsAhead a.ahead (h.run.n
 Holds s a (Answer kept) h = Staging s a h.run kept × IsAhead a.ahead (h.run.now.holds s.file) × (h.run.now.holds s.file ≡ h.read)
 Holds s a (TakePermissions n) h = (kept : ℕ) × Staging s a h.run kept × IsAhead a.ahead (h.run.now.holds s.file) × IsUpdate s.accepts s.terms kept (h.run.now.holds s.file) n
 Holds s a (Sync n) h =
-    (kept : ℕ) × Staging s a h.run kept × IsAhead a.ahead (h.run.now.holds s.file) × IsUpdate s.accepts s.terms kept (h.run.now.holds s.file) n × (h.run.now.rights s.file ≡ true)
+    (kept : ℕ) × Staging s a h.run kept × IsAhead a.ahead (h.run.now.holds s.file) × IsUpdate s.accepts s.terms kept (h.run.now.holds s.file) n × (h.run.now.permissions s.file ≡ true)
 Holds s a (CreateRecord n) h = Staged s a h.run n
 Holds s a (WriteRecord n) h = (t : Run) × Staged s a t n × HasCreated s.record_name s.record_file t h.run
 Holds s a (SyncRecord n) h = Recording s a h.run n × (h.run.now.holds s.record_file ≡ record_of s.terms.numbering n)
@@ -118,15 +118,15 @@ part_works name file old new stage (pieces, mid, writes, (inr (step, own))) =
     let first = (writes_work name file pieces old mid stage writes).0 in
     works_trans name file old mid new first (spoiling name file mid new first.stage step own)
 
-pub nothing_brings : (old new : Run) → CallsNothing old new → PublishesNothing old new × OwnsNoMore old new
-nothing_brings old new (inl same) = subst (λ r. PublishesNothing old r × OwnsNoMore old r) (sym same) (brings_none N old, own_none old)
-nothing_brings old new (inr (still, own)) = (resting_brings old new still, kept_no_more old new own)
+pub nothing_publishes : (old new : Run) → CallsNothing old new → PublishesNothing old new × OwnsNoMore old new
+nothing_publishes old new (inl same) = subst (λ r. PublishesNothing old r × OwnsNoMore old r) (sym same) (publishes_none N old, own_none old)
+nothing_publishes old new (inr (still, own)) = (resting_publishes old new still, kept_no_more old new own)
 
 pub reads_still : (found : Option (List ℕ)) (old new : Run) → HasStepped old new (Finds Record found) → HasStepped old new IsStill
 reads_still found old new s = record { before = s.before; others = s.others; this = s.this.still; noted = s.noted; known = s.known; locked = s.locked }
 
-pub removal_brings : (name : List ℕ) (old new : Run) → HasStepped old new (Perhaps (Removes name)) → PublishesNothing old new
-removal_brings name old new s = ⊎_elim (λ still. resting_brings old new still) (λ removed. removed_brings N name old new removed) (perhaps (Removes name) old new s)
+pub removal_publishes : (name : List ℕ) (old new : Run) → HasStepped old new (Perhaps (Removes name)) → PublishesNothing old new
+removal_publishes name old new s = ⊎_elim (λ still. resting_publishes old new still) (λ removed. removed_publishes N name old new removed) (perhaps (Removes name) old new s)
 
 pub cleared_more : (P : Name → List ℕ → Type 0) (old mid new : Run) → HasCleared old mid → PublishesOnly P mid new → HasCleared old new
 cleared_more P old mid new c more = record {
@@ -139,7 +139,7 @@ cleared_more P old mid new c more = record {
 
 module _ (s : Setting) (a : Host) where
   pub staging_nothing : (now : Run) (kept : ℕ) → (x : Staging s a now kept) → PublishesNothing x.ready now
-  staging_nothing now kept x = brings_trans N x.ready x.begun now (created_brings s.name s.file x.ready x.begun x.made) x.works.brings
+  staging_nothing now kept x = publishes_trans N x.ready x.begun now (created_publishes s.name s.file x.ready x.begun x.made) x.works.publishes
 
   pub more_work : (now then : Run) (kept : ℕ) → Staging s a now kept → WorksOn s.name s.file now then → Staging s a then kept
   more_work now then kept x works =
@@ -164,8 +164,8 @@ module _ (s : Setting) (a : Host) where
 
   pub recording_nothing : (now : Run) (n : ℕ) → (x : Recording s a now n) → PublishesNothing x.staged.staging.ready now
   recording_nothing now n x =
-      brings_trans N x.staged.staging.ready x.staged_run now (staging_nothing x.staged_run x.staged.kept x.staged.staging)
-      (brings_trans N x.staged_run x.begun now (created_brings s.record_name s.record_file x.staged_run x.begun x.made) x.works.brings)
+      publishes_trans N x.staged.staging.ready x.staged_run now (staging_nothing x.staged_run x.staged.kept x.staged.staging)
+      (publishes_trans N x.staged_run x.begun now (created_publishes s.record_name s.record_file x.staged_run x.begun x.made) x.works.publishes)
 
   fail_recording : (now : Run) (n : ℕ) → Recording s a now n → Failing s a now (λ q. (q ≢ s.name) × (q ≢ s.record_name))
   unfolding fail_staging
@@ -174,17 +174,17 @@ module _ (s : Setting) (a : Host) where
       fails now (λ q. (q ≢ s.name) × (q ≢ s.record_name)) x.staged.kept before.ready before.front (places_nothing s.accepts s.terms x.staged.kept before.ready now (recording_nothing now n x))
       (λ q e other. before.own q (sym (x.made.own.others q other.1) ∙ sym (ap (λ o. o q) x.works.own.owns) ∙ e) other.0)
 
-  pub record_brings : (v now : Run) (n : ℕ) → (x : Recording s a v n) → v.now.holds s.record_file ≡ record_of s.terms.numbering n → PublishesBut (IsOnly Record (v.now.holds s.record_file)) s.record_name s.record_file v now
+  pub record_publishes : (v now : Run) (n : ℕ) → (x : Recording s a v n) → v.now.holds s.record_file ≡ record_of s.terms.numbering n → PublishesBut (IsOnly Record (v.now.holds s.record_file)) s.record_name s.record_file v now
       → PublishesOnly (MayBeRecorded s.accepts s.terms x.staged.kept) x.staged.staging.ready now
-  record_brings v now n x holds goes =
+  record_publishes v now n x holds goes =
       let P = IsOnly Record (record_of s.terms.numbering n) in
       let Q = MayBeRecorded s.accepts s.terms x.staged.kept in
       let y = x.staged.staging in
       let brought : PublishesOnly P x.staged_run now =
-      brings_trans P x.staged_run v now
-      (brings_nothing P x.staged_run v (brings_trans N x.staged_run x.begun v (created_brings s.record_name s.record_file x.staged_run x.begun x.made) x.works.brings))
-      (subst (λ b. PublishesOnly (IsOnly Record b) v now) holds goes.brings) in
-      brings_trans Q y.ready x.staged_run now (brings_nothing Q y.ready x.staged_run (staging_nothing x.staged_run x.staged.kept y))
+      publishes_trans P x.staged_run v now
+      (publishes_nothing P x.staged_run v (publishes_trans N x.staged_run x.begun v (created_publishes s.record_name s.record_file x.staged_run x.begun x.made) x.works.publishes))
+      (subst (λ b. PublishesOnly (IsOnly Record b) v now) holds goes.publishes) in
+      publishes_trans Q y.ready x.staged_run now (publishes_nothing Q y.ready x.staged_run (staging_nothing x.staged_run x.staged.kept y))
       (record_brought s.accepts s.terms x.staged.kept (x.staged_run.now.holds s.file) n x.staged_run now x.staged.update brought)
 
   fail_record : (v now : Run) (n : ℕ) → (x : Recording s a v n) → v.now.holds s.record_file ≡ record_of s.terms.numbering n → PublishesBut (IsOnly Record (v.now.holds s.record_file)) s.record_name s.record_file v now
@@ -193,7 +193,7 @@ module _ (s : Setting) (a : Host) where
   fail_record v now n x holds goes own =
       let before = fail_recording v n x in
       fails now (λ q. (q ≢ s.name) × (q ≢ s.record_name)) x.staged.kept x.staged.staging.ready x.staged.staging.front
-      (places_record s.accepts s.terms x.staged.kept x.staged.staging.ready now (record_brings v now n x holds goes)) (λ q e other. before.own q (own q e other.1) other)
+      (places_record s.accepts s.terms x.staged.kept x.staged.staging.ready now (record_publishes v now n x holds goes)) (λ q e other. before.own q (own q e other.1) other)
 
   pub still_staged : (w : Run) (n : ℕ) → (x : Recorded s a w n) → IsKept x.staged_run w s.name s.file
   still_staged w n x = x.beside.kept s.name s.file x.staged.staging.works.stage
@@ -215,19 +215,19 @@ module _ (s : Setting) (a : Host) where
       let before = fail_staging x.staged_run x.staged.kept x.staged.staging in
       fails now (λ q. q ≢ s.name) x.staged.kept before.ready before.front (placing w now n x goes) (λ q e differs. before.own q (x.own.only q (own q e differs)) differs)
 
-  pub recorded_brings : (w : Run) (n : ℕ) → (x : Recorded s a w n) → PublishesOnly (MayBeRecorded s.accepts s.terms x.staged.kept) x.staged.staging.ready w
-  recorded_brings w n x =
+  pub recorded_publishes : (w : Run) (n : ℕ) → (x : Recorded s a w n) → PublishesOnly (MayBeRecorded s.accepts s.terms x.staged.kept) x.staged.staging.ready w
+  recorded_publishes w n x =
       let y = x.staged.staging in
       let Q = MayBeRecorded s.accepts s.terms x.staged.kept in
-      brings_trans Q y.ready x.staged_run w (brings_nothing Q y.ready x.staged_run (staging_nothing x.staged_run x.staged.kept y))
-      (record_brought s.accepts s.terms x.staged.kept (x.staged_run.now.holds s.file) n x.staged_run w x.staged.update x.beside.brings)
+      publishes_trans Q y.ready x.staged_run w (publishes_nothing Q y.ready x.staged_run (staging_nothing x.staged_run x.staged.kept y))
+      (record_brought s.accepts s.terms x.staged.kept (x.staged_run.now.holds s.file) n x.staged_run w x.staged.update x.beside.publishes)
 
   fail_recorded : (w : Run) (n : ℕ) → Recorded s a w n → Failing s a w (λ q. q ≢ s.name)
   unfolding fail_staging
   fail_recorded w n x =
       let before = fail_staging x.staged_run x.staged.kept x.staged.staging in
       fails w (λ q. q ≢ s.name) x.staged.kept x.staged.staging.ready x.staged.staging.front
-      (places_record s.accepts s.terms x.staged.kept x.staged.staging.ready w (recorded_brings w n x)) (λ q e differs. before.own q (x.own.only q e) differs)
+      (places_record s.accepts s.terms x.staged.kept x.staged.staging.ready w (recorded_publishes w n x)) (λ q e differs. before.own q (x.own.only q e) differs)
 
   locked_so : (ready now : Run) (kept : ℕ) → (x : Front s a ready kept) → PublishesInOrder s.accepts s.terms kept ready now → InstallsLocked s.accepts s.terms s.first x.locked now
   locked_so ready now kept x places = installs s.accepts s.terms s.first x.found kept x.locked ready now x.lock.held x.nothing x.there x.number places
@@ -294,8 +294,8 @@ module _ (s : Setting) (a : Host) where
           no_more_trans a.run h.run h'.run (kept_no_more a.run h.run mine) (kept_no_more h.run h'.run clear.1),
         )
     from ReadRecord (Number n) h h' (l, lock, mine, clear, (ahead, read)) ((found, (reads, own), number), ahead', read') =
-        let still = resting_brings h.run h'.run (reads_still found h.run h'.run reads) in
-        let nothing = brings_trans N l h.run h'.run (clearing l h.run (cleared_step l h.run clear.0)) still in (
+        let still = resting_publishes h.run h'.run (reads_still found h.run h'.run reads) in
+        let nothing = publishes_trans N l h.run h'.run (clearing l h.run (cleared_step l h.run clear.0)) still in (
           record {
             locked = l;
             lock = lock;
@@ -315,7 +315,7 @@ module _ (s : Setting) (a : Host) where
         inr (
           l,
           lock,
-          nothing_locked s.accepts s.terms s.first l h'.run lock.held (brings_trans N l h.run h'.run (clearing l h.run (cleared_step l h.run clear.0)) (resting_brings h.run h'.run still)),
+          nothing_locked s.accepts s.terms s.first l h'.run lock.held (publishes_trans N l h.run h'.run (clearing l h.run (cleared_step l h.run clear.0)) (resting_publishes h.run h'.run still)),
           no_more_trans a.run l h'.run (kept_no_more a.run l mine) (no_more_trans l h.run h'.run (kept_no_more l h.run clear.1) (kept_no_more h.run h'.run own)),
         )
     from (Create kept) Done h h' (front, (ahead, read)) (made, ahead', read') = (
@@ -329,7 +329,7 @@ module _ (s : Setting) (a : Host) where
       subst (Consumes a.ahead h'.ahead) (sym made.stepped.this.empty) (subst (λ x. Consumes a.ahead x []) (sym (ahead' ∙ ahead)) (Consumes-nil a.ahead)),
     )
     from (Create kept) (Failed e) h h' (front, (ahead, read)) (nothing, ahead', read') =
-        let (brings, own) = nothing_brings h.run h'.run nothing in
+        let (brings, own) = nothing_publishes h.run h'.run nothing in
         refuse h.run kept h' front (places_nothing s.accepts s.terms kept h.run h'.run brings) own
     from (Copy kept) More h h' (staging, consumed) (pieces, writes, given, read') =
         let (works, grown) = writes_work s.name s.file pieces h.run h'.run staging.works.stage writes in (
@@ -353,30 +353,30 @@ module _ (s : Setting) (a : Host) where
         (kept, staging, given, subst (λ b. IsUpdate s.accepts s.terms kept b n) (sym all) is)
     from (Answer kept) (Failed e) h h' (staging, given, all) run = subst (λ r. Failing s a r (λ q. q ≢ s.name)) (sym run) (fail_staging h.run kept staging)
     from (TakePermissions n) Done h h' (kept, staging, given, update) ((step, own), ahead', read') =
-        let (works, holds, rights) = giving s.name s.file h.run h'.run staging.works.stage step own in (
+        let (works, holds, permissions) = giving s.name s.file h.run h'.run staging.works.stage step own in (
           kept,
           more_work h.run h'.run kept staging works,
           subst (IsAhead a.ahead) (sym holds) given,
           subst (λ b. IsUpdate s.accepts s.terms kept b n) (sym holds) update,
-          rights,
+          permissions,
         )
     from (TakePermissions n) (Failed e) h h' (kept, staging, given, update) ((step, own), ahead', read') =
         fail_staging h'.run kept (more_work h.run h'.run kept staging (spoiling s.name s.file h.run h'.run staging.works.stage step own))
-    from (Sync n) Done h h' (kept, staging, given, update, rights) ((step, own), ahead', read') =
-        let (works, holds, on_disk, same) = settling s.name s.file h.run h'.run staging.works.stage step own in
+    from (Sync n) Done h h' (kept, staging, given, update, permissions) ((step, own), ahead', read') =
+        let (works, holds, on_disk, same) = syncing s.name s.file h.run h'.run staging.works.stage step own in
         record {
           kept = kept;
           staging = more_work h.run h'.run kept staging works;
           given = subst (IsAhead a.ahead) (sym holds) given;
           update = subst (λ b. IsUpdate s.accepts s.terms kept b n) (sym holds) update;
-          rights = same ∙ rights;
+          permissions = same ∙ permissions;
           on_disk = on_disk;
         }
-    from (Sync n) (Failed e) h h' (kept, staging, given, update, rights) ((step, own), ahead', read') =
+    from (Sync n) (Failed e) h h' (kept, staging, given, update, permissions) ((step, own), ahead', read') =
         fail_staging h'.run kept (more_work h.run h'.run kept staging (spoiling s.name s.file h.run h'.run staging.works.stage step own))
     from (CreateRecord n) Done h h' staged (made, ahead', read') = (h.run, staged, made)
     from (CreateRecord n) (Failed e) h h' staged (nothing, ahead', read') =
-        let (brings, own) = nothing_brings h.run h'.run nothing in
+        let (brings, own) = nothing_publishes h.run h'.run nothing in
         fail_more h.run h'.run (λ q. q ≢ s.name) (fail_staging h.run staged.kept staged.staging) brings own
     from (WriteRecord n) Done h h' (t, staged, made) ((pieces, writes, all), ahead', read') =
         let begun = begin_record n t h.run staged made in
@@ -386,7 +386,7 @@ module _ (s : Setting) (a : Host) where
         let begun = begin_record n t h.run staged made in
         fail_recording h'.run n (more_record h.run h'.run n begun (part_works s.record_name s.record_file h.run h'.run begun.works.stage part))
     from (SyncRecord n) Done h h' (x, holds) ((step, own), ahead', read') =
-        let (works, same, on_disk, rights) = settling s.record_name s.record_file h.run h'.run x.works.stage step own in
+        let (works, same, on_disk, permissions) = syncing s.record_name s.record_file h.run h'.run x.works.stage step own in
         (more_record h.run h'.run n x works, same ∙ holds, on_disk)
     from (SyncRecord n) (Failed e) h h' (x, holds) ((step, own), ahead', read') =
         fail_recording h'.run n (more_record h.run h'.run n x (spoiling s.record_name s.record_file h.run h'.run x.works.stage step own))
@@ -396,7 +396,7 @@ module _ (s : Setting) (a : Host) where
         (λ q e other. sym (ap (λ o. o q) own.owns) ∙ e)
     from (SyncRecordName n) Done h h' (v, x, holds, on_disk, renamed) ((step, own), ahead', read') =
         let P = IsOnly Record (record_of s.terms.numbering n) in
-        let goes = subst (λ b. PublishesBut (IsOnly Record b) s.record_name s.record_file v h'.run) holds (record_goes n v h.run h'.run x on_disk renamed (names_settled h.run h'.run step, own)) in
+        let goes = subst (λ b. PublishesBut (IsOnly Record b) s.record_name s.record_file v h'.run) holds (record_goes n v h.run h'.run x on_disk renamed (directory_synced h.run h'.run step, own)) in
         record {
           staged_run = x.staged_run;
           staged = x.staged;
@@ -423,7 +423,7 @@ module _ (s : Setting) (a : Host) where
         let front = y.front in
         let same = still_staged w n x in
         let on_disk = still_on_disk w n x in
-        let places = placing w h'.run n x (place_goes n w h.run h'.run x renamed (names_settled h.run h'.run step, own)) in
+        let places = placing w h'.run n x (place_goes n w h.run h'.run x renamed (directory_synced h.run h'.run step, own)) in
         let let_go = made_let_go s.name y.ready y.begun h'.run y.made.own
         (let_go_after s.name y.begun w h'.run (no_more_trans y.begun x.staged_run w (kept_no_more y.begun x.staged_run y.works.own) x.own)
         (let_go_more s.name w h.run h'.run (less_let_go s.name w h.run renamed.own) (kept_no_more h.run h'.run own))) in (
@@ -435,18 +435,18 @@ module _ (s : Setting) (a : Host) where
             kept = x.staged.kept;
             there = front.there;
             number = front.number;
-            cleared = cleared_more (MayBePublished s.accepts s.terms x.staged.kept) front.locked y.ready h'.run front.cleared places.brings;
-            installed = installed s.accepts s.terms x.staged.kept s.name s.file n a.ahead x.staged_run w h'.run.steps x.staged.given x.staged.update x.staged.rights same x.recorded
+            cleared = cleared_more (MayBePublished s.accepts s.terms x.staged.kept) front.locked y.ready h'.run front.cleared places.publishes;
+            installed = installed s.accepts s.terms x.staged.kept s.name s.file n a.ahead x.staged_run w h'.run.steps x.staged.given x.staged.update x.staged.permissions same x.recorded
                 (published s.name Place w h.run h'.run renamed.stepped step s.file same.stage on_disk);
           },
           no_more_trans a.run front.locked h'.run (kept_no_more a.run front.locked front.mine) (no_more_trans front.locked y.ready h'.run front.own let_go),
         )
     from (SyncName n) (Failed e) h h' (w, x, renamed) ((step, own), ahead', read') =
         fail_placed w h'.run n x (place_goes n w h.run h'.run x renamed (step, own)) (λ q e other. sym (renamed.own.others q other) ∙ sym (ap (λ o. o q) own.owns) ∙ e)
-    from (RemoveRecord f) Done h h' x ((step, less), ahead', read') = record_let_go h h' x (removed_brings N s.record_name h.run h'.run step) less
-    from (RemoveRecord f) (Failed e) h h' x ((step, less), ahead', read') = record_let_go h h' x (removal_brings s.record_name h.run h'.run step) less
-    from (Remove f) Done h h' x ((step, less), ahead', read') = let_go h h' x (removed_brings N s.name h.run h'.run step) less
-    from (Remove f) (Failed e) h h' x ((step, less), ahead', read') = let_go h h' x (removal_brings s.name h.run h'.run step) less
+    from (RemoveRecord f) Done h h' x ((step, less), ahead', read') = record_let_go h h' x (removed_publishes N s.record_name h.run h'.run step) less
+    from (RemoveRecord f) (Failed e) h h' x ((step, less), ahead', read') = record_let_go h h' x (removal_publishes s.record_name h.run h'.run step) less
+    from (Remove f) Done h h' x ((step, less), ahead', read') = let_go h h' x (removed_publishes N s.name h.run h'.run step) less
+    from (Remove f) (Failed e) h h' x ((step, less), ahead', read') = let_go h h' x (removal_publishes s.name h.run h'.run step) less
     from due o h h' x never = absurd never
 
     pub runs : (due : Due E) (h : Host) (events : List (Event E)) (due' : Due E) (h' : Host) → Holds s a due h → HasRun s due h events due' h' → Holds s a due' h'
@@ -457,14 +457,14 @@ module _ (s : Setting) (a : Host) where
 
     pub safe : (due : Due E) (h : Host) → Holds s a due h → RunsSafely s a.run h.run
     safe Lock h (run, same) = inl run
-    safe Clear h (lock, mine, same) = inr (inr (h.run, lock, nothing_locked s.accepts s.terms s.first h.run h.run lock.held (brings_none N h.run)))
+    safe Clear h (lock, mine, same) = inr (inr (h.run, lock, nothing_locked s.accepts s.terms s.first h.run h.run lock.held (publishes_none N h.run)))
     safe ReadRecord h (l, lock, mine, clear, same) = inr (inr (l, lock, nothing_locked s.accepts s.terms s.first l h.run lock.held (clearing l h.run (cleared_step l h.run clear.0))))
-    safe (Create kept) h (front, same) = inr (inr (front.locked, front.lock, locked_so h.run h.run kept front (places_nothing s.accepts s.terms kept h.run h.run (brings_none N h.run))))
+    safe (Create kept) h (front, same) = inr (inr (front.locked, front.lock, locked_so h.run h.run kept front (places_nothing s.accepts s.terms kept h.run h.run (publishes_none N h.run))))
     safe (Copy kept) h (x, rest) = failing_safe h.run _ (fail_staging h.run kept x)
     safe (ReadBack kept) h (x, rest) = failing_safe h.run _ (fail_staging h.run kept x)
     safe (Answer kept) h (x, given, all) = failing_safe h.run _ (fail_staging h.run kept x)
     safe (TakePermissions n) h (kept, x, given, update) = failing_safe h.run _ (fail_staging h.run kept x)
-    safe (Sync n) h (kept, x, given, update, rights) = failing_safe h.run _ (fail_staging h.run kept x)
+    safe (Sync n) h (kept, x, given, update, permissions) = failing_safe h.run _ (fail_staging h.run kept x)
     safe (CreateRecord n) h x = failing_safe h.run _ (fail_staging h.run x.kept x.staging)
     safe (WriteRecord n) h (t, staged, made) = failing_safe h.run _ (fail_recording h.run n (begin_record n t h.run staged made))
     safe (SyncRecord n) h (x, holds) = failing_safe h.run _ (fail_recording h.run n x)

@@ -18,7 +18,7 @@ use Rattle.minisign_external.specs.Questions.{comment_verdict_under, read_under}
 use Rattle.minisign_external.specs.declared.public_keys.PublicKeyValue.{PublicKeyValue}
 use Rattle.minisign_install.specs.Checking.{IsKeptOrNone, signed_comment}
 use Rattle.minisign_install.specs.Comments.{HasNumber, IsExpiryRefused, Says, file_label, value_of as in_comment}
-use Rattle.minisign_install.specs.Folders.{Finds, HasLocked, IsStill, Known, Leads, Moment, Run}
+use Rattle.minisign_install.specs.Directories.{Finds, HasLocked, IsStill, Known, Leads, Moment, Run}
 use Rattle.minisign_install.specs.Hosts.{Calls}
 use Rattle.minisign_install.specs.Installing.{IsVouched, Terms}
 use Rattle.minisign_install.specs.RecordTexts.{HasNoNumber, IsNumberFor}
@@ -27,7 +27,7 @@ use Rattle.minisign_install.specs.There.{FindsSame, GoesOn, HasKeptNumber, Insta
 use Rattle.minisign_install.specs.declared.comments.Numbering.{Numbering}
 use Rattle.minisign_install.specs.declared.faults.InstallFault.{InstallFault}
 use Rattle.minisign_install.specs.declared.faults.InstallFault.TheVariants.{NoNumber, OlderUpdate, OtherFile, SameNumber}
-use Rattle.minisign_install.specs.declared.folders.Name.TheVariants.{Place, Record}
+use Rattle.minisign_install.specs.declared.directories.Name.TheVariants.{Place, Record}
 use Rattle.minisign_install.specs.declared.there.Installed.{Installed}
 use Rattle.minisign_install.proofs.Installs.{some_list}
 use Rattle.minisign_install.proofs.RecordTexts.{same_number}

@@ -1,5 +1,5 @@
 -- The stages of a run, what one call brings to the lasting names, and calls one after another.
-use Rattle.minisign_install.proofs.Common.{◌≡◌, ◌≢◌, ℕ, List, Some, true, IsApart, OwnsTheSame, Moment, Run, RunStep, HasOnDisk, Name, Record, PublishesNothing, PublishesOnly, IsPublished, ◌⊎◌, inl, inr, ⊎_elim, Option, ap, sym, subst, ◌∙◌, refl, MaySyncDirectory, RecordUnchanged, MayFind, MayLead, Renames, TouchesOnly, Place, Numbering, Publishes, IsNumberFrom, RecordHolds, true≢false, [], ◌∷◌, ◌++◌, None, append_assoc, MatchResult, OnOk, Result, Ok, Err, All-cons, All-nil, All-append, Appends, Clears, ClearsAll, Creates, GivesRights, HasCreated, HasStepped, HasTried, IsStill, OtherProcesses, OwnsLess, OwnsMore, Perhaps, Removes, Syncs, SyncsDirectory, Spoils, HasCleared, RecordHoldsAt, OwnsNoMore, rights_of}
+use Rattle.minisign_install.proofs.Common.{◌≡◌, ◌≢◌, ℕ, List, Some, true, IsApart, OwnsTheSame, Moment, Run, RunStep, HasOnDisk, Name, Record, PublishesNothing, PublishesOnly, IsPublished, ◌⊎◌, inl, inr, ⊎_elim, Option, ap, sym, subst, ◌∙◌, refl, MaySyncDirectory, RecordUnchanged, MayFind, MayLead, Renames, TouchesOnly, Place, Numbering, Publishes, IsNumberFrom, RecordHolds, true≢false, [], ◌∷◌, ◌++◌, None, append_assoc, MatchResult, OnOk, Result, Ok, Err, All-cons, All-nil, All-append, Appends, Clears, ClearsAll, Creates, GivesPermissions, HasCreated, HasStepped, HasTried, IsStill, OtherProcesses, OwnsLess, OwnsMore, Perhaps, Removes, Syncs, SyncsDirectory, Spoils, HasCleared, RecordHoldsAt, OwnsNoMore, permissions_of}
 
 -- the run holds the lock, and the name of a stage is its own and leads to this file, and neither lasting name does or
 -- may after a crash
@@ -10,12 +10,12 @@ pub record HasStage (r : Run) (name : List ℕ) (file : ℕ) : Type 0 where
   pub leads : r.now.stages name ≡ Some file
   pub apart : IsApart r.now file
 
--- the stage is still there, with what it held and its rights, on the disk where it was
+-- the stage is still there, with what it held and its permissions, on the disk where it was
 pub record IsKept (old new : Run) (name : List ℕ) (file : ℕ) : Type 0 where
   pub stage : HasStage new name file
   pub holds : new.now.holds file ≡ old.now.holds file
   pub on_disk : new.now.on_disk file ≡ old.now.on_disk file
-  pub rights : new.now.rights file ≡ old.now.rights file
+  pub permissions : new.now.permissions file ≡ old.now.permissions file
 
 -- every stage is
 abbrev pub StagesUnchanged : Run → Run → Type 0
@@ -23,7 +23,7 @@ StagesUnchanged old new = (s : List ℕ) (f : ℕ) → HasStage old s f → IsKe
 
 -- only this stage was worked on, and nothing was brought to a lasting name
 pub record WorksOn (name : List ℕ) (file : ℕ) (old new : Run) : Type 0 where
-  pub brings : PublishesNothing old new
+  pub publishes : PublishesNothing old new
   pub stage : HasStage new name file
   pub kept : (s : List ℕ) (f : ℕ) → HasStage old s f → f ≢ file → IsKept old new s f
   pub own : OwnsTheSame old new
@@ -34,12 +34,12 @@ OtherStagesUnchanged name file old new = (s : List ℕ) (f : ℕ) → HasStage o
 
 -- Only what is as P says was brought to a lasting name, and every stage but this one is still there.
 pub record PublishesBut (P : Name → List ℕ → Type 0) (name : List ℕ) (file : ℕ) (old new : Run) : Type 0 where
-  pub brings : PublishesOnly P old new
+  pub publishes : PublishesOnly P old new
   pub others : OtherStagesUnchanged name file old new
 
 -- Only what is as P says was brought to a lasting name, and every stage is still there.
 pub record PublishesBeside (P : Name → List ℕ → Type 0) (old new : Run) : Type 0 where
-  pub brings : PublishesOnly P old new
+  pub publishes : PublishesOnly P old new
   pub kept : StagesUnchanged old new
 
 -- no stage is the run's own that was not so before, nor this one
@@ -53,7 +53,7 @@ IsOnly to bytes n found = (n ≡ to) × (found ≡ bytes)
 -- Who opens the name finds exactly these bytes, which are on the disk, and a crash leaves it leading to no other file.
 pub record IsDurable (m : Moment) (name : Name) (bytes : List ℕ) : Type 0 where
   pub stands : HasOnDisk m name bytes
-  pub settled : (f : ℕ) → m.left name f ≡ true → m.leads name ≡ Some f
+  pub synced : (f : ℕ) → m.left name f ≡ true → m.leads name ≡ Some f
 
 -- these bytes were published as the record, and are there for good
 pub record HasRecorded (bytes : List ℕ) (new : Run) : Type 0 where
@@ -96,8 +96,8 @@ module _ (P : Name → List ℕ → Type 0) where
   pub leaving : (m m' : Moment) → m'.leads ≡ m.leads → m'.left ≡ m.left → m'.holds ≡ m.holds → m'.on_disk ≡ m.on_disk → Publishes P (step m m')
   leaving m m' leads left holds on_disk = staying m m' leads (λ n f e. inr (sym (ap (λ l. l n f) left) ∙ e)) holds on_disk
 
-  pub settling_names : (m m' : Moment) → MaySyncDirectory m m' → Publishes P (step m m')
-  settling_names m m' keeps = staying m m' keeps.leads keeps.left keeps.holds keeps.on_disk
+  pub syncing_directory : (m m' : Moment) → MaySyncDirectory m m' → Publishes P (step m m')
+  syncing_directory m m' keeps = staying m m' keeps.leads keeps.left keeps.holds keeps.on_disk
 
 pub place_or_record : (n to : Name) → (n ≡ to) ⊎ (n ≢ to)
 place_or_record Place Place = inl refl
@@ -164,15 +164,15 @@ lasting_keeps numbering k m bytes lasts number = record {
   file = lasts.stands.file;
   leads = lasts.stands.leads;
   numbers = λ xs found.
-      let leads : m.leads Record ≡ Some found.file = ⊎_elim (λ e. e) (lasts.settled found.file) found.lead in
+      let leads : m.leads Record ≡ Some found.file = ⊎_elim (λ e. e) (lasts.synced found.file) found.lead in
       let same : found.file ≡ lasts.stands.file = some_inj found.file lasts.stands.file (m.leads Record) leads lasts.stands.leads in
       let is : xs ≡ bytes = found.holds (ap (λ f. m.on_disk f) same ∙ lasts.stands.on_disk) ∙ ap (λ f. m.holds f) same ∙ lasts.stands.holds in
       subst (IsNumberFrom numbering k) (sym is) number;
 }
 
 module _ (P : Name → List ℕ → Type 0) where
-  pub brings_none : (r : Run) → PublishesOnly P r r
-  brings_none r = record {
+  pub publishes_none : (r : Run) → PublishesOnly P r r
+  publishes_none r = record {
     since = [];
     noted = refl;
     each = All-nil (Publishes P);
@@ -181,8 +181,8 @@ module _ (P : Name → List ℕ → Type 0) where
     numbers = λ l numbering k floor keeps. (All-nil (RecordHoldsAt numbering k), keeps);
   }
 
-  pub brings_more : (old mid new : Run) (call : Moment → Moment → Type 0) → PublishesOnly P old mid → (s : HasStepped mid new call) → Publishes P (step s.before new.now) → PublishesOnly P old new
-  brings_more old mid new call so_far s this = record {
+  pub publishes_more : (old mid new : Run) (call : Moment → Moment → Type 0) → PublishesOnly P old mid → (s : HasStepped mid new call) → Publishes P (step s.before new.now) → PublishesOnly P old new
+  publishes_more old mid new call so_far s this = record {
     since = step s.before new.now ∷ so_far.since;
     noted = s.noted ∙ ap (λ l. step s.before new.now ∷ l) so_far.noted;
     each = All-cons (Publishes P) (step s.before new.now) so_far.since this so_far.each;
@@ -195,8 +195,8 @@ module _ (P : Name → List ℕ → Type 0) where
         (All-cons (RecordHoldsAt numbering k) (step s.before new.now) so_far.since (before, after) each, after);
   }
 
-  pub brings_trans : (old mid new : Run) → PublishesOnly P old mid → PublishesOnly P mid new → PublishesOnly P old new
-  brings_trans old mid new a b = record {
+  pub publishes_trans : (old mid new : Run) → PublishesOnly P old mid → PublishesOnly P mid new → PublishesOnly P old new
+  publishes_trans old mid new a b = record {
     since = b.since ++ a.since;
     noted = b.noted ∙ ap (λ l. b.since ++ l) a.noted ∙ sym (append_assoc b.since a.since old.steps);
     each = All-append (Publishes P) b.since a.since b.each a.each;
@@ -208,8 +208,8 @@ module _ (P : Name → List ℕ → Type 0) where
         (All-append (RecordHoldsAt numbering k) b.since a.since more first, last);
   }
 
-  pub brings_nothing : (old new : Run) → PublishesNothing old new → PublishesOnly P old new
-  brings_nothing old new none = record {
+  pub publishes_nothing : (old new : Run) → PublishesNothing old new → PublishesOnly P old new
+  publishes_nothing old new none = record {
     since = none.since;
     noted = none.noted;
     each = λ k d l. record {
@@ -227,7 +227,7 @@ pub record Before (r : Run) (m : Moment) (name : List ℕ) (file : ℕ) : Type 0
   pub apart : IsApart m file
   pub holds : m.holds file ≡ r.now.holds file
   pub on_disk : m.on_disk file ≡ r.now.on_disk file
-  pub rights : m.rights file ≡ r.now.rights file
+  pub permissions : m.permissions file ≡ r.now.permissions file
 
 pub before_call : (r : Run) (m : Moment) (name : List ℕ) (file : ℕ) → OtherProcesses r.locked r.owns r.now m → HasStage r name file → Before r m name file
 before_call r m name file others stage = record {
@@ -235,14 +235,14 @@ before_call r m name file others stage = record {
   apart = others.apart name file stage.owned stage.leads stage.apart;
   holds = others.holds name file stage.owned stage.leads;
   on_disk = others.on_disk name file stage.owned stage.leads;
-  rights = others.rights name file stage.owned stage.leads;
+  permissions = others.permissions name file stage.owned stage.leads;
 }
 
 pub works_none : (name : List ℕ) (file : ℕ) (r : Run) → HasStage r name file → WorksOn name file r r
 works_none name file r stage = record {
-  brings = brings_none (λ _ _. ⊥) r;
+  publishes = publishes_none (λ _ _. ⊥) r;
   stage = stage;
-  kept = λ s f held other. record { stage = held; holds = refl; on_disk = refl; rights = refl };
+  kept = λ s f held other. record { stage = held; holds = refl; on_disk = refl; permissions = refl };
   own = record { owns = refl };
 }
 
@@ -250,11 +250,11 @@ pub own_trans : (old mid new : Run) → OwnsTheSame old mid → OwnsTheSame mid 
 own_trans old mid new a b = record { owns = b.owns ∙ a.owns }
 
 pub kept_trans : (old mid new : Run) (s : List ℕ) (f : ℕ) → IsKept old mid s f → IsKept mid new s f → IsKept old new s f
-kept_trans old mid new s f a b = record { stage = b.stage; holds = b.holds ∙ a.holds; on_disk = b.on_disk ∙ a.on_disk; rights = b.rights ∙ a.rights }
+kept_trans old mid new s f a b = record { stage = b.stage; holds = b.holds ∙ a.holds; on_disk = b.on_disk ∙ a.on_disk; permissions = b.permissions ∙ a.permissions }
 
 pub works_trans : (name : List ℕ) (file : ℕ) (old mid new : Run) → WorksOn name file old mid → WorksOn name file mid new → WorksOn name file old new
 works_trans name file old mid new a b = record {
-  brings = brings_trans (λ _ _. ⊥) old mid new a.brings b.brings;
+  publishes = publishes_trans (λ _ _. ⊥) old mid new a.publishes b.publishes;
   stage = b.stage;
   kept = λ s f held other. kept_trans old mid new s f (a.kept s f held other) (b.kept s f (a.kept s f held other).stage other);
   own = own_trans old mid new a.own b.own;
@@ -271,13 +271,13 @@ spoiling name file old new stage s own =
       leads = ap (λ o. o t) s.this.stages ∙ (at t f held).leads;
       apart = λ n lead. (at t f held).apart n (lead_back m new.now n f s.this.only.leads s.this.only.left lead);
     } in record {
-      brings = brings_more (λ _ _. ⊥) old old new (Spoils file) (brings_none (λ _ _. ⊥) old) s (touching (λ _ _. ⊥) file m new.now s.this.only (at name file stage).apart);
+      publishes = publishes_more (λ _ _. ⊥) old old new (Spoils file) (publishes_none (λ _ _. ⊥) old) s (touching (λ _ _. ⊥) file m new.now s.this.only (at name file stage).apart);
       stage = after name file stage;
       kept = λ t f held other. record {
         stage = after t f held;
         holds = s.this.only.holds f other ∙ (at t f held).holds;
         on_disk = s.this.only.on_disk f other ∙ (at t f held).on_disk;
-        rights = s.this.only.rights f other ∙ (at t f held).rights;
+        permissions = s.this.only.permissions f other ∙ (at t f held).permissions;
       };
       own = own;
     }
@@ -289,17 +289,17 @@ appending name file bytes old new stage s own = (
   s.this.grown ∙ ap (λ h. h ++ bytes) (s.others.holds name file stage.owned stage.leads),
 )
 
-pub settling : (name : List ℕ) (file : ℕ) (old new : Run) → HasStage old name file → HasStepped old new (Syncs file) → OwnsTheSame old new
-    → WorksOn name file old new × (new.now.holds file ≡ old.now.holds file) × (new.now.on_disk file ≡ true) × (new.now.rights file ≡ old.now.rights file)
-settling name file old new stage s own = (
+pub syncing : (name : List ℕ) (file : ℕ) (old new : Run) → HasStage old name file → HasStepped old new (Syncs file) → OwnsTheSame old new
+    → WorksOn name file old new × (new.now.holds file ≡ old.now.holds file) × (new.now.on_disk file ≡ true) × (new.now.permissions file ≡ old.now.permissions file)
+syncing name file old new stage s own = (
   spoiling name file old new stage (record { before = s.before; others = s.others; this = s.this.spoils; noted = s.noted; known = s.known; locked = s.locked }) own,
   s.this.same ∙ s.others.holds name file stage.owned stage.leads,
   s.this.on_disk,
-  s.this.rights ∙ s.others.rights name file stage.owned stage.leads,
+  s.this.permissions ∙ s.others.permissions name file stage.owned stage.leads,
 )
 
-pub giving : (name : List ℕ) (file : ℕ) (old new : Run) → HasStage old name file → HasStepped old new (GivesRights file) → OwnsTheSame old new
-    → WorksOn name file old new × (new.now.holds file ≡ old.now.holds file) × (new.now.rights file ≡ true)
+pub giving : (name : List ℕ) (file : ℕ) (old new : Run) → HasStage old name file → HasStepped old new (GivesPermissions file) → OwnsTheSame old new
+    → WorksOn name file old new × (new.now.holds file ≡ old.now.holds file) × (new.now.permissions file ≡ true)
 giving name file old new stage s own = (
   spoiling name file old new stage (record { before = s.before; others = s.others; this = s.this.spoils; noted = s.noted; known = s.known; locked = s.locked }) own,
   s.this.same ∙ s.others.holds name file stage.owned stage.leads,
@@ -307,12 +307,12 @@ giving name file old new stage s own = (
 )
 
 pub kept_from : (old new : Run) (m : Moment) (s : List ℕ) (f : ℕ) → Before old m s f → new.known ≡ true → new.locked ≡ true → new.owns s ≡ true → new.now.stages s ≡ m.stages s → IsApart new.now f
-    → new.now.holds f ≡ m.holds f → new.now.on_disk f ≡ m.on_disk f → new.now.rights f ≡ m.rights f → IsKept old new s f
-kept_from old new m s f at known locked owned stages apart holds on_disk rights = record {
+    → new.now.holds f ≡ m.holds f → new.now.on_disk f ≡ m.on_disk f → new.now.permissions f ≡ m.permissions f → IsKept old new s f
+kept_from old new m s f at known locked owned stages apart holds on_disk permissions = record {
   stage = record { known = known; locked = locked; owned = owned; leads = stages ∙ at.leads; apart = apart };
   holds = holds ∙ at.holds;
   on_disk = on_disk ∙ at.on_disk;
-  rights = rights ∙ at.rights;
+  permissions = permissions ∙ at.permissions;
 }
 
 -- == A stage is made ==
@@ -326,9 +326,9 @@ created_stage name g old new known locked c = record {
   apart = λ n lead. c.stepped.this.apart n (lead_back c.stepped.before new.now n g c.stepped.this.only.leads c.stepped.this.only.left lead);
 }
 
-pub created_brings : (name : List ℕ) (g : ℕ) (old new : Run) → HasCreated name g old new → PublishesNothing old new
-created_brings name g old new c =
-    brings_more (λ _ _. ⊥) old old new (Creates name g) (brings_none (λ _ _. ⊥) old) c.stepped (touching (λ _ _. ⊥) g c.stepped.before new.now c.stepped.this.only c.stepped.this.apart)
+pub created_publishes : (name : List ℕ) (g : ℕ) (old new : Run) → HasCreated name g old new → PublishesNothing old new
+created_publishes name g old new c =
+    publishes_more (λ _ _. ⊥) old old new (Creates name g) (publishes_none (λ _ _. ⊥) old) c.stepped (touching (λ _ _. ⊥) g c.stepped.before new.now c.stepped.this.only c.stepped.this.apart)
 
 pub created_keeps : (name : List ℕ) (g : ℕ) (old new : Run) → HasCreated name g old new → (s : List ℕ) (f : ℕ) → HasStage old s f → (s ≢ name) × (f ≢ g) × IsKept old new s f
 created_keeps name g old new c s f held =
@@ -341,7 +341,7 @@ created_keeps name g old new c s f held =
       name_differs,
       file_differs,
       kept_from old new m s f at (c.stepped.known ∙ held.known) (c.stepped.locked held.locked) (c.own.others s name_differs ∙ held.owned) (this.others s name_differs)
-          (λ n lead. at.apart n (lead_back m new.now n f this.only.leads this.only.left lead)) (this.only.holds f file_differs) (this.only.on_disk f file_differs) (this.only.rights f file_differs),
+          (λ n lead. at.apart n (lead_back m new.now n f this.only.leads this.only.left lead)) (this.only.holds f file_differs) (this.only.on_disk f file_differs) (this.only.permissions f file_differs),
     )
 
 -- == A stage gets a lasting name ==
@@ -363,13 +363,13 @@ module _ (name : List ℕ) (to : Name) (g : ℕ) (old new : Run) (stage : HasSta
       let mine = before_call old m name g s.others stage in
       let at = before_call old m t f s.others held in
       kept_from old new m t f at (s.known ∙ held.known) (s.locked held.locked) (owns t name_differs ∙ held.owned) (s.this.stages t name_differs)
-      (renamed_apart name to g f m new.now s.this mine.leads file_differs at.apart) (ap (λ h. h f) s.this.holds) (ap (λ d. d f) s.this.on_disk) (ap (λ r. r f) s.this.rights)
+      (renamed_apart name to g f m new.now s.this mine.leads file_differs at.apart) (ap (λ h. h f) s.this.holds) (ap (λ d. d f) s.this.on_disk) (ap (λ r. r f) s.this.permissions)
 
-  pub renamed_brings : old.now.on_disk g ≡ true → (s : HasStepped old new (Renames name to)) → PublishesOnly (IsOnly to (old.now.holds g)) old new
-  renamed_brings on_disk s =
+  pub renamed_publishes : old.now.on_disk g ≡ true → (s : HasStepped old new (Renames name to)) → PublishesOnly (IsOnly to (old.now.holds g)) old new
+  renamed_publishes on_disk s =
       let P = IsOnly to (old.now.holds g) in
       let mine = before_call old s.before name g s.others stage in
-      brings_more P old old new (Renames name to) (brings_none P old) s
+      publishes_more P old old new (Renames name to) (publishes_none P old) s
       (renaming P name to g s.before new.now s.this mine.leads (mine.on_disk ∙ on_disk) (refl, mine.holds))
 
   pub renamed_stands : old.now.on_disk g ≡ true → (s : HasStepped old new (Renames name to)) → HasOnDisk new.now to (old.now.holds g)
@@ -390,26 +390,26 @@ names_keep old new s own t f held =
     let at = before_call old m t f s.others held in
     kept_from old new m t f at (s.known ∙ held.known) (s.locked held.locked) (ap (λ o. o t) own.owns ∙ held.owned) (ap (λ o. o t) s.this.stages)
     (λ n lead. at.apart n (⊎_elim (λ e. inl (sym (ap (λ l. l n) s.this.leads) ∙ e)) (λ e. s.this.left n f e) lead))
-    (ap (λ h. h f) s.this.holds) (ap (λ d. d f) s.this.on_disk) (ap (λ r. r f) s.this.rights)
+    (ap (λ h. h f) s.this.holds) (ap (λ d. d f) s.this.on_disk) (ap (λ r. r f) s.this.permissions)
 
 pub names_bring : (P : Name → List ℕ → Type 0) (old new : Run) → HasStepped old new MaySyncDirectory → PublishesOnly P old new
-names_bring P old new s = brings_more P old old new MaySyncDirectory (brings_none P old) s (settling_names P s.before new.now s.this)
+names_bring P old new s = publishes_more P old old new MaySyncDirectory (publishes_none P old) s (syncing_directory P s.before new.now s.this)
 
 -- a call that changes nothing
 still_names : (old new : Run) → HasStepped old new IsStill → HasStepped old new MaySyncDirectory
 still_names old new s =
-    let same : MaySyncDirectory s.before s.before = record { leads = refl; left = λ n f e. inr e; holds = refl; on_disk = refl; rights = refl; stages = refl } in
+    let same : MaySyncDirectory s.before s.before = record { leads = refl; left = λ n f e. inr e; holds = refl; on_disk = refl; permissions = refl; stages = refl } in
     record { before = s.before; others = s.others; this = subst (MaySyncDirectory s.before) (sym s.this) same; noted = s.noted; known = s.known; locked = s.locked }
 
-pub resting_brings : (old new : Run) → HasStepped old new IsStill → PublishesNothing old new
-resting_brings old new s = names_bring (λ _ _. ⊥) old new (still_names old new s)
+pub resting_publishes : (old new : Run) → HasStepped old new IsStill → PublishesNothing old new
+resting_publishes old new s = names_bring (λ _ _. ⊥) old new (still_names old new s)
 
-pub names_settled : (old new : Run) → HasStepped old new SyncsDirectory → HasStepped old new MaySyncDirectory
-names_settled old new s = record { before = s.before; others = s.others; this = s.this.same; noted = s.noted; known = s.known; locked = s.locked }
+pub directory_synced : (old new : Run) → HasStepped old new SyncsDirectory → HasStepped old new MaySyncDirectory
+directory_synced old new s = record { before = s.before; others = s.others; this = s.this.same; noted = s.noted; known = s.known; locked = s.locked }
 
-pub removed_brings : (P : Name → List ℕ → Type 0) (name : List ℕ) (old new : Run) → HasStepped old new (Removes name) → PublishesOnly P old new
-removed_brings P name old new s =
-    brings_more P old old new (Removes name) (brings_none P old) s (leaving P s.before new.now s.this.leads s.this.left s.this.holds s.this.on_disk)
+pub removed_publishes : (P : Name → List ℕ → Type 0) (name : List ℕ) (old new : Run) → HasStepped old new (Removes name) → PublishesOnly P old new
+removed_publishes P name old new s =
+    publishes_more P old old new (Removes name) (publishes_none P old) s (leaving P s.before new.now s.this.leads s.this.left s.this.holds s.this.on_disk)
 
 pub perhaps : (call : Moment → Moment → Type 0) (old new : Run) → HasStepped old new (Perhaps call) → HasStepped old new IsStill ⊎ HasStepped old new call
 perhaps call old new s =
@@ -419,7 +419,7 @@ perhaps call old new s =
 
 pub goes_trans : (P : Name → List ℕ → Type 0) (name : List ℕ) (g : ℕ) (old mid new : Run) → PublishesBut P name g old mid → PublishesBut P name g mid new → PublishesBut P name g old new
 goes_trans P name g old mid new a b = record {
-  brings = brings_trans P old mid new a.brings b.brings;
+  publishes = publishes_trans P old mid new a.publishes b.publishes;
   others = λ s f held name_differs file_differs.
       let first = a.others s f held name_differs file_differs in
       kept_trans old mid new s f first (b.others s f first.stage name_differs file_differs);
@@ -427,20 +427,20 @@ goes_trans P name g old mid new a b = record {
 
 pub works_goes : (P : Name → List ℕ → Type 0) (name : List ℕ) (g : ℕ) (old new : Run) → WorksOn name g old new → PublishesBut P name g old new
 works_goes P name g old new works = record {
-  brings = brings_nothing P old new works.brings;
+  publishes = publishes_nothing P old new works.publishes;
   others = λ s f held name_differs file_differs. works.kept s f held file_differs;
 }
 
 pub names_go : (P : Name → List ℕ → Type 0) (name : List ℕ) (g : ℕ) (old new : Run) → HasStepped old new MaySyncDirectory → OwnsTheSame old new → PublishesBut P name g old new
 names_go P name g old new s own = record {
-  brings = names_bring P old new s;
+  publishes = names_bring P old new s;
   others = λ t f held name_differs file_differs. names_keep old new s own t f held;
 }
 
 pub renamed_goes : (name : List ℕ) (to : Name) (g : ℕ) (old new : Run) → HasStage old name g → old.now.on_disk g ≡ true → HasStepped old new (Renames name to)
     → ((t : List ℕ) → t ≢ name → new.owns t ≡ old.owns t) → PublishesBut (IsOnly to (old.now.holds g)) name g old new
 renamed_goes name to g old new stage on_disk s owns = record {
-  brings = renamed_brings name to g old new stage on_disk s;
+  publishes = renamed_publishes name to g old new stage on_disk s;
   others = renamed_keeps name to g old new stage s owns;
 }
 
@@ -453,14 +453,14 @@ perhaps_renamed_goes name to g old new stage on_disk s own =
 -- a stage is made, worked on and published: the stages from before are still there
 pub created_goes : (P : Name → List ℕ → Type 0) (name : List ℕ) (g : ℕ) (old mid new : Run) → HasCreated name g old mid → PublishesBut P name g mid new → PublishesBeside P old new
 created_goes P name g old mid new made goes = record {
-  brings = brings_trans P old mid new (brings_nothing P old mid (created_brings name g old mid made)) goes.brings;
+  publishes = publishes_trans P old mid new (publishes_nothing P old mid (created_publishes name g old mid made)) goes.publishes;
   kept = λ s f held.
       let (name_differs, file_differs, first) = created_keeps name g old mid made s f held in
       kept_trans old mid new s f first (goes.others s f first.stage name_differs file_differs);
 }
 
-pub brings_weaken : (P Q : Name → List ℕ → Type 0) (old new : Run) → ((n : Name) (b : List ℕ) → P n b → Q n b) → PublishesOnly P old new → PublishesOnly Q old new
-brings_weaken P Q old new more b = record {
+pub publishes_weaken : (P Q : Name → List ℕ → Type 0) (old new : Run) → ((n : Name) (b : List ℕ) → P n b → Q n b) → PublishesOnly P old new → PublishesOnly Q old new
+publishes_weaken P Q old new more b = record {
   since = b.since;
   noted = b.noted;
   each = λ k d l. record {
@@ -486,21 +486,21 @@ cleared_then P old mid new s more = record {
 
 pub clearing : (old new : Run) → HasStepped old new Clears → PublishesNothing old new
 clearing old new s =
-    brings_more (λ _ _. ⊥) old old new Clears (brings_none (λ _ _. ⊥) old) s (leaving (λ _ _. ⊥) s.before new.now s.this.leads s.this.left s.this.holds s.this.on_disk)
+    publishes_more (λ _ _. ⊥) old old new Clears (publishes_none (λ _ _. ⊥) old) s (leaving (λ _ _. ⊥) s.before new.now s.this.leads s.this.left s.this.holds s.this.on_disk)
 
 pub published : (name : List ℕ) (to : Name) (old mid new : Run) → HasStepped old mid (Renames name to) → HasStepped mid new SyncsDirectory → (g : ℕ) → HasStage old name g → old.now.on_disk g ≡ true
-    → (p : IsPublished to (old.now.holds g) old.steps new.steps) × (rights_of p ≡ old.now.rights g)
+    → (p : IsPublished to (old.now.holds g) old.steps new.steps) × (permissions_of p ≡ old.now.permissions g)
 unfolding renamed_stands
 published name to old mid new first last g stage on_disk =
     let mine = before_call old first.before name g first.others stage in (
       record {
         renamed = step first.before mid.now;
-        settled = step last.before new.now;
+        synced = step last.before new.now;
         calls = last.noted ∙ ap (λ l. step last.before new.now ∷ l) first.noted;
         stands = renamed_stands name to g old mid stage on_disk first;
         lasts = last.this;
       },
-      ap (λ r. r g) first.this.rights ∙ mine.rights,
+      ap (λ r. r g) first.this.permissions ∙ mine.permissions,
     )
 
 -- the record is there for good then, since others leave it alone
@@ -519,7 +519,7 @@ lasting name old mid new first last g stage on_disk =
         holds = ap (λ h. h f) same.holds ∙ leaves.holds f lead ∙ stands.holds;
         on_disk = ap (λ d. d f) same.on_disk ∙ leaves.on_disk f lead stands.on_disk;
       };
-      settled = λ h l. last.this.settled Record h l;
+      synced = λ h l. last.this.synced Record h l;
     }
 
 -- == Which stages are the run's own ==

@@ -10,7 +10,7 @@ use Rattle.minisign_external.specs.Questions.{comment_verdict_under}
 use Rattle.minisign_external.specs.Numbers.{misuse_number}
 use Rattle.minisign_external.specs.declared.state.Misuse.TheVariants.{BadFirstFlag, BadNumbering}
 use Rattle.minisign_install.specs.Comments.{Says, Numbering}
-use Rattle.minisign_install.specs.Folders.{Finds, IsStill, Known, Run, Record}
+use Rattle.minisign_install.specs.Directories.{Finds, IsStill, Known, Run, Record}
 use Rattle.minisign_install.specs.HostNumbers.{install_number, numbering_number, offer_number}
 use Rattle.minisign_install.specs.Hosted.{wanted_by}
 use Rattle.minisign_install.specs.Hosts.{Calls}
@@ -48,7 +48,7 @@ IsOffered terms first found comment (Err e) =
     IsRecordRefused terms.numbering first found e
     ⊎ ((kept : Option ℕ) × IsKeptOrNone terms.numbering first found kept × IsCommentRefused terms 0 comment e)
 
--- How a check ends. Memory runs out, or the texts are refused, before anything is asked of the folder. Otherwise the
+-- How a check ends. Memory runs out, or the texts are refused, before anything is asked of the directory. Otherwise the
 -- record was read, by one call that changed nothing, and the answer is the one by what it was found to hold; or reading
 -- it failed.
 abbrev pub ChecksSo : Verifier → Terms → Bool → ℕ → ℕ → Run → Run → Result (Offer × ℕ) InstallFault → Type 0

@@ -1,9 +1,9 @@
--- What an installation over a folder holds between two calls, and what each call that is due does to it.
+-- What an installation over a directory holds between two calls, and what each call that is due does to it.
 use Rattle.std.specs.Prelude.{◌≡◌, ◌≢◌, ◌-◌, ⊤, ℕ, Bool, true, false, List, Option, IsNone, IsSome, IfSome, Result, Ok, Err}
 use Rattle.minisign_install.specs.Faults.{Named, OutOfMemory, InstallFault, Library}
 use Rattle.minisign_install.specs.Installing.{Verifier, IsVouched, Terms}
 use Rattle.minisign_external.specs.States.{IsFedState}
-use Rattle.minisign_install.specs.Folders.{Run}
+use Rattle.minisign_install.specs.Directories.{Run}
 use Rattle.minisign_install.specs.Hosts.{Explains, Host, Makes, Setting}
 use Rattle.minisign_install.specs.Names.{drawn_bytes}
 use Rattle.minisign_install.specs.Order.{due_number, next, Due, Lock, Clear, ReadRecord, Create, Copy, ReadBack, Answer, TakePermissions, Sync, CreateRecord, WriteRecord, SyncRecord, RenameRecord, SyncRecordName, Rename, SyncName, RemoveRecord, Remove, Installed, Refused, Outcome, Done, Number, Failed}
@@ -62,8 +62,8 @@ HasMade Installed work = ⊤ × ⊤
 HasMade (Refused e) work = ⊤ × ⊤
 HasMade due work = IsSome work.stage × IsNone work.record_stage
 
--- What is known there of any folder: where the answers are due, the state was fed what was read back; and from there on
--- it is an update.
+-- What is known there of any directory: where the answers are due, the state was fed what was read back; and from there
+-- on it is an update.
 abbrev pub Knows : {E H : Type 0} → Verifier → Terms → Due E → Work H → List ℕ → Type 0
 Knows accepts terms (Answer kept) work read = IsFedState work.state read
 Knows accepts terms (TakePermissions n) work read = IsVouched accepts terms
@@ -75,8 +75,8 @@ MayCall Lock run = ⊤
 MayCall due run = run.locked ≡ true
 
 -- The calls that ask for memory: copying and reading back take a buffer, and judging one for the message of the second
--- question. Locking, clearing, creating, writing a number, rights, bringing to the disk, renaming and removing ask for
--- none, and reading the record says of memory that it could not be read.
+-- question. Locking, clearing, creating, writing a number, permissions, syncing, renaming and removing ask for none, and
+-- reading the record says of memory that it could not be read.
 abbrev pub asks_for_memory : {E : Type 0} → Due E → Bool
 asks_for_memory (Copy kept) = true
 asks_for_memory (ReadBack kept) = true
@@ -88,14 +88,14 @@ abbrev pub WantsNoMemory : Due InstallFault → Outcome InstallFault → Type 0
 WantsNoMemory due (Failed e) = asks_for_memory due ≡ false → e ≢ Library (Named OutOfMemory)
 WantsNoMemory due outcome = ⊤
 
--- the call that was due was made, and went so; of a folder whose run is not known, only why it failed is said
+-- the call that was due was made, and went so; of a directory whose run is not known, only why it failed is said
 pub record Went (s : Setting) (due : Due InstallFault) (outcome : Outcome InstallFault) (h h' : Host) : Type 0 where
   pub made : h.run.known ≡ true → MayCall due h.run → Makes s due outcome h h'
   pub explained : Explains s due outcome h h'
   pub memory : WantsNoMemory due outcome
 
 -- The call that was due went so, wherever the stages were made that it uses: with what is known before it and after it
--- of any folder, and with the hosts before and after it by what was read back.
+-- of any directory, and with the hosts before and after it by what was read back.
 abbrev pub HasCalled : {H : Type 0} → Verifier → Terms → Bool → (H → ℕ) → Due InstallFault → Outcome InstallFault
     → Work H → Work H → (List ℕ → Host) → (List ℕ → Host) → Type 0
 HasCalled accepts terms first file_of due outcome old new before after =
@@ -117,7 +117,7 @@ abbrev pub number_or : Result ℕ InstallFault → Outcome InstallFault
 number_or (Ok n) = Number n
 number_or (Err e) = Failed e
 
--- the same of a call of the folder, which fails for this fault
+-- the same of a call of the directory, which fails for this fault
 abbrev pub made_or : {D : Type 0} → Result Unit D → InstallFault → Outcome InstallFault
 made_or (Ok done) e = Done
 made_or (Err fault) e = Failed e

@@ -32,7 +32,7 @@ pub record IsHostMeaning (n : ℕ) (text : List ℕ) : Type 0 where
   pub other_file : n ≡ install_number OtherFile → text ≡ (install_row OtherFile).text
   pub no_number : n ≡ install_number NoNumber → text ≡ (install_row NoNumber).text
   pub older_update : n ≡ install_number OlderUpdate → text ≡ (install_row OlderUpdate).text
-  pub folder_not_on_disk : n ≡ install_number DirectoryNotSynced → text ≡ (install_row DirectoryNotSynced).text
+  pub directory_not_on_disk : n ≡ install_number DirectoryNotSynced → text ≡ (install_row DirectoryNotSynced).text
   pub kept_by_timestamp : n ≡ install_number KeptByTimestamp → text ≡ (install_row KeptByTimestamp).text
   pub kept_by_version : n ≡ install_number KeptByVersion → text ≡ (install_row KeptByVersion).text
   pub expired : n ≡ install_number Expired → text ≡ (install_row Expired).text

@@ -212,7 +212,7 @@ IsUpdateRefusal accepts terms kept message new (WrongUse m) = ⊥
 IsUpdateRefusal accepts terms kept message new (Refused e) =
     IsDue new (Remove (install_number e)) × IsDataRefused accepts terms kept message e
 
--- what is read back is an update of this number, and its rights are due; or it is none
+-- what is read back is an update of this number, and its permissions are due; or it is none
 abbrev pub GivesUpdate : {T : Type 0} → Verifier → Terms → ℕ → List ℕ → Installation → Result T HostRefusal → Type 0
 GivesUpdate accepts terms kept message new r =
     MatchResult r (λ _. (n : ℕ) × IsDue new (TakePermissions n) × IsUpdate accepts terms kept message n)
@@ -237,7 +237,7 @@ abbrev pub IsAskNumber : Installation → Installation → PublicKeyValue → Li
 IsAskNumber old new key sig_text file room n =
     (r : HostRefusal) × (n ≡ host_number r) × IsAskRefusal old new key sig_text file room r
 
--- what is read back is an update, and its rights are due; or it is none, and the stage is to be removed for the first
+-- what is read back is an update, and permissions are due; or it is none, and the stage is to be removed for the first
 -- reason, whose number this is
 abbrev pub GivesUpdateNumber : Verifier → Terms → ℕ → List ℕ → Installation → ℕ → Type 0
 GivesUpdateNumber accepts terms kept message new n =

@@ -9,9 +9,9 @@ use Rattle.minisign_external.specs.Questions.{AnswersTexts, IsKeyText, read_unde
 use Rattle.minisign_external.specs.States.{AreQuestions, IsFedState}
 use Rattle.minisign_external.specs.declared.public_keys.PublicKeyValue.{PublicKeyValue}
 use Rattle.minisign_external.specs.declared.state.Questions.{Questions}
-use Rattle.minisign_install.specs.Folders.{Finds, Record}
+use Rattle.minisign_install.specs.Directories.{Finds, Record}
 use Rattle.minisign_install.specs.Hosted.{CallHasFailed, GivesUpdateNumber, HasGone, HasReadBack, HasReadRecord, IsAskRefusal, IsAsking, IsDue, failure, numbering_of, wanted_by}
-use Rattle.minisign_install.specs.Hosts.{Calls, Host, Makes, OnFolder, Setting}
+use Rattle.minisign_install.specs.Hosts.{Calls, Host, Makes, OnDirectory, Setting}
 use Rattle.minisign_install.specs.Comments.{Numbering}
 use Rattle.minisign_install.specs.Faults.{InstallFault}
 use Rattle.minisign_install.specs.declared.hosted.HostRefusal.TheVariants.{Refused}
@@ -49,7 +49,7 @@ pub record TellsFailure (s : Setting) (i i' : Installation) (h h' : Host) : Type
 pub record TellsRecord (s : Setting) (i i' : Installation) (h h' : Host) : Type 0 where
   pub found : Option (List ℕ)
   pub read : HasReadRecord found i i'
-  pub made : OnFolder (Calls (Finds Record found)) h h'
+  pub made : OnDirectory (Calls (Finds Record found)) h h'
 
 -- minisign_install_piece, with the next bytes of what the stage holds, and with none at its end
 pub record TellsPiece (s : Setting) (i i' : Installation) (h h' : Host) : Type 0 where

@@ -1,11 +1,11 @@
 -- A host that installs an update by making each call as it is due, and saying how it went: what one such call does to
--- the folder, and what all of them do, one after another.
+-- the directory, and what all of them do, one after another.
 use Rattle.std.specs.Prelude.{◌≡◌, ◌⊎◌, ℕ, List, [], ◌∷◌, ◌++◌, Bool, Option, ⊤}
 use Rattle.std.specs.Io.KnownBytes.{Consumes, IsAtEnd}
 use Rattle.std.specs.List.{concat}
 use Rattle.minisign_install.specs.Faults.{Rose, Named, WritingFailed, InstallFault, DirectoryNotSynced, Library, PlaceInUse}
 use Rattle.minisign_install.specs.Installing.{Verifier, HasInstalled, InstallsOnlyUpdates, IsKeptNumber, IsUpdate, Terms}
-use Rattle.minisign_install.specs.Folders.{Appends, Clears, ClearsAll, GivesRights, HasCreated, HasLocked, HasRenamed, HasStepped, IsBusy, IsStill, MaySyncDirectory, OwnsTheSame, Moment, OwnsLess, Perhaps, Finds, Removes, Renames, Run, Syncs, SyncsDirectory, Spoils, Known, Place, Record}
+use Rattle.minisign_install.specs.Directories.{Appends, Clears, ClearsAll, GivesPermissions, HasCreated, HasLocked, HasRenamed, HasStepped, IsBusy, IsStill, MaySyncDirectory, OwnsTheSame, Moment, OwnsLess, Perhaps, Finds, Removes, Renames, Run, Syncs, SyncsDirectory, Spoils, Known, Place, Record}
 use Rattle.minisign_install.specs.Order.{next, Due, Lock, Clear, ReadRecord, Create, Copy, ReadBack, Answer, TakePermissions, Sync, CreateRecord, WriteRecord, SyncRecord, RenameRecord, SyncRecordName, Rename, SyncName, RemoveRecord, Remove, Outcome, Done, More, Number, Failed}
 use Rattle.minisign_install.specs.Refusals.{Counts, IsDataRefused, IsCallFault, IsLibraryFault, IsReadRefusal, IsRefusal}
 use Rattle.minisign_install.specs.RecordTexts.{record_of}
@@ -21,17 +21,17 @@ pub record Setting : Type 0 where
   pub record_name : List ℕ
   pub record_file : ℕ
 
--- a host: its folder's run so far, the data that is still ahead, what was read back of the stage, and how many faults
--- its devices have counted
+-- a host: its directory's run so far, the data that is still ahead, what was read back of the stage, and how many
+-- faults its devices have counted
 pub record Host : Type 0 where
   pub run : Run
   pub ahead : Option (List ℕ)
   pub read : List ℕ
   pub faults : Counts
 
--- only the folder was called, and this came of it
-abbrev pub OnFolder : (Run → Run → Type 0) → Host → Host → Type 0
-OnFolder call h h' = call h.run h'.run × (h'.ahead ≡ h.ahead) × (h'.read ≡ h.read)
+-- only the directory was called, and this came of it
+abbrev pub OnDirectory : (Run → Run → Type 0) → Host → Host → Type 0
+OnDirectory call h h' = call h.run h'.run × (h'.ahead ≡ h.ahead) × (h'.read ≡ h.read)
 
 -- one call, with which no stage became or ceased to be the run's own
 abbrev pub Calls : (Moment → Moment → Type 0) → Run → Run → Type 0
@@ -57,16 +57,16 @@ CallsRemove name call old new = HasStepped old new call × OwnsLess name old new
 
 -- The call that was due was made as it was told, and went so.
 abbrev pub Makes : {E : Type 0} → Setting → Due E → Outcome E → Host → Host → Type 0
-Makes s Lock Done h h' = OnFolder (λ old new. HasLocked old new × OwnsTheSame old new) h h'
-Makes s Lock (Failed e) h h' = OnFolder (Calls IsStill) h h'
-Makes s Clear Done h h' = OnFolder (Calls ClearsAll) h h'
-Makes s Clear (Failed e) h h' = OnFolder (Calls Clears) h h'
+Makes s Lock Done h h' = OnDirectory (λ old new. HasLocked old new × OwnsTheSame old new) h h'
+Makes s Lock (Failed e) h h' = OnDirectory (Calls IsStill) h h'
+Makes s Clear Done h h' = OnDirectory (Calls ClearsAll) h h'
+Makes s Clear (Failed e) h h' = OnDirectory (Calls Clears) h h'
 Makes s ReadRecord (Number kept) h h' =
-    OnFolder (λ old new. (found : Option (List ℕ)) × Calls (Finds Record found) old new
+    OnDirectory (λ old new. (found : Option (List ℕ)) × Calls (Finds Record found) old new
     × IsKeptNumber s.terms.numbering s.first found kept) h h'
-Makes s ReadRecord (Failed e) h h' = OnFolder (Calls IsStill) h h'
-Makes s (Create kept) Done h h' = OnFolder (HasCreated s.name s.file) h h'
-Makes s (Create kept) (Failed e) h h' = OnFolder CallsNothing h h'
+Makes s ReadRecord (Failed e) h h' = OnDirectory (Calls IsStill) h h'
+Makes s (Create kept) Done h h' = OnDirectory (HasCreated s.name s.file) h h'
+Makes s (Create kept) (Failed e) h h' = OnDirectory CallsNothing h h'
 Makes s (Copy kept) More h h' =
     (pieces : List (List ℕ)) × Writes s.file pieces h.run h'.run × Consumes h.ahead h'.ahead (concat pieces)
     × (h'.read ≡ h.read)
@@ -79,31 +79,31 @@ Makes s (ReadBack kept) Done h h' = (h'.run ≡ h.run) × (h.run.now.holds s.fil
 Makes s (ReadBack kept) (Failed e) h h' = h'.run ≡ h.run
 Makes s (Answer kept) (Number n) h h' = (h'.run ≡ h.run) × IsUpdate s.accepts s.terms kept h.read n
 Makes s (Answer kept) (Failed e) h h' = h'.run ≡ h.run
-Makes s (TakePermissions n) Done h h' = OnFolder (Calls (GivesRights s.file)) h h'
-Makes s (TakePermissions n) (Failed e) h h' = OnFolder (Calls (Spoils s.file)) h h'
-Makes s (Sync n) Done h h' = OnFolder (Calls (Syncs s.file)) h h'
-Makes s (Sync n) (Failed e) h h' = OnFolder (Calls (Spoils s.file)) h h'
-Makes s (CreateRecord n) Done h h' = OnFolder (HasCreated s.record_name s.record_file) h h'
-Makes s (CreateRecord n) (Failed e) h h' = OnFolder CallsNothing h h'
+Makes s (TakePermissions n) Done h h' = OnDirectory (Calls (GivesPermissions s.file)) h h'
+Makes s (TakePermissions n) (Failed e) h h' = OnDirectory (Calls (Spoils s.file)) h h'
+Makes s (Sync n) Done h h' = OnDirectory (Calls (Syncs s.file)) h h'
+Makes s (Sync n) (Failed e) h h' = OnDirectory (Calls (Spoils s.file)) h h'
+Makes s (CreateRecord n) Done h h' = OnDirectory (HasCreated s.record_name s.record_file) h h'
+Makes s (CreateRecord n) (Failed e) h h' = OnDirectory CallsNothing h h'
 Makes s (WriteRecord n) Done h h' =
-    OnFolder (λ old new. (pieces : List (List ℕ)) × Writes s.record_file pieces old new
+    OnDirectory (λ old new. (pieces : List (List ℕ)) × Writes s.record_file pieces old new
     × (concat pieces ≡ record_of s.terms.numbering n)) h h'
-Makes s (WriteRecord n) (Failed e) h h' = OnFolder (WritesInPart s.record_file) h h'
-Makes s (SyncRecord n) Done h h' = OnFolder (Calls (Syncs s.record_file)) h h'
-Makes s (SyncRecord n) (Failed e) h h' = OnFolder (Calls (Spoils s.record_file)) h h'
-Makes s (RenameRecord n) Done h h' = OnFolder (HasRenamed s.record_name Record) h h'
-Makes s (RenameRecord n) (Failed e) h h' = OnFolder (Calls (Perhaps (Renames s.record_name Record))) h h'
-Makes s (SyncRecordName n) Done h h' = OnFolder (Calls SyncsDirectory) h h'
-Makes s (SyncRecordName n) (Failed e) h h' = OnFolder (Calls MaySyncDirectory) h h'
-Makes s (Rename n) Done h h' = OnFolder (HasRenamed s.name Place) h h'
-Makes s (Rename n) (Failed e) h h' = OnFolder (Calls (Perhaps (Renames s.name Place))) h h'
-Makes s (SyncName n) Done h h' = OnFolder (Calls SyncsDirectory) h h'
-Makes s (SyncName n) (Failed e) h h' = OnFolder (Calls MaySyncDirectory) h h'
-Makes s (RemoveRecord first) Done h h' = OnFolder (CallsRemove s.record_name (Removes s.record_name)) h h'
+Makes s (WriteRecord n) (Failed e) h h' = OnDirectory (WritesInPart s.record_file) h h'
+Makes s (SyncRecord n) Done h h' = OnDirectory (Calls (Syncs s.record_file)) h h'
+Makes s (SyncRecord n) (Failed e) h h' = OnDirectory (Calls (Spoils s.record_file)) h h'
+Makes s (RenameRecord n) Done h h' = OnDirectory (HasRenamed s.record_name Record) h h'
+Makes s (RenameRecord n) (Failed e) h h' = OnDirectory (Calls (Perhaps (Renames s.record_name Record))) h h'
+Makes s (SyncRecordName n) Done h h' = OnDirectory (Calls SyncsDirectory) h h'
+Makes s (SyncRecordName n) (Failed e) h h' = OnDirectory (Calls MaySyncDirectory) h h'
+Makes s (Rename n) Done h h' = OnDirectory (HasRenamed s.name Place) h h'
+Makes s (Rename n) (Failed e) h h' = OnDirectory (Calls (Perhaps (Renames s.name Place))) h h'
+Makes s (SyncName n) Done h h' = OnDirectory (Calls SyncsDirectory) h h'
+Makes s (SyncName n) (Failed e) h h' = OnDirectory (Calls MaySyncDirectory) h h'
+Makes s (RemoveRecord first) Done h h' = OnDirectory (CallsRemove s.record_name (Removes s.record_name)) h h'
 Makes s (RemoveRecord first) (Failed e) h h' =
-    OnFolder (CallsRemove s.record_name (Perhaps (Removes s.record_name))) h h'
-Makes s (Remove first) Done h h' = OnFolder (CallsRemove s.name (Removes s.name)) h h'
-Makes s (Remove first) (Failed e) h h' = OnFolder (CallsRemove s.name (Perhaps (Removes s.name))) h h'
+    OnDirectory (CallsRemove s.record_name (Perhaps (Removes s.record_name))) h h'
+Makes s (Remove first) Done h h' = OnDirectory (CallsRemove s.name (Removes s.name)) h h'
+Makes s (Remove first) (Failed e) h h' = OnDirectory (CallsRemove s.name (Perhaps (Removes s.name))) h h'
 Makes s due outcome h h' = ⊥
 
 -- what was said of a call, and the host after it
@@ -129,8 +129,8 @@ abbrev pub Blames : Setting → Due InstallFault → InstallFault → Host → H
 Blames s Lock e h h' = ((e ≡ PlaceInUse) × Known h.run (HasStepped h.run h'.run IsBusy)) ⊎ DeviceFails e h h'
 Blames s ReadRecord e h h' = IsReadRefusal s.terms.numbering s.first h.run h'.run e ⊎ DeviceFails e h h'
 Blames s (Answer kept) e h h' = IsDataRefused s.accepts s.terms kept h.read e ⊎ DeviceFails e h h'
-Blames s (Rename n) e h h' = (e ≡ Library (Named WritingFailed)) × Rose h.faults.folder h'.faults.folder
-Blames s (SyncName n) e h h' = (e ≡ DirectoryNotSynced) × Rose h.faults.folder h'.faults.folder
+Blames s (Rename n) e h h' = (e ≡ Library (Named WritingFailed)) × Rose h.faults.directory h'.faults.directory
+Blames s (SyncName n) e h h' = (e ≡ DirectoryNotSynced) × Rose h.faults.directory h'.faults.directory
 Blames s (RemoveRecord first) e h h' = h'.faults ≡ h.faults
 Blames s (Remove first) e h h' = h'.faults ≡ h.faults
 Blames s due e h h' = DeviceFails e h h'

@@ -4,9 +4,9 @@ pub use Rattle.minisign.specs.Acceptance.{Verifier}
 pub use Rattle.minisign.specs.Calls.{TextsVouchWith}
 use Rattle.minisign_install.specs.Comments.{Says, Numbering}
 pub use Rattle.minisign.specs.Reading.{IsAhead}
-use Rattle.minisign_install.specs.Folders.{HasLocked, HasStepped, IsFound, IsStill, Run, RunStep, Name, Place, Record}
+use Rattle.minisign_install.specs.Directories.{HasLocked, HasStepped, IsFound, IsStill, Run, RunStep, Name, Place, Record}
 use Rattle.minisign_install.specs.RecordTexts.{HasNoNumber, IsNumberFor, record_of}
-use Rattle.minisign_install.specs.Runs.{PublishesNothing, PublishesOnly, HasCleared, IsPublished, RecordHolds, RecordHoldsAt, rights_of}
+use Rattle.minisign_install.specs.Runs.{PublishesNothing, PublishesOnly, HasCleared, IsPublished, RecordHolds, RecordHoldsAt, permissions_of}
 use Rattle.minisign_install.specs.declared.wanted.Wanted.{Wanted}
 
 -- which updates are wanted: the two texts, the file's name, where the number stands, and at which moment they must not
@@ -77,7 +77,7 @@ NeverFalls numbering old new =
 
 -- Only what is to be installed was brought, and the number went first.
 pub record PublishesInOrder (accepts : Verifier) (terms : Terms) (kept : ℕ) (old new : Run) : Type 0 where
-  pub brings : PublishesOnly (MayBePublished accepts terms kept) old new
+  pub publishes : PublishesOnly (MayBePublished accepts terms kept) old new
   pub order : PublishesOnly (MayBeRecorded accepts terms kept) old new ⊎ RecordsFirst accepts terms kept old new
 
 -- Whatever who opens the place or the record finds there after any call of this run, at once or after a crash, could be
@@ -103,8 +103,9 @@ abbrev pub InstallsOnlyUpdates : Verifier → Terms → Bool → Run → Run →
 InstallsOnlyUpdates accepts terms first old new =
     HasStepped old new IsStill ⊎ ((locked : Run) × HasLocked old locked × InstallsLocked accepts terms first locked new)
 
--- An update stands at the place, through any crash: the data that was ahead, in a file that was given the rights of the
--- one before. Its number was brought to the record, to stay there through any crash, before the update got its name.
+-- An update stands at the place, through any crash: the data that was ahead, in a file that was given the permissions
+-- of the one before. Its number was brought to the record, to stay there through any crash, before the update got its
+-- name.
 pub record IsInstalled (accepts : Verifier) (terms : Terms) (kept : ℕ) (ahead : Option (List ℕ))
     (steps : List RunStep) : Type 0 where
   pub bytes : List ℕ
@@ -115,7 +116,7 @@ pub record IsInstalled (accepts : Verifier) (terms : Terms) (kept : ℕ) (ahead 
   pub recorded : List RunStep
   pub number_first : IsPublished Record (record_of terms.numbering n) earlier recorded
   pub published : IsPublished Place bytes recorded steps
-  pub rights : rights_of published ≡ true
+  pub permissions : permissions_of published ≡ true
 
 -- it is not older than the number that the record held when this run got the lock, and what killed runs had left was
 -- removed

@@ -2,7 +2,7 @@ pub mod Checking
 pub mod Comments
 pub mod Driving
 pub mod Faults
-pub mod Folders
+pub mod Directories
 pub mod HostNumbers
 pub mod Hosted
 pub mod Hosting

@@ -5,30 +5,30 @@ use Rattle.minisign_install.specs.Faults.{Rose, Fault, Named, OutOfMemory, Rando
 use Rattle.minisign_install.specs.Installing.{Verifier, TextsVouchWith, IsAhead, MayBePublished, IsKeptNumber, MayBeRecorded, IsUpdate, Terms}
 use Rattle.minisign.specs.Headline.{verdict}
 use Rattle.minisign_install.specs.Comments.{HasNumber, IsExpiryRefused, Says, file_label, value_of, Numbering}
-use Rattle.minisign_install.specs.Folders.{Finds, Known, HasLocked, HasStepped, IsBusy, IsFound, IsStill, Run, HasOnDisk, RunStep, Name, Place, Record}
+use Rattle.minisign_install.specs.Directories.{Finds, Known, HasLocked, HasStepped, IsBusy, IsFound, IsStill, Run, HasOnDisk, RunStep, Name, Place, Record}
 use Rattle.minisign_install.specs.RecordTexts.{HasNoNumber, IsUnfit}
 use Rattle.minisign_install.specs.Runs.{PublishesNothing, PublishesOnly, HasCleared}
 
--- how many faults there were: of the random source, of the source of the data, and of the folder, whose removals of
+-- how many faults there were: of the random source, of the source of the data, and of the directory, whose removals of
 -- stages are not counted
 pub record Counts : Type 0 where
   pub random : ℕ
   pub update : ℕ
-  pub folder : ℕ
+  pub directory : ℕ
 
 abbrev pub counts : ℕ → ℕ → ℕ → Counts
-counts random update folder = record { random = random; update = update; folder = folder }
+counts random update directory = record { random = random; update = update; directory = directory }
 
 -- a device failed: one of the counts rose
 abbrev pub HasFailed : Counts → Counts → Type 0
 HasFailed before after =
-    Rose before.random after.random ⊎ Rose before.update after.update ⊎ Rose before.folder after.folder
+    Rose before.random after.random ⊎ Rose before.update after.update ⊎ Rose before.directory after.directory
 
 -- the device failed that the fault speaks of
 abbrev pub IsDeviceFault : Counts → Counts → Fault → Type 0
 IsDeviceFault before after e =
-    ((e ≡ Named ReadingFailed) × (Rose before.update after.update ⊎ Rose before.folder after.folder))
-    ⊎ ((e ≡ Named WritingFailed) × Rose before.folder after.folder)
+    ((e ≡ Named ReadingFailed) × (Rose before.update after.update ⊎ Rose before.directory after.directory))
+    ⊎ ((e ≡ Named WritingFailed) × Rose before.directory after.directory)
     ⊎ ((e ≡ Named RandomSourceFailed) × Rose before.random after.random)
 
 -- why a call failed, or a run: memory ran out, and no device failed; or the device did that the fault speaks of
@@ -85,7 +85,7 @@ HasPublishedUpdate accepts terms kept old new =
 
 -- Why the data ahead is not installed where the lock is held and the kept number is known, and what is brought then. A
 -- device failed, or memory ran out, or the data is refused: nothing. The number could not be kept: at most the record.
--- The renaming failed: at most what a whole installation brings. The folder could not be brought to the disk: the
+-- The renaming failed: at most what a whole installation brings. The directory could not be brought to the disk: the
 -- update stands at the place, and a crash may still bring back what stood there.
 abbrev pub IsDataRefusal : Verifier → Terms → ℕ → Option (List ℕ) → Counts → Counts → Run → Run → InstallFault → Type 0
 IsDataRefusal accepts terms kept ahead before after old new e =
@@ -94,9 +94,9 @@ IsDataRefusal accepts terms kept ahead before after old new e =
     × IsDataRefused accepts terms kept message e))
     ⊎ (PublishesOnly (MayBeRecorded accepts terms kept) old new × IsLibraryFault (IsCallFault before after) e)
     ⊎ (PublishesOnly (MayBePublished accepts terms kept) old new × (e ≡ Library (Named WritingFailed))
-    × Rose before.folder after.folder)
+    × Rose before.directory after.directory)
     ⊎ (PublishesOnly (MayBePublished accepts terms kept) old new × HasPublishedUpdate accepts terms kept old new
-    × (e ≡ DirectoryNotSynced) × Rose before.folder after.folder)
+    × (e ≡ DirectoryNotSynced) × Rose before.directory after.directory)
 
 -- Why an installation is refused where the lock is held, and what it brings then. A device failed, or memory ran out:
 -- nothing. Otherwise what killed runs had left was removed, and the record is refused, as it was found when the lock
@@ -151,14 +151,14 @@ InstallsExactly accepts terms first ahead before after old new answer =
     × MatchResult answer (λ _. CanBeInstalled accepts terms first found message)
     (CannotBeInstalled accepts terms first found message))))
 
--- == The causes alone, whether it is known what the folder holds or not ==
+-- == The causes alone, whether it is known what the directory holds or not ==
 
 -- why some data is not installed
 abbrev pub IsDataCause : Verifier → Terms → Counts → Counts → InstallFault → Type 0
 IsDataCause accepts terms before after e =
     IsLibraryFault (IsCallFault before after) e
     ⊎ ((message : List ℕ) × (kept : ℕ) × IsDataRefused accepts terms kept message e)
-    ⊎ ((e ≡ DirectoryNotSynced) × Rose before.folder after.folder)
+    ⊎ ((e ≡ DirectoryNotSynced) × Rose before.directory after.directory)
 
 -- the record is refused, which it never is at the first installation
 abbrev pub IsRecordFault : Bool → InstallFault → Type 0

@@ -1,6 +1,6 @@
 -- What several calls of a run do together.
 use Rattle.std.specs.Prelude.{◌≡◌, ◌⊎◌, ℕ, ◌≤◌, Bool, true, List, ◌∷◌, ◌++◌, All, Some}
-use Rattle.minisign_install.specs.Folders.{IsClear, MayFind, Moment, Run, SyncsDirectory, HasOnDisk, RunStep, Name, Record}
+use Rattle.minisign_install.specs.Directories.{IsClear, MayFind, Moment, Run, SyncsDirectory, HasOnDisk, RunStep, Name, Record}
 use Rattle.minisign_install.specs.RecordTexts.{IsNumberFor}
 use Rattle.minisign_install.specs.Comments.{Numbering}
 
@@ -45,7 +45,7 @@ PublishesNothing = PublishesOnly (λ _ _. ⊥)
 pub record OwnsNoMore (old new : Run) : Type 0 where
   pub only : (s : List ℕ) → new.owns s ≡ true → old.owns s ≡ true
 
--- with one of the run's calls since then the folder was cleared: no stage was left that could be removed
+-- with one of the run's calls since then the directory was cleared: no stage was left that could be removed
 pub record HasCleared (old new : Run) : Type 0 where
   pub later : List RunStep
   pub call : RunStep
@@ -57,11 +57,11 @@ pub record HasCleared (old new : Run) : Type 0 where
 -- to the disk too: unless others change it, the name leads there from then on, through any crash.
 pub record IsPublished (to : Name) (bytes : List ℕ) (old : List RunStep) (new : List RunStep) : Type 0 where
   pub renamed : RunStep
-  pub settled : RunStep
-  pub calls : new ≡ settled ∷ renamed ∷ old
+  pub synced : RunStep
+  pub calls : new ≡ synced ∷ renamed ∷ old
   pub stands : HasOnDisk renamed.after to bytes
-  pub lasts : SyncsDirectory settled.before settled.after
+  pub lasts : SyncsDirectory synced.before synced.after
 
--- whether the file that got the name had the rights of the file at the place then
-abbrev pub rights_of : {to : Name} {bytes : List ℕ} {old new : List RunStep} → IsPublished to bytes old new → Bool
-rights_of published = published.renamed.after.rights published.stands.file
+-- whether the file that got the name had the permissions of the file at the place then
+abbrev pub permissions_of : {to : Name} {bytes : List ℕ} {old new : List RunStep} → IsPublished to bytes old new → Bool
+permissions_of published = published.renamed.after.permissions published.stands.file

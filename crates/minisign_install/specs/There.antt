@@ -7,14 +7,14 @@ use Rattle.minisign.specs.Acceptance.{Verifier}
 use Rattle.minisign.specs.Calls.{TextsVouchWith}
 use Rattle.minisign_install.specs.Checking.{IsKeptOrNone, signed_comment}
 use Rattle.minisign_install.specs.Comments.{Says}
-use Rattle.minisign_install.specs.Folders.{Finds, HasLocked, HasStepped, IsBusy, IsStill, Run}
+use Rattle.minisign_install.specs.Directories.{Finds, HasLocked, HasStepped, IsBusy, IsStill, Run}
 use Rattle.minisign_install.specs.Hosts.{Calls, CallsNothing}
 use Rattle.minisign_install.specs.Installing.{HasInstalled, InstallsOnlyUpdates, Terms}
 use Rattle.minisign_install.specs.Refusals.{Counts, InstallsExactly, IsCallFault, IsCause, IsLibraryFault, IsRefusal, OnlyLocked}
 use Rattle.minisign_install.specs.Runs.{OwnsNoMore}
 use Rattle.minisign_install.specs.declared.faults.InstallFault.{InstallFault}
 use Rattle.minisign_install.specs.declared.faults.InstallFault.TheVariants.{Library, PlaceInUse, SameNumber}
-use Rattle.minisign_install.specs.declared.folders.Name.TheVariants.{Place, Record}
+use Rattle.minisign_install.specs.declared.directories.Name.TheVariants.{Place, Record}
 use Rattle.minisign_install.specs.declared.there.Installed.{Installed}
 use Rattle.minisign_install.specs.declared.there.Installed.TheVariants.{Already, Now}
 
@@ -99,7 +99,7 @@ InstallsUnlessThere accepts terms first again ahead before after old new r =
     ⊎ ((locked : Run) × HasLocked old locked
     × InstallsUnlessThereLocked accepts terms first again ahead before after locked new r)
 
--- == The causes alone, whether it is known what the folder holds or not ==
+-- == The causes alone, whether it is known what the directory holds or not ==
 
 -- the key has signed a comment that names the file, has not expired, and has a number
 abbrev pub IsSigned : Verifier → Terms → Type 0

@@ -1,10 +1,10 @@
-//! The calls of an installation over a folder: each is made as it is due, and says how it went.
+//! The calls of an installation over a directory: each is made as it is due, and says how it went.
 
 ghost use Rattle.std.specs.Prelude.{◌≡◌, ◌⊎◌, ◌<◌, ℕ, List, Some, false, IfErr, IsSome, IsSomeAnd, OnOk, OnErr, MatchResult};
 ghost use Rattle.std.specs.List.{concat};
 ghost use Rattle.minisign_install.specs.Driving.{HasCalled, HasMade, calls_left, done_or, host, made_or, number_or};
 ghost use Rattle.minisign_install.specs.Faults.{Library, Named, PlaceInUse, RandomSourceFailed, ReadingFailed, Rose, WritingFailed};
-ghost use Rattle.minisign_install.specs.Folders.{HasCounted, HasCreated, HasLocked, HasStepped, Held, IsBusy, IsStill, OwnsTheSame, Known};
+ghost use Rattle.minisign_install.specs.Directories.{HasCounted, HasCreated, HasLocked, HasStepped, Held, IsBusy, IsStill, OwnsTheSame, Known};
 ghost use Rattle.minisign_install.specs.Hosts.{Calls, CallsNothing, Writes, WritesInPart};
 ghost use Rattle.minisign_install.specs.Installing.{terms_of};
 ghost use Rattle.minisign_install.specs.Names.{drawn_bytes};
@@ -13,8 +13,8 @@ ghost use Rattle.minisign_install.specs.RecordTexts.{record_of};
 ghost use Rattle.minisign_install.specs.Refusals.{counts};
 
 use crate::comments::Numbering;
+use crate::directories::{Directory, Handle, Name};
 use crate::faults::InstallFault;
-use crate::folders::{Folder, Handle, Name};
 use crate::judging::{judge, read_back};
 use crate::order::{Due, Outcome};
 use crate::recording::{MOST_WRITTEN, read_number, write_record};
@@ -62,14 +62,14 @@ impl<H: Drop> Work<H> {
 }
 
 // Makes the call that is due, and says how it went. Nothing is due of a run that has ended.
-pub(crate) fn make<S: Scheme, Z: RandomSource, R: Source, F: Folder>(
+pub(crate) fn make<S: Scheme, Z: RandomSource, R: Source, F: Directory>(
     alloc: Global,
     scheme: &S,
     random: &mut Z,
     wanted: Wanted<'_>,
     is_first: bool,
     update: &mut R,
-    folder: &mut F,
+    directory: &mut F,
     due: &Due<InstallFault>,
     work: &mut Work<F::Handle>,
 ) -> Outcome<InstallFault>
@@ -78,42 +78,44 @@ pub(crate) fn make<S: Scheme, Z: RandomSource, R: Source, F: Folder>(
     // The call that is due was made, and went as it is said; where it failed, this is why: for want of memory only where
     // it asks for memory and no device failed.
     ensures went { has_ended due.now ≡ false → HasCalled (S.accepts scheme.now) (terms_of wanted.entry) is_first F.Handle.file due.now result work.old work.new
-        (host (F.run folder.old) (R.ahead update.old) (counts (Z.random_faults random.old) (R.faults update.old) (F.folder_faults folder.old)))
-        (host (F.run folder.new) (R.ahead update.new) (counts (Z.random_faults random.new) (R.faults update.new) (F.folder_faults folder.new))) }
+        (host (F.run directory.old) (R.ahead update.old) (counts (Z.random_faults random.old) (R.faults update.old) (F.directory_faults directory.old)))
+        (host (F.run directory.new) (R.ahead update.new) (counts (Z.random_faults random.new) (R.faults update.new) (F.directory_faults directory.new))) }
     // It is not due again.
     ensures left { has_ended due.now ≡ false → calls_left (next due.now result) < calls_left due.now }
 {
     match due {
-        Due::Lock => done_or(lock(folder)),
-        Due::Clear => writing_or(folder.clear()),
-        Due::ReadRecord => number_or(read_number(alloc, folder, wanted.numbering, is_first)),
-        Due::Create(_) => done_or(create(random, folder, &mut work.stage)),
-        Due::Copy(_) => done_or(fill(alloc, folder, &made(&work.stage).handle, update)),
+        Due::Lock => done_or(lock(directory)),
+        Due::Clear => writing_or(directory.clear()),
+        Due::ReadRecord => number_or(read_number(alloc, directory, wanted.numbering, is_first)),
+        Due::Create(_) => done_or(create(random, directory, &mut work.stage)),
+        Due::Copy(_) => done_or(fill(alloc, directory, &made(&work.stage).handle, update)),
         Due::ReadBack(_) => {
             let stage = made(&work.stage);
-            done_or(read_back(alloc, folder, &stage.handle, &mut work.state))
+            done_or(read_back(alloc, directory, &stage.handle, &mut work.state))
         }
         Due::Answer(kept) => number_or(judge(alloc, scheme, wanted, *kept, &mut work.state)),
-        Due::TakePermissions(_) => writing_or(folder.take_rights(&made(&work.stage).handle)),
-        Due::Sync(_) => writing_or(folder.settle(&made(&work.stage).handle)),
-        Due::CreateRecord(_) => done_or(create(random, folder, &mut work.record_stage)),
+        Due::TakePermissions(_) => writing_or(directory.take_permissions(
+            &made(&work.stage).handle,
+        )),
+        Due::Sync(_) => writing_or(directory.sync(&made(&work.stage).handle)),
+        Due::CreateRecord(_) => done_or(create(random, directory, &mut work.record_stage)),
         Due::WriteRecord(number) => writing_or(write_number(
-            folder,
+            directory,
             &made(&work.record_stage).handle,
             wanted.numbering,
             *number,
         )),
-        Due::SyncRecord(_) => writing_or(folder.settle(&made(&work.record_stage).handle)),
-        Due::RenameRecord(_) => writing_or(folder.rename(
+        Due::SyncRecord(_) => writing_or(directory.sync(&made(&work.record_stage).handle)),
+        Due::RenameRecord(_) => writing_or(directory.rename(
             &made(&work.record_stage).name,
             Name::Record,
         )),
-        Due::SyncRecordName(_) => writing_or(folder.settle_names()),
-        Due::Rename(_) => writing_or(folder.rename(&made(&work.stage).name, Name::Place)),
-        Due::SyncName(_) => made_or(folder.settle_names(), InstallFault::DirectoryNotSynced),
+        Due::SyncRecordName(_) => writing_or(directory.sync_directory()),
+        Due::Rename(_) => writing_or(directory.rename(&made(&work.stage).name, Name::Place)),
+        Due::SyncName(_) => made_or(directory.sync_directory(), InstallFault::DirectoryNotSynced),
         // Where a stage cannot be removed, it is left to a later run.
-        Due::RemoveRecord(_) => writing_or(folder.remove(&made(&work.record_stage).name)),
-        Due::Remove(_) => writing_or(folder.remove(&made(&work.stage).name)),
+        Due::RemoveRecord(_) => writing_or(directory.remove(&made(&work.record_stage).name)),
+        Due::Remove(_) => writing_or(directory.remove(&made(&work.stage).name)),
         Due::Installed | Due::Refused(_) => Outcome::Done,
     }
 }
@@ -139,7 +141,7 @@ fn done_or(answer: Result<(), InstallFault>) -> Outcome<InstallFault>
     }
 }
 
-// The same of a call of the folder, which fails for this fault.
+// The same of a call of the directory, which fails for this fault.
 fn made_or(answer: Result<(), DeviceFault>, fault: InstallFault) -> Outcome<InstallFault>
     ensures { result ≡ made_or answer fault }
 {
@@ -149,7 +151,7 @@ fn made_or(answer: Result<(), DeviceFault>, fault: InstallFault) -> Outcome<Inst
     }
 }
 
-// What the folder did, or failed to write.
+// What the directory did, or failed to write.
 fn writing_or(answer: Result<(), DeviceFault>) -> Outcome<InstallFault>
     ensures { result ≡ made_or answer (Library (Named WritingFailed)) }
 {
@@ -167,15 +169,15 @@ fn number_or(answer: Result<u64, InstallFault>) -> Outcome<InstallFault>
 }
 
 // Locks the place. It does not wait for another run.
-pub(crate) fn lock<F: Folder>(folder: &mut F) -> Result<(), InstallFault>
-    ensures locked { Known (F.run folder.old) (MatchResult result
-        (λ _. HasLocked (F.run folder.old) (F.run folder.new) × OwnsTheSame (F.run folder.old) (F.run folder.new))
-        (λ _. Calls IsStill (F.run folder.old) (F.run folder.new))) }
-    ensures refused { IfErr result (λ e. ((e ≡ PlaceInUse) × Known (F.run folder.old) (HasStepped (F.run folder.old) (F.run folder.new) IsBusy))
-        ⊎ ((e ≡ Library (Named ReadingFailed)) × Rose (F.folder_faults folder.old) (F.folder_faults folder.new))) }
-    ensures no_new_fault { OnOk result (F.folder_faults folder.new ≡ F.folder_faults folder.old) }
+pub(crate) fn lock<F: Directory>(directory: &mut F) -> Result<(), InstallFault>
+    ensures locked { Known (F.run directory.old) (MatchResult result
+        (λ _. HasLocked (F.run directory.old) (F.run directory.new) × OwnsTheSame (F.run directory.old) (F.run directory.new))
+        (λ _. Calls IsStill (F.run directory.old) (F.run directory.new))) }
+    ensures refused { IfErr result (λ e. ((e ≡ PlaceInUse) × Known (F.run directory.old) (HasStepped (F.run directory.old) (F.run directory.new) IsBusy))
+        ⊎ ((e ≡ Library (Named ReadingFailed)) × Rose (F.directory_faults directory.old) (F.directory_faults directory.new))) }
+    ensures no_new_fault { OnOk result (F.directory_faults directory.new ≡ F.directory_faults directory.old) }
 {
-    match folder.lock() {
+    match directory.lock() {
         Ok(true) => Ok(()),
         Ok(false) => Err(InstallFault::PlaceInUse),
         Err(_) => Err(NamedFault::ReadingFailed.into()),
@@ -183,21 +185,21 @@ pub(crate) fn lock<F: Folder>(folder: &mut F) -> Result<(), InstallFault>
 }
 
 // Draws a name, and makes the stage under it.
-fn create<Z: RandomSource, F: Folder>(
+fn create<Z: RandomSource, F: Directory>(
     random: &mut Z,
-    folder: &mut F,
+    directory: &mut F,
     stage: &mut Option<Stage<F::Handle>>,
 ) -> Result<(), InstallFault>
-    ensures made { OnOk result (IsSomeAnd stage.new (λ made. Held (F.run folder.old) (HasCreated (drawn_bytes made.name) (F.Handle.file made.handle) (F.run folder.old) (F.run folder.new)))) }
-    ensures unmade { OnErr result ((stage.new ≡ stage.old) × Held (F.run folder.old) (CallsNothing (F.run folder.old) (F.run folder.new))) }
-    ensures refused { IfErr result (λ e. ((e ≡ Library (Named WritingFailed)) × Rose (F.folder_faults folder.old) (F.folder_faults folder.new))
+    ensures made { OnOk result (IsSomeAnd stage.new (λ made. Held (F.run directory.old) (HasCreated (drawn_bytes made.name) (F.Handle.file made.handle) (F.run directory.old) (F.run directory.new)))) }
+    ensures unmade { OnErr result ((stage.new ≡ stage.old) × Held (F.run directory.old) (CallsNothing (F.run directory.old) (F.run directory.new))) }
+    ensures refused { IfErr result (λ e. ((e ≡ Library (Named WritingFailed)) × Rose (F.directory_faults directory.old) (F.directory_faults directory.new))
         ⊎ ((e ≡ Library (Named RandomSourceFailed)) × Rose (Z.random_faults random.old) (Z.random_faults random.new))) }
-    ensures no_new_fault { OnOk result ((Z.random_faults random.new ≡ Z.random_faults random.old) × (F.folder_faults folder.new ≡ F.folder_faults folder.old)) }
+    ensures no_new_fault { OnOk result ((Z.random_faults random.new ≡ Z.random_faults random.old) × (F.directory_faults directory.new ≡ F.directory_faults directory.old)) }
 {
     let Ok(name) = StageName::draw(random) else {
         return Err(NamedFault::RandomSourceFailed.into());
     };
-    match folder.create(&name) {
+    match directory.create(&name) {
         Ok(handle) => {
             *stage = Some(Stage { name, handle });
             Ok(())
@@ -207,21 +209,21 @@ fn create<Z: RandomSource, F: Folder>(
 }
 
 // Writes the number, behind the label of its field, into the stage of the record, which is empty.
-fn write_number<F: Folder>(
-    folder: &mut F,
+fn write_number<F: Directory>(
+    directory: &mut F,
     handle: &F::Handle,
     numbering: Numbering,
     number: u64,
 ) -> Result<(), DeviceFault>
-    ensures written { Known (F.run folder.old) (MatchResult result
-        (λ _. (pieces : List (List ℕ)) × Writes (F.Handle.file handle.now) pieces (F.run folder.old) (F.run folder.new) × (concat pieces ≡ record_of numbering number))
-        (λ _. WritesInPart (F.Handle.file handle.now) (F.run folder.old) (F.run folder.new))) }
-    ensures counted { HasCounted (F.folder_faults folder.old) (F.folder_faults folder.new) result }
+    ensures written { Known (F.run directory.old) (MatchResult result
+        (λ _. (pieces : List (List ℕ)) × Writes (F.Handle.file handle.now) pieces (F.run directory.old) (F.run directory.new) × (concat pieces ≡ record_of numbering number))
+        (λ _. WritesInPart (F.Handle.file handle.now) (F.run directory.old) (F.run directory.new))) }
+    ensures counted { HasCounted (F.directory_faults directory.old) (F.directory_faults directory.new) result }
 {
     let mut buffer = [0u8; MOST_WRITTEN];
     let written = write_record(numbering, number, &mut buffer);
     let (text, _) = buffer.split_at(written);
-    match write_all(folder, handle, text) {
+    match write_all(directory, handle, text) {
         Ok(()) => Ok(()),
         Err(fault) => Err(fault),
     }

@@ -10,8 +10,8 @@ ghost use Rattle.minisign_install.specs.Hosted.{wanted_by};
 ghost use Rattle.minisign_install.specs.Refusals.{IsRecordFault, IsRecordRefused};
 
 use crate::comments::{Numbering, check_comment};
+use crate::directories::Directory;
 use crate::faults::InstallFault;
-use crate::folders::Folder;
 use crate::judging::fault_of;
 use crate::recording::{number_for, unfit};
 use crate::staging::zeros;
@@ -38,28 +38,28 @@ pub enum Offer {
 /// Returns what it is beside the kept number, and its own number, which comes behind the label of the wanted field.
 ///
 /// Nothing vouches for the data, which is judged when it is installed. With `is_first` an update is newer where no
-/// number of the field is kept. The folder is asked for its record alone, without the lock, and nothing is written.
+/// number of the field is kept. The directory is asked for its record alone, without the lock, and nothing is written.
 ///
 /// The refusals come in this order: want of memory; the first failing case of the public key text, of the signature
 /// text, and of the signature of its comment under the key; a record that cannot be read; one that installing refuses;
 /// a comment that names another file, has no number, or has expired. Takes as much memory as the text of the signature
 /// has bytes, and the record.
-pub fn check_update<S: Scheme, F: Folder>(
+pub fn check_update<S: Scheme, F: Directory>(
     alloc: Global,
     scheme: &S,
     wanted: Wanted<'_>,
     is_first: bool,
-    folder: &mut F,
+    directory: &mut F,
 ) -> Result<(Offer, u64), InstallFault>
     // The answer is the one by what the record was found to hold, which one call told that changed nothing: the first
     // case of the texts that fails; else the refusal of the record; else that of the signed comment; else the number
     // that the comment has for the wanted field, and what that is beside the kept one (`ChecksSo`, `IsOffered`,
-    // `offer_beside`). Before the texts have passed nothing is asked of the folder. Only memory can run out besides,
+    // `offer_beside`). Before the texts have passed nothing is asked of the directory. Only memory can run out besides,
     // with nothing asked, or reading the record fail, which is counted.
-    ensures outcome { ChecksSo (S.accepts scheme.now) (terms_of wanted.entry) is_first (F.folder_faults folder.old) (F.folder_faults folder.new) (F.run folder.old) (F.run folder.new) result }
+    ensures outcome { ChecksSo (S.accepts scheme.now) (terms_of wanted.entry) is_first (F.directory_faults directory.old) (F.directory_faults directory.new) (F.run directory.old) (F.run directory.new) result }
 {
     match comment_of(alloc, scheme, wanted.pk_text, wanted.sig_text) {
-        Ok(comment) => match folder.read_record(alloc) {
+        Ok(comment) => match directory.read_record(alloc) {
             Ok(Some(bytes)) => offered(
                 comment,
                 wanted.file,

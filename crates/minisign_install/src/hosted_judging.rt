@@ -89,7 +89,7 @@ impl Installation {
     /// the signed comment names the file, has not expired, and has a number that is not below the kept
     /// one; otherwise the stage is to be removed, for the first reason.
     pub fn answer(&mut self, first: bool, second: bool) -> Result<(), HostRefusal>
-        // **For every relation that answers the two questions so, and every message: the rights are due, for the number n,
+        // **For every relation that answers the two questions so, and every message: the permissions are due, for the number n,
         // exactly where the texts vouch for the message, not by a signature over the data itself, and the comment that
         // was signed with it names the file, has not expired at the moment of asking, and has the number n, which is not
         // below the kept one. Otherwise the stage is to be removed, and the run is refused for the first reason.**
@@ -97,7 +97,7 @@ impl Installation {
             → IsAsking self.old terms kept → AnswersTexts accepts terms.pk_text terms.sig_text message first second
             → GivesUpdate accepts terms kept message self.new result }
 
-        // The rights are due only where the answers were, and what was asked is ended then. A wrong use changes nothing.
+        // The permissions are due only where the answers were, and what was asked is ended then. A wrong use changes nothing.
         ensures due { OnOk result (((kept : ℕ) × IsDue self.old (Answer kept)) × ((n : ℕ) × IsDue self.new (TakePermissions n))
             × HasEnded self.old.state self.new.state) }
         ensures refused { IfErr result (IsAnswerRefusal self.old self.new) }

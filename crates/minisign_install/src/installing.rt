@@ -1,15 +1,15 @@
-//! Installing an update in a folder: each call is made as the table of `Due` has it due.
+//! Installing an update in a directory: each call is made as the table of `Due` has it due.
 
 ghost use Rattle.std.specs.Prelude.{◌≡◌, IfErr, OnOk};
 ghost use Rattle.minisign_install.specs.Faults.{Named, OutOfMemory, Library};
-ghost use Rattle.minisign_install.specs.Folders.{HasLocked, Run, Known};
+ghost use Rattle.minisign_install.specs.Directories.{HasLocked, Run, Known};
 ghost use Rattle.minisign_install.specs.Installing.{HasInstalled, InstallsOnlyUpdates, IsVouched, terms_of};
 ghost use Rattle.minisign_install.specs.Refusals.{InstallsExactly, IsCause, IsRefusal, OnlyLocked, counts};
 ghost use Rattle.minisign_install.specs.Runs.{OwnsNoMore};
 
 use crate::calls::{Work, make};
+use crate::directories::Directory;
 use crate::faults::InstallFault;
-use crate::folders::Folder;
 use crate::order::Due;
 use crate::wanted::Wanted;
 use minisign_base::devices::random_sources::RandomSource;
@@ -17,11 +17,11 @@ use minisign_base::devices::sources::Source;
 use minisign_base::scheme::Scheme;
 use std::alloc::Global;
 
-/// Installs the data ahead of `update` at the folder's place, if the texts of `wanted` vouch for it
+/// Installs the data ahead of `update` at the directory's place, if the texts of `wanted` vouch for it
 /// as the update that is wanted: `install_update(alloc, &scheme, &mut random, wanted, false, &mut
-/// ReaderSource::new(file), &mut folder)?`.
+/// ReaderSource::new(file), &mut directory)?`.
 ///
-/// In this order it locks the place (`PlaceInUse`: it does not wait for another run; `folder` holds
+/// In this order it locks the place (`PlaceInUse`: it does not wait for another run; `directory` holds
 /// the lock until it is let go of), removes what killed runs left there, and reads the number that
 /// is kept beside the place for the wanted field (`NoRecord`, `DamagedRecord`, `KeptByTimestamp`,
 /// `KeptByVersion`; with `is_first` 0 counts where no number is kept for the field, and a number that
@@ -45,14 +45,14 @@ use std::alloc::Global;
 /// The data is copied, and read back, in pieces of at most 64 KiB, of which one is held at a time;
 /// so the memory that is taken does not depend on its size, which may be up to 2^63 - 1 bytes. The
 /// texts and the comment are held whole.
-pub fn install_update<S: Scheme, Z: RandomSource, R: Source, F: Folder>(
+pub fn install_update<S: Scheme, Z: RandomSource, R: Source, F: Directory>(
     alloc: Global,
     scheme: &S,
     random: &mut Z,
     wanted: Wanted<'_>,
     is_first: bool,
     update: &mut R,
-    folder: &mut F,
+    directory: &mut F,
 ) -> Result<(), InstallFault>
     // Each call of the run leaves at the place what could be found there just before it, or brings
     // an update that the two texts vouch for, whose signed comment names the file, has not expired at
@@ -67,13 +67,13 @@ pub fn install_update<S: Scheme, Z: RandomSource, R: Source, F: Folder>(
     // to the place, the record has had its number or a greater one since before: at each moment, and
     // after a crash at any, also of a run that is refused or cut off (`HasLocked`, `NeverFalls`,
     // `RecordsFirst`).
-    ensures headline { Known (F.run folder.old) (InstallsOnlyUpdates (S.accepts scheme.now) (terms_of wanted.entry) is_first (F.run folder.old) (F.run folder.new)) }
+    ensures headline { Known (F.run directory.old) (InstallsOnlyUpdates (S.accepts scheme.now) (terms_of wanted.entry) is_first (F.run directory.old) (F.run directory.new)) }
 
     // On success what was installed is the data that was ahead, and its number is not below the one
     // that the record held for the field when the lock was got; leftovers were removed as far as they
-    // can be, and the file was given the rights of the one before; the last calls named the record
+    // can be, and the file was given the permissions of the one before; the last calls named the record
     // and brought that to the disk, and then named the place and brought that to the disk.
-    ensures installed { OnOk result (Known (F.run folder.old) ((locked : Run) × HasLocked (F.run folder.old) locked × HasInstalled (S.accepts scheme.now) (terms_of wanted.entry) is_first (R.ahead update.old) locked (F.run folder.new))) }
+    ensures installed { OnOk result (Known (F.run directory.old) ((locked : Run) × HasLocked (F.run directory.old) locked × HasInstalled (S.accepts scheme.now) (terms_of wanted.entry) is_first (R.ahead update.old) locked (F.run directory.new))) }
 
     // A refusal is `another installation is at work` after one call that changed nothing, and found
     // the lock held by another run; or a device's fault, where its count of faults rose, or the
@@ -85,20 +85,20 @@ pub fn install_update<S: Scheme, Z: RandomSource, R: Source, F: Folder>(
     // Or, with the number that the record held when the lock was got: the first failing case of the
     // texts over the data ahead, or what the vouched-for comment lacks, with nothing brought; a
     // device's fault with at most the record brought; `writing failed` with at most what the
-    // headline allows; or the folder is not on the disk, after a call that gave an update the
+    // headline allows; or the directory is not on the disk, after a call that gave an update the
     // place's name (`IsDataRefusal`, `IsDataRefused`, `IsCommentRefused`, `HasPublishedUpdate`).
-    ensures refused { IfErr result (λ e. Known (F.run folder.old) (IsRefusal (S.accepts scheme.now) (terms_of wanted.entry) is_first (R.ahead update.old) (counts (Z.random_faults random.old) (R.faults update.old) (F.folder_faults folder.old)) (counts (Z.random_faults random.new) (R.faults update.new) (F.folder_faults folder.new)) (F.run folder.old) (F.run folder.new) e)) }
+    ensures refused { IfErr result (λ e. Known (F.run directory.old) (IsRefusal (S.accepts scheme.now) (terms_of wanted.entry) is_first (R.ahead update.old) (counts (Z.random_faults random.old) (R.faults update.old) (F.directory_faults directory.old)) (counts (Z.random_faults random.new) (R.faults update.new) (F.directory_faults directory.new)) (F.run directory.old) (F.run directory.new) e)) }
 
     // Where memory is found and no device fails: if another run holds the lock, that is said;
     // otherwise the update is installed exactly where the record has a number for the field, or it is
     // the first installation, the two texts vouch for the data, and the signed comment names the file,
     // has not expired, and has a number that is not below the kept one; and where it is not installed, the first of
     // these that fails is returned (`CanBeInstalled`, `CannotBeInstalled`).
-    ensures exactly { Known (F.run folder.old) (InstallsExactly (S.accepts scheme.now) (terms_of wanted.entry) is_first (R.ahead update.old) (counts (Z.random_faults random.old) (R.faults update.old) (F.folder_faults folder.old)) (counts (Z.random_faults random.new) (R.faults update.new) (F.folder_faults folder.new)) (F.run folder.old) (F.run folder.new) result) }
+    ensures exactly { Known (F.run directory.old) (InstallsExactly (S.accepts scheme.now) (terms_of wanted.entry) is_first (R.ahead update.old) (counts (Z.random_faults random.old) (R.faults update.old) (F.directory_faults directory.old)) (counts (Z.random_faults random.new) (R.faults update.new) (F.directory_faults directory.new)) (F.run directory.old) (F.run directory.new) result) }
 
     // At the end no stage is the run's own that was not so before: each that it made got a lasting
     // name, or its removal was tried.
-    ensures lets_go { Known (F.run folder.old) (OwnsNoMore (F.run folder.old) (F.run folder.new)) }
+    ensures lets_go { Known (F.run directory.old) (OwnsNoMore (F.run directory.old) (F.run directory.new)) }
 
     // On success the two texts vouch for some data, and the comment that was signed with it names
     // the file, has not expired, and has a number.
@@ -107,14 +107,14 @@ pub fn install_update<S: Scheme, Z: RandomSource, R: Source, F: Folder>(
     // Why a fault may come: a device's only where its count of faults rose; out of memory only where
     // no count rose; the record is refused only where it is not the first installation, and all that
     // is said of the data only where some data has it.
-    ensures causes { IfErr result (IsCause (S.accepts scheme.now) (terms_of wanted.entry) is_first (counts (Z.random_faults random.old) (R.faults update.old) (F.folder_faults folder.old)) (counts (Z.random_faults random.new) (R.faults update.new) (F.folder_faults folder.new))) }
+    ensures causes { IfErr result (IsCause (S.accepts scheme.now) (terms_of wanted.entry) is_first (counts (Z.random_faults random.old) (R.faults update.old) (F.directory_faults directory.old)) (counts (Z.random_faults random.new) (R.faults update.new) (F.directory_faults directory.new))) }
 
     // Memory runs out only with the lock held, and before anything is brought to the place or to the
     // record. A run that says so may have given up there.
-    ensures memory { IfErr result (λ e. e ≡ Library (Named OutOfMemory) → Known (F.run folder.old) (OnlyLocked (F.run folder.old) (F.run folder.new))) }
+    ensures memory { IfErr result (λ e. e ≡ Library (Named OutOfMemory) → Known (F.run directory.old) (OnlyLocked (F.run directory.old) (F.run directory.new))) }
 
     // On success no device failed.
-    ensures no_new_fault { OnOk result (counts (Z.random_faults random.new) (R.faults update.new) (F.folder_faults folder.new) ≡ counts (Z.random_faults random.old) (R.faults update.old) (F.folder_faults folder.old)) }
+    ensures no_new_fault { OnOk result (counts (Z.random_faults random.new) (R.faults update.new) (F.directory_faults directory.new) ≡ counts (Z.random_faults random.old) (R.faults update.old) (F.directory_faults directory.old)) }
 {
     let mut work = Work::new();
     let mut due = Due::Lock;
@@ -124,7 +124,7 @@ pub fn install_update<S: Scheme, Z: RandomSource, R: Source, F: Folder>(
             Due::Refused(fault) => return Err(fault),
             due => {
                 let outcome = make(
-                    alloc, scheme, random, wanted, is_first, update, folder, &due, &mut work,
+                    alloc, scheme, random, wanted, is_first, update, directory, &due, &mut work,
                 );
                 due.next(outcome)
             }

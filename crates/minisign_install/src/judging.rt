@@ -7,12 +7,12 @@ ghost use Rattle.minisign_install.specs.Installing.{TextsVouchWith, IsUpdate, te
 ghost use Rattle.minisign.specs.Headline.{verdict};
 ghost use Rattle.minisign_external.specs.States.{IsFedState};
 ghost use Rattle.minisign_external.specs.declared.state.Refusal.TheVariants.{Refused};
-ghost use Rattle.minisign_install.specs.Folders.{Known};
+ghost use Rattle.minisign_install.specs.Directories.{Known};
 ghost use Rattle.minisign_install.specs.Refusals.{IsDataRefused, IsLibraryFault, IsReadingFault};
 
 use crate::comments::check_comment;
+use crate::directories::{Directory, Handle};
 use crate::faults::InstallFault;
-use crate::folders::{Folder, Handle};
 use crate::staging::{PIECE, zeros};
 use crate::wanted::Wanted;
 use minisign::PError;
@@ -25,42 +25,46 @@ use std::alloc::Global;
 
 // Reads all that the file holds, and feeds it to a new state. A fault of reading it is counted. Memory runs out only before
 // anything is read.
-pub(crate) fn read_back<F: Folder>(
+pub(crate) fn read_back<F: Directory>(
     alloc: Global,
-    folder: &mut F,
+    directory: &mut F,
     handle: &F::Handle,
     state: &mut State,
 ) -> Result<(), InstallFault>
-    ensures still { F.run folder.new ≡ F.run folder.old }
-    ensures fed { OnOk result ((m : List ℕ) × IsFedState state.new m × Known (F.run folder.old) ((F.run folder.old).now.holds (F.Handle.file handle.now) ≡ m)) }
-    ensures refused { IfErr result (IsLibraryFault (IsReadingFault (F.folder_faults folder.old) (F.folder_faults folder.new))) }
-    ensures no_new_fault { OnOk result (F.folder_faults folder.new ≡ F.folder_faults folder.old) }
+    ensures still { F.run directory.new ≡ F.run directory.old }
+    ensures fed { OnOk result ((m : List ℕ) × IsFedState state.new m × Known (F.run directory.old) ((F.run directory.old).now.holds (F.Handle.file handle.now) ≡ m)) }
+    ensures refused { IfErr result (IsLibraryFault (IsReadingFault (F.directory_faults directory.old) (F.directory_faults directory.new))) }
+    ensures no_new_fault { OnOk result (F.directory_faults directory.new ≡ F.directory_faults directory.old) }
 {
     let Ok(mut buf) = zeros(alloc, PIECE) else {
         return Err(NamedFault::OutOfMemory.into());
     };
-    match feed(folder, handle, &mut buf) {
+    match feed(directory, handle, &mut buf) {
         Ok(fed) => {
             *state = fed;
             Ok(())
         }
         Err(_) => {
-            folder.count_fault();
+            directory.count_fault();
             Err(NamedFault::ReadingFailed.into())
         }
     }
 }
 
 // Feeds a new state all that the stage holds.
-fn feed<F: Folder>(folder: &F, handle: &F::Handle, buf: &mut [u8]) -> Result<State, DeviceFault>
+fn feed<F: Directory>(
+    directory: &F,
+    handle: &F::Handle,
+    buf: &mut [u8],
+) -> Result<State, DeviceFault>
     requires { 0 < length buf.old }
-    ensures fed { IfOk result (λ s. (m : List ℕ) × IsFedState s m × Known (F.run folder.now) ((F.run folder.now).now.holds (F.Handle.file handle.now) ≡ m)) }
+    ensures fed { IfOk result (λ s. (m : List ℕ) × IsFedState s m × Known (F.run directory.now) ((F.run directory.now).now.holds (F.Handle.file handle.now) ≡ m)) }
     ensures failed { OnErr result (F.read_fails ≡ true) }
 {
     let mut state = State::new();
     let mut at = 0;
     'pieces: loop {
-        let n = folder.read_at(handle, at, buf)?;
+        let n = directory.read_at(handle, at, buf)?;
         if n == 0 {
             return Ok(state);
         }

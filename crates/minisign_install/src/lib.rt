@@ -5,8 +5,8 @@
 mod calls;
 pub mod checking;
 pub mod comments;
+pub mod directories;
 pub mod faults;
-pub mod folders;
 pub mod host_numbers;
 pub mod hosted;
 pub mod hosted_judging;
@@ -22,8 +22,8 @@ pub mod wanted;
 
 pub use checking::{Offer, check_update};
 pub use comments::Numbering;
+pub use directories::{Directory, Handle, Name};
 pub use faults::InstallFault;
-pub use folders::{Folder, Handle, Name};
 pub use installing::install_update;
 pub use stage_names::StageName;
 pub use there::{Installed, install_unless_there};

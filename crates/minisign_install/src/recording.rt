@@ -3,15 +3,15 @@
 ghost use Rattle.std.specs.Prelude.{◌≡◌, ◌⊎◌, ◌<◌, ◌≤◌, ℕ, false, List, Option, Some, None, IfOk, IfErr, OnOk, OnErr, MatchOption, MatchResult, length, take};
 ghost use Rattle.minisign_install.specs.Faults.{Rose, Named, ReadingFailed, Library};
 ghost use Rattle.minisign_install.specs.Comments.{IsNumberText};
-ghost use Rattle.minisign_install.specs.Folders.{HasStepped, IsStill, Finds, Known};
+ghost use Rattle.minisign_install.specs.Directories.{HasStepped, IsStill, Finds, Known};
 ghost use Rattle.minisign_install.specs.Hosts.{Calls};
 ghost use Rattle.minisign_install.specs.Installing.{IsKeptNumber};
 ghost use Rattle.minisign_install.specs.RecordTexts.{HasNoNumber, IsFieldText, IsNumberFor, IsUnfit, kept_by, record_of, record_text};
 ghost use Rattle.minisign_install.specs.Refusals.{IsReadRefusal, IsRecordFault, IsRecordRefused};
 
 use crate::comments::{Numbering, number_of, strip};
+use crate::directories::{Directory, Name};
 use crate::faults::InstallFault;
-use crate::folders::{Folder, Name};
 use minisign_base::NamedFault;
 use std::alloc::Global;
 
@@ -23,19 +23,19 @@ pub(crate) const MOST_WRITTEN: usize = 30;
 
 // The number that the record holds for the field. Where it holds none and this is the first
 // installation, that is 0.
-pub(crate) fn read_number<F: Folder>(
+pub(crate) fn read_number<F: Directory>(
     alloc: Global,
-    folder: &mut F,
+    directory: &mut F,
     numbering: Numbering,
     is_first: bool,
 ) -> Result<u64, InstallFault>
-    ensures read { IfOk result (λ kept. Known (F.run folder.old) ((found : Option (List ℕ)) × Calls (Finds Name.Record found) (F.run folder.old) (F.run folder.new) × IsKeptNumber numbering is_first found kept)) }
-    ensures still { OnErr result (Known (F.run folder.old) (Calls IsStill (F.run folder.old) (F.run folder.new))) }
-    ensures refused { IfErr result (λ e. IsReadRefusal numbering is_first (F.run folder.old) (F.run folder.new) e
-        ⊎ ((e ≡ Library (Named ReadingFailed)) × Rose (F.folder_faults folder.old) (F.folder_faults folder.new))) }
-    ensures no_new_fault { OnOk result (F.folder_faults folder.new ≡ F.folder_faults folder.old) }
+    ensures read { IfOk result (λ kept. Known (F.run directory.old) ((found : Option (List ℕ)) × Calls (Finds Name.Record found) (F.run directory.old) (F.run directory.new) × IsKeptNumber numbering is_first found kept)) }
+    ensures still { OnErr result (Known (F.run directory.old) (Calls IsStill (F.run directory.old) (F.run directory.new))) }
+    ensures refused { IfErr result (λ e. IsReadRefusal numbering is_first (F.run directory.old) (F.run directory.new) e
+        ⊎ ((e ≡ Library (Named ReadingFailed)) × Rose (F.directory_faults directory.old) (F.directory_faults directory.new))) }
+    ensures no_new_fault { OnOk result (F.directory_faults directory.new ≡ F.directory_faults directory.old) }
 {
-    match folder.read_record(alloc) {
+    match directory.read_record(alloc) {
         Ok(Some(bytes)) => number_in(bytes.as_slice(), numbering, is_first),
         Ok(None) => number_without_record(numbering, is_first),
         Err(_) => Err(NamedFault::ReadingFailed.into()),

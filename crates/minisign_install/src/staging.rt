@@ -4,11 +4,11 @@ ghost use Rattle.std.specs.Prelude.{◌≡◌, ◌⊎◌, ◌<◌, ℕ, List, le
 ghost use Rattle.std.specs.Io.KnownBytes.{Consumes, IsAtEnd};
 ghost use Rattle.std.specs.List.{concat};
 ghost use Rattle.minisign_install.specs.Faults.{Library, Rose, Named, OutOfMemory, ReadingFailed, WritingFailed};
-ghost use Rattle.minisign_install.specs.Folders.{HasCounted, Known};
+ghost use Rattle.minisign_install.specs.Directories.{HasCounted, Known};
 ghost use Rattle.minisign_install.specs.Hosts.{Writes, WritesInPart};
 
+use crate::directories::{Directory, Handle};
 use crate::faults::InstallFault;
-use crate::folders::{Folder, Handle};
 use minisign_base::NamedFault;
 use minisign_base::devices::DeviceFault;
 use minisign_base::devices::sources::Source;
@@ -18,24 +18,24 @@ use std::alloc::{AllocError, Global};
 pub(crate) const PIECE: usize = 65536;
 
 // Copies all the data ahead behind what the stage holds. Memory runs out only before anything is read or written.
-pub(crate) fn fill<F: Folder, R: Source>(
+pub(crate) fn fill<F: Directory, R: Source>(
     alloc: Global,
-    folder: &mut F,
+    directory: &mut F,
     handle: &F::Handle,
     update: &mut R,
 ) -> Result<(), InstallFault>
-    ensures copied { OnOk result (Known (F.run folder.old) ((pieces : List (List ℕ)) × Writes (F.Handle.file handle.now) pieces (F.run folder.old) (F.run folder.new)
+    ensures copied { OnOk result (Known (F.run directory.old) ((pieces : List (List ℕ)) × Writes (F.Handle.file handle.now) pieces (F.run directory.old) (F.run directory.new)
         × Consumes (R.ahead update.old) (R.ahead update.new) (concat pieces) × IsAtEnd (R.ahead update.new))) }
-    ensures broken { OnErr result (Known (F.run folder.old) (WritesInPart (F.Handle.file handle.now) (F.run folder.old) (F.run folder.new))) }
-    ensures no_new_fault { OnOk result ((R.faults update.new ≡ R.faults update.old) × (F.folder_faults folder.new ≡ F.folder_faults folder.old)) }
-    ensures refused { IfErr result (λ e. ((e ≡ Library (Named OutOfMemory)) × (folder.new ≡ folder.old) × (update.new ≡ update.old))
+    ensures broken { OnErr result (Known (F.run directory.old) (WritesInPart (F.Handle.file handle.now) (F.run directory.old) (F.run directory.new))) }
+    ensures no_new_fault { OnOk result ((R.faults update.new ≡ R.faults update.old) × (F.directory_faults directory.new ≡ F.directory_faults directory.old)) }
+    ensures refused { IfErr result (λ e. ((e ≡ Library (Named OutOfMemory)) × (directory.new ≡ directory.old) × (update.new ≡ update.old))
         ⊎ ((e ≡ Library (Named ReadingFailed)) × Rose (R.faults update.old) (R.faults update.new))
-        ⊎ ((e ≡ Library (Named WritingFailed)) × Rose (F.folder_faults folder.old) (F.folder_faults folder.new))) }
+        ⊎ ((e ≡ Library (Named WritingFailed)) × Rose (F.directory_faults directory.old) (F.directory_faults directory.new))) }
 {
     let Ok(mut buf) = zeros(alloc, PIECE) else {
         return Err(NamedFault::OutOfMemory.into());
     };
-    copy(folder, handle, update, &mut buf)
+    copy(directory, handle, update, &mut buf)
 }
 
 // A buffer of so many zeros.
@@ -46,19 +46,19 @@ pub(crate) fn zeros(alloc: Global, len: usize) -> Result<Vec<u8>, AllocError>
 }
 
 // Copies all the data ahead in pieces.
-fn copy<F: Folder, R: Source>(
-    folder: &mut F,
+fn copy<F: Directory, R: Source>(
+    directory: &mut F,
     handle: &F::Handle,
     update: &mut R,
     buf: &mut [u8],
 ) -> Result<(), InstallFault>
     requires { 0 < length buf.old }
-    ensures copied { OnOk result (Known (F.run folder.old) ((pieces : List (List ℕ)) × Writes (F.Handle.file handle.now) pieces (F.run folder.old) (F.run folder.new)
+    ensures copied { OnOk result (Known (F.run directory.old) ((pieces : List (List ℕ)) × Writes (F.Handle.file handle.now) pieces (F.run directory.old) (F.run directory.new)
         × Consumes (R.ahead update.old) (R.ahead update.new) (concat pieces) × IsAtEnd (R.ahead update.new))) }
-    ensures broken { OnErr result (Known (F.run folder.old) (WritesInPart (F.Handle.file handle.now) (F.run folder.old) (F.run folder.new))) }
-    ensures no_new_fault { OnOk result ((R.faults update.new ≡ R.faults update.old) × (F.folder_faults folder.new ≡ F.folder_faults folder.old)) }
+    ensures broken { OnErr result (Known (F.run directory.old) (WritesInPart (F.Handle.file handle.now) (F.run directory.old) (F.run directory.new))) }
+    ensures no_new_fault { OnOk result ((R.faults update.new ≡ R.faults update.old) × (F.directory_faults directory.new ≡ F.directory_faults directory.old)) }
     ensures refused { IfErr result (λ e. ((e ≡ Library (Named ReadingFailed)) × Rose (R.faults update.old) (R.faults update.new))
-        ⊎ ((e ≡ Library (Named WritingFailed)) × Rose (F.folder_faults folder.old) (F.folder_faults folder.new))) }
+        ⊎ ((e ≡ Library (Named WritingFailed)) × Rose (F.directory_faults directory.old) (F.directory_faults directory.new))) }
 {
     'pieces: loop {
         let Ok(n) = update.read(buf) else {
@@ -67,26 +67,26 @@ fn copy<F: Folder, R: Source>(
         if n == 0 {
             return Ok(());
         }
-        let Ok(()) = write_all(folder, handle, &buf[..n]) else {
+        let Ok(()) = write_all(directory, handle, &buf[..n]) else {
             return Err(NamedFault::WritingFailed.into());
         };
     }
 }
 
 // Writes all of `bytes` behind what the stage holds.
-pub(crate) fn write_all<F: Folder>(
-    folder: &mut F,
+pub(crate) fn write_all<F: Directory>(
+    directory: &mut F,
     handle: &F::Handle,
     bytes: &[u8],
 ) -> Result<(), DeviceFault>
-    ensures written { Known (F.run folder.old) (MatchResult result
-        (λ _. (pieces : List (List ℕ)) × Writes (F.Handle.file handle.now) pieces (F.run folder.old) (F.run folder.new) × (concat pieces ≡ bytes.now))
-        (λ _. WritesInPart (F.Handle.file handle.now) (F.run folder.old) (F.run folder.new))) }
-    ensures counted { HasCounted (F.folder_faults folder.old) (F.folder_faults folder.new) result }
+    ensures written { Known (F.run directory.old) (MatchResult result
+        (λ _. (pieces : List (List ℕ)) × Writes (F.Handle.file handle.now) pieces (F.run directory.old) (F.run directory.new) × (concat pieces ≡ bytes.now))
+        (λ _. WritesInPart (F.Handle.file handle.now) (F.run directory.old) (F.run directory.new))) }
+    ensures counted { HasCounted (F.directory_faults directory.old) (F.directory_faults directory.new) result }
 {
     let mut at = 0;
     'rest: while at < bytes.len() {
-        let Ok(n) = folder.write(handle, &bytes[at..]) else {
+        let Ok(n) = directory.write(handle, &bytes[at..]) else {
             return Err(DeviceFault);
         };
         at += n;

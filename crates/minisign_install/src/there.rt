@@ -9,19 +9,19 @@ ghost use Rattle.minisign.specs.Headline.{verdict};
 ghost use Rattle.minisign_external.specs.States.{IsFedState};
 ghost use Rattle.minisign_install.specs.Checking.{IsKeptOrNone, signed_comment};
 ghost use Rattle.minisign_install.specs.Comments.{Says};
-ghost use Rattle.minisign_install.specs.Folders.{Finds, IsStill, Known};
+ghost use Rattle.minisign_install.specs.Directories.{Finds, IsStill, Known};
 ghost use Rattle.minisign_install.specs.Hosts.{Calls, CallsNothing};
 ghost use Rattle.minisign_install.specs.Installing.{IsVouched, terms_of};
 ghost use Rattle.minisign_install.specs.Refusals.{IsCallFault, IsLibraryFault, IsReadingFault, counts};
 ghost use Rattle.minisign_install.specs.There.{GoesOn, HasKeptNumber, InstallsUnlessThere, IsCauseUnlessThere, IsOther, IsSigned, IsThere, IsVouchedFor, LooksInPart};
 ghost use Rattle.minisign_install.specs.declared.faults.InstallFault.TheVariants.{Library, SameNumber};
-ghost use Rattle.minisign_install.specs.declared.folders.Name.TheVariants.{Place, Record};
+ghost use Rattle.minisign_install.specs.declared.directories.Name.TheVariants.{Place, Record};
 
 use crate::calls::lock;
 use crate::checking::judged_comment;
 use crate::comments::{Numbering, check_comment};
+use crate::directories::Directory;
 use crate::faults::InstallFault;
-use crate::folders::Folder;
 use crate::installing::install_update;
 use crate::judging::{decide, read_back};
 use crate::recording::number_for;
@@ -44,7 +44,7 @@ pub enum Installed {
     Already,
 }
 
-/// Installs the data ahead of `update` at the folder's place as `install_update` does, unless the update stands there
+/// Installs the data ahead of `update` at the directory's place as `install_update` does, unless the update stands there
 /// already: `Installed::Already`, where its number is the kept one, and the two texts vouch for what the file at the place
 /// holds. Then nothing was made, written, renamed or removed, and nothing of the data ahead was read.
 ///
@@ -56,7 +56,7 @@ pub enum Installed {
 ///
 /// The file at the place is read in pieces of 64 KiB. Another process that writes into it meanwhile may have part of what
 /// it held judged with part of what it holds.
-pub fn install_unless_there<S: Scheme, Z: RandomSource, R: Source, F: Folder>(
+pub fn install_unless_there<S: Scheme, Z: RandomSource, R: Source, F: Directory>(
     alloc: Global,
     scheme: &S,
     random: &mut Z,
@@ -64,7 +64,7 @@ pub fn install_unless_there<S: Scheme, Z: RandomSource, R: Source, F: Folder>(
     is_first: bool,
     again: bool,
     update: &mut R,
-    folder: &mut F,
+    directory: &mut F,
 ) -> Result<Installed, InstallFault>
     // The lock is held by another run, or could not be asked for, and that was the only call. Or it was got, and held from
     // then on. Where the record was found to hold the number of the update for its field, and the key has signed its
@@ -73,7 +73,7 @@ pub fn install_unless_there<S: Scheme, Z: RandomSource, R: Source, F: Folder>(
     // run has changed anything (`IsThere`, `IsOther`, `Finds`). Otherwise the run goes on, and all that `install_update`
     // promises holds of it from there (`GoesOn`, `InstallsFrom`). Only a device can fail besides, or memory run out, before
     // anything changed.
-    ensures goes { Known (F.run folder.old) (InstallsUnlessThere (S.accepts scheme.now) (terms_of wanted.entry) is_first again (R.ahead update.old) (counts (Z.random_faults random.old) (R.faults update.old) (F.folder_faults folder.old)) (counts (Z.random_faults random.new) (R.faults update.new) (F.folder_faults folder.new)) (F.run folder.old) (F.run folder.new) result) }
+    ensures goes { Known (F.run directory.old) (InstallsUnlessThere (S.accepts scheme.now) (terms_of wanted.entry) is_first again (R.ahead update.old) (counts (Z.random_faults random.old) (R.faults update.old) (F.directory_faults directory.old)) (counts (Z.random_faults random.new) (R.faults update.new) (F.directory_faults directory.new)) (F.run directory.old) (F.run directory.new) result) }
 
     // On success the two texts vouch for some data, and the comment that was signed with it names the file, has not expired,
     // and has a number.
@@ -81,19 +81,19 @@ pub fn install_unless_there<S: Scheme, Z: RandomSource, R: Source, F: Folder>(
 
     // Why a fault may come: as one of `install_update` does; and `SameNumber` only where `again` was not asked, the comment
     // is signed and says what is wanted, and the texts do not vouch for some data.
-    ensures causes { IfErr result (IsCauseUnlessThere (S.accepts scheme.now) (terms_of wanted.entry) is_first again (counts (Z.random_faults random.old) (R.faults update.old) (F.folder_faults folder.old)) (counts (Z.random_faults random.new) (R.faults update.new) (F.folder_faults folder.new))) }
+    ensures causes { IfErr result (IsCauseUnlessThere (S.accepts scheme.now) (terms_of wanted.entry) is_first again (counts (Z.random_faults random.old) (R.faults update.old) (F.directory_faults directory.old)) (counts (Z.random_faults random.new) (R.faults update.new) (F.directory_faults directory.new))) }
 
     // Where the update is there already, nothing is read of the data ahead, and no name is drawn.
     ensures untouched { IfOk result (λ which. which ≡ Installed.Already → (update.new ≡ update.old) × (random.new ≡ random.old)) }
 
     // On success no device failed.
-    ensures no_new_fault { OnOk result (counts (Z.random_faults random.new) (R.faults update.new) (F.folder_faults folder.new) ≡ counts (Z.random_faults random.old) (R.faults update.old) (F.folder_faults folder.old)) }
+    ensures no_new_fault { OnOk result (counts (Z.random_faults random.new) (R.faults update.new) (F.directory_faults directory.new) ≡ counts (Z.random_faults random.old) (R.faults update.old) (F.directory_faults directory.old)) }
 {
-    match lock(folder) {
-        Ok(()) => match is_there(alloc, scheme, wanted, again, folder) {
+    match lock(directory) {
+        Ok(()) => match is_there(alloc, scheme, wanted, again, directory) {
             Ok(true) => Ok(Installed::Already),
             Ok(false) => {
-                match install_update(alloc, scheme, random, wanted, is_first, update, folder) {
+                match install_update(alloc, scheme, random, wanted, is_first, update, directory) {
                     Ok(()) => Ok(Installed::Now),
                     Err(fault) => Err(fault),
                 }
@@ -105,22 +105,22 @@ pub fn install_unless_there<S: Scheme, Z: RandomSource, R: Source, F: Folder>(
 }
 
 // Whether the update stands at the place already. Other data of its number is refused, unless it was asked for.
-fn is_there<S: Scheme, F: Folder>(
+fn is_there<S: Scheme, F: Directory>(
     alloc: Global,
     scheme: &S,
     wanted: Wanted<'_>,
     again: bool,
-    folder: &mut F,
+    directory: &mut F,
 ) -> Result<bool, InstallFault>
-    ensures there { IfOk result (λ is. is ≡ true → IsVouched (S.accepts scheme.now) (terms_of wanted.entry) × Known (F.run folder.old) (IsThere (S.accepts scheme.now) (terms_of wanted.entry) (F.run folder.old) (F.run folder.new))) }
-    ensures goes_on { IfOk result (λ is. is ≡ false → Known (F.run folder.old) (GoesOn (S.accepts scheme.now) (terms_of wanted.entry) again (F.run folder.old) (F.run folder.new))) }
+    ensures there { IfOk result (λ is. is ≡ true → IsVouched (S.accepts scheme.now) (terms_of wanted.entry) × Known (F.run directory.old) (IsThere (S.accepts scheme.now) (terms_of wanted.entry) (F.run directory.old) (F.run directory.new))) }
+    ensures goes_on { IfOk result (λ is. is ≡ false → Known (F.run directory.old) (GoesOn (S.accepts scheme.now) (terms_of wanted.entry) again (F.run directory.old) (F.run directory.new))) }
     ensures other { IfErr result (λ e. ((e ≡ SameNumber) × (again ≡ false) × IsSigned (S.accepts scheme.now) (terms_of wanted.entry) × ((m : List ℕ) × ¬ (IsVouchedFor (S.accepts scheme.now) (terms_of wanted.entry) m))
-        × Known (F.run folder.old) (IsOther (S.accepts scheme.now) (terms_of wanted.entry) (F.run folder.old) (F.run folder.new)) × (F.folder_faults folder.new ≡ F.folder_faults folder.old))
-        ⊎ (IsLibraryFault (IsReadingFault (F.folder_faults folder.old) (F.folder_faults folder.new)) e × Known (F.run folder.old) (LooksInPart (F.run folder.old) (F.run folder.new)))) }
-    ensures no_new_fault { OnOk result (F.folder_faults folder.new ≡ F.folder_faults folder.old) }
+        × Known (F.run directory.old) (IsOther (S.accepts scheme.now) (terms_of wanted.entry) (F.run directory.old) (F.run directory.new)) × (F.directory_faults directory.new ≡ F.directory_faults directory.old))
+        ⊎ (IsLibraryFault (IsReadingFault (F.directory_faults directory.old) (F.directory_faults directory.new)) e × Known (F.run directory.old) (LooksInPart (F.run directory.old) (F.run directory.new)))) }
+    ensures no_new_fault { OnOk result (F.directory_faults directory.new ≡ F.directory_faults directory.old) }
 {
-    match has_kept_number(alloc, scheme, wanted, folder) {
-        Ok(true) => match look_at_place(alloc, scheme, wanted.pk_text, wanted.sig_text, folder) {
+    match has_kept_number(alloc, scheme, wanted, directory) {
+        Ok(true) => match look_at_place(alloc, scheme, wanted.pk_text, wanted.sig_text, directory) {
             Ok(Standing::Update) => Ok(true),
             Ok(Standing::Nothing) => Ok(false),
             Ok(Standing::Other) => {
@@ -138,25 +138,25 @@ fn is_there<S: Scheme, F: Folder>(
 }
 
 // Whether the key has signed the comment, and that says what is wanted, with the number that the record holds.
-fn has_kept_number<S: Scheme, F: Folder>(
+fn has_kept_number<S: Scheme, F: Directory>(
     alloc: Global,
     scheme: &S,
     wanted: Wanted<'_>,
-    folder: &mut F,
+    directory: &mut F,
 ) -> Result<bool, InstallFault>
     ensures same { IfOk result (λ is. is ≡ true → IsSigned (S.accepts scheme.now) (terms_of wanted.entry)
-        × Known (F.run folder.old) ((found : Option (List ℕ)) × (n : ℕ) × Calls (Finds Record found) (F.run folder.old) (F.run folder.new) × HasKeptNumber (S.accepts scheme.now) (terms_of wanted.entry) found n)) }
-    ensures other { IfOk result (λ is. is ≡ false → Known (F.run folder.old)
-        (((F.run folder.new ≡ F.run folder.old) × ((fault : Fault) × (signed_comment (S.accepts scheme.now) wanted.entry.pk_text.now wanted.entry.sig_text.now ≡ Err fault)))
-        ⊎ ((found : Option (List ℕ)) × Calls (Finds Record found) (F.run folder.old) (F.run folder.new) × ((n : ℕ) → ¬ (HasKeptNumber (S.accepts scheme.now) (terms_of wanted.entry) found n))))) }
-    ensures refused { IfErr result (λ e. IsLibraryFault (IsReadingFault (F.folder_faults folder.old) (F.folder_faults folder.new)) e × Known (F.run folder.old) (CallsNothing (F.run folder.old) (F.run folder.new))) }
-    ensures no_new_fault { OnOk result (F.folder_faults folder.new ≡ F.folder_faults folder.old) }
+        × Known (F.run directory.old) ((found : Option (List ℕ)) × (n : ℕ) × Calls (Finds Record found) (F.run directory.old) (F.run directory.new) × HasKeptNumber (S.accepts scheme.now) (terms_of wanted.entry) found n)) }
+    ensures other { IfOk result (λ is. is ≡ false → Known (F.run directory.old)
+        (((F.run directory.new ≡ F.run directory.old) × ((fault : Fault) × (signed_comment (S.accepts scheme.now) wanted.entry.pk_text.now wanted.entry.sig_text.now ≡ Err fault)))
+        ⊎ ((found : Option (List ℕ)) × Calls (Finds Record found) (F.run directory.old) (F.run directory.new) × ((n : ℕ) → ¬ (HasKeptNumber (S.accepts scheme.now) (terms_of wanted.entry) found n))))) }
+    ensures refused { IfErr result (λ e. IsLibraryFault (IsReadingFault (F.directory_faults directory.old) (F.directory_faults directory.new)) e × Known (F.run directory.old) (CallsNothing (F.run directory.old) (F.run directory.new))) }
+    ensures no_new_fault { OnOk result (F.directory_faults directory.new ≡ F.directory_faults directory.old) }
 {
     let Ok(mut message) = zeros(alloc, wanted.sig_text.len()) else {
         return Err(NamedFault::OutOfMemory.into());
     };
     match signed_by(scheme, wanted.pk_text, wanted.sig_text, &mut message) {
-        Ok(comment) => match folder.read_record(alloc) {
+        Ok(comment) => match directory.read_record(alloc) {
             Ok(Some(bytes)) => Ok(is_kept(
                 comment,
                 wanted.file,
@@ -211,28 +211,28 @@ enum Standing {
 }
 
 // Reads the file at the place, and sees whether the texts vouch for it.
-fn look_at_place<S: Scheme, F: Folder>(
+fn look_at_place<S: Scheme, F: Directory>(
     alloc: Global,
     scheme: &S,
     pk_text: &str,
     sig_text: &str,
-    folder: &mut F,
+    directory: &mut F,
 ) -> Result<Standing, InstallFault>
-    ensures nothing { IfOk result (λ is. is ≡ Standing.Nothing → Known (F.run folder.old) (Calls (Finds Place None) (F.run folder.old) (F.run folder.new))) }
+    ensures nothing { IfOk result (λ is. is ≡ Standing.Nothing → Known (F.run directory.old) (Calls (Finds Place None) (F.run directory.old) (F.run directory.new))) }
     ensures update { IfOk result (λ is. is ≡ Standing.Update → (m : List ℕ) × ((c : List ℕ) × TextsVouchWith (S.accepts scheme.now) pk_text.now sig_text.now m false c)
-        × Known (F.run folder.old) (Calls (Finds Place (Some m)) (F.run folder.old) (F.run folder.new))) }
+        × Known (F.run directory.old) (Calls (Finds Place (Some m)) (F.run directory.old) (F.run directory.new))) }
     ensures other { IfOk result (λ is. is ≡ Standing.Other → (m : List ℕ) × ((f : Fault) × (verdict (S.accepts scheme.now) pk_text.now sig_text.now m false ≡ Err f))
-        × Known (F.run folder.old) (Calls (Finds Place (Some m)) (F.run folder.old) (F.run folder.new))) }
-    ensures refused { IfErr result (λ e. IsLibraryFault (IsReadingFault (F.folder_faults folder.old) (F.folder_faults folder.new)) e × Known (F.run folder.old) (CallsNothing (F.run folder.old) (F.run folder.new))) }
-    ensures no_new_fault { OnOk result (F.folder_faults folder.new ≡ F.folder_faults folder.old) }
+        × Known (F.run directory.old) (Calls (Finds Place (Some m)) (F.run directory.old) (F.run directory.new))) }
+    ensures refused { IfErr result (λ e. IsLibraryFault (IsReadingFault (F.directory_faults directory.old) (F.directory_faults directory.new)) e × Known (F.run directory.old) (CallsNothing (F.run directory.old) (F.run directory.new))) }
+    ensures no_new_fault { OnOk result (F.directory_faults directory.new ≡ F.directory_faults directory.old) }
 {
     let Ok(mut message) = zeros(alloc, sig_text.len()) else {
         return Err(NamedFault::OutOfMemory.into());
     };
-    match folder.open_place() {
+    match directory.open_place() {
         Ok(Some(handle)) => {
             let mut state = State::new();
-            match read_back(alloc, folder, &handle, &mut state) {
+            match read_back(alloc, directory, &handle, &mut state) {
                 Ok(()) => {
                     if vouches(scheme, pk_text, sig_text, &mut state, &mut message) {
                         Ok(Standing::Update)

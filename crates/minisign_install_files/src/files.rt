@@ -1,14 +1,14 @@
-//! A folder of the file system: each call is one call of the system, or a fixed few. Nothing
+//! A directory of the file system: each call is one call of the system, or a fixed few. Nothing
 //! is known of it but how often it failed, since nothing is known of std's files.
 
 ghost use Rattle.std.specs.Prelude.{◌≡◌, ◌+◌, ◌-◌, ◌<◌, ◌≤◌, ◌^◌, ℕ, List, None, Ok, true, IfOk, IfSome, length, min, string_bytes};
-ghost use Rattle.minisign_install.specs.Folders.{HasCounted, unknown};
-ghost use Rattle.minisign_install_files.specs.Files.{IsNoFile, IsPlaceIn, beside, faults_of, folder_of, folder_path, mode_of, name_of, path_of, place_of};
+ghost use Rattle.minisign_install.specs.Directories.{HasCounted, unknown};
+ghost use Rattle.minisign_install_files.specs.Files.{IsNoFile, IsPlaceIn, beside, faults_of, directory_of, directory_path, mode_of, name_of, path_of, place_of};
 
 use crate::interruptions::again;
 use crate::troubles::{Cause, Part, Trouble};
 use minisign_base::devices::DeviceFault;
-use minisign_install::{Folder, Handle, Name, StageName};
+use minisign_install::{Directory, Handle, Name, StageName};
 use minisign_programs::rights::{ALL_RIGHTS, rights_after, without_group};
 use std::alloc::Global;
 use std::cell::Cell;
@@ -33,12 +33,12 @@ const DIGITS: usize = 32;
 // holds the lock alone.
 const NEW_LOCK: &str = "stage-00000000000000000000000000000000";
 
-/// An open stage, and whether it was given the rights of the file at the place; or that file.
+/// An open stage, and whether it was given the permissions of the file at the place; or that file.
 #[derive(Drop)]
 pub struct StageFile {
     file: File,
     part: Part,
-    has_rights: Cell<bool>,
+    has_permissions: Cell<bool>,
 }
 
 impl Handle for StageFile {
@@ -52,12 +52,12 @@ struct Opened {
     is_made: bool,
 }
 
-/// The folder of a place, by the paths that it needs, and the lock file where it holds the lock. It
+/// The directory of a place, by the paths that it needs, and the lock file where it holds the lock. It
 /// remembers what it could not use first, and counts its faults.
 #[derive(Drop)]
-pub struct FileFolder<'a> {
+pub struct FileDirectory<'a> {
     rt: &'a HostRuntime,
-    folder: &'a str,
+    directory: &'a str,
     place: &'a str,
     name: &'a str,
     mode: Option<u32>,
@@ -66,30 +66,30 @@ pub struct FileFolder<'a> {
     faults: u64,
 }
 
-impl<'a> FileFolder<'a> {
-    /// The folder of the place at this path, whose links are not followed; none where the path does
+impl<'a> FileDirectory<'a> {
+    /// The directory of the place at this path, whose links are not followed; none where the path does
     /// not end with the name of a file. An update that is installed gets `mode` where that is given.
     pub fn of_place(
         rt: &'a HostRuntime,
         place: &'a str,
         mode: Option<u32>,
-    ) -> Option<FileFolder<'a>>
-        // A folder of files that was just made has counted no fault. Its place is the one at the path, which leads
-        // into this folder and to this name, and a new file there gets the mode that was passed.
+    ) -> Option<FileDirectory<'a>>
+        // A directory of files that was just made has counted no fault. Its place is the one at the path, which leads
+        // into this directory and to this name, and a new file there gets the mode that was passed.
         ensures no_new_fault { IfSome result (λ f. faults_of f ≡ 0) }
-        ensures place { IfSome result (λ f. (place_of f ≡ place.now) × IsPlaceIn place.now (folder_of f) (name_of f)) }
+        ensures place { IfSome result (λ f. (place_of f ≡ place.now) × IsPlaceIn place.now (directory_of f) (name_of f)) }
         ensures mode { IfSome result (λ f. mode_of f ≡ mode) }
 
         // One is made of each path but those whose last part is empty, `.` or `..`.
         ensures named { IfSome result (λ f. ¬ (IsNoFile (name_of f))) }
-        ensures refused { result ≡ None → (folder : List ℕ) × (name : List ℕ) × IsPlaceIn place.now folder name × IsNoFile name }
+        ensures refused { result ≡ None → (directory : List ℕ) × (name : List ℕ) × IsPlaceIn place.now directory name × IsNoFile name }
     {
-        let (folder, name) = parts_of(place);
+        let (directory, name) = parts_of(place);
         match name {
             "" | "." | ".." => None,
-            _ => Some(FileFolder {
+            _ => Some(FileDirectory {
                 rt,
-                folder,
+                directory,
                 place,
                 name,
                 mode,
@@ -102,7 +102,7 @@ impl<'a> FileFolder<'a> {
 
     /// The last part of the place's path, which the signed comment has as the name of the file.
     pub fn name(&self) -> &'a str
-        // The name is that of the folder's place.
+        // The name is that of the directory's place.
         ensures { result.now ≡ name_of self.now }
     {
         self.name
@@ -116,12 +116,12 @@ impl<'a> FileFolder<'a> {
     /// The path of a part, as it is shown. It fails only where memory runs out, which `trouble` then says if it said
     /// nothing before.
     pub fn shown(&self, part: Part) -> Result<String, DeviceFault>
-        // The path is that of the folder, of the place, or of the file beside the place that has this part's ending,
+        // The path is that of the directory, of the place, or of the file beside the place that has this part's ending,
         // where a stage's digits are a star.
         ensures { IfOk result (λ text. string_bytes text ≡ path_of self.now part) }
     {
         match part {
-            Part::Folder => self.text(self.folder),
+            Part::Directory => self.text(self.directory),
             Part::Place => self.text(self.place),
             Part::Lock => self.beside("lock"),
             Part::Record => self.beside("number"),
@@ -166,7 +166,7 @@ impl<'a> FileFolder<'a> {
     fn beside(&self, behind: &str) -> Result<String, DeviceFault>
         ensures { IfOk result (λ made. string_bytes made ≡ beside self.now behind.now) }
     {
-        let mut path = self.text(self.folder)?;
+        let mut path = self.text(self.directory)?;
         self.made(path.push_str("/."))?;
         self.made(path.push_str(self.name))?;
         self.made(path.push_str("."))?;
@@ -222,7 +222,7 @@ impl<'a> FileFolder<'a> {
         Ok(Some(StageFile {
             file,
             part: Part::Place,
-            has_rights: Cell::new(true),
+            has_permissions: Cell::new(true),
         }))
     }
 
@@ -256,7 +256,7 @@ impl<'a> FileFolder<'a> {
             Ok(_) => Ok(None),
             Err(error) if error.kind() == ErrorKind::NotFound && !is_made => Ok(None),
             Err(error) if error.kind() == ErrorKind::NotFound => {
-                Err(self.remember(Part::Folder, Cause::NoFolder))
+                Err(self.remember(Part::Directory, Cause::NoDirectory))
             }
             Err(error) if error.kind() == ErrorKind::AlreadyExists && is_made => Ok(None),
             Err(error) if is_made => Err(self.remember(Part::Lock, Cause::System(error))),
@@ -285,17 +285,20 @@ impl<'a> FileFolder<'a> {
     }
 
     // Whose the lock file and the record have to be: the owner and the group of the file at the
-    // place, or where that is root's or there is none, of the folder. So a run by root locks nobody
+    // place, or where that is root's or there is none, of the directory. So a run by root locks nobody
     // out who may go on.
     fn keeper(&self) -> Result<Metadata, DeviceFault> {
         match self.older()? {
             Some(older) if older.uid() != 0 => Ok(older),
-            _ => self.known(Part::Folder, again(|| fs::metadata(self.rt, self.folder))),
+            _ => self.known(
+                Part::Directory,
+                again(|| fs::metadata(self.rt, self.directory)),
+            ),
         }
     }
 
     // Gives a file the owner and the group of the keeper, as far as that is allowed. It has to be one
-    // that this run has made: whoever may write the folder could have given the name of another to a
+    // that this run has made: whoever may write the directory could have given the name of another to a
     // file of somebody else.
     fn give_to_keeper(&self, part: Part, file: &File) -> Result<(), DeviceFault> {
         let keeper = self.keeper()?;
@@ -403,16 +406,16 @@ impl<'a> FileFolder<'a> {
     // Removes the stages that killed runs on this place have left.
     fn remove_stages(&self) -> Result<(), DeviceFault> {
         self.check_lock()?;
-        self.known(Part::Folder, again(|| self.remove_each()))
+        self.known(Part::Directory, again(|| self.remove_each()))
     }
 
     // Removes what is a stage beside this place by its name.
     fn remove_each(&self) -> io::Result<()> {
-        for entry in fs::read_dir(self.rt, self.folder)? {
+        for entry in fs::read_dir(self.rt, self.directory)? {
             match entry {
                 Ok(entry) => {
                     if self.is_stage(entry.file_name()) {
-                        // What cannot be removed, as a folder of such a name, stays.
+                        // What cannot be removed, as a directory of such a name, stays.
                         let _removed = again(|| fs::remove_file(self.rt, entry.path()));
                     }
                 }
@@ -432,10 +435,10 @@ impl<'a> FileFolder<'a> {
             Ok(file) => Ok(StageFile {
                 file,
                 part: Part::Stage,
-                has_rights: Cell::new(false),
+                has_permissions: Cell::new(false),
             }),
             Err(error) if error.kind() == ErrorKind::NotFound => {
-                Err(self.remember(Part::Folder, Cause::NoFolder))
+                Err(self.remember(Part::Directory, Cause::NoDirectory))
             }
             Err(error) => Err(self.remember(Part::Stage, Cause::System(error))),
         }
@@ -457,17 +460,20 @@ impl<'a> FileFolder<'a> {
         }
     }
 
-    // Gives the stage the rights of the file at the place.
-    fn pass_rights(&self, handle: &StageFile) -> Result<(), DeviceFault> {
+    // Gives the stage the permissions of the file at the place.
+    fn pass_permissions(&self, handle: &StageFile) -> Result<(), DeviceFault> {
         let older = self.older()?;
-        handle.has_rights.set(true);
-        self.known(Part::Stage, give_rights(&handle.file, &older, self.mode))
+        handle.has_permissions.set(true);
+        self.known(
+            Part::Stage,
+            give_permissions(&handle.file, &older, self.mode),
+        )
     }
 
-    // Brings to the disk what the stage holds. That of the number, which was given no rights, is the
+    // Brings to the disk what the stage holds. That of the number, which was given no permissions, is the
     // keeper's, whoever runs this.
-    fn settle_stage(&self, handle: &StageFile) -> Result<(), DeviceFault> {
-        if !handle.has_rights.get() {
+    fn sync_stage(&self, handle: &StageFile) -> Result<(), DeviceFault> {
+        if !handle.has_permissions.get() {
             self.give_to_keeper(Part::Stage, &handle.file)?;
         }
         self.known(Part::Stage, handle.file.sync_all())
@@ -484,10 +490,10 @@ impl<'a> FileFolder<'a> {
         )
     }
 
-    // Brings the folder to the disk.
-    fn settle_folder(&self) -> Result<(), DeviceFault> {
-        let folder = self.known(Part::Folder, fs::open(self.rt, self.folder))?;
-        self.known(Part::Folder, folder.sync_all())
+    // Brings the directory to the disk.
+    fn sync_entries(&self) -> Result<(), DeviceFault> {
+        let directory = self.known(Part::Directory, fs::open(self.rt, self.directory))?;
+        self.known(Part::Directory, directory.sync_all())
     }
 
     // Removes a stage's name, if another run has not taken it for a leftover.
@@ -522,19 +528,19 @@ impl<'a> FileFolder<'a> {
     }
 }
 
-// The path of the folder that a path leads into, and the last part of the path.
+// The path of the directory that a path leads into, and the last part of the path.
 fn parts_of(path: &str) -> (&str, &str)
     ensures parts { IsPlaceIn path.now result.0.now result.1.now }
 {
     match path.rsplit_once('/') {
-        Some((before, name)) => (folder_path(before), name),
+        Some((before, name)) => (directory_path(before), name),
         None => (".", path),
     }
 }
 
-// The path of the folder that stands before a slash.
-fn folder_path(before: &str) -> &str
-    ensures { result.now ≡ folder_path before.now }
+// The path of the directory that stands before a slash.
+fn directory_path(before: &str) -> &str
+    ensures { result.now ≡ directory_path before.now }
 {
     if before.is_empty() { "/" } else { before }
 }
@@ -552,7 +558,7 @@ fn cause_of(found: &Metadata) -> Cause {
     if found.is_symlink() {
         Cause::Link
     } else if found.is_dir() {
-        Cause::Folder
+        Cause::Directory
     } else {
         Cause::Special
     }
@@ -602,33 +608,33 @@ fn give_group(file: &File, older: &Metadata) -> io::Result<bool> {
     Ok(is_same || is_given(file, older) || again(|| fchown(file, None, Some(older.gid()))).is_ok())
 }
 
-// Gives a stage its rights: these where they are given, or else those of the older file. Where it
+// Gives a stage its permissions: these where they are given, or else those of the older file. Where it
 // could not get the older file's group, its group gets none, and all others no more than that group
 // had.
-fn give_rights(file: &File, older: &Option<Metadata>, mode: Option<u32>) -> io::Result<()> {
+fn give_permissions(file: &File, older: &Option<Metadata>, mode: Option<u32>) -> io::Result<()> {
     let has_group = match older {
         Some(older) => give_group(file, older)?,
         None => true,
     };
-    let rights = match (mode, older) {
+    let permissions = match (mode, older) {
         (Some(mode), _) => mode & ALL_RIGHTS,
         (None, Some(older)) => rights_after(older.mode()),
         (None, None) => return Ok(()),
     };
-    let rights = if has_group {
-        rights
+    let permissions = if has_group {
+        permissions
     } else {
-        without_group(rights)
+        without_group(permissions)
     };
-    file.set_permissions(Permissions::from_mode(rights))
+    file.set_permissions(Permissions::from_mode(permissions))
 }
 
-impl Folder for FileFolder<'_> {
+impl Directory for FileDirectory<'_> {
     type Handle = StageFile;
 
     ghost run = { λ _. unknown };
 
-    ghost folder_faults = { λ f. faults_of f };
+    ghost directory_faults = { λ f. faults_of f };
 
     ghost read_fails = { true };
 
@@ -667,13 +673,13 @@ impl Folder for FileFolder<'_> {
         self.raise();
     }
 
-    fn take_rights(&mut self, handle: &StageFile) -> Result<(), DeviceFault> {
-        let answer = self.pass_rights(handle);
+    fn take_permissions(&mut self, handle: &StageFile) -> Result<(), DeviceFault> {
+        let answer = self.pass_permissions(handle);
         self.counted(answer)
     }
 
-    fn settle(&mut self, handle: &StageFile) -> Result<(), DeviceFault> {
-        let answer = self.settle_stage(handle);
+    fn sync(&mut self, handle: &StageFile) -> Result<(), DeviceFault> {
+        let answer = self.sync_stage(handle);
         self.counted(answer)
     }
 
@@ -682,8 +688,8 @@ impl Folder for FileFolder<'_> {
         self.counted(answer)
     }
 
-    fn settle_names(&mut self) -> Result<(), DeviceFault> {
-        let answer = self.settle_folder();
+    fn sync_directory(&mut self) -> Result<(), DeviceFault> {
+        let answer = self.sync_entries();
         self.counted(answer)
     }
 

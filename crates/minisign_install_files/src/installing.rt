@@ -1,10 +1,10 @@
-//! Installing an update over a folder of real files, unless it stands there already, with random bytes of the system.
+//! Installing an update over a directory of real files, unless it stands there already, with random bytes of the system.
 
 ghost use Rattle.std.specs.Prelude.{◌≡◌, ℕ, IfErr, OnOk};
 ghost use Rattle.minisign_install.specs.Installing.{IsVouched, terms_of};
 ghost use Rattle.minisign_install_files.specs.Files.{HasCause, faults_of};
 
-use crate::files::FileFolder;
+use crate::files::FileDirectory;
 use crate::interruptions::Uninterrupted;
 use minisign_base::devices::random_sources::SourceRandom;
 use minisign_base::devices::sources::{ReaderSource, Source};
@@ -30,12 +30,12 @@ impl Read for RandomBytes {
     }
 }
 
-/// Installs the data ahead of `update` at the folder's place, if the texts of `wanted` vouch for it as the update that is
+/// Installs the data ahead of `update` at the directory's place, if the texts of `wanted` vouch for it as the update that is
 /// wanted, and unless it stands there already, which is answered without writing anything (`Installed::Already`):
 /// `install_unless_there` over real files. With `again` other data of the kept number is replaced. The names of stages are
-/// of the system's random bytes. What of the folder could not be used, `folder.trouble()` says then.
+/// of the system's random bytes. What of the directory could not be used, `directory.trouble()` says then.
 ///
-/// The folder holds the lock on the place from here on for as long as it lives. Data that may stand still, as what is being
+/// The directory holds the lock on the place from here on for as long as it lives. Data that may stand still, as what is being
 /// downloaded, would keep other runs out for as long: it is received into a file first.
 #[tactic(auto, using(crate::proofs::Causes::has_cause))]
 pub fn install_files<S: Scheme, R: Source>(
@@ -45,21 +45,21 @@ pub fn install_files<S: Scheme, R: Source>(
     is_first: bool,
     again: bool,
     update: &mut R,
-    folder: &mut FileFolder<'_>,
+    directory: &mut FileDirectory<'_>,
 ) -> Result<Installed, InstallFault>
     // Success only if the texts that are wanted vouch for some data, and the comment that was signed with it names the file,
     // has not expired, and has a number in the wanted field; that this is the data ahead, or what stood at the place already,
-    // and what the folder holds then, the code and tests show, since nothing is known of std's files.
+    // and what the directory holds then, the code and tests show, since nothing is known of std's files.
     ensures vouched { OnOk result (IsVouched (S.accepts scheme.now) (terms_of wanted.entry)) }
 
-    // Why a fault may come: the data's only where its source's count of faults rose, as the folder's does where a call on
+    // Why a fault may come: the data's only where its source's count of faults rose, as the directory's does where a call on
     // its files failed, and want of memory only where no count rose; the record is refused only where it is not the first
     // installation, all that is said of the data only where some data has it, and other data of the kept number only where
     // `again` was not asked, the comment is signed, and the texts do not vouch for some data.
-    ensures causes { IfErr result (HasCause (S.accepts scheme.now) (terms_of wanted.entry) is_first again (R.faults update.old) (R.faults update.new) (faults_of folder.old) (faults_of folder.new)) }
+    ensures causes { IfErr result (HasCause (S.accepts scheme.now) (terms_of wanted.entry) is_first again (R.faults update.old) (R.faults update.new) (faults_of directory.old) (faults_of directory.new)) }
 
     // On success neither the source nor a call on the files failed.
-    ensures no_new_fault { OnOk result ((R.faults update.new ≡ R.faults update.old) × (faults_of folder.new ≡ faults_of folder.old)) }
+    ensures no_new_fault { OnOk result ((R.faults update.new ≡ R.faults update.old) × (faults_of directory.new ≡ faults_of directory.old)) }
 {
     let device = RandomBytes(fs::open(rt, RANDOM_BYTES));
     let mut random = SourceRandom::new(ReaderSource::new(Uninterrupted(device)));
@@ -71,6 +71,6 @@ pub fn install_files<S: Scheme, R: Source>(
         is_first,
         again,
         update,
-        folder,
+        directory,
     )
 }

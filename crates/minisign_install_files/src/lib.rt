@@ -1,4 +1,4 @@
-//! Installs an update in a folder of real files: what an updater in Rattle calls.
+//! Installs an update in a directory of real files: what an updater in Rattle calls.
 
 #![tactic(auto)]
 
@@ -7,7 +7,7 @@ pub mod installing;
 pub mod interruptions;
 pub mod troubles;
 
-pub use files::FileFolder;
+pub use files::FileDirectory;
 pub use installing::install_files;
 pub use interruptions::Uninterrupted;
 pub use troubles::{Cause, Part, Trouble};

@@ -1,12 +1,12 @@
-//! What kept a file or a folder from being used, as a person reads it.
+//! What kept a file or a directory from being used, as a person reads it.
 
 use std::{fmt, io};
 
-/// A file or a folder beside which, or in which, an update is installed.
+/// A file or a directory beside which, or in which, an update is installed.
 #[derive(Clone, Copy)]
 pub enum Part {
-    /// The folder of the place.
-    Folder,
+    /// The directory of the place.
+    Directory,
     /// Where the update is installed.
     Place,
     /// The file that is locked.
@@ -17,18 +17,18 @@ pub enum Part {
     Stage,
 }
 
-/// Why a file or a folder could not be used.
+/// Why a file or a directory could not be used.
 #[derive(Clone, Copy)]
 pub enum Cause {
     /// What the system answered.
     System(io::Error),
-    /// No such folder.
-    NoFolder,
+    /// No such directory.
+    NoDirectory,
     /// A link stands there, and links are not followed.
     Link,
     /// A directory stands there.
-    Folder,
-    /// Neither a regular file, a link nor a folder.
+    Directory,
+    /// Neither a regular file, a link nor a directory.
     Special,
     /// It is its owner's alone, and another user runs this.
     Closed,
@@ -45,7 +45,7 @@ pub enum Cause {
 /// What could not be used, and why.
 #[derive(Clone, Copy)]
 pub struct Trouble {
-    /// The file or the folder.
+    /// The file or the directory.
     pub part: Part,
     /// The reason.
     pub cause: Cause,
@@ -55,9 +55,9 @@ impl fmt::Display for Cause {
     fn fmt<W: fmt::Write>(&self, f: &mut fmt::Formatter<W>) -> fmt::Result {
         match self {
             Cause::System(error) => error.fmt(f),
-            Cause::NoFolder => f.write_str("there is no such directory"),
+            Cause::NoDirectory => f.write_str("there is no such directory"),
             Cause::Link => f.write_str("a link stands there, which is not followed"),
-            Cause::Folder => f.write_str("a directory stands there"),
+            Cause::Directory => f.write_str("a directory stands there"),
             Cause::Special => f.write_str("what stands there is no regular file"),
             Cause::Closed => f.write_str(
                 "it is for its owner alone: give it the owner of the place",

@@ -15,7 +15,7 @@ use minisign_base::scheme::Scheme;
 use minisign_base::toy::ToyScheme;
 use minisign_base::{NamedFault, unix_timestamp};
 use minisign_install::{InstallFault, Installed, Numbering, Wanted};
-use minisign_install_files::{FileFolder, Trouble, Uninterrupted, install_files};
+use minisign_install_files::{FileDirectory, Trouble, Uninterrupted, install_files};
 use minisign_programs::arguments::{behind_program, read_arguments, words_of};
 use std::fs;
 use std::fs::File;
@@ -42,7 +42,7 @@ fn main(rt: HostRuntime) -> ExitCode {
     let [pk, data, sig, place] = paths else {
         return ExitCode::FAILURE;
     };
-    let Some(mut folder) = FileFolder::of_place(&rt, place, None) else {
+    let Some(mut directory) = FileDirectory::of_place(&rt, place, None) else {
         return ExitCode::FAILURE;
     };
     match update(
@@ -53,14 +53,14 @@ fn main(rt: HostRuntime) -> ExitCode {
         sig,
         is_first,
         again,
-        &mut folder,
+        &mut directory,
     ) {
         Ok(Installed::Now) => ExitCode::SUCCESS,
         Ok(Installed::Already) => ExitCode::from(THERE_ALREADY),
         Err(fault) => {
             let _ = eprintln!(rt; "error: {fault}");
-            if let Some(Trouble { part, cause }) = folder.trouble() {
-                if let Ok(path) = folder.shown(part) {
+            if let Some(Trouble { part, cause }) = directory.trouble() {
+                if let Ok(path) = directory.shown(part) {
                     let _ = eprintln!(rt; "error: {path}: {cause}");
                 }
             }
@@ -78,12 +78,12 @@ fn update<S: Scheme>(
     sig: &str,
     is_first: bool,
     again: bool,
-    folder: &mut FileFolder<'_>,
+    directory: &mut FileDirectory<'_>,
 ) -> Result<Installed, InstallFault>
     // Success only if two texts vouch for some data, and the comment that was signed with it has the name of the place, and
     // a timestamp, and had not expired at some moment. That it is the one that the clock shows is tested.
     ensures { OnOk result ((pk_text sig_text : List ℕ) × (moment : ℕ)
-        × IsVouched (S.accepts scheme.now) (record { pk_text = pk_text; sig_text = sig_text; file = name_of folder.old; numbering = Timestamp; moment = moment })) }
+        × IsVouched (S.accepts scheme.now) (record { pk_text = pk_text; sig_text = sig_text; file = name_of directory.old; numbering = Timestamp; moment = moment })) }
 {
     let pk_text = read_text(rt.alloc(), &mut ReaderSource::new(open(rt, pk)?))?;
     let sig_text = read_text(rt.alloc(), &mut ReaderSource::new(open(rt, sig)?))?;
@@ -91,12 +91,12 @@ fn update<S: Scheme>(
     let wanted = Wanted {
         pk_text: pk_text.as_str(),
         sig_text: sig_text.as_str(),
-        file: folder.name(),
+        file: directory.name(),
         numbering: Numbering::Timestamp,
         // Where the clock cannot be read, or shows a time before 1970, what expires has expired.
         moment: unix_timestamp(rt).unwrap_or(u64::MAX),
     };
-    install_files(rt, scheme, wanted, is_first, again, &mut update, folder)
+    install_files(rt, scheme, wanted, is_first, again, &mut update, directory)
 }
 
 // Opens a file, which is read on where a signal interrupts that.

@@ -1,7 +1,7 @@
-//! The calls of a folder in memory, and what they made of it.
+//! The calls of a directory in memory, and what they made of it.
 
 ghost use Rattle.std.specs.Prelude.{◌≡◌, ◌<◌, ◌^◌, ◌++◌, ℕ, suc, List, [], Option, OnOk, OnErr, IfOk, MatchOption, if◌then◌else◌};
-ghost use Rattle.minisign_install.specs.Folders.{Moment};
+ghost use Rattle.minisign_install.specs.Directories.{Moment};
 ghost use Rattle.minisign_caller_vectors.specs.Memory.{after, changed, count_of, is_same, made_after, moment_after, past, rested};
 
 use super::tally::Tally;
@@ -17,11 +17,11 @@ pub(crate) enum Call {
     // Bytes were written behind what a file holds.
     Written(usize, Vec<u8>),
     // A file was brought to the disk.
-    Settled(usize),
+    Synced(usize),
     // The file of a stage's name got a lasting one.
     Renamed(Vec<u8>, Name),
     // The names were brought to the disk.
-    NamesSettled,
+    DirectorySynced,
     // A stage's name was removed.
     Removed(Vec<u8>),
     // All stages' names were removed.
@@ -92,9 +92,9 @@ fn is_creation(call: &Call) -> bool
     match call {
         Call::Created(_) => true,
         Call::Written(_, _) => false,
-        Call::Settled(_) => false,
+        Call::Synced(_) => false,
         Call::Renamed(_, _) => false,
-        Call::NamesSettled => false,
+        Call::DirectorySynced => false,
         Call::Removed(_) => false,
         Call::Cleared => false,
     }
@@ -122,9 +122,9 @@ fn change_by(call: &Call, name: &[u8]) -> Change
     match call {
         Call::Created(new) => change_of(name == new.as_slice(), Change::Made),
         Call::Written(_, _) => Change::Stays,
-        Call::Settled(_) => Change::Stays,
+        Call::Synced(_) => Change::Stays,
         Call::Renamed(old, _) => change_of(name == old.as_slice(), Change::Gone),
-        Call::NamesSettled => Change::Stays,
+        Call::DirectorySynced => Change::Stays,
         Call::Removed(old) => change_of(name == old.as_slice(), Change::Gone),
         Call::Cleared => Change::Gone,
     }
@@ -159,7 +159,7 @@ fn renamed(call: &Call, to: Name) -> Option<&[u8]>
     match call {
         Call::Created(_) => None,
         Call::Written(_, _) => None,
-        Call::Settled(_) => None,
+        Call::Synced(_) => None,
         Call::Renamed(name, given) => {
             if is_same(to, *given) {
                 Some(name.as_slice())
@@ -167,7 +167,7 @@ fn renamed(call: &Call, to: Name) -> Option<&[u8]>
                 None
             }
         }
-        Call::NamesSettled => None,
+        Call::DirectorySynced => None,
         Call::Removed(_) => None,
         Call::Cleared => None,
     }
@@ -218,9 +218,9 @@ fn repeat(call: &Call, made: usize, file: usize, bytes: &mut Vec<u8>) -> Result<
             append_where(file == *written, bytes, more.as_slice())?;
             Ok(made)
         }
-        Call::Settled(_) => Ok(made),
+        Call::Synced(_) => Ok(made),
         Call::Renamed(_, _) => Ok(made),
-        Call::NamesSettled => Ok(made),
+        Call::DirectorySynced => Ok(made),
         Call::Removed(_) => Ok(made),
         Call::Cleared => Ok(made),
     }

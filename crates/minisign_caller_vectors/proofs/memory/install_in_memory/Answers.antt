@@ -6,7 +6,7 @@ use Rattle.minisign_caller_vectors.proofs.memory.install_in_memory.Goals as goal
 
 pub returns-clause-exactly : goal.returns-clause-exactly
 returns-clause-exactly g c =
-    installs_at (g.S.Scheme.accepts c.args.scheme.now) (terms_of c.args.wanted) c.args.is_first (g.R.Source.ahead c.args.update.now) _ _ c.args.folder.now c.install_update.new.folder c.install_update.result
+    installs_at (g.S.Scheme.accepts c.args.scheme.now) (terms_of c.args.wanted) c.args.is_first (g.R.Source.ahead c.args.update.now) _ _ c.args.directory.now c.install_update.new.directory c.install_update.result
     (c.install_update.ensures.exactly refl)
 
 pub returns-clause-installed : goal.returns-clause-installed

@@ -4,9 +4,9 @@ use Rattle.minisign_install.proofs.installing.install_update.Given as goal
 
 abbrev pub invariant-calls : goal.invariant-calls
 invariant-calls g l = (read : List ℕ) × Driven (g.S.Scheme.accepts l.scheme) (terms_of l.wanted) l.is_first g.F.Handle.Handle.file
-    (host (g.F.Folder.run l.fn.folder) (g.R.Source.ahead l.fn.update) (counts (g.Z.RandomSource.random_faults l.fn.random) (g.R.Source.faults l.fn.update) (g.F.Folder.folder_faults l.fn.folder)) [])
+    (host (g.F.Directory.run l.fn.directory) (g.R.Source.ahead l.fn.update) (counts (g.Z.RandomSource.random_faults l.fn.random) (g.R.Source.faults l.fn.update) (g.F.Directory.directory_faults l.fn.directory)) [])
     l.due l.work
-    (host (g.F.Folder.run l.folder) (g.R.Source.ahead l.update) (counts (g.Z.RandomSource.random_faults l.random) (g.R.Source.faults l.update) (g.F.Folder.folder_faults l.folder)) read)
+    (host (g.F.Directory.run l.directory) (g.R.Source.ahead l.update) (counts (g.Z.RandomSource.random_faults l.random) (g.R.Source.faults l.update) (g.F.Directory.directory_faults l.directory)) read)
 
 abbrev pub decreases-calls : goal.decreases-calls
 decreases-calls g l = calls_left l.due

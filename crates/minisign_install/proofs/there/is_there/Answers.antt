@@ -9,8 +9,8 @@ returns-then-again-clause-goes_on g c = λ is known.
     let (m, refused, looked) = c.in-Ok-Other.ensures.other c.in-Ok-Other.field-0-is in
     inr (inr (inr (
       c.if-again.true,
-      other_found (g.S.Scheme.accepts c.args.scheme.now) (terms_of c.args.wanted) (g.F.Folder.run c.args.folder.now) (g.F.Folder.run c.has_kept_number.new.folder)
-          (g.F.Folder.run c.look_at_place.new.folder) m known (same known) refused looked,
+      other_found (g.S.Scheme.accepts c.args.scheme.now) (terms_of c.args.wanted) (g.F.Directory.run c.args.directory.now) (g.F.Directory.run c.has_kept_number.new.directory)
+          (g.F.Directory.run c.look_at_place.new.directory) m known (same known) refused looked,
     )))
 
 pub returns-else-again-clause-other : goal.returns-else-again-clause-other
@@ -23,7 +23,7 @@ returns-else-again-clause-other g c =
       c.if-again.false,
       signed,
       (m, unvouched accepts (terms_of c.args.wanted) m refused.0 refused.1),
-      λ known. other_found accepts (terms_of c.args.wanted) (g.F.Folder.run c.args.folder.now) (g.F.Folder.run c.has_kept_number.new.folder) (g.F.Folder.run c.look_at_place.new.folder)
+      λ known. other_found accepts (terms_of c.args.wanted) (g.F.Directory.run c.args.directory.now) (g.F.Directory.run c.has_kept_number.new.directory) (g.F.Directory.run c.look_at_place.new.directory)
           m known (same known) refused looked,
       c.in-Ok-Other.ensures.no_new_fault ∙ c.in-Ok-true.ensures.no_new_fault,
     )

@@ -2,7 +2,7 @@ use Rattle.std.proofs.Common.{rules, ◌≡◌, sym}
 use Rattle.minisign_caller_vectors.specs.Memory.{past_of, owned_by}
 use Rattle.minisign_install.specs.Names.{drawn_bytes}
 use Rattle.minisign_caller_vectors.proofs.Bounds.{created}
-use Rattle.minisign_caller_vectors.proofs.memory.MemoryFolderFolder.create.Goals as goal
+use Rattle.minisign_caller_vectors.proofs.memory.MemoryDirectoryDirectory.create.Goals as goal
 
 pub returns-in-Ok-note-clause-created : goal.returns-in-Ok-note-clause-created
 returns-in-Ok-note-clause-created c = λ known locked.

@@ -1,12 +1,12 @@
--- A folder that processes share, one layer below bytes: names that lead to files, what the files hold, and what a
+-- A directory that processes share, one layer below bytes: names that lead to files, what the files hold, and what a
 -- crash leaves of both. Files are numbered, and no number comes twice. The definitions say what one call of the
 -- system does from one moment to the next, and what other processes may do between two calls.
 use Rattle.std.specs.Prelude.{◌≡◌, ◌≢◌, ◌⊎◌, ℕ, ◌<◌, ◌≤◌, Bool, true, false, List, [], ◌∷◌, ◌++◌, length, take, drop, Option, Some, None, Result, IfOk, MatchResult, OnOk, OnErr}
 use Rattle.minisign_install.specs.Faults.{Rose}
-pub use Rattle.minisign_install.specs.declared.folders.Name.{Name}
-pub use Rattle.minisign_install.specs.declared.folders.Name.TheVariants.{Place, Record}
+pub use Rattle.minisign_install.specs.declared.directories.Name.{Name}
+pub use Rattle.minisign_install.specs.declared.directories.Name.TheVariants.{Place, Record}
 
--- what processes find in the folder at one moment
+-- what processes find in the directory at one moment
 pub record Moment : Type 0 where
   -- the file that one of the two lasting names leads to
   pub leads : Name → Option ℕ
@@ -18,8 +18,8 @@ pub record Moment : Type 0 where
   pub on_disk : ℕ → Bool
   -- whether a crash may leave the name leading to this file in place of the one that it leads to
   pub left : Name → ℕ → Bool
-  -- whether the file was given the rights of the file at the place, where there was one
-  pub rights : ℕ → Bool
+  -- whether the file was given the permissions of the file at the place, where there was one
+  pub permissions : ℕ → Bool
   -- whether the name of a stage cannot be removed
   pub fixed : List ℕ → Bool
   -- whether another run holds the lock on the place
@@ -31,7 +31,7 @@ pub record RunStep : Type 0 where
   pub after : Moment
 
 -- a run so far: the moment after its last call, all its calls, the newest first, the stages' names that are its
--- own, whether it holds the lock on the place, and whether all this is known of its folder: otherwise nothing is said
+-- own, whether it holds the lock on the place, and whether all this is known of its directory: else nothing is said
 pub record Run : Type 0 where
   pub known : Bool
   pub now : Moment
@@ -39,11 +39,11 @@ pub record Run : Type 0 where
   pub owns : List ℕ → Bool
   pub locked : Bool
 
--- where it is known what the folder holds
+-- where it is known what the directory holds
 abbrev pub Known : Run → Type 0 → Type 0
 Known r fact = r.known ≡ true → fact
 
--- where it is known what the folder holds, and the run holds the lock
+-- where it is known what the directory holds, and the run holds the lock
 abbrev pub Held : Run → Type 0 → Type 0
 Held r fact = r.known ≡ true → r.locked ≡ true → fact
 
@@ -89,7 +89,7 @@ pub record OtherProcesses (locked : Bool) (owns : List ℕ → Bool) (old new : 
   pub stages : (s : List ℕ) → owns s ≡ true → new.stages s ≡ old.stages s
   pub holds : (s : List ℕ) (f : ℕ) → owns s ≡ true → old.stages s ≡ Some f → new.holds f ≡ old.holds f
   pub on_disk : (s : List ℕ) (f : ℕ) → owns s ≡ true → old.stages s ≡ Some f → new.on_disk f ≡ old.on_disk f
-  pub rights : (s : List ℕ) (f : ℕ) → owns s ≡ true → old.stages s ≡ Some f → new.rights f ≡ old.rights f
+  pub permissions : (s : List ℕ) (f : ℕ) → owns s ≡ true → old.stages s ≡ Some f → new.permissions f ≡ old.permissions f
   pub apart : (s : List ℕ) (f : ℕ) → owns s ≡ true → old.stages s ≡ Some f → IsApart old f → IsApart new f
   pub record_left : locked ≡ true → RecordUnchanged old new
 
@@ -101,7 +101,7 @@ pub record TouchesOnly (file : ℕ) (old new : Moment) : Type 0 where
   pub left : new.left ≡ old.left
   pub holds : (f : ℕ) → f ≢ file → new.holds f ≡ old.holds f
   pub on_disk : (f : ℕ) → f ≢ file → new.on_disk f ≡ old.on_disk f
-  pub rights : (f : ℕ) → f ≢ file → new.rights f ≡ old.rights f
+  pub permissions : (f : ℕ) → f ≢ file → new.permissions f ≡ old.permissions f
 
 -- a new, empty file is made under a stage's name that led to none
 pub record Creates (name : List ℕ) (file : ℕ) (old new : Moment) : Type 0 where
@@ -123,20 +123,20 @@ pub record Appends (file : ℕ) (bytes : List ℕ) (old new : Moment) : Type 0 w
   pub spoils : Spoils file old new
   pub grown : new.holds file ≡ old.holds file ++ bytes
 
--- the file is given the rights of the file at the place, where there is one, and holds what it held
-pub record GivesRights (file : ℕ) (old new : Moment) : Type 0 where
+-- the file is given the permissions of the file at the place, where there is one, and holds what it held
+pub record GivesPermissions (file : ℕ) (old new : Moment) : Type 0 where
   pub spoils : Spoils file old new
   pub same : new.holds file ≡ old.holds file
-  pub given : new.rights file ≡ true
+  pub given : new.permissions file ≡ true
 
--- what the file holds comes to the disk, and its rights stay
+-- what the file holds comes to the disk, and its permissions stay
 pub record Syncs (file : ℕ) (old new : Moment) : Type 0 where
   pub spoils : Spoils file old new
   pub same : new.holds file ≡ old.holds file
   pub on_disk : new.on_disk file ≡ true
-  pub rights : new.rights file ≡ old.rights file
+  pub permissions : new.permissions file ≡ old.permissions file
 
--- The file of a stage's name, whichever it is at this moment, gets the lasting name, in one step. Until the folder
+-- The file of a stage's name, whichever it is at this moment, gets the lasting name, in one step. Until the directory
 -- is brought to the disk a crash may leave what the name led to before.
 pub record Renames (name : List ℕ) (to : Name) (old new : Moment) : Type 0 where
   pub leads : new.leads to ≡ old.stages name
@@ -145,7 +145,7 @@ pub record Renames (name : List ℕ) (to : Name) (old new : Moment) : Type 0 whe
   pub other_left : (n : Name) → n ≢ to → (f : ℕ) → new.left n f ≡ old.left n f
   pub holds : new.holds ≡ old.holds
   pub on_disk : new.on_disk ≡ old.on_disk
-  pub rights : new.rights ≡ old.rights
+  pub permissions : new.permissions ≡ old.permissions
   pub gone : new.stages name ≡ None
   pub stages : (s : List ℕ) → s ≢ name → new.stages s ≡ old.stages s
 
@@ -155,13 +155,13 @@ pub record MaySyncDirectory (old new : Moment) : Type 0 where
   pub left : (n : Name) (f : ℕ) → new.left n f ≡ true → MayLead old n f
   pub holds : new.holds ≡ old.holds
   pub on_disk : new.on_disk ≡ old.on_disk
-  pub rights : new.rights ≡ old.rights
+  pub permissions : new.permissions ≡ old.permissions
   pub stages : new.stages ≡ old.stages
 
 -- the names come to the disk: a crash leaves them leading where they lead
 pub record SyncsDirectory (old new : Moment) : Type 0 where
   pub same : MaySyncDirectory old new
-  pub settled : (n : Name) (f : ℕ) → new.left n f ≡ true → new.leads n ≡ Some f
+  pub synced : (n : Name) (f : ℕ) → new.left n f ≡ true → new.leads n ≡ Some f
 
 -- a stage's name is removed
 pub record Removes (name : List ℕ) (old new : Moment) : Type 0 where
@@ -170,7 +170,7 @@ pub record Removes (name : List ℕ) (old new : Moment) : Type 0 where
   pub left : new.left ≡ old.left
   pub holds : new.holds ≡ old.holds
   pub on_disk : new.on_disk ≡ old.on_disk
-  pub rights : new.rights ≡ old.rights
+  pub permissions : new.permissions ≡ old.permissions
   pub stages : (s : List ℕ) → s ≢ name → new.stages s ≡ old.stages s
 
 -- names of stages are removed, and nothing else is touched
@@ -179,7 +179,7 @@ pub record Clears (old new : Moment) : Type 0 where
   pub left : new.left ≡ old.left
   pub holds : new.holds ≡ old.holds
   pub on_disk : new.on_disk ≡ old.on_disk
-  pub rights : new.rights ≡ old.rights
+  pub permissions : new.permissions ≡ old.permissions
 
 -- no stage is left that could be removed
 abbrev pub IsClear : Moment → Type 0
@@ -248,7 +248,7 @@ pub record HasLocked (old new : Run) : Type 0 where
   pub stepped : HasStepped old new IsFree
   pub held : new.locked ≡ true
 
--- the call left the count of the folder's faults, or failed, and it rose
+-- the call left the count of the directory's faults, or failed, and it rose
 pub record HasCounted {A E : Type 0} (old new : ℕ) (answer : Result A E) : Type 0 where
   pub no_new_fault : OnOk answer (new ≡ old)
   pub fault : OnErr answer (Rose old new)
@@ -290,7 +290,7 @@ pub record Leads (name : Name) (file : Option ℕ) (old new : Moment) : Type 0 w
   pub still : new ≡ old
   pub leads : old.leads name ≡ file
 
--- the run of a folder of which nothing is known
+-- the run of a directory of which nothing is known
 abbrev pub unknown : Run
 unknown = record {
   known = false;
@@ -300,7 +300,7 @@ unknown = record {
     holds = λ _. [];
     on_disk = λ _. false;
     left = λ _ _. false;
-    rights = λ _. false;
+    permissions = λ _. false;
     fixed = λ _. false;
     busy = false;
   };

@@ -1,10 +1,10 @@
-//! The folder that an update is installed in, as processes share it: one method for each call of
+//! The directory that an update is installed in, as processes share it: one method for each call of
 //! the system. Between any two calls other processes may do what `OtherProcesses` of the definitions
 //! allows them.
 
 ghost use Rattle.std.specs.Prelude.{◌≡◌, ◌⊎◌, ℕ, Bool, true, OnErr, List, Some, None, MatchOption, MatchResult, IfOk, take, length, option_map, ◌+◌, ◌^◌, ◌<◌, ◌≤◌};
 ghost use Rattle.minisign_base.specs.Devices.{Rose};
-ghost use Rattle.minisign_install.specs.Folders.{Run, Appends, Clears, ClearsAll, GivesRights, HasCounted, HasCreated, HasReadAt, Held, HasRemoved, HasRenamed, HasStepped, HasTried, IsAsked, IsStill, Leads, MaySyncDirectory, OwnsTheSame, Perhaps, Finds, Renames, Syncs, SyncsDirectory, Spoils, Known};
+ghost use Rattle.minisign_install.specs.Directories.{Run, Appends, Clears, ClearsAll, GivesPermissions, HasCounted, HasCreated, HasReadAt, Held, HasRemoved, HasRenamed, HasStepped, HasTried, IsAsked, IsStill, Leads, MaySyncDirectory, OwnsTheSame, Perhaps, Finds, Renames, Syncs, SyncsDirectory, Spoils, Known};
 ghost use Rattle.minisign_install.specs.Names.{drawn_bytes};
 
 use crate::stage_names::StageName;
@@ -26,18 +26,18 @@ pub trait Handle {
     ghost file: { Self → ℕ };
 }
 
-/// A folder with a place at which updates are installed. It holds the lock on the place from the
+/// A directory with a place at which updates are installed. It holds the lock on the place from the
 /// call of `lock` that gets it for as long as it lives.
-pub trait Folder {
+pub trait Directory {
     /// An open stage, or the open file at the place.
     type Handle: Handle + Drop;
 
     // The run so far, which says whether it is known.
     ghost run: { Self → Run };
 
-    // How many faults there were, which each folder counts, also one whose run is not known: those of all calls but
+    // How many faults there were, which each directory counts, also one whose run is not known: those of all calls but
     // `remove`. A removal that fails ends no run, and none is told of it.
-    ghost folder_faults: { Self → ℕ };
+    ghost directory_faults: { Self → ℕ };
 
     // Whether a call of `read_at` can fail at all.
     ghost read_fails: { Bool };
@@ -50,13 +50,13 @@ pub trait Folder {
             (λ _. HasStepped (run self.old) (run self.new) IsStill × OwnsTheSame (run self.old) (run self.new))) }
         ensures held { Known (run self.old) (IfOk result (λ is. is ≡ true → (run self.new).locked ≡ true)) }
         ensures held_already { Known (run self.old) ((run self.old).locked ≡ true → IfOk result (λ is. is ≡ true)) }
-        ensures counted { HasCounted (folder_faults self.old) (folder_faults self.new) result };
+        ensures counted { HasCounted (directory_faults self.old) (directory_faults self.new) result };
 
     /// Removes the stages that killed runs on this place have left, as far as they can be removed.
     /// Only who holds the lock may.
     fn clear(&mut self) -> Result<(), DeviceFault>
         ensures cleared { Held (run self.old) (HasTried ClearsAll Clears (run self.old) (run self.new) result) }
-        ensures counted { HasCounted (folder_faults self.old) (folder_faults self.new) result };
+        ensures counted { HasCounted (directory_faults self.old) (directory_faults self.new) result };
 
     /// Makes an empty file under the name, which only this user may read and write. It fails where
     /// the name is taken. Who does not hold the lock may not, since its stage would be removed.
@@ -64,7 +64,7 @@ pub trait Folder {
         ensures created { Held (run self.old) (MatchResult result
             (λ handle. HasCreated (drawn_bytes name.now) (Self.Handle.file handle) (run self.old) (run self.new))
             (λ _. HasStepped (run self.old) (run self.new) IsStill × OwnsTheSame (run self.old) (run self.new))) }
-        ensures counted { HasCounted (folder_faults self.old) (folder_faults self.new) result };
+        ensures counted { HasCounted (directory_faults self.old) (directory_faults self.new) result };
 
     /// Writes a beginning of `bytes` behind what the stage holds and returns how long it is: of
     /// something at least one byte.
@@ -74,7 +74,7 @@ pub trait Folder {
         ensures written { Known (run self.old) (MatchResult result
             (λ n. HasStepped (run self.old) (run self.new) (Appends (Self.Handle.file handle.now) (take n bytes.now)) × OwnsTheSame (run self.old) (run self.new))
             (λ _. HasStepped (run self.old) (run self.new) (Spoils (Self.Handle.file handle.now)) × OwnsTheSame (run self.old) (run self.new))) }
-        ensures counted { HasCounted (folder_faults self.old) (folder_faults self.new) result };
+        ensures counted { HasCounted (directory_faults self.old) (directory_faults self.new) result };
 
     /// Reads what the file holds from an offset on, up to all of `buf`, and returns how much. The
     /// result is 0 only where `buf` is empty or nothing is left. No file reaches beyond 2^63 - 1
@@ -88,48 +88,48 @@ pub trait Folder {
     /// Counts a fault of `read_at`, which leaves that to this call.
     fn count_fault(&mut self)
         ensures still { run self.new ≡ run self.old }
-        ensures counted { read_fails ≡ true → Rose (folder_faults self.old) (folder_faults self.new) };
+        ensures counted { read_fails ≡ true → Rose (directory_faults self.old) (directory_faults self.new) };
 
-    /// Gives the stage the rights, and where it may the owner and the group, of the file at the
+    /// Gives the stage the permissions, and where it may the owner and the group, of the file at the
     /// place, where there is one.
-    fn take_rights(&mut self, handle: &Self::Handle) -> Result<(), DeviceFault>
-        ensures given { Known (run self.old) (HasTried (GivesRights (Self.Handle.file handle.now)) (Spoils (Self.Handle.file handle.now)) (run self.old) (run self.new) result) }
-        ensures counted { HasCounted (folder_faults self.old) (folder_faults self.new) result };
+    fn take_permissions(&mut self, handle: &Self::Handle) -> Result<(), DeviceFault>
+        ensures given { Known (run self.old) (HasTried (GivesPermissions (Self.Handle.file handle.now)) (Spoils (Self.Handle.file handle.now)) (run self.old) (run self.new) result) }
+        ensures counted { HasCounted (directory_faults self.old) (directory_faults self.new) result };
 
     /// Brings to the disk what the stage holds.
-    fn settle(&mut self, handle: &Self::Handle) -> Result<(), DeviceFault>
-        ensures settled { Known (run self.old) (HasTried (Syncs (Self.Handle.file handle.now)) (Spoils (Self.Handle.file handle.now)) (run self.old) (run self.new) result) }
-        ensures counted { HasCounted (folder_faults self.old) (folder_faults self.new) result };
+    fn sync(&mut self, handle: &Self::Handle) -> Result<(), DeviceFault>
+        ensures synced { Known (run self.old) (HasTried (Syncs (Self.Handle.file handle.now)) (Spoils (Self.Handle.file handle.now)) (run self.old) (run self.new) result) }
+        ensures counted { HasCounted (directory_faults self.old) (directory_faults self.new) result };
 
     /// Gives the file of the stage's name the lasting one, in one step. Only who holds the lock may.
     fn rename(&mut self, name: &StageName, to: Name) -> Result<(), DeviceFault>
         ensures renamed { Held (run self.old) (MatchResult result
             (λ _. HasRenamed (drawn_bytes name.now) to (run self.old) (run self.new))
             (λ _. HasStepped (run self.old) (run self.new) (Perhaps (Renames (drawn_bytes name.now) to)) × OwnsTheSame (run self.old) (run self.new))) }
-        ensures counted { HasCounted (folder_faults self.old) (folder_faults self.new) result };
+        ensures counted { HasCounted (directory_faults self.old) (directory_faults self.new) result };
 
     /// Brings the names to the disk.
-    fn settle_names(&mut self) -> Result<(), DeviceFault>
-        ensures settled { Known (run self.old) (HasTried SyncsDirectory MaySyncDirectory (run self.old) (run self.new) result) }
-        ensures counted { HasCounted (folder_faults self.old) (folder_faults self.new) result };
+    fn sync_directory(&mut self) -> Result<(), DeviceFault>
+        ensures synced { Known (run self.old) (HasTried SyncsDirectory MaySyncDirectory (run self.old) (run self.new) result) }
+        ensures counted { HasCounted (directory_faults self.old) (directory_faults self.new) result };
 
     /// Removes a stage's name. Only who holds the lock may. Where that fails, the name is left to
     /// `clear` of a later run, and no fault is counted.
     fn remove(&mut self, name: &StageName) -> Result<(), DeviceFault>
         ensures removed { Held (run self.old) (HasRemoved (drawn_bytes name.now) (run self.old) (run self.new) result) }
-        ensures uncounted { folder_faults self.new ≡ folder_faults self.old };
+        ensures uncounted { directory_faults self.new ≡ directory_faults self.old };
 
     /// What the record holds, where there is one.
     fn read_record(&mut self, alloc: Global) -> Result<Option<Vec<u8>>, DeviceFault>
         ensures read { Known (run self.old) (MatchResult result
             (λ found. HasStepped (run self.old) (run self.new) (Finds Name.Record (option_map (λ v. v.items) found)) × OwnsTheSame (run self.old) (run self.new))
             (λ _. HasStepped (run self.old) (run self.new) IsStill × OwnsTheSame (run self.old) (run self.new))) }
-        ensures counted { HasCounted (folder_faults self.old) (folder_faults self.new) result };
+        ensures counted { HasCounted (directory_faults self.old) (directory_faults self.new) result };
 
     /// Opens the file at the place, to be read by `read_at` alone; none where no file stands there.
     fn open_place(&mut self) -> Result<Option<Self::Handle>, DeviceFault>
         ensures opened { Known (run self.old) (MatchResult result
             (λ found. HasStepped (run self.old) (run self.new) (Leads Name.Place (option_map Self.Handle.file found)) × OwnsTheSame (run self.old) (run self.new))
             (λ _. HasStepped (run self.old) (run self.new) IsStill × OwnsTheSame (run self.old) (run self.new))) }
-        ensures counted { HasCounted (folder_faults self.old) (folder_faults self.new) result };
+        ensures counted { HasCounted (directory_faults self.old) (directory_faults self.new) result };
 }
