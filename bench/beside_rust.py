@@ -3,7 +3,7 @@
 
     beside_rust.py UPSTREAM [ROUNDS]
 
-UPSTREAM is the folder of the crate's own files. compare/oracle/build.sh builds it with plain stand-ins for
+UPSTREAM is the directory of the crate's own files. compare/oracle/build.sh builds it with plain stand-ins for
 scrypt and base64 (so `open` compares with plain Rust and not with the crate `scrypt`). The jobs are those of
 crates/library_bench (`rt run` there leaves the program) and of beside_rust.rs, which is built here with full
 optimization for the processor that `rt run` builds for. The time is processor time, of the program and of the
@@ -27,14 +27,14 @@ TARGET = "-C opt-level=3 -C target-cpu=x86-64-v2"
 MEGABYTE = 1 << 20
 
 
-def built(upstream, folder):
+def built(upstream, directory):
     """The Rust program over the crate."""
     rustc = installed(needs.rust_compiler)
     environment = dict(os.environ, OPT=TARGET, RUSTC=rustc)
     build = os.path.join(HERE, "..", "compare", "oracle", "build.sh")
-    subprocess.run(["sh", build, upstream, folder], check=True, env=environment, stdout=subprocess.DEVNULL)
-    lib = os.path.join(folder, "lib")
-    program = os.path.join(folder, "beside_rust")
+    subprocess.run(["sh", build, upstream, directory], check=True, env=environment, stdout=subprocess.DEVNULL)
+    lib = os.path.join(directory, "lib")
+    program = os.path.join(directory, "beside_rust")
     subprocess.run([rustc, "--edition", "2021", *TARGET.split(), "-L", lib, "--extern",
                     f"minisign={lib}/libminisign.rlib", "-o", program,
                     os.path.join(HERE, "beside_rust.rs")], check=True)
@@ -51,30 +51,30 @@ def sealed_text(password, opslimit, memlimit, n, p):
     return toy.lines(b"untrusted comment: c", base64.b64encode(record))
 
 
-def write(folder, name, data):
-    with open(os.path.join(folder, name), "wb") as file:
+def write(directory, name, data):
+    with open(os.path.join(directory, name), "wb") as file:
         file.write(data)
 
 
-def prepare(folder):
+def prepare(directory):
     """The files of the jobs."""
     block = toy.some_data(16 * MEGABYTE)
-    large = os.path.join(folder, "large")
+    large = os.path.join(directory, "large")
     hasher = hashlib.blake2b()
     with open(large, "wb") as file:
         for _ in range(64):
             file.write(block)
             hasher.update(block)
-    write(folder, "large.sig", toy.signature_text(b"", record=b"ED" + toy.KEYNUM + toy.signature_of(hasher.digest())))
-    write(folder, "part", block * 4)
-    write(folder, "key.pub", toy.public_text())
-    write(folder, "plain.key", toy.secret_text())
-    write(folder, "sealed.key", toy.sealed_text(b"p"))
-    write(folder, "strong.key", sealed_text(b"p", 1 << 25, 1 << 30, 1 << 20, 1))
+    write(directory, "large.sig", toy.signature_text(b"", record=b"ED" + toy.KEYNUM + toy.signature_of(hasher.digest())))
+    write(directory, "part", block * 4)
+    write(directory, "key.pub", toy.public_text())
+    write(directory, "plain.key", toy.secret_text())
+    write(directory, "sealed.key", toy.sealed_text(b"p"))
+    write(directory, "strong.key", sealed_text(b"p", 1 << 25, 1 << 30, 1 << 20, 1))
     small = toy.some_data(1000)
-    write(folder, "small.sig", toy.signature_text(small))
+    write(directory, "small.sig", toy.signature_text(small))
     for number in range(1000):
-        write(folder, str(number), small)
+        write(directory, str(number), small)
 
 
 # Each job's name in the table, its arguments, and how often it is run at most.
@@ -90,9 +90,9 @@ JOBS = [
 ]
 
 
-def job(program, arguments, folder):
+def job(program, arguments, directory):
     """The processor time of a job in seconds, and what it printed."""
-    ended = run([os.path.abspath(program), *arguments], folder=folder)
+    ended = run([os.path.abspath(program), *arguments], directory=directory)
     if ended.status != 0:
         raise SystemExit(f"{program} {arguments} ended with {ended.status}: {ended.output}")
     return ended.processor_seconds, ended.output
@@ -100,14 +100,14 @@ def job(program, arguments, folder):
 
 def main():
     rounds = int(sys.argv[2]) if len(sys.argv) > 2 else 5
-    with tempfile.TemporaryDirectory() as build, tempfile.TemporaryDirectory() as folder:
+    with tempfile.TemporaryDirectory() as build, tempfile.TemporaryDirectory() as directory:
         theirs = built(sys.argv[1], build)
-        prepare(folder)
+        prepare(directory)
         print("| Job | Rust crate | Here | Ratio |\n|---|---|---|---|")
         for name, arguments, most in JOBS:
             best = [float("inf"), float("inf")]
             for _ in range(min(rounds, most)):
-                (first, said), (second, answered) = job(theirs, arguments, folder), job(OURS, arguments, folder)
+                (first, said), (second, answered) = job(theirs, arguments, directory), job(OURS, arguments, directory)
                 if said != answered:
                     raise SystemExit(f"{name}: {said!r} is not {answered!r}")
                 best = [min(best[0], first), min(best[1], second)]

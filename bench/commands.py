@@ -4,12 +4,12 @@
 
 `verify-raw` gets the file on standard input, `verify`, `cat` and `sign` by name; `cat` writes to nowhere,
 and `sign` has a sealed key whose password comes through standard input. A legacy signature over the same
-file, which `verify` has to refuse, shows that its data is not kept.
+file, which `verify` has to reject, shows that its data is not kept.
 
 Needs: Python 3.9 or later, coreutils' b2sum, openssl and minisign, which it installs as root on Debian, and
-the program, built by `rt run -- x` in crates/minisign_tool (which proves it, and leaves it in that crate's folder out). Other builds of the
+the program, built by `rt run -- x` in crates/minisign_tool (which proves it, and leaves it in that crate's directory out). Other builds of the
 program, as one by `rt run --cpu=x86-64-v3 -- x`, are given as arguments, under names of their own. It
-makes its own input in a temporary folder that it removes; the disk needs 1 GB of room.
+makes its own input in a temporary directory that it removes; the disk needs 1 GB of room.
 """
 
 import os
@@ -32,7 +32,7 @@ def write_input(path):
             data.write(block)
 
 
-def write_files(folder, digest):
+def write_files(directory, digest):
     """Writes the keys and signatures of data with this digest, and answers their paths by name."""
     signature = b"ED" + toy.KEYNUM + toy.signature_of(digest)
     legacy = b"Ed" + toy.KEYNUM + bytes(64)
@@ -46,7 +46,7 @@ def write_files(folder, digest):
         "password": PASSWORD + b"\n",
         "made.sig": b"",
     }
-    paths = {name: os.path.join(folder, name) for name in contents}
+    paths = {name: os.path.join(directory, name) for name in contents}
     for name, content in contents.items():
         with open(paths[name], "wb") as file:
             file.write(content)
@@ -65,11 +65,11 @@ def tool_runs(tool, files, data):
     for arguments, stdin in commands:
         name = f"{os.path.basename(tool)} {arguments[0]}"
         yield name, lambda it=arguments, stdin=stdin: processor_timed([tool, *it], stdin, os.devnull)
-    refused = [tool, "verify", pk, data, files["legacy.sig"]]
-    yield f"{os.path.basename(tool)} verify (legacy)", lambda: refused_timed(refused, LEGACY)
+    rejected = [tool, "verify", pk, data, files["legacy.sig"]]
+    yield f"{os.path.basename(tool)} verify (legacy)", lambda: rejected_timed(rejected, LEGACY)
 
 
-def refused_timed(command, fault):
+def rejected_timed(command, fault):
     """Runs a command that has to end with this fault, and answers its processor time, memory and output."""
     ended = run(command)
     if ended.status != 1 or not ended.output.endswith(fault):
@@ -77,10 +77,10 @@ def refused_timed(command, fault):
     return ended.processor_seconds, ended.memory, ended.output
 
 
-def minisign_runs(folder, data):
+def minisign_runs(directory, data):
     """Signs the file with a new key, and answers the run of `minisign -V`."""
     minisign = installed(needs.minisign)
-    pk, sk, sig = (os.path.join(folder, name) for name in ("minisign.pub", "minisign.key", "minisig"))
+    pk, sk, sig = (os.path.join(directory, name) for name in ("minisign.pub", "minisign.key", "minisig"))
     processor_timed([minisign, "-G", "-W", "-p", pk, "-s", sk])
     processor_timed([minisign, "-S", "-s", sk, "-m", data, "-x", sig])
     return [("minisign -V", lambda: processor_timed([minisign, "-V", "-q", "-p", pk, "-x", sig, "-m", data]))]
@@ -88,18 +88,18 @@ def minisign_runs(folder, data):
 
 def main():
     installed(needs.program, "openssl", "openssl")
-    with tempfile.TemporaryDirectory() as folder:
-        data = os.path.join(folder, "data")
+    with tempfile.TemporaryDirectory() as directory:
+        data = os.path.join(directory, "data")
         write_input(data)
         digest = processor_timed(["b2sum", data])[2].split()[0]
         openssl = ["openssl", "dgst", "-blake2b512", data]
         if processor_timed(openssl)[2].split()[-1] != digest:
             raise SystemExit("b2sum and openssl differ")
-        files = write_files(folder, bytes.fromhex(digest))
+        files = write_files(directory, bytes.fromhex(digest))
         compare(
             [run for tool in [TOOL, *sys.argv[1:]] for run in tool_runs(tool, files, data)]
             + [("openssl dgst -blake2b512", lambda: processor_timed(openssl))]
-            + minisign_runs(folder, data)
+            + minisign_runs(directory, data)
             + [("b2sum", lambda: processor_timed(["b2sum"], data))],
             rounds=5,
         )

@@ -4,7 +4,7 @@
     bench/gate.py LOG
 
 What `.ci/run` says goes to the file LOG. The prover's processes are looked at twice a second, and told
-apart by their words and their folder, so no other prover may be at work; what was too short to be seen is in the row of all
+apart by their words and their directory, so no other prover may be at work; what was too short to be seen is in the row of all
 else. Processor time grows with the work that others do on the host, also where `vmstat` shows none in its column `st`.
 
 Needs Python 3.9 or later, what the gate needs, and Linux.
@@ -22,18 +22,18 @@ from collections import defaultdict
 TOP = os.path.join(os.path.dirname(os.path.realpath(__file__)), "..")
 SECONDS = 0.5
 TICKS = os.sysconf("SC_CLK_TCK")
-# What is run, beside proofs, by the words or the folder of a process.
+# What is run, beside proofs, by the words or the directory of a process.
 MUST_FAIL, GROUPS, ARCHIVES = "the edits of must-fail/", "the edits in groups", "archives for C, the page's module"
 
 
-def part_of(words, folder):
+def part_of(words, directory):
     """The part of the gate that a process of the prover belongs to, if it proves or builds a crate."""
     if "--crate-name" not in words[:-1]:
         return ""
     name = words[words.index("--crate-name") + 1]
-    if "/rt-edit-" in folder:
+    if "/rt-edit-" in directory:
         return MUST_FAIL
-    if "/wrong-bodies-" in folder:
+    if "/wrong-bodies-" in directory:
         return GROUPS
     if words[-1].endswith(".a"):
         return ARCHIVES

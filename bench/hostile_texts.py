@@ -30,7 +30,7 @@ NO_SIGNATURE = "error: Missing signature\n"
 NO_SECRET_KEY = "error: Missing encoded key in secret key\n"
 NOT_56_LETTERS = "error: Base64 conversion failed - was an actual public key given?\n"
 NO_COMMENT_LINE = "error: Untrusted comment must start with: untrusted comment: \n"
-COMMENT_REFUSED = "error: Comment signature verification failed\n"
+COMMENT_REJECTED = "error: Comment signature verification failed\n"
 VERIFIED = "Signature and comment signature verified\nTrusted comment: t\n"
 SIGNED = ""
 
@@ -66,7 +66,7 @@ def signature_texts():
     yield from ((name, repeated(letter), NO_SIGNATURE) for name, letter in ONE_LINE.items())
     yield "only line feeds", repeated(b"\n"), NO_COMMENT_LINE
     yield "a long third line of spaces", longer(good, 3, b" "), VERIFIED
-    yield "a long third line of letters", longer(good, 3), COMMENT_REFUSED
+    yield "a long third line of letters", longer(good, 3), COMMENT_REJECTED
     yield "a long fourth line of spaces", longer(good, 4, b" "), VERIFIED
     yield "a long fourth line", long_comment_signature, VERIFIED
     yield "a long fifth line", longer(good, 5), VERIFIED
@@ -104,9 +104,9 @@ def runs():
         yield f"sign, secret key: {name}", "secret", make, said, ["sign", "secret", "data", "made"]
 
 
-def least(folder, arguments, said):
+def least(directory, arguments, said):
     """The least processor time of some runs and their greatest memory, where the answer is the right one."""
-    ended = [run([TOOL, *arguments], folder=folder) for _ in range(ROUNDS)]
+    ended = [run([TOOL, *arguments], directory=directory) for _ in range(ROUNDS)]
     for it in ended:
         if (it.status, it.output) != (int(said.startswith("error")), toy.WARNING + said):
             raise SystemExit(f"{arguments[0]} ended with {it.status} and said {it.output[:200]!r}")
@@ -123,15 +123,15 @@ def main():
     worst = []
     for name, large, make, said, arguments in runs():
         row = []
-        with tempfile.TemporaryDirectory() as folder:
+        with tempfile.TemporaryDirectory() as directory:
             for file, text in good.items():
-                with open(os.path.join(folder, file), "wb") as out:
+                with open(os.path.join(directory, file), "wb") as out:
                     out.write(text)
             for length in LENGTHS:
                 text = make(length)
-                with open(os.path.join(folder, large), "wb") as out:
+                with open(os.path.join(directory, large), "wb") as out:
                     out.write(text)
-                seconds, memory = least(folder, arguments, said)
+                seconds, memory = least(directory, arguments, said)
                 row.append((len(text), seconds, memory))
         shown = "  ".join(f"{seconds:5.2f} s {memory:6.1f} MiB" for _, seconds, memory in row)
         print(f"{name:48} {shown}", flush=True)

@@ -2,9 +2,9 @@
 """Times `c/minisign-install` over a file of 1 GiB by the clock, beside what a person would do by hand: `cat` into a stage,
 `sync` of it and `mv`, and `b2sum` of the data. They take turns, and each ratio is that of one turn to its two others together.
 
-    bench/installing.py [FOLDER] [PROGRAM]
+    bench/installing.py [DIRECTORY] [PROGRAM]
 
-The files are made in FOLDER, or else in a temporary one, which has to be on a disk. PROGRAM is a `minisign-install`; where
+The files are made in DIRECTORY, or else in a temporary one, which has to be on a disk. PROGRAM is a `minisign-install`; where
 none is named it is built.
 
 Needs: Python 3.9 or later, make, a C compiler, libsodium with its header, minisign and coreutils; 4 GiB of room.
@@ -17,7 +17,7 @@ import tempfile
 
 from timing import installed, measured
 
-# Of the tests, whose folder `timing` adds.
+# Of the tests, whose directory `timing` adds.
 import needs
 import static_library
 
@@ -26,17 +26,17 @@ TURNS = 5
 BY_HAND = ["sh", "-c", "cat data > stage && sync stage && mv stage place"]
 
 
-def build(folder):
-    program = os.path.join(folder, "out", "minisign-install")
-    static_library.run_make(f"OUT={folder}/out", f"CC={needs.libsodium()}", program)
+def build(directory):
+    program = os.path.join(directory, "out", "minisign-install")
+    static_library.run_make(f"OUT={directory}/out", f"CC={needs.libsodium()}", program)
     return program
 
 
 def main():
     minisign = installed(needs.minisign)
-    with tempfile.TemporaryDirectory(dir=sys.argv[1] if len(sys.argv) > 1 else None) as folder:
-        program = os.path.abspath(sys.argv[2]) if len(sys.argv) > 2 else build(folder)
-        os.chdir(folder)
+    with tempfile.TemporaryDirectory(dir=sys.argv[1] if len(sys.argv) > 1 else None) as directory:
+        program = os.path.abspath(sys.argv[2]) if len(sys.argv) > 2 else build(directory)
+        os.chdir(directory)
         with open("data", "wb") as data, open("/dev/urandom", "rb") as random:
             for _ in range(SIZE >> 20):
                 data.write(random.read(1 << 20))

@@ -27,8 +27,8 @@ def of_hashlib():
 
 
 def main():
-    with tempfile.TemporaryDirectory() as folder:
-        typed, pk, sk = (os.path.join(folder, name) for name in ("typed", "key.pk", "key.sk"))
+    with tempfile.TemporaryDirectory() as directory:
+        typed, pk, sk = (os.path.join(directory, name) for name in ("typed", "key.pk", "key.sk"))
         with open(typed, "w") as file:
             file.write("p\np\n")
         runs = [

@@ -17,7 +17,7 @@ import tempfile
 import time
 
 HERE = os.path.dirname(os.path.realpath(__file__))
-sys.path += [os.path.join(HERE, "..", "tests", folder) for folder in ("shared", "page")]
+sys.path += [os.path.join(HERE, "..", "tests", directory) for directory in ("shared", "page")]
 
 import needs
 
@@ -110,9 +110,9 @@ def page_run(browser, pk, data, sig):
     return Turn(seconds, sum(took), max(took), watch.most)
 
 
-def empty_memory(browser, folder):
+def empty_memory(browser, directory):
     """The memory of an empty page, once it does not change for a second."""
-    path = os.path.join(folder, "empty.html")
+    path = os.path.join(directory, "empty.html")
     with open(path, "w", encoding="ascii") as file:
         file.write("<!doctype html>\n")
     browser.go(f"file://{path}")
@@ -148,18 +148,18 @@ def show(found, empty, size):
 
 def main():
     minisign = needs.minisign()
-    with tempfile.TemporaryDirectory() as folder:
-        data = os.path.join(folder, "data")
+    with tempfile.TemporaryDirectory() as directory:
+        data = os.path.join(directory, "data")
         write_input(data)
-        pk, sk, sig = (os.path.join(folder, name) for name in ("minisign.pub", "minisign.key", "data.minisig"))
+        pk, sk, sig = (os.path.join(directory, name) for name in ("minisign.pub", "minisign.key", "data.minisig"))
         processor_timed([minisign, "-G", "-W", "-p", pk, "-s", sk])
         processor_timed([minisign, "-S", "-s", sk, "-m", data, "-x", sig])
-        static_library.run_make(f"OUT={folder}/c", f"CC={needs.libsodium()}")
+        static_library.run_make(f"OUT={directory}/c", f"CC={needs.libsodium()}")
         arguments = ["-V", "-q", "-p", pk, "-x", sig, "-m", data]
-        browsers = [Chromium(*needs.chromium(), folder), Firefox(needs.firefox(), folder)]
+        browsers = [Chromium(*needs.chromium(), directory), Firefox(needs.firefox(), directory)]
         try:
-            empty = {f"the page in {browser.name}": empty_memory(browser, folder) for browser in browsers}
-            runs = {"c/minisign -V": lambda: command_run([f"{folder}/c/minisign", *arguments]),
+            empty = {f"the page in {browser.name}": empty_memory(browser, directory) for browser in browsers}
+            runs = {"c/minisign -V": lambda: command_run([f"{directory}/c/minisign", *arguments]),
                     "minisign -V": lambda: command_run([minisign, *arguments])}
             for browser in browsers:
                 runs[f"the page in {browser.name}"] = functools.partial(page_run, browser, pk, data, sig)

@@ -28,9 +28,9 @@ PARTS = {"Answers", "Code", "Given", "Goals", "Invariants", "Kinds", "Layout", "
          "Symbol", "TheLink", "Tie"}
 
 
-def saved(folder):
-    """The modules that the prover saved below a folder, in their order, with the seconds behind the one before."""
-    files = [(os.stat(f"{at}/{it}").st_mtime, it[: -len(".oantt")]) for at, _, names in os.walk(folder)
+def saved(directory):
+    """The modules that the prover saved below a directory, in their order, with the seconds behind the one before."""
+    files = [(os.stat(f"{at}/{it}").st_mtime, it[: -len(".oantt")]) for at, _, names in os.walk(directory)
              for it in names if it.endswith(".oantt") and not at.endswith("/records")]
     files.sort()
     return [(module, time - before) for (before, _), (time, module) in zip(files, files[1:])]

@@ -56,14 +56,14 @@ class Run:
     output: str
 
 
-def run(command, stdin_path=None, stdout_path=None, folder=None):
-    """Runs a command in a folder. Its output is what it wrote on the error stream and, where that has no
+def run(command, stdin_path=None, stdout_path=None, directory=None):
+    """Runs a command in a directory. Its output is what it wrote on the error stream and, where that has no
     path of its own, on the standard output."""
     memory, ended = 0.0, 0
     with open(stdin_path or os.devnull, "rb") as stdin, open(stdout_path or os.devnull, "wb") as stdout:
         taken = {"stdout": stdout, "stderr": subprocess.PIPE} if stdout_path else {"stdout": subprocess.PIPE, "stderr": subprocess.STDOUT}
         begun = time.perf_counter()
-        process = subprocess.Popen(command, stdin=stdin, cwd=folder, **taken)
+        process = subprocess.Popen(command, stdin=stdin, cwd=directory, **taken)
         while not ended:
             memory = max(memory, greatest_memory(process))
             time.sleep(0.002)

@@ -19,7 +19,7 @@ import tempfile
 
 from timing import installed, measured
 
-# Of the tests, whose folder `timing` adds.
+# Of the tests, whose directory `timing` adds.
 import needs
 import static_library
 
@@ -40,22 +40,22 @@ def ran(typed, *command):
     return ended.seconds, ended.processor_seconds
 
 
-def build(folder):
+def build(directory):
     """Builds the programs over `dist/`: the one that calls, and `c/minisign`."""
     compiler = installed(needs.libsodium)
-    static_library.run_make(f"OUT={folder}/c", f"CC={compiler}")
-    calls = os.path.join(folder, "calls")
+    static_library.run_make(f"OUT={directory}/c", f"CC={compiler}")
+    calls = os.path.join(directory, "calls")
     subprocess.run([compiler, "-O2", "-I", os.path.join(HERE, "..", "include"), "-o", calls, os.path.join(HERE, "usual_keys.c"),
-                    f"{folder}/c/libminisign.a", "-lsodium"], check=True)
-    return calls, f"{folder}/c/minisign"
+                    f"{directory}/c/libminisign.a", "-lsodium"], check=True)
+    return calls, f"{directory}/c/minisign"
 
 
-def jobs(folder):
+def jobs(directory):
     """Pairs of runs by what they are."""
     minisign = installed(needs.minisign)
-    calls, ours = build(folder)
+    calls, ours = build(directory)
     names = ("sealed.key", "sealed.pub", "made.key", "made.pub", "data", "typed")
-    key, public, made, made_public, data, typed = (os.path.join(folder, name) for name in names)
+    key, public, made, made_public, data, typed = (os.path.join(directory, name) for name in names)
     with open(typed, "w", encoding="ascii") as file:
         file.write(PASSWORD * 2)
     with open(data, "wb") as file:
@@ -72,8 +72,8 @@ def jobs(folder):
 
 def main():
     turns = int(sys.argv[1]) if len(sys.argv) > 1 else TURNS
-    with tempfile.TemporaryDirectory() as folder:
-        pairs = jobs(folder)
+    with tempfile.TemporaryDirectory() as directory:
+        pairs = jobs(directory)
         found = {name: [] for name in pairs}
         for _ in range(turns):
             for name, (one, other) in pairs.items():

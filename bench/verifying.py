@@ -8,7 +8,7 @@ The program is built twice: over the library as it is installed, which takes the
 x86-64-v3 where the processor has that, and over one whose two copies are both for x86-64-v2.
 
 Needs: Python 3.9 or later, make, a C compiler, libsodium with its header, minisign and coreutils' b2sum. It makes its
-own input in a temporary folder that it removes; the disk needs 1 GB of room.
+own input in a temporary directory that it removes; the disk needs 1 GB of room.
 """
 
 import os
@@ -17,15 +17,15 @@ import tempfile
 from commands import write_input
 from timing import compare, processor_timed
 
-# Of the tests, whose folder `timing` adds.
+# Of the tests, whose directory `timing` adds.
 import needs
 import static_library
 
 
 
-def build(name, v2, v3, folder):
+def build(name, v2, v3, directory):
     """Builds the program over these two archives, and answers its path."""
-    made = os.path.join(folder, name)
+    made = os.path.join(directory, name)
     static_library.run_make(f"OUT={made}", f"V2={v2}", f"V3={v3}", f"CC={needs.libsodium()}")
     program = os.path.join(made, "minisign")
     library = os.path.join(made, "libminisign.a")
@@ -35,15 +35,15 @@ def build(name, v2, v3, folder):
 
 def main():
     minisign = needs.minisign()
-    with tempfile.TemporaryDirectory() as folder:
-        data = os.path.join(folder, "data")
+    with tempfile.TemporaryDirectory() as directory:
+        data = os.path.join(directory, "data")
         write_input(data)
-        pk, sk, sig = (os.path.join(folder, name) for name in ("minisign.pub", "minisign.key", "minisig"))
+        pk, sk, sig = (os.path.join(directory, name) for name in ("minisign.pub", "minisign.key", "minisig"))
         processor_timed([minisign, "-G", "-W", "-p", pk, "-s", sk])
         processor_timed([minisign, "-S", "-s", sk, "-m", data, "-x", sig])
         arguments = ["-V", "-q", "-p", pk, "-x", sig, "-m", data]
         v2, v3 = (os.path.join(static_library.DIST, f"calls-x86-64-{it}.a") for it in ("v2", "v3"))
-        programs = {name: build(name, v2, of_v3, folder) for name, of_v3 in (("chosen", v3), ("x86-64-v2", v2))}
+        programs = {name: build(name, v2, of_v3, directory) for name, of_v3 in (("chosen", v3), ("x86-64-v2", v2))}
         compare(
             [(name, lambda it=it: processor_timed([it, *arguments])) for name, it in programs.items()]
             + [("b2sum", lambda: processor_timed(["b2sum", data])),

@@ -2,7 +2,7 @@
 # SPDX-License-Identifier: MIT
 #
 # Has a program verify the keys and signatures that Minisign's own program made (tests/corpus): it accepts what that
-# accepts and refuses what that refuses, but for the few texts of which docs/DIFFERENCES.md tells.
+# accepts and rejects what that rejects, but for the few texts of which docs/DIFFERENCES.md tells.
 #
 #     check.sh PROGRAM
 #

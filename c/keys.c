@@ -237,7 +237,7 @@ static void make_public_text(struct public_text *text)
 /* ---- Files of keys ---- */
 
 /* Ends the program where a file is there and -f was not given. */
-static void refuse_existing(const char *file)
+static void reject_existing(const char *file)
 {
     fprintf(stderr,
             "Key generation aborted:\n%s already exists.\n\n"
@@ -251,17 +251,17 @@ static void look_for_existing(const struct options *options, const char *file)
     struct stat found;
 
     if (!options->force && stat(file, &found) == 0) {
-        refuse_existing(file);
+        reject_existing(file);
     }
 }
 
-static _Noreturn void refuse_one_file(const char *file, const char *other)
+static _Noreturn void reject_one_file(const char *file, const char *other)
 {
     fprintf(stderr, "%s and %s are one file\n", visible(file), visible(other));
     exit(TROUBLE);
 }
 
-void refuse_over_key(const struct options *options, const char *file)
+void reject_over_key(const struct options *options, const char *file)
 {
     struct stat key, found;
 
@@ -296,11 +296,11 @@ static void put_pair(const struct options *options, const struct public_text *pu
     secret_stage = stage_file(options->secret_file, NEW_SECRET_KEY, secrets->text, secrets->text_len);
     public_stage = stage_file(options->public_file, PUBLIC_KEY, public->bytes, public->len);
     if (is_one_place(secret_stage, public_stage)) {
-        refuse_one_file(options->secret_file, options->public_file);
+        reject_one_file(options->secret_file, options->public_file);
     }
     taken = put_both_in_place(public_stage, secret_stage, options->force);
     if (taken != NULL) {
-        refuse_existing(taken);
+        reject_existing(taken);
     }
 }
 
@@ -323,7 +323,7 @@ int generate_keys(const struct options *options)
     struct public_text public;
 
     if (strcmp(options->secret_file, options->public_file) == 0) {
-        refuse_one_file(options->secret_file, options->public_file);
+        reject_one_file(options->secret_file, options->public_file);
     }
     look_for_existing(options, options->public_file);
     look_for_existing(options, options->secret_file);
@@ -352,11 +352,11 @@ int recreate_public_key(const struct options *options)
     struct public_text public;
 
     look_for_existing(options, options->public_file);
-    refuse_over_key(options, options->public_file);
+    reject_over_key(options, options->public_file);
     open_key(options);
     make_public_text(&public);
     if (!put_in_place(stage_file(options->public_file, PUBLIC_KEY, public.bytes, public.len), options->force)) {
-        refuse_existing(options->public_file);
+        reject_existing(options->public_file);
     }
     return GOOD;
 }

@@ -45,7 +45,7 @@ void open_key(const struct options *options);
 bool has_own_halves(void);
 
 /* Ends the program where this file, which is to be written, is that of the secret key: it would be lost. */
-void refuse_over_key(const struct options *options, const char *file);
+void reject_over_key(const struct options *options, const char *file);
 
 /* The commands: each answers the exit status. */
 int generate_keys(const struct options *options);

@@ -157,7 +157,7 @@ static void sign_file(const struct options *options, const char *data_file, cons
     struct data data;
     minisign_state state, fed;
 
-    refuse_over_key(options, signature_file);
+    reject_over_key(options, signature_file);
     replace_before_reading(data_file);
     data = open_data(data_file);
     if (options->trusted_comment == NULL) {

@@ -4,8 +4,8 @@
     compare.py run UPSTREAM [--seed N] [--count N] [--program FILE]
     compare.py list UPSTREAM [--program FILE]
 
-UPSTREAM is the folder of the crate's own files. oracle/build.sh builds the crate and a program over it that
-answers requests; the build goes into a folder of its own, which is deleted again. `run`
+UPSTREAM is the directory of the crate's own files. oracle/build.sh builds the crate and a program over it that
+answers requests; the build goes into a directory of its own, which is deleted again. `run`
 makes requests by seed, has both programs answer them, and prints each difference that known.py does not name,
 the shortest request of its kind first. `list` makes the stored run of crates/minisign_compare anew from the
 crate's answers: stdin, stdout and data/. README.md says more.
@@ -42,25 +42,25 @@ LONGEST_TYPED = 7000
 TYPED = ('get_password', 'sk_open', 'gen_sealed', 'gen_write_sealed')
 
 
-def built_oracle(arguments, folder):
+def built_oracle(arguments, directory):
     """Builds the crate and the program over it."""
     build = os.path.join(HERE, 'oracle', 'build.sh')
     try:
         environment = dict(os.environ, RUSTC=needs.rust_compiler())
     except needs.Missing as why:
         sys.exit(f'FAILED: {why}')
-    made = subprocess.run(['sh', build, arguments.upstream, folder], env=environment, capture_output=True, text=True)
+    made = subprocess.run(['sh', build, arguments.upstream, directory], env=environment, capture_output=True, text=True)
     if made.returncode:
         sys.exit(f'{build} ended with status {made.returncode}:\n{made.stderr[-2000:]}')
-    return os.path.join(folder, 'oracle')
+    return os.path.join(directory, 'oracle')
 
 
-def answers(program, lines, folder):
-    """What a program answers to the requests, in a folder with the files that they name."""
+def answers(program, lines, directory):
+    """What a program answers to the requests, in a directory with the files that they name."""
     for name, body in requests.files().items():
-        with open(os.path.join(folder, name), 'wb') as file:
+        with open(os.path.join(directory, name), 'wb') as file:
             file.write(body)
-    said = subprocess.run([os.path.abspath(program)], cwd=folder, input='\n'.join(lines) + '\n',
+    said = subprocess.run([os.path.abspath(program)], cwd=directory, input='\n'.join(lines) + '\n',
                           capture_output=True, text=True)
     if said.returncode:
         sys.exit(f'{program} ended with status {said.returncode}: {said.stderr[-500:]}')
@@ -88,8 +88,8 @@ def run(arguments):
     lines = list(dict.fromkeys(requests.all_requests(arguments.seed, arguments.count)))
     # A triple stays until the table is cleared, so these come in their order, and again.
     lines += requests.tables(random.Random(arguments.seed))
-    with tempfile.TemporaryDirectory() as folder, tempfile.TemporaryDirectory() as files:
-        theirs = answers(built_oracle(arguments, folder), lines, files)
+    with tempfile.TemporaryDirectory() as directory, tempfile.TemporaryDirectory() as files:
+        theirs = answers(built_oracle(arguments, directory), lines, files)
         ours = answers(arguments.program, lines, files)
     entries, names, differences = collections.Counter(), collections.Counter(), collections.defaultdict(list)
     for request, line, told in zip(lines, theirs, ours):
@@ -145,8 +145,8 @@ def store(arguments):
     plain = list(dict.fromkeys(requests.all_requests(arguments.seed, arguments.count)))
     last = list(requests.tables(random.Random(arguments.seed)))
     large = [line for line in requests.large_data() if len(line) < 140000 and ' 0 1 1' not in line][-2:]
-    with tempfile.TemporaryDirectory() as folder, tempfile.TemporaryDirectory() as files:
-        oracle = built_oracle(arguments, folder)
+    with tempfile.TemporaryDirectory() as directory, tempfile.TemporaryDirectory() as files:
+        oracle = built_oracle(arguments, directory)
         theirs = answers(oracle, plain, files)
         lines = [plain[at] for at in chosen(plain, theirs)] + large + last
         theirs = answers(oracle, lines, files)
@@ -165,7 +165,7 @@ def store(arguments):
 def main():
     parser = argparse.ArgumentParser(description=__doc__, formatter_class=argparse.RawDescriptionHelpFormatter)
     parser.add_argument('what', choices=('run', 'list'))
-    parser.add_argument('upstream', help="the folder of the crate's own files")
+    parser.add_argument('upstream', help="the directory of the crate's own files")
     parser.add_argument('--seed', type=int, default=1)
     parser.add_argument('--count', type=int, default=5000, help='of each kind of random request, about')
     parser.add_argument('--program', default=os.path.join(CRATE, 'out', 'minisign_compare'))

@@ -20,7 +20,7 @@ async function lackingParts() {
 }
 
 // Says why the page verifies nothing.
-function refuse(words) {
+function reject(words) {
   at("lacking").textContent = words;
   document.documentElement.dataset.ready = "no";
 }
@@ -28,14 +28,14 @@ function refuse(words) {
 async function begin(script) {
   const parts = await lackingParts();
   if (parts.length > 0) {
-    refuse(`This browser lacks ${parts.join(", and ")}, so this page verifies nothing in it. ` +
+    reject(`This browser lacks ${parts.join(", and ")}, so this page verifies nothing in it. ` +
       "A newer browser may have what is missing.");
     return;
   }
   try {
     library = await Library.load(moduleBytes());
   } catch {
-    refuse("This browser does not run the proved library, so this page verifies nothing in it. A newer browser may run it.");
+    reject("This browser does not run the proved library, so this page verifies nothing in it. A newer browser may run it.");
     return;
   }
   engineBegun = beginEngine(script);
@@ -83,7 +83,7 @@ function listen() {
   });
 }
 
-// The files that were dropped, and whether there were folders among them.
+// The files that were dropped, and whether there were directories among them.
 function droppedFiles(transfer) {
   const items = [...transfer.items].filter(item => item.kind === "file");
   const isFolder = item => item.webkitGetAsEntry()?.isDirectory === true;

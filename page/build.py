@@ -81,9 +81,9 @@ def sources():
     found += SCRIPTS
     for crate in crates:
         for part in ("src", "specs"):
-            for folder, _, names in os.walk(os.path.join(TOP, "crates", crate, part)):
+            for directory, _, names in os.walk(os.path.join(TOP, "crates", crate, part)):
                 named = [name for name in names if name.endswith((".rt", ".antt"))]
-                found += [os.path.relpath(os.path.join(folder, name), TOP) for name in named]
+                found += [os.path.relpath(os.path.join(directory, name), TOP) for name in named]
     return sorted(found)
 
 

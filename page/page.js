@@ -265,7 +265,7 @@ async function work() {
   isWorking = false;
 }
 
-function refused(number, questions) {
+function rejected(number, questions) {
   return {kind: "bad", why: whyNot(number), number, questions};
 }
 
@@ -281,7 +281,7 @@ async function verdictOn(download, run) {
   const verification = new Verification(library, run.key.bytes, text, data.size <= MAX_LEGACY_BYTES);
   const {questions} = verification;
   if (verification.number !== 0) {
-    return refused(verification.number, questions);
+    return rejected(verification.number, questions);
   }
   const engine = questions.isLegacy ? new NearEngine() : await engineBegun;
   const isRead = await engine.feedFile(data, verification, progressOf(download, run));
@@ -295,7 +295,7 @@ async function verdictOn(download, run) {
   if (number === 0) {
     return {kind: "good", number, questions, comment: verification.comment()};
   }
-  const verdict = refused(number, questions);
+  const verdict = rejected(number, questions);
   return first && await isOfOtherEnds(new TextDecoder().decode(text), verification) ? {...verdict, why: WHY_NOT_ENDS} : verdict;
 }
 

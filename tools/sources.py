@@ -60,11 +60,11 @@ def read(path):
         return opened.read()
 
 
-def files_below(folder, ending=""):
-    """The files below a folder with this ending, in the order of their names, but for those that a build makes."""
+def files_below(directory, ending=""):
+    """The files below a directory with this ending, in the order of their names, but for those that a build makes."""
     found = []
-    for below, folders, names in os.walk(folder):
-        folders[:] = sorted(name for name in folders if name not in ("out", ".git", "__pycache__"))
+    for below, directories, names in os.walk(directory):
+        directories[:] = sorted(name for name in directories if name not in ("out", ".git", "__pycache__"))
         found += [os.path.join(below, name) for name in sorted(names) if name.endswith(ending)]
     return found
 
@@ -320,7 +320,7 @@ class Library:
         """A file's path inside the repository or the kit."""
         return os.path.relpath(file, ROOT if self.is_own(file) else self.kit)
 
-    def folders_of(self, crate):
+    def directories_of(self, crate):
         if crate in self.crates:
             return [self.crates[crate]]
         return [os.path.join(self.kit, name) for name in (self.STD if crate == "std" else (crate,))] if self.kit else []
@@ -331,7 +331,7 @@ class Library:
         if first == "Rattle" and len(rest) >= 2:
             # (what a crate passes on of others, its definitions name in specs/Lib.antt)
             rest += ["Lib"] if rest[1:] == ["specs"] else []
-            return [os.path.join(folder, *rest[1:]) + ".antt" for folder in self.folders_of(rest[0])]
+            return [os.path.join(directory, *rest[1:]) + ".antt" for directory in self.directories_of(rest[0])]
         return [os.path.join(self.kit, self.MOUNTS[first], *rest) + ".antt"] if self.kit and first in self.MOUNTS else []
 
     def module(self, name):
@@ -350,9 +350,9 @@ class Library:
         if len(parts) < 4 or parts[0] != "Rattle" or parts[3] != "declared":
             return None
         path = [part for part in parts[4:] if part not in ("TheVariants", "TheConstants", "Ghosts")]
-        for folder in self.folders_of(parts[1]):
+        for directory in self.directories_of(parts[1]):
             for length in range(len(path), -1, -1):
-                base = os.path.join(folder, "src", *path[:length])
+                base = os.path.join(directory, "src", *path[:length])
                 for file in filter(os.path.exists, (base + ".rt", os.path.join(base, "lib.rt"))):
                     for item in read_source(file).items:
                         if item.what in ("struct", "enum", "trait", "const", "type", "union") and item.name in (*path[length:], name):
@@ -398,7 +398,7 @@ class Library:
 
 
 def find_kit():
-    """The folder of the kit's libraries: beside the command `rt`, or None."""
+    """The directory of the kit's libraries: beside the command `rt`, or None."""
     command = shutil.which("rt")
-    folder = command and os.path.join(os.path.dirname(os.path.dirname(os.path.realpath(command))), "rattle")
-    return folder if folder and os.path.isdir(folder) else None
+    directory = command and os.path.join(os.path.dirname(os.path.dirname(os.path.realpath(command))), "rattle")
+    return directory if directory and os.path.isdir(directory) else None

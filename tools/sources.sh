@@ -14,8 +14,8 @@ cd "$(dirname "$0")/.."
 
 below='minisign_hash minisign_kdf minisign_base minisign minisign_external'
 case ${1-} in
-calls) crates="$below minisign_install minisign_c" folders= ;;
-page) crates="$below minisign_page" folders="page LICENSE crates.txt include/minisign.h
+calls) crates="$below minisign_install minisign_c" directories= ;;
+page) crates="$below minisign_page" directories="page LICENSE crates.txt include/minisign.h
     bindings/javascript/calls.js bindings/javascript/ed25519.js bindings/javascript/verification.js" ;;
 *) echo 'usage: tools/sources.sh calls|page' >&2; exit 2 ;;
 esac
@@ -24,10 +24,10 @@ esac
 print_sums() {
     for crate in $crates; do
         grep "^$crate[ :]" crates.txt
-        folders="$folders crates/$crate/src crates/$crate/specs crates/$crate/proofs"
+        directories="$directories crates/$crate/src crates/$crate/specs crates/$crate/proofs"
     done
-    for folder in $folders; do
-        test ! -e "$folder" || find "$folder" -type f -name '[!.]*[!~]' ! -name minisign.html ! -name '*.pyc' ! -name '*.md' -print
+    for directory in $directories; do
+        test ! -e "$directory" || find "$directory" -type f -name '[!.]*[!~]' ! -name minisign.html ! -name '*.pyc' ! -name '*.md' -print
     done | sort | xargs sha256sum
 }
 

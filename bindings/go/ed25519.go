@@ -25,24 +25,24 @@ func number(digits string) *big.Int {
 	return value
 }
 
-// isRefusedPoint says whether 32 bytes are refused as a point: its second coordinate, a little endian number before the
+// isRejectedPoint says whether 32 bytes are rejected as a point: its second coordinate, a little endian number before the
 // bit of the sign, is not below the prime, or the point has a small order.
-func isRefusedPoint(point []byte) bool {
+func isRejectedPoint(point []byte) bool {
 	var digits [32]byte
 	for at, value := range point[:32] {
 		digits[31-at] = value
 	}
 	digits[0] &= 0x7f
 	second := new(big.Int).SetBytes(digits[:])
-	refused := second.Cmp(prime) >= 0
+	rejected := second.Cmp(prime) >= 0
 	for _, it := range smallOrder {
-		refused = refused || second.Cmp(it) == 0
+		rejected = rejected || second.Cmp(it) == 0
 	}
-	return refused
+	return rejected
 }
 
 // accepts says whether the signature of a message is accepted: as libsodium does, by the Ed25519 of the standard
 // library.
 func accepts(publicKey [32]byte, message []byte, signature [64]byte) bool {
-	return !isRefusedPoint(publicKey[:]) && !isRefusedPoint(signature[:]) && ed25519.Verify(publicKey[:], message, signature[:])
+	return !isRejectedPoint(publicKey[:]) && !isRejectedPoint(signature[:]) && ed25519.Verify(publicKey[:], message, signature[:])
 }

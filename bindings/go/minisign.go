@@ -123,7 +123,7 @@ func (publicKey *PublicKey) VerifyFromFile(file string, signature Signature) (bo
 }
 
 // VerifyReader says whether a signature vouches for all that a reader gives until its end. One that is over the data
-// itself is refused.
+// itself is rejected.
 func (publicKey *PublicKey) VerifyReader(reader io.Reader, signature Signature) (bool, error) {
 	verifier, err := NewVerifier(publicKey, signature)
 	if err == nil {
@@ -143,7 +143,7 @@ type Verifier struct {
 }
 
 // NewVerifier begins to verify. All that is wrong with the text of the signature is told here. One that is over the
-// data itself is refused.
+// data itself is rejected.
 func NewVerifier(publicKey *PublicKey, signature Signature) (*Verifier, error) {
 	return begin(publicKey, signature, false)
 }

@@ -15,7 +15,7 @@ package minisign
 import "C"
 import "unsafe"
 
-// An Error says why a text, a signature or a call was refused: a number of minisign.h, in the words of
+// An Error says why a text, a signature or a call was rejected: a number of minisign.h, in the words of
 // minisign_error_text.
 type Error uint32
 

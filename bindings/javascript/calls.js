@@ -97,7 +97,7 @@ export class Library {
   }
 
   // What Ed25519 has to answer about a signature under a key that was read, and about the data that will be fed: 0 and the
-  // questions, but for the digest; or the number of why the texts are refused. The identifiers are told where the text reads.
+  // questions, but for the digest; or the number of why the texts are rejected. The identifiers are told where the text reads.
   ask(state, key, signatureText, allowsLegacy) {
     this.memory.fill(0, this.questions, this.questions + QUESTIONS_BYTES);
     const number = this.onState(state, place => this.calls.page_ask(

@@ -1,6 +1,6 @@
 // SPDX-License-Identifier: MIT
 // The Ed25519 of WebCrypto, which answers the two questions. Browsers and others differ in what they accept besides the
-// signatures that a signer makes; what is refused here before they are asked makes their answers those of libsodium.
+// signatures that a signer makes; what is rejected here before they are asked makes their answers those of libsodium.
 
 // A signature of no bytes: the first test of RFC 8032, section 7.1.
 const KNOWN_KEY = "d75a980182b10ab7d54bfed3c964073a0ee172f3daa62325af021a68f707511a";
@@ -23,9 +23,9 @@ function bytesOf(digits) {
   return Uint8Array.from(digits.match(/../g), pair => parseInt(pair, 16));
 }
 
-// Whether 32 bytes are refused as a point: its second coordinate, a little endian number before the bit of the sign, is not
+// Whether 32 bytes are rejected as a point: its second coordinate, a little endian number before the bit of the sign, is not
 // below the prime, or the point has a small order.
-function isRefusedPoint(bytes) {
+function isRejectedPoint(bytes) {
   const number = bytes.reduceRight((value, byte) => value << 8n | BigInt(byte), 0n);
   const second = BigInt.asUintN(255, number);
   return second >= PRIME || SMALL_ORDER.includes(second);
@@ -34,7 +34,7 @@ function isRefusedPoint(bytes) {
 // Whether the signature of a message is accepted: as libsodium 1.0.18 does, by the platform's Ed25519. A key that this does
 // not take accepts nothing.
 export async function accepts(publicKey, signature, message) {
-  if (isRefusedPoint(publicKey) || isRefusedPoint(signature.subarray(0, 32))) {
+  if (isRejectedPoint(publicKey) || isRejectedPoint(signature.subarray(0, 32))) {
     return false;
   }
   try {

@@ -5,7 +5,7 @@
 import {accepts} from "./ed25519.js";
 
 export class Verification {
-  // Asks about a signature's text under a key that the library has read. `number` is 0, or why it is refused. The data of a
+  // Asks about a signature's text under a key that the library has read. `number` is 0, or why it is rejected. The data of a
   // legacy signature, where one is allowed, is kept in memory, as its signature is over the data itself.
   constructor(library, key, signatureText, allowsLegacy) {
     this.library = library;
@@ -40,7 +40,7 @@ export class Verification {
   }
 }
 
-// A call that is made in its order is not refused.
+// A call that is made in its order is not rejected.
 function hold(number) {
   if (number !== 0) {
     throw new Error(`the library was used wrongly: ${number}`);

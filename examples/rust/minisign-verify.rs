@@ -2,7 +2,7 @@
 //! libsodium's Ed25519.
 //!
 //! Its exit status is 0 where the texts vouch for the data, and it prints the trusted comment; else 1, or 2 where
-//! a file could not be read. Legacy signatures, which are over the data itself, are refused.
+//! a file could not be read. Legacy signatures, which are over the data itself, are rejected.
 
 use std::fs::{self, File};
 use std::io::{self, Read, Write};
@@ -83,25 +83,25 @@ extern "C" {
 
 /// Whether libsodium accepts a signature of 64 bytes under a key of 32, as the library wants it told.
 fn accepts(signature: &[u8; 64], message: &[u8], public_key: &[u8; 32]) -> u32 {
-    let refused = unsafe {
+    let rejected = unsafe {
         crypto_sign_verify_detached(signature.as_ptr(), message.as_ptr(), message.len() as u64, public_key.as_ptr())
     };
-    if refused == 0 { minisign::ANSWER_YES } else { minisign::ANSWER_NO }
+    if rejected == 0 { minisign::ANSWER_YES } else { minisign::ANSWER_NO }
 }
 
 /// Why the texts do not vouch for the data: the number of the first error, or that the data could not be read.
-enum Refusal {
+enum Rejection {
     Number(u32),
     Unread(io::Error),
 }
 
 /// What a call answered.
-fn expect(error: u32) -> Result<(), Refusal> {
-    if error == minisign::OK { Ok(()) } else { Err(Refusal::Number(error)) }
+fn expect(error: u32) -> Result<(), Rejection> {
+    if error == minisign::OK { Ok(()) } else { Err(Rejection::Number(error)) }
 }
 
-/// The trusted comment where the texts vouch for all of the data. What the texts are refused for is known before any data is read.
-fn verify(pk_text: &[u8], sig_text: &[u8], data: &mut impl Read) -> Result<Vec<u8>, Refusal> {
+/// The trusted comment where the texts vouch for all of the data. What the texts are rejected for is known before any data is read.
+fn verify(pk_text: &[u8], sig_text: &[u8], data: &mut impl Read) -> Result<Vec<u8>, Rejection> {
     let mut key = minisign::PublicKey::default();
     let mut state = minisign::State::new();
     let mut questions = unsafe { std::mem::zeroed::<minisign::Questions>() };
@@ -117,7 +117,7 @@ fn verify(pk_text: &[u8], sig_text: &[u8], data: &mut impl Read) -> Result<Vec<u
             message.as_mut_ptr(), message.len(),
         )
     })?;
-    io::copy(data, &mut state).map_err(Refusal::Unread)?;
+    io::copy(data, &mut state).map_err(Rejection::Unread)?;
     expect(unsafe { minisign::minisign_digest(&mut state, questions.digest.as_mut_ptr()) })?;
     message.truncate(questions.message_len as usize);
     let first = accepts(&questions.signature, &questions.digest, &questions.public_key);
@@ -144,11 +144,11 @@ fn run(arguments: &[String]) -> io::Result<ExitCode> {
             io::stdout().write_all(&[&trusted_comment[..], b"\n"].concat())?;
             Ok(ExitCode::SUCCESS)
         }
-        Err(Refusal::Number(error)) => {
+        Err(Rejection::Number(error)) => {
             eprintln!("{}", error_text(error));
             Ok(ExitCode::from(1))
         }
-        Err(Refusal::Unread(error)) => Err(error),
+        Err(Rejection::Unread(error)) => Err(error),
     }
 }
 

@@ -1,12 +1,12 @@
 #!/usr/bin/env python3
-"""The module of `bindings/go` as its user has it: what is packed, unpacked into an empty folder, and built by Debian's Go without a
-network and without the kit, by a program of another module, also where that has it in its folder `vendor` alone.
+"""The module of `bindings/go` as its user has it: what is packed, unpacked into an empty directory, and built by Debian's Go without a
+network and without the kit, by a program of another module, also where that has it in its directory `vendor` alone.
 
     tests/bindings/go.py
 
 Its own tests and examples run under `go vet` and under the race detector, over each copy of the calls for x86-64, and for AArch64 in
 an emulator. What that program answers to kept keys and signatures, to damaged ones, to data in pieces and in files, and to signatures
-that implementations of Ed25519 differ in is compared with `c/minisign` and with libsodium; why it refuses, with the numbers of the
+that implementations of Ed25519 differ in is compared with `c/minisign` and with libsodium; why it rejects, with the numbers of the
 header. Many calls take no more memory, and threads get the same answers, under the race detector too. The program of README.md is
 built. Each of some planted bugs is noticed. It prints a line for each failure; the last line is `N passed, M failed`.
 
@@ -37,7 +37,7 @@ CALLS = 100_000
 PAGES = 512
 
 class Go:
-    """Runs go with what it keeps in a folder of its own, and no network."""
+    """Runs go with what it keeps in a directory of its own, and no network."""
 
     def __init__(self, room):
         self.go = needs.program("go", "golang-go")
@@ -45,16 +45,16 @@ class Go:
                             "GOTOOLCHAIN": "local", "CGO_ENABLED": "1", "CC": needs.c_compiler(),
                             "PATH": static_library.path_without_kit()}
 
-    def run(self, folder, *words, environment=None):
-        status, said, why = run([self.go, *words], folder, {**self.environment, **(environment or {})})
+    def run(self, directory, *words, environment=None):
+        status, said, why = run([self.go, *words], directory, {**self.environment, **(environment or {})})
         if status != 0:
             raise static_library.NotBuilt(f"go {' '.join(words)}: {said.decode(errors='replace')[-1500:]}{why[-1500:]}")
         return said.decode(errors="replace")
 
-    def begin(self, folder, package):
+    def begin(self, directory, package):
         """Begins a module that uses the package, as README.md tells a user."""
-        self.run(folder, "mod", "init", os.path.basename(folder))
-        self.run(folder, "mod", "edit", "-require=proved/minisign@v0.0.0", f"-replace=proved/minisign={package}")
+        self.run(directory, "mod", "init", os.path.basename(directory))
+        self.run(directory, "mod", "edit", "-require=proved/minisign@v0.0.0", f"-replace=proved/minisign={package}")
 
 
 def check_sources(checks):
@@ -89,23 +89,23 @@ def check_answers(checks, program, room, minisign):
 
 
 def check_vectors(checks, program):
-    """Its Ed25519 answers as libsodium does: which of the two signatures of a text is refused tells what it answered to the first."""
+    """Its Ed25519 answers as libsodium does: which of the two signatures of a text is rejected tells what it answered to the first."""
     cases, numbers = shared_cases.vector_cases(), shared_cases.error_numbers()
     wanted = [it[-1] for it in shared_cases.vectors()] + [False] * 3
     said = run([program, "verify"], data=shared_cases.lines_of(cases))[1].decode().splitlines()
     checks.check(len(said) == len(cases) == 296, f"{len(said)} answers to {len(cases)} vectors")
     for case, line, accepted in zip(cases, said, wanted):
         number = numbers["COMMENT_SIGNATURE_REFUSED" if accepted else "SIGNATURE_REFUSED"]
-        checks.check(line.startswith(f"refused {number} "), f"the vector {case.name}: {line}")
+        checks.check(line.startswith(f"rejected {number} "), f"the vector {case.name}: {line}")
 
 
-def check_refusals(checks, program):
-    """What is refused is so for the reason that the header names, told by its number."""
-    numbers, cases = shared_cases.error_numbers(), list(shared_cases.refusals())
+def check_rejections(checks, program):
+    """What is rejected is so for the reason that the header names, told by its number."""
+    numbers, cases = shared_cases.error_numbers(), list(shared_cases.rejections())
     said = run([program, "pieces", "7"], data=shared_cases.lines_of([case for case, _ in cases]))[1].decode().splitlines()
-    checks.check(len(said) == len(cases), f"{len(said)} answers to {len(cases)} refusals")
+    checks.check(len(said) == len(cases), f"{len(said)} answers to {len(cases)} rejections")
     for (case, name), line in zip(cases, said):
-        checks.check(line.startswith(f'refused {numbers[name]} "minisign: '), f"{case.name}: {line} in place of {name}")
+        checks.check(line.startswith(f'rejected {numbers[name]} "minisign: '), f"{case.name}: {line} in place of {name}")
     bare = shared_cases.read(os.path.join(shared_cases.CORPUS, "published.pub")).decode().split("\n")[1]
     record = base64.b64decode(bare)
     said = run([program, "bare", bare])[1].decode()
@@ -117,21 +117,21 @@ def check_refusals(checks, program):
 
 def check_readme(checks, go, room, package):
     """The program of README.md accepts a file that its key has signed, and no other one."""
-    folder = os.path.join(room, "readme")
-    os.makedirs(folder)
+    directory = os.path.join(room, "readme")
+    os.makedirs(directory)
     block = re.search(r"```go\n(.*?)```", shared_cases.read(os.path.join(package, "README.md")).decode(), re.S)[1]
-    write(folder, "verify.go", block.encode())
-    write(folder, "main.go", b'package main\n\nimport "fmt"\n\nfunc main() {\n\tfmt.Println(verify("app"), verify("other"))\n}\n')
-    go.begin(folder, package)
-    # (it is built of what Go has put into its folder `vendor`, as if nothing else were there)
-    go.run(folder, "mod", "vendor")
+    write(directory, "verify.go", block.encode())
+    write(directory, "main.go", b'package main\n\nimport "fmt"\n\nfunc main() {\n\tfmt.Println(verify("app"), verify("other"))\n}\n')
+    go.begin(directory, package)
+    # (it is built of what Go has put into its directory `vendor`, as if nothing else were there)
+    go.run(directory, "mod", "vendor")
     away = package + "-away"
     os.rename(package, away)
-    go.run(folder, "build", "-mod=vendor", "-o", "readme")
+    go.run(directory, "build", "-mod=vendor", "-o", "readme")
     os.rename(away, package)
     for name, of in (("app", "test"), ("app.minisig", "published.minisig"), ("other", "hello"), ("other.minisig", "published.minisig")):
-        shutil.copy(os.path.join(shared_cases.CORPUS, of), os.path.join(folder, name))
-    said = run([os.path.join(folder, "readme")], folder)[1]
+        shutil.copy(os.path.join(shared_cases.CORPUS, of), os.path.join(directory, name))
+    said = run([os.path.join(directory, "readme")], directory)[1]
     checks.check(said == b"<nil> minisign: Signature verification failed\n", f"the program of README.md: {said!r}")
 
 
@@ -164,17 +164,17 @@ def check_all(checks, room):
     for words in (["-race"], ["-tags", "amd64.v3"]):
         said = go.run(package, "test", "-count=1", "-v", *words, "./...")
         checks.check(said.count("--- PASS: ") >= 4 and "--- SKIP" not in said, f"go test {words}: {said[-500:]}")
-    folder = os.path.join(room, "answers")
-    os.makedirs(folder)
-    go.begin(folder, package)
-    shutil.copy(os.path.join(HERE, "go", "answers.go"), folder)
-    checks.check(go.run(folder, "vet", "./...") == "", "go vet has words of the program")
-    go.run(folder, "build", "-o", "answers")
-    go.run(folder, "build", "-race", "-o", "racing")
-    program, racing = (os.path.join(folder, name) for name in ("answers", "racing"))
+    directory = os.path.join(room, "answers")
+    os.makedirs(directory)
+    go.begin(directory, package)
+    shutil.copy(os.path.join(HERE, "go", "answers.go"), directory)
+    checks.check(go.run(directory, "vet", "./...") == "", "go vet has words of the program")
+    go.run(directory, "build", "-o", "answers")
+    go.run(directory, "build", "-race", "-o", "racing")
+    program, racing = (os.path.join(directory, name) for name in ("answers", "racing"))
     check_answers(checks, program, room, minisign)
     check_vectors(checks, program)
-    check_refusals(checks, program)
+    check_rejections(checks, program)
     check_many(checks, program, racing)
     check_readme(checks, go, room, package)
     check_planted(checks, go, package, room, minisign)
@@ -183,7 +183,7 @@ def check_all(checks, room):
 
 # The file, and what is changed in it.
 BUGS = [
-    ("ed25519.go", "!isRefusedPoint(publicKey[:]) && !", "!"),
+    ("ed25519.go", "!isRejectedPoint(publicKey[:]) && !", "!"),
     ("ed25519.go", "second.Cmp(it) == 0", "second.Cmp(it) == 2"),
     ("ed25519.go", "second.Cmp(prime) >= 0", "second.Sign() < 0"),
     ("minisign.go", "\t\tmessage = bin\n", ""),
@@ -199,21 +199,21 @@ def check_planted(checks, go, package, room, minisign):
     cases = shared_cases.corpus()
     wanted, strict = (shared_cases.answers_of(minisign, room, cases, allow) for allow in (True, False))
     for number, (file, old, new) in enumerate(BUGS):
-        folder = os.path.join(room, f"planted-{number}")
-        changed = os.path.join(folder, "package")
+        directory = os.path.join(room, f"planted-{number}")
+        changed = os.path.join(directory, "package")
         shutil.copytree(package, changed)
         text = shared_cases.read(os.path.join(changed, file)).decode()
         write(changed, file, text.replace(old, new, 1).encode())
-        found, using = Checks(), os.path.join(folder, "using")
+        found, using = Checks(), os.path.join(directory, "using")
         os.mkdir(using)
         go.begin(using, changed)
         shutil.copy(os.path.join(HERE, "go", "answers.go"), using)
         go.run(using, "build", "-o", "answers")
         program, lines = os.path.join(using, "answers"), shared_cases.lines_of(cases)
-        shared_cases.compare(found, "kept", cases, run([program, "files", folder], data=lines)[1], wanted)
+        shared_cases.compare(found, "kept", cases, run([program, "files", directory], data=lines)[1], wanted)
         shared_cases.compare(found, "in pieces", cases, run([program, "pieces", "7"], data=lines)[1], strict)
         check_vectors(found, program)
-        check_refusals(found, program)
+        check_rejections(found, program)
         checks.check(old in text and found.failures, f"planted in {file}, and not noticed: {new}")
 
 

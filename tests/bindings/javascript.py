@@ -1,12 +1,12 @@
 #!/usr/bin/env python3
-"""The package of `bindings/javascript` as its user has it: what `npm pack` makes, unpacked into the folder `node_modules` of a
-program in an empty folder; in Node, and in a page and a worker of Chromium and of Firefox. There is no network and no kit.
+"""The package of `bindings/javascript` as its user has it: what `npm pack` makes, unpacked into the directory `node_modules` of a
+program in an empty directory; in Node, and in a page and a worker of Chromium and of Firefox. There is no network and no kit.
 
     tests/bindings/javascript.py [PAGE]
 
 The module is that of PAGE, the one of `dist/` where none is named. What the package answers to kept keys and signatures, to
 damaged ones, to data in pieces of each kind, and to signatures that implementations of Ed25519 differ in is compared with
-`c/minisign` and with libsodium; why it refuses, the list of errors and the sizes of structs, with the header. The example of
+`c/minisign` and with libsodium; why it rejects, the list of errors and the sizes of structs, with the header. The example of
 README.md runs, also over what npm installs. It runs where there is nothing but the language and a few globals that browsers, Node,
 Deno and workers all have, and needs each of these. Many calls take no more memory, and threads get the same answers. Each of some
 planted bugs is noticed. Where there is no npm, the files that package.json names are taken. It prints a line for each failure;
@@ -57,7 +57,7 @@ def npm_path():
 
 
 def made(room, page):
-    """A user's folder with the packed package in it: its path."""
+    """A user's directory with the packed package in it: its path."""
     user = os.path.join(room, "user")
     package = os.path.join(user, "node_modules", "minisign-proved")
     os.makedirs(os.path.dirname(package))
@@ -142,12 +142,12 @@ def check_answers(checks, program, room, minisign):
     checks.check(0 < accepted < len(cases), f"{accepted} of {len(cases)} cases are accepted")
 
 
-def check_refusals(checks, program):
+def check_rejections(checks, program):
     """It names each error as the header does."""
-    cases, names = zip(*shared_cases.refusals())
+    cases, names = zip(*shared_cases.rejections())
     said = program.said(shared_cases.lines_of(cases), "cases").decode().split("\n")
     for case, name, line in zip(cases, names, said):
-        checks.check(line == f"refused {name}", f"{case.name}: {line} in place of {name}")
+        checks.check(line == f"rejected {name}", f"{case.name}: {line} in place of {name}")
     checks.check(set(names) | {"BARE_PUBLIC_KEY_LENGTH", "BARE_PUBLIC_KEY_NOT_BASE64"} ==
                  {name for name, number in shared_cases.error_numbers().items() if number in VERIFYING}, "an error is not tried")
 
@@ -164,11 +164,11 @@ def check_vectors(checks, program, room, minisign):
     said = program.said(shared_cases.lines_of(cases), "cases", "legacy").decode().splitlines()
     for case, line, vector in zip(cases, said, [*vectors, *[{"sodium": False}] * 3]):
         name = "COMMENT_SIGNATURE_REFUSED" if vector["sodium"] else "SIGNATURE_REFUSED"
-        checks.check(line == f"refused {name}", f"{case.name}: {line} in place of {name}")
+        checks.check(line == f"rejected {name}", f"{case.name}: {line} in place of {name}")
 
 
 def check_keys(checks, program):
-    """A string of one line is a key's letters alone; arguments of other types are refused."""
+    """A string of one line is a key's letters alone; arguments of other types are rejected."""
     key, data, signature = (read(os.path.join(shared_cases.CORPUS, name)) for name in ("published.pub", "test", "published.minisig"))
     good = shared_cases.lines_of([Case("published", key, data, signature)])
     said = program.said(good, "wrong").decode().split()
@@ -182,24 +182,24 @@ def check_keys(checks, program):
       for (const text of texts) console.log(await verify(bytes(data), bytes(signature).toString(), text).then(
         ({keyId, isLegacy}) => keyId === "E7620F1842B4E81F" && !isLegacy ? "accepted" : keyId, why => why.code));"""
     encoded = json.dumps([list(texts), *(base64.b64encode(it).decode() for it in (data, signature))]).encode()
-    status, answers, why = run([program.node, "--input-type=module", "-e", script], folder=program.user, data=encoded)
+    status, answers, why = run([program.node, "--input-type=module", "-e", script], directory=program.user, data=encoded)
     checks.check(status == 0, why)
     for (text, wanted), answer in zip(texts.items(), answers.decode().split()):
         checks.check(answer == wanted, f"the key {text!r}: {answer} in place of {wanted}")
 
 
 def check_readme(checks, program):
-    """The example of the README accepts data that its key has signed, and says why it refuses other data."""
+    """The example of the README accepts data that its key has signed, and says why it rejects other data."""
     example = re.search(r"^```js\n(.*?)^```$", text_of("README.md"), re.M | re.S)[1]
     given = 'import {readFileSync} from "node:fs";\nconst [data, signature] = process.argv.slice(-2).map(it => readFileSync(it));\n'
     path = os.path.join(program.user, "readme.mjs")
     with open(path, "w", encoding="utf-8") as file:
         file.write(given + example)
     comment = b"verified, and signed with it: timestamp:1556193335\tfile:test\n"
-    for name, wanted, refused in (("test", comment, ""), ("hello", b"", "SIGNATURE_REFUSED: ")):
+    for name, wanted, rejected in (("test", comment, ""), ("hello", b"", "SIGNATURE_REFUSED: ")):
         named = [os.path.join(shared_cases.CORPUS, it) for it in (name, "published.minisig")]
-        status, said, why = run([program.node, path, *named], folder=program.user)
-        checks.check((status, said) == (0, wanted) and why.startswith(refused) and bool(why) == bool(refused), f"the README's example of {name}: {said} {why}")
+        status, said, why = run([program.node, path, *named], directory=program.user)
+        checks.check((status, said) == (0, wanted) and why.startswith(rejected) and bool(why) == bool(rejected), f"the README's example of {name}: {said} {why}")
 
 
 def check_bare(checks, program):
@@ -207,11 +207,11 @@ def check_bare(checks, program):
     key, data, signature = (read(os.path.join(shared_cases.CORPUS, name)) for name in ("published.pub", "test", "published.minisig"))
     case = shared_cases.lines_of([Case("published", key, data, signature)])
     shutil.copy(os.path.join(HERE, "javascript", "bare.mjs"), program.user)
-    wanted = ["accepted timestamp:1556193335\tfile:test"] * 4 + ["refused SIGNATURE_REFUSED"]
+    wanted = ["accepted timestamp:1556193335\tfile:test"] * 4 + ["rejected SIGNATURE_REFUSED"]
 
     def answers(where, names):
         command = [program.node, "--no-warnings", "--experimental-vm-modules", "bare.mjs", where, *names]
-        status, said, why = run(command, folder=program.user, data=case)
+        status, said, why = run(command, directory=program.user, data=case)
         return said.decode().splitlines(), f"{status} {why[-500:]}"
 
     for where in ("context", "thread"):
@@ -234,11 +234,11 @@ def check_npm(checks, program, room):
         file.write("{}")
     archive = next(it for it in os.listdir(os.path.join(room, "packed")) if it.endswith(".tgz"))
     quiet = ["--offline", "--silent", "--cache", os.path.join(room, "npm"), "--no-audit", "--no-fund"]
-    status, said, why = run([npm, "install", *quiet, os.path.join(room, "packed", archive)], folder=user)
+    status, said, why = run([npm, "install", *quiet, os.path.join(room, "packed", archive)], directory=user)
     checks.check(status == 0, f"npm install: {said} {why}")
     shutil.copy(os.path.join(program.user, "readme.mjs"), user)
     named = [os.path.join(shared_cases.CORPUS, it) for it in ("test", "published.minisig")]
-    status, said, why = run([program.node, "readme.mjs", *named], folder=user)
+    status, said, why = run([program.node, "readme.mjs", *named], directory=user)
     checks.check(status == 0 and said.startswith(b"verified"), f"the README's example over what npm installed: {said} {why}")
 
 
@@ -253,12 +253,12 @@ def check_browsers(checks, program, room, minisign):
     legacy, strict = (shared_cases.answers_of(minisign, room, cases, allowed) for allowed in (True, False))
     in_pieces, vectors = shared_cases.answers_of(minisign, room, kept, False), edges.vectors()
     asked = {"cases": digits_of(cases), "pieces": digits_of(kept), "vectors": [[it["A"], it["sig"], it["msg"] or "-"] for it in vectors]}
-    folder = os.path.join(room, "served")
-    shutil.copytree(os.path.join(program.user, "node_modules", "minisign-proved"), os.path.join(folder, "minisign-proved"))
-    shutil.copy(os.path.join(HERE, "javascript", "browser.mjs"), folder)
-    with open(os.path.join(folder, "asked.json"), "w", encoding="utf-8") as file:
+    directory = os.path.join(room, "served")
+    shutil.copytree(os.path.join(program.user, "node_modules", "minisign-proved"), os.path.join(directory, "minisign-proved"))
+    shutil.copy(os.path.join(HERE, "javascript", "browser.mjs"), directory)
+    with open(os.path.join(directory, "asked.json"), "w", encoding="utf-8") as file:
         json.dump(asked, file)
-    status, said, why = run([needs.python_with_selenium(), BROWSERS, folder], seconds=1800)
+    status, said, why = run([needs.python_with_selenium(), BROWSERS, directory], seconds=1800)
     if status != 0:
         checks.check(False, f"the browsers ended with {status}: {why[-1000:]}")
         return
@@ -278,7 +278,7 @@ def check_browsers(checks, program, room, minisign):
 
 # The file, and what is changed in it.
 BUGS = [
-    ("ed25519.js", "isRefusedPoint(publicKey) || isRefusedPoint", "isRefusedPoint"),
+    ("ed25519.js", "isRejectedPoint(publicKey) || isRejectedPoint", "isRejectedPoint"),
     ("ed25519.js", "second >= PRIME || ", ""),
     ("verification.js", "questions.commentSignature, questions.message)", "questions.signature, data)"),
     ("verification.js", "    hold(this.library.feed(this.state, bytes));", "    hold(this.library.feed(this.state, bytes.subarray(0, 65536)));"),
@@ -306,7 +306,7 @@ def check_planted(checks, program, room, minisign):
         shared_cases.compare(found, "with legacy signatures", cases, other.said(lines, "cases", "legacy"), legacy)
         shared_cases.compare(found, "without them", cases, other.said(lines, "cases"), strict)
         found.check(b" and " not in other.said(shared_cases.lines_of(kept), "pieces", "legacy"), "in pieces")
-        check_refusals(found, other)
+        check_rejections(found, other)
         answers = other.said(json.dumps(vectors).encode(), "vectors").decode().split()
         found.check(answers == [str(it["sodium"]).lower() for it in vectors], "vectors")
         checks.check(old in text and found.failures, f"planted in {file}, and not noticed: {new}")
@@ -330,7 +330,7 @@ def main():
             program, minisign = Program(checks, user), shared_cases.c_minisign(room)
             check_sources(checks, user)
             check_answers(checks, program, room, minisign)
-            check_refusals(checks, program)
+            check_rejections(checks, program)
             check_vectors(checks, program, room, minisign)
             check_keys(checks, program)
             check_readme(checks, program)

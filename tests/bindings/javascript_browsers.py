@@ -1,8 +1,8 @@
 """What the package for JavaScript answers in Chromium and in Firefox, in a page and in a worker: `javascript.py` runs it.
 
-    tests/bindings/javascript_browsers.py FOLDER    prints what each browser answers, as JSON
+    tests/bindings/javascript_browsers.py DIRECTORY    prints what each browser answers, as JSON
 
-FOLDER has the package, as `minisign-proved`, `browser.mjs`, and what is asked, as `asked.json`.
+DIRECTORY has the package, as `minisign-proved`, `browser.mjs`, and what is asked, as `asked.json`.
 
 Needs Python 3.9 or later with selenium, chromium, chromium-driver and firefox-esr.
 """
@@ -27,7 +27,7 @@ SECONDS = 600
 
 
 class Handler(http.server.SimpleHTTPRequestHandler):
-    """Hands out the files of the folder, and the page."""
+    """Hands out the files of the directory, and the page."""
 
     extensions_map = {".js": "text/javascript", ".mjs": "text/javascript", ".json": "application/json", "": "text/plain"}
 

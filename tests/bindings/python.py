@@ -186,8 +186,8 @@ print("wanted", ctypes.sizeof(installing.Wanted), installing.RECEIVING, installi
         lines += f'printf("{struct} {field} %zu %zu\\n", offsetof(struct {struct}, {of}), {size});\n'
     lines += 'printf("wanted %zu %d %d %lld\\n", sizeof(struct wanted), RECEIVING, COPYING, (long long) INT64_MAX);\n'
     path = shared.write(room, "host.c", f"#include <stdio.h>\n#include \"installing.h\"\nint main(void) {{\n{lines}return 0; }}\n".encode())
-    folders = [f"-I{os.path.join(shared.TOP, it)}" for it in ("c", "include")]
-    status, _, unbuilt = shared.run([needs.c_compiler(), *folders, "-o", f"{room}/host", path])
+    directories = [f"-I{os.path.join(shared.TOP, it)}" for it in ("c", "include")]
+    status, _, unbuilt = shared.run([needs.c_compiler(), *directories, "-o", f"{room}/host", path])
     checks.check(status == 0 and len(fields) > 15, f"the program of the host's structs: {unbuilt[-500:]}{why[-500:]}")
     wanted = shared.run([f"{room}/host"])[1] if status == 0 else b""
     checks.check(said == wanted, f"the host's structs are {said.decode()}, and in C {wanted.decode()}")
@@ -211,22 +211,22 @@ def wanted_answers(program, room):
     kinds = (("corpus", shared.corpus()), ("damaged", shared.damaged()), ("vectors as texts", shared.vector_cases()),
              ("large", shared.large(program, room)))
     return [(what, cases, word, shared.answers_of(program, room, cases, word == "allow")) for what, cases in kinds
-            for word in ("allow", "refuse")]
+            for word in ("allow", "reject")]
 
 
 def check_answers(checks, user, answered):
-    """The corpus, the damaged texts, data in pieces, and each refusal by its name."""
+    """The corpus, the damaged texts, data in pieces, and each rejection by its name."""
     for what, cases, word, wanted in answered:
         _, said, why = user.run("answers", word, data=shared.lines_of(cases))
         shared.compare(checks, f"{what}, {user.kind}, {word} {why[-300:]}", cases, said, wanted)
         if what in ("corpus", "large") and word == "allow":
             _, said, why = user.run("pieces", data=shared.lines_of(cases))
             shared.compare(checks, f"pieces, {user.kind} {why[-300:]}", cases, said, wanted)
-    refused = list(shared.refusals())
-    _, said, why = user.run("answers", "refuse", data=shared.lines_of([case for case, _ in refused]))
-    for (case, name), line in zip(refused, said.decode().splitlines()):
-        checks.check(line == f"refused {class_name(name)}", f"{user.kind}, {case.name}: {line} in place of {name}")
-    checks.check(said.count(b"\n") == len(refused), f"{user.kind}: not an answer to each refusal: {why[-300:]}")
+    rejected = list(shared.rejections())
+    _, said, why = user.run("answers", "reject", data=shared.lines_of([case for case, _ in rejected]))
+    for (case, name), line in zip(rejected, said.decode().splitlines()):
+        checks.check(line == f"rejected {class_name(name)}", f"{user.kind}, {case.name}: {line} in place of {name}")
+    checks.check(said.count(b"\n") == len(rejected), f"{user.kind}: not an answer to each rejection: {why[-300:]}")
 
 
 def check_vectors(checks, user):
@@ -248,7 +248,7 @@ def prepare_keys(room):
     shared.write(room, "data", b"what is signed")
     for words in (["-G", "-W", "-p", "theirs.pub", "-s", "theirs.key"],
                   ["-S", "-s", "theirs.key", "-m", "data", "-x", "theirs.minisig", "-t", "by Minisign"]):
-        if shared.run([minisign, *words], folder=room)[0] != 0:
+        if shared.run([minisign, *words], directory=room)[0] != 0:
             raise static_library.NotBuilt(f"minisign {words}")
     first, second = shared.read(os.path.join(room, "theirs.key")).splitlines()
     record = bytearray(base64.b64decode(second))
@@ -266,31 +266,31 @@ def check_keys(checks, user, room):
     user.checks(checks, "keys", room)
     minisign = needs.minisign()
     for key, signature in (("theirs.pub", "ours-by-theirs.minisig"), ("theirs-again.pub", "ours-by-theirs.minisig"), ("ours.pub", "data.minisig")):
-        status, _, why = shared.run([minisign, "-V", "-q", "-p", key, "-m", "data", "-x", signature], folder=room)
-        checks.check(status == 0, f"keys, {user.kind}: Minisign refuses {signature} under {key}: {why}")
-    status, _, why = shared.run([minisign, "-S", "-s", "ours.key", "-m", "data", "-x", "theirs-by-ours.minisig"], folder=room)
+        status, _, why = shared.run([minisign, "-V", "-q", "-p", key, "-m", "data", "-x", signature], directory=room)
+        checks.check(status == 0, f"keys, {user.kind}: Minisign rejects {signature} under {key}: {why}")
+    status, _, why = shared.run([minisign, "-S", "-s", "ours.key", "-m", "data", "-x", "theirs-by-ours.minisig"], directory=room)
     checks.check(status == 0, f"keys, {user.kind}: Minisign does not sign with our key: {why}")
-    status, _, why = shared.run([minisign, "-V", "-p", "ours.pub", "-m", "data", "-x", "theirs-by-ours.minisig"], folder=room)
-    checks.check(status == 0, f"keys, {user.kind}: Minisign refuses what it has signed with our key: {why}")
+    status, _, why = shared.run([minisign, "-V", "-p", "ours.pub", "-m", "data", "-x", "theirs-by-ours.minisig"], directory=room)
+    checks.check(status == 0, f"keys, {user.kind}: Minisign rejects what it has signed with our key: {why}")
 
 
 # ---- The README ----
 
 
 def check_examples(checks, python_path, room):
-    """The examples of the README, one behind the other, in a folder with what they name."""
+    """The examples of the README, one behind the other, in a directory with what they name."""
     text = shared.read(os.path.join(shared.TOP, "bindings", "python", "README.md")).decode()
     examples = "\n".join(re.findall(r"^```python\n(.*?)^```$", text, re.M | re.S))
     os.makedirs(os.path.join(room, "there"))
     minisign = needs.minisign()
     for name, data in (("app-2", b"version 2"), ("app-3", b"version 3"), ("data", b"data")):
         shared.write(room, name, data)
-    shared.run([minisign, "-G", "-W", "-p", "app.pub", "-s", "app.key"], folder=room)
+    shared.run([minisign, "-G", "-W", "-p", "app.pub", "-s", "app.key"], directory=room)
     for name, comment in (("app-2", "version:2\tfile:app"), ("data", "data")):
-        shared.run([minisign, "-S", "-s", "app.key", "-m", name, "-t", comment], folder=room)
-    status, _, why = shared.run([python_path, "-c", examples], folder=room)
+        shared.run([minisign, "-S", "-s", "app.key", "-m", name, "-t", comment], directory=room)
+    status, _, why = shared.run([python_path, "-c", examples], directory=room)
     checks.check(status == 0 and shared.read(os.path.join(room, "there", "app")) == b"version 2", f"the examples of the README: {why[-500:]}")
-    status, _, why = shared.run([minisign, "-V", "-p", "new.pub", "-m", "app-3"], folder=room)
+    status, _, why = shared.run([minisign, "-V", "-p", "new.pub", "-m", "app-3"], directory=room)
     checks.check(status == 0, f"what the example has signed: {why}")
 
 
@@ -304,7 +304,7 @@ BUGS = [
     ("_keys.py", "        Verifier(PublicKey(", "        False and Verifier(PublicKey(", "keys"),
     ("_calls.py", "second >= PRIME or second in SMALL_ORDER", "second in SMALL_ORDER", "vectors"),
     ("_calls.py", "second >= PRIME or second in SMALL_ORDER", "second >= PRIME", "vectors"),
-    ("_calls.py", "is_refused(key) or is_refused(signature[:32]) or", "is_refused(key) or", "vectors"),
+    ("_calls.py", "is_rejected(key) or is_rejected(signature[:32]) or", "is_rejected(key) or", "vectors"),
     ("_keys.py", "                self._held.append(piece)", "                self._held = [piece]", "pieces"),
     ("_keys.py", "        with self._turn:\n            calls.update(self._state, piece)", "        if True:\n            calls.update(self._state, piece)",
      "threads"),
@@ -327,9 +327,9 @@ def is_noticed(user, word, room):
     """Whether a check fails over a changed package."""
     checks = shared.Checks()
     if word == "answers":
-        refused = list(shared.refusals())
-        said = user.run("answers", "refuse", data=shared.lines_of([case for case, _ in refused]))[1].decode().splitlines()
-        return said != [f"refused {class_name(name)}" for _, name in refused]
+        rejected = list(shared.rejections())
+        said = user.run("answers", "reject", data=shared.lines_of([case for case, _ in rejected]))[1].decode().splitlines()
+        return said != [f"rejected {class_name(name)}" for _, name in rejected]
     if word == "pieces":
         return b"differs" in user.run("pieces", data=shared.lines_of(shared.corpus()))[1]
     if word == "vectors":

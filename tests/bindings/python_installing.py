@@ -8,19 +8,19 @@ import sys
 
 import minisign_proved as minisign
 
-FAILED, MISUSED, REFUSED, OLDER, IN_USE, NOT_ON_DISK, UNRECORDED, SAME, EXPIRED, THERE = range(1, 11)
+FAILED, MISUSED, REJECTED, OLDER, IN_USE, NOT_ON_DISK, UNRECORDED, SAME, EXPIRED, THERE = range(1, 11)
 UNITS = {"K": 10, "M": 20, "G": 30, "T": 40}
 
 
 def status_of(error):
     """The exit status that `minisign-install` has for an error."""
-    for kinds, status in (((minisign.TooLong,), REFUSED), ((minisign.OlderUpdate,), OLDER), ((minisign.Expired,), EXPIRED), ((minisign.PlaceInUse,), IN_USE),
+    for kinds, status in (((minisign.TooLong,), REJECTED), ((minisign.OlderUpdate,), OLDER), ((minisign.Expired,), EXPIRED), ((minisign.PlaceInUse,), IN_USE),
                           ((minisign.DirectoryNotSynced,), NOT_ON_DISK), ((minisign.SameNumber,), SAME),
                           ((minisign.NoRecord, minisign.DamagedRecord, minisign.KeptByTimestamp, minisign.KeptByVersion), UNRECORDED),
                           ((minisign.OutOfMemory, minisign.ReadingFailed, minisign.WritingFailed, minisign.RandomSourceFailed), FAILED)):
         if isinstance(error, kinds):
             return status
-    return REFUSED
+    return REJECTED
 
 
 def failure_text(why):
@@ -30,8 +30,8 @@ def failure_text(why):
     return f"error: {why.filename}: {why.strerror}" + (f" (os error {why.errno})" if why.strerror == os.strerror(why.errno) else "")
 
 
-def refusal_text(data, signature, place, name, numbering, error):
-    """What the program in C says of an update that is refused."""
+def rejection_text(data, signature, place, name, numbering, error):
+    """What the program in C says of an update that is rejected."""
     if isinstance(error, minisign.TooLong):
         return f"error: {data}: it is longer than it may be"
     at = signature
@@ -69,7 +69,7 @@ def main():
         try:
             read_key = minisign.PublicKey.from_file(key)
         except minisign.TooLong:
-            sys.exit(REFUSED if print(f"error: {key}: it is longer than it may be", file=sys.stderr) is None else 0)
+            sys.exit(REJECTED if print(f"error: {key}: it is longer than it may be", file=sys.stderr) is None else 0)
         is_new = minisign.install(read_key, data, minisign.Signature.from_file(signature), place, first=bool(options.get("first")),
                                   again=bool(options.get("again")), numbering=numbering, name=options.get("name"), mode=None if mode is None else int(mode, 8), most=most)
     except minisign.MinisignError as error:
@@ -77,7 +77,7 @@ def main():
         if status == FAILED and isinstance(error.__cause__, OSError):
             print(failure_text(error.__cause__), file=sys.stderr)
         else:
-            print(refusal_text(data, signature, place, options.get("name") or os.path.basename(place), numbering, error), file=sys.stderr)
+            print(rejection_text(data, signature, place, options.get("name") or os.path.basename(place), numbering, error), file=sys.stderr)
         if status == NOT_ON_DISK:
             print(failure_text(error.__cause__), file=sys.stderr)
         return status

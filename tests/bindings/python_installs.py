@@ -18,7 +18,7 @@ PROGRAM = os.path.join(HERE, "python_installing.py")
 
 
 class PythonInstaller(RealInstaller):
-    """`install` of the Python package, with a key that Minisign's own program makes in this folder."""
+    """`install` of the Python package, with a key that Minisign's own program makes in this directory."""
 
     has_checks = False
     # (before it reads the record alone, to its end)
@@ -26,7 +26,7 @@ class PythonInstaller(RealInstaller):
 
 
 # What needs the words or the messages of a program, and not of a function.
-LEFT_OUT = ("progress at a terminal", "a closed error stream", "memory that is refused")
+LEFT_OUT = ("progress at a terminal", "a closed error stream", "an allocation that fails")
 
 
 def installer(python, room):

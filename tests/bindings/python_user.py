@@ -26,14 +26,14 @@ def check(holds: bool, what: str) -> None:
         failures.append(what)
 
 
-def refuses(kind: Type[BaseException], call: Callable[[], object], what: str) -> None:
+def rejects(kind: Type[BaseException], call: Callable[[], object], what: str) -> None:
     """Checks that a call raises an exception of just this kind."""
     try:
         call()
     except BaseException as why:
         check(type(why) is kind, f"{what}: {why!r} in place of {kind.__name__}")
     else:
-        check(False, f"{what}: it is not refused")
+        check(False, f"{what}: it is not rejected")
 
 
 # ---- Cases that are read ----
@@ -49,7 +49,7 @@ def answer(verify: Callable[[], str]) -> str:
     try:
         return f"accepted {verify().encode().hex() or '-'}"
     except minisign.MinisignError as why:
-        return f"refused {type(why).__name__}"
+        return f"rejected {type(why).__name__}"
 
 
 def answers(allow_legacy: bool) -> None:
@@ -153,7 +153,7 @@ def threads(room: str) -> None:
         thread.join()
     check(not wrong, f"threads: {wrong} verified something else")
     check(answer(shared.finish) == f"accepted {b'by all'.hex()}", "threads: one verifier that eight fed")
-    refuses(minisign.NotBegun, shared.finish, "a verifier that was finished before")
+    rejects(minisign.NotBegun, shared.finish, "a verifier that was finished before")
 
 
 # ---- Keys and signing ----
@@ -167,14 +167,14 @@ def write(room: str, name: str, data: bytes) -> str:
 
 
 def keys(room: str) -> None:
-    """Keys and signatures, also those that Minisign's own program has made in this folder and will look at."""
+    """Keys and signatures, also those that Minisign's own program has made in this directory and will look at."""
     data = write(room, "data", b"what is signed")
     theirs = SecretKey.from_file(os.path.join(room, "theirs.key"))
     check(theirs.public_key == PublicKey.from_file(os.path.join(room, "theirs.pub")), "the public key of Minisign's key")
     check(minisign.verify(data, theirs.public_key, Signature.from_file(os.path.join(room, "theirs.minisig"))) == "by Minisign", "Minisign's signature")
     write(room, "theirs-again.pub", theirs.public_bytes())
     write(room, "ours-by-theirs.minisig", theirs.sign(data, trusted_comment="by Python").text)
-    refuses(minisign.KeyNotSealed, lambda: SecretKey.from_file(os.path.join(room, "theirs.key"), "pw"), "a password for a key without one")
+    rejects(minisign.KeyNotSealed, lambda: SecretKey.from_file(os.path.join(room, "theirs.key"), "pw"), "a password for a key without one")
 
     key = SecretKey.generate()
     check(key.public_key.key_id == PublicKey(key.public_bytes()).key_id and len(key.public_key.key) == 32, "the parts of a public key")
@@ -194,18 +194,18 @@ def keys(room: str) -> None:
     check(made.text.startswith(b"untrusted comment: another comment\n"), "the untrusted comment")
     for kind, comment in ((minisign.BadComment, "a\nb"), (minisign.BadComment, " a"), (minisign.UnreadableComment, "a\0b"),
                           (minisign.UnreadableComment, "x" * 9000), (minisign.NotUtf8, "\udcff")):
-        refuses(kind, lambda comment=comment: key.sign(data, trusted_comment=comment), f"the comment {comment[:9]!r}")  # type: ignore[misc]
+        rejects(kind, lambda comment=comment: key.sign(data, trusted_comment=comment), f"the comment {comment[:9]!r}")  # type: ignore[misc]
 
     minisign.change_password(os.path.join(room, "ours.key"), None, None)
     check(os.stat(os.path.join(room, "ours.key")).st_mode & 0o777 == 0o600, "the mode of a key that was written again")
     with SecretKey.from_file(os.path.join(room, "ours.key")) as opened:
         check(opened.public_key == key.public_key, "a key that was written again")
-    refuses(minisign.KeyNotOpened, lambda: opened.sign(data), "a key that was cleared")
+    rejects(minisign.KeyNotOpened, lambda: opened.sign(data), "a key that was cleared")
     other = write(room, "many.key", open(os.path.join(room, "many.key"), "rb").read())
-    refuses(minisign.WorkTooHigh, lambda: SecretKey.from_file(other, "x"), "a key that asks for much work")
+    rejects(minisign.WorkTooHigh, lambda: SecretKey.from_file(other, "x"), "a key that asks for much work")
 
     damaged = write(room, "damaged.key", open(os.path.join(room, "damaged.key"), "rb").read())
-    refuses(minisign.SignatureRefused, lambda: SecretKey.from_file(damaged).sign(data), "a key whose halves do not belong together")
+    rejects(minisign.SignatureRefused, lambda: SecretKey.from_file(damaged).sign(data), "a key whose halves do not belong together")
     link, away = os.path.join(room, "link.key"), os.path.join(room, "away")
     os.symlink("ours.key", link)
     minisign.change_password(link, None, None)
@@ -214,12 +214,12 @@ def keys(room: str) -> None:
     write(away, "app.key", key.to_bytes(None))
     replace, found = os.replace, os.listdir(away)
     os.replace = lambda *_: (_ for _ in ()).throw(PermissionError())
-    refuses(PermissionError, lambda: minisign.change_password(os.path.join(away, "app.key"), None, None), "a key that cannot be replaced")
+    rejects(PermissionError, lambda: minisign.change_password(os.path.join(away, "app.key"), None, None), "a key that cannot be replaced")
     os.replace = replace
     check(os.listdir(away) == found, f"beside a key that was not replaced: {os.listdir(away)}")
     opening = os.open
     os.open = lambda path, flags, *rest, **more: (_ for _ in ()).throw(PermissionError()) if flags & os.O_CREAT else opening(path, flags, *rest, **more)
-    refuses(PermissionError, lambda: minisign.change_password(os.path.join(away, "app.key"), None, None), "a folder that nothing is written into")
+    rejects(PermissionError, lambda: minisign.change_password(os.path.join(away, "app.key"), None, None), "a directory that nothing is written into")
     os.open = opening
     ours = _calls.ed25519()
     pair, pairing = ours.pair(), ours.pair
@@ -233,15 +233,15 @@ def keys(room: str) -> None:
     fresh = os.path.join(room, "fresh.key")
     minisign.write_new(fresh, b"text")
     check(os.stat(fresh).st_mode & 0o777 == 0o600, "the mode of a new file")
-    refuses(FileExistsError, lambda: minisign.write_new(fresh, b"other"), "a file that is there")
+    rejects(FileExistsError, lambda: minisign.write_new(fresh, b"other"), "a file that is there")
 
     for wrong in (3, "text", None):
-        refuses(TypeError, lambda wrong=wrong: Verifier(key.public_key, made).update(wrong), f"a piece that is {wrong!r}")  # type: ignore[misc]
-        refuses(TypeError, lambda wrong=wrong: key.public_key.verify([wrong], made), f"data that has {wrong!r}")  # type: ignore[misc]
+        rejects(TypeError, lambda wrong=wrong: Verifier(key.public_key, made).update(wrong), f"a piece that is {wrong!r}")  # type: ignore[misc]
+        rejects(TypeError, lambda wrong=wrong: key.public_key.verify([wrong], made), f"data that has {wrong!r}")  # type: ignore[misc]
     check(key.public_key.verify(b"", key.sign(write(room, "empty", b""), trusted_comment="empty")) == "empty", "an empty file")
 
-    refuses(minisign.TooLong, lambda: PublicKey.from_file(write(room, "long", bytes(1 << 20 | 1))), "a text of more than 1 MiB")
-    refuses(FileNotFoundError, lambda: minisign.verify(os.path.join(room, "none"), key.public_key), "a file that is not there")
+    rejects(minisign.TooLong, lambda: PublicKey.from_file(write(room, "long", bytes(1 << 20 | 1))), "a text of more than 1 MiB")
+    rejects(FileNotFoundError, lambda: minisign.verify(os.path.join(room, "none"), key.public_key), "a file that is not there")
     check(issubclass(minisign.WrongPassword, minisign.MinisignError) and minisign.WrongPassword.number > 0, "the kinds of errors")
 
 
@@ -250,9 +250,9 @@ def passwords(room: str) -> None:
     key = SecretKey.generate()
     sealed = write(room, "sealed.key", key.to_bytes("pass \u00e9", low_memory=True))
     for password, wrong in ((None, minisign.KeySealed), ("pass", minisign.WrongPassword)):
-        refuses(wrong, lambda password=password: SecretKey.from_file(sealed, password), f"the password {password}")  # type: ignore[misc]
+        rejects(wrong, lambda password=password: SecretKey.from_file(sealed, password), f"the password {password}")  # type: ignore[misc]
     before = open(sealed, "rb").read()
-    refuses(minisign.WrongPassword, lambda: minisign.change_password(sealed, "old", "newer"), "a change with a wrong password")
+    rejects(minisign.WrongPassword, lambda: minisign.change_password(sealed, "old", "newer"), "a change with a wrong password")
     check(open(sealed, "rb").read() == before, "a key whose password was not changed")
     minisign.change_password(sealed, "pass \u00e9", "new")
     check(os.stat(sealed).st_mode & 0o777 == 0o600, "the mode of a key whose password was changed")
@@ -262,16 +262,16 @@ def passwords(room: str) -> None:
 
 def installing(room: str) -> None:
     """What the cases of tests/installer cannot say: files of other kinds, and what stops a run from within Python."""
-    key, folder = SecretKey.generate(), os.path.join(room, "there")
-    os.mkdir(folder)
-    place = os.path.join(folder, "app")
+    key, directory = SecretKey.generate(), os.path.join(room, "there")
+    os.mkdir(directory)
+    place = os.path.join(directory, "app")
 
     def signed(data: bytes, comment: str) -> Signature:
         return key.sign(write(room, "update", data), trusted_comment=comment)
 
     def state() -> Tuple[object, object, List[str]]:
-        read = [open(it, "rb").read() if os.path.exists(it) else None for it in (place, os.path.join(folder, ".app.number"))]
-        return read[0], read[1], [it for it in os.listdir(folder) if "stage" in it]
+        read = [open(it, "rb").read() if os.path.exists(it) else None for it in (place, os.path.join(directory, ".app.number"))]
+        return read[0], read[1], [it for it in os.listdir(directory) if "stage" in it]
 
     one, two = signed(b"one", "version:1\tfile:app"), signed(b"two", "version:2\tfile:app")
     seen: List[Tuple[int, int]] = []
@@ -286,24 +286,24 @@ def installing(room: str) -> None:
         raise Stops()
 
     path = write(room, "update", b"two")
-    refuses(Stops, lambda: minisign.install(key.public_key, path, two, place, numbering="version", progress=stop), "what progress raises")
+    rejects(Stops, lambda: minisign.install(key.public_key, path, two, place, numbering="version", progress=stop), "what progress raises")
     check(state() == (b"one", b"version:1", []), f"after progress raised: {state()}")
 
-    def refuse(done: int, size: int) -> None:
+    def reject(done: int, size: int) -> None:
         raise minisign.SignatureRefused()
 
-    refuses(minisign.SignatureRefused, lambda: minisign.install(key.public_key, path, two, place, numbering="version", progress=refuse),
+    rejects(minisign.SignatureRefused, lambda: minisign.install(key.public_key, path, two, place, numbering="version", progress=reject),
             "an error of the package that progress raises")
     check(state() == (b"one", b"version:1", []), f"after progress raised an error of the package: {state()}")
     for most, source in ((2, io.BytesIO(b"two")), (2, path), (-1, path)):
-        refuses(minisign.TooLong, lambda most=most, source=source: minisign.install(key.public_key, source, two, place, numbering="version", most=most),  # type: ignore[misc]
+        rejects(minisign.TooLong, lambda most=most, source=source: minisign.install(key.public_key, source, two, place, numbering="version", most=most),  # type: ignore[misc]
                 f"data of more than {most} bytes")
     check(state() == (b"one", b"version:1", []), f"after data that was too long: {state()}")
-    refuses(minisign.SignatureRefused, lambda: minisign.install(key.public_key, io.BytesIO(b"2"), two, place, numbering="version", most=3), "other data")
+    rejects(minisign.SignatureRefused, lambda: minisign.install(key.public_key, io.BytesIO(b"2"), two, place, numbering="version", most=3), "other data")
     waits, end = os.pipe()
     os.set_blocking(waits, False)
     with open(waits, "rb", buffering=0) as pipe:
-        refuses(TypeError, lambda: minisign.install(key.public_key, pipe, two, place, numbering="version"), "a pipe that has nothing yet")
+        rejects(TypeError, lambda: minisign.install(key.public_key, pipe, two, place, numbering="version"), "a pipe that has nothing yet")
     os.close(end)
     check(state() == (b"one", b"version:1", []), f"after a pipe that had nothing yet: {state()}")
 
@@ -315,7 +315,7 @@ def installing(room: str) -> None:
             raise KeyboardInterrupt()
 
     with open(path, "rb") as file:
-        refuses(KeyboardInterrupt, lambda: minisign.install(key.public_key, cast("IO[bytes]", Interrupted()), two, place, numbering="version"),
+        rejects(KeyboardInterrupt, lambda: minisign.install(key.public_key, cast("IO[bytes]", Interrupted()), two, place, numbering="version"),
                 "a run that is interrupted")
     check(state() == (b"one", b"version:1", []), f"after an interruption: {state()}")
 
@@ -325,18 +325,18 @@ def installing(room: str) -> None:
 
     chosen, sys.unraisablehook = _calls._chosen[:], lambda told: None
     _calls._chosen[:] = [cast(_calls.Sodium, Unable())]
-    refuses(minisign.ReadingFailed, lambda: minisign.install(key.public_key, path, two, place, numbering="version"), "an Ed25519 that raises")
+    rejects(minisign.ReadingFailed, lambda: minisign.install(key.public_key, path, two, place, numbering="version"), "an Ed25519 that raises")
     _calls._chosen[:], sys.unraisablehook = chosen, sys.__unraisablehook__
     check(state() == (b"one", b"version:1", []), f"after an Ed25519 that raised: {state()}")
     with open(path, "rb") as file:
         minisign.install(key.public_key, file, two, place, numbering="version", mode=0o755, most=3)
     check(state() == (b"two", b"version:2", []) and os.stat(place).st_mode & 0o777 == 0o755, f"a file that is open: {state()}")
-    refuses(minisign.OlderUpdate, lambda: minisign.install(key.public_key, io.BytesIO(b"one"), one, place, numbering="version"), "an older update")
-    refuses(minisign.KeptByVersion, lambda: minisign.install(key.public_key, path, two, place), "the other field")
-    for wrong in ("", ".", "..", folder + "/"):
-        refuses(ValueError, lambda wrong=wrong: minisign.install(key.public_key, path, two, wrong), f"the place {wrong!r}")  # type: ignore[misc]
-    refuses(KeyError, lambda: minisign.install(key.public_key, path, two, place, numbering="date"), "a field that there is not")
-    refuses(FileNotFoundError, lambda: minisign.install(key.public_key, path, two, os.path.join(room, "none", "app")), "no folder")
+    rejects(minisign.OlderUpdate, lambda: minisign.install(key.public_key, io.BytesIO(b"one"), one, place, numbering="version"), "an older update")
+    rejects(minisign.KeptByVersion, lambda: minisign.install(key.public_key, path, two, place), "the other field")
+    for wrong in ("", ".", "..", directory + "/"):
+        rejects(ValueError, lambda wrong=wrong: minisign.install(key.public_key, path, two, wrong), f"the place {wrong!r}")  # type: ignore[misc]
+    rejects(KeyError, lambda: minisign.install(key.public_key, path, two, place, numbering="date"), "a field that there is not")
+    rejects(FileNotFoundError, lambda: minisign.install(key.public_key, path, two, os.path.join(room, "none", "app")), "no directory")
     opened = len(os.listdir("/proc/self/fd"))
     for _ in range(20):
         minisign.install(key.public_key, path, two, place, numbering="version")

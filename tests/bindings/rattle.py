@@ -1,6 +1,6 @@
 #!/usr/bin/env python3
 """Builds the caller of examples/rattle in a copy, beside the crates that it stands on, and verifies files with keys of Minisign's own
-program: what was signed is accepted, and what was changed is refused.
+program: what was signed is accepted, and what was changed is rejected.
 
     tests/bindings/rattle.py
 
@@ -57,10 +57,10 @@ def build(room, libsodium):
     with open(os.path.join(room, "crates.txt"), "a", encoding="ascii") as file:
         file.writelines(f"{name}: {' '.join(lines[name])}\n" for name in crates)
     shutil.copy(os.path.join(shared.TOP, "HANDLES"), room)
-    folder = os.path.join(room, "crates", NAME)
-    shutil.copy(libsodium, os.path.join(folder, "c"))
-    status, said, why = shared.run(["rt", "run"], folder=folder, environment={"RT_ALLOW_C": NAME}, seconds=SECONDS)
-    return os.path.join(folder, "out", NAME), said.decode(errors="replace") + why
+    directory = os.path.join(room, "crates", NAME)
+    shutil.copy(libsodium, os.path.join(directory, "c"))
+    status, said, why = shared.run(["rt", "run"], directory=directory, environment={"RT_ALLOW_C": NAME}, seconds=SECONDS)
+    return os.path.join(directory, "out", NAME), said.decode(errors="replace") + why
 
 
 def find_archive():
@@ -72,34 +72,34 @@ def check_files(checks, program, room):
     """A file that was signed, and what is not what was signed."""
     minisign = needs.minisign()
     for name in ("one", "two"):
-        if shared.run([minisign, "-G", "-W", "-p", f"{name}.pub", "-s", f"{name}.key"], folder=room)[0] != 0:
+        if shared.run([minisign, "-G", "-W", "-p", f"{name}.pub", "-s", f"{name}.key"], directory=room)[0] != 0:
             raise static_library.NotBuilt("no key was made")
     shared.write(room, "data", os.urandom(300_000))
-    shared.run([minisign, "-S", "-s", "one.key", "-m", "data", "-t", "version:1\tfile:data"], folder=room)
+    shared.run([minisign, "-S", "-s", "one.key", "-m", "data", "-t", "version:1\tfile:data"], directory=room)
     text = shared.read(os.path.join(room, "data.minisig"))
     shared.write(room, "changed", b"x" + shared.read(os.path.join(room, "data")))
     shared.write(room, "comment.minisig", text.replace(b"version:1", b"version:2"))
-    shared.run([minisign, "-S", "-l", "-s", "one.key", "-m", "data", "-x", "legacy.minisig"], folder=room)
-    status, said, why = shared.run([program, "one.pub", "data.minisig", "data"], folder=room)
+    shared.run([minisign, "-S", "-l", "-s", "one.key", "-m", "data", "-x", "legacy.minisig"], directory=room)
+    status, said, why = shared.run([program, "one.pub", "data.minisig", "data"], directory=room)
     checks.check((status, said) == (0, b"version:1\tfile:data\n"), f"a file that was signed: {status}, {said}, {why}")
     for words, reason in ((("one.pub", "data.minisig", "changed"), "Signature verification failed"),
                           (("one.pub", "comment.minisig", "data"), "Comment signature verification failed"),
                           (("two.pub", "data.minisig", "data"), "key"), (("one.pub", "legacy.minisig", "data"), "Legacy"),
                           (("data.minisig", "data.minisig", "data"), ""), (("one.pub", "data.minisig", "none"), ""),
                           (("none", "data.minisig", "data"), "")):
-        status, said, why = shared.run([program, *words], folder=room)
+        status, said, why = shared.run([program, *words], directory=room)
         checks.check(status == 1 and said == b"" and reason in why, f"{words}: {status}, {said}, {why}")
-    status, said, _ = shared.run([program], folder=room)
+    status, said, _ = shared.run([program], directory=room)
     checks.check(status == 2 and said == b"", f"no words: {status}, {said}")
 
 
 def check_every_file(checks, program, room):
-    """The signature that fits every file where small orders are accepted: as it is over the data itself, it is refused before
+    """The signature that fits every file where small orders are accepted: as it is over the data itself, it is rejected before
     libsodium is asked."""
     key, signature = shared.edges.texts_for_every_file()
     shared.write(room, "every.pub", key)
     shared.write(room, "every.minisig", signature)
-    status, said, why = shared.run([program, "every.pub", "every.minisig", "data"], folder=room)
+    status, said, why = shared.run([program, "every.pub", "every.minisig", "data"], directory=room)
     checks.check(status == 1 and said == b"", f"a signature for every file: {status}, {said}, {why}")
 
 

@@ -1,11 +1,11 @@
 #!/usr/bin/env python3
-"""The crate of `bindings/rust` as its user has it: what cargo packs, unpacked into an empty folder, and built by cargo without a
+"""The crate of `bindings/rust` as its user has it: what cargo packs, unpacked into an empty directory, and built by cargo without a
 network, without a registry and without the kit, by a program of another crate that names it `minisign-verify`.
 
     tests/bindings/rust.py
 
 The examples of its documentation run. What that program answers to kept keys and signatures, to damaged ones, to data in pieces and
-to signatures that implementations of Ed25519 differ in is compared with `c/minisign` and with libsodium; why it refuses, with the
+to signatures that implementations of Ed25519 differ in is compared with `c/minisign` and with libsodium; why it rejects, with the
 names of the header. It makes keys and signatures that `c/minisign` reads, and reads those of `c/minisign`. Many calls take no more
 memory, and threads get the same answers. Structs and calls are declared as the header has them; what is written by hand has at most
 300 lines, and no `unsafe` outside one module; without its feature `sodium` nothing of libsodium is linked. Each of some planted bugs
@@ -78,30 +78,30 @@ def toolchains():
 
 
 class Cargo:
-    """Runs cargo with what it keeps in a folder of its own, and no network."""
+    """Runs cargo with what it keeps in a directory of its own, and no network."""
 
     def __init__(self, room, cargo, rustc):
         self.cargo = cargo
         self.target = os.path.join(room, "target")
         self.environment = {"CARGO_NET_OFFLINE": "true", "CARGO_TARGET_DIR": self.target, "RUSTC": rustc, "RUSTFLAGS": "-D warnings",
                             "RUSTDOC": os.path.join(os.path.dirname(rustc), "rustdoc"), "PATH": static_library.path_without_kit()}
-        # (rustup finds its toolchains by the home folder)
+        # (rustup finds its toolchains by the home directory)
         if os.path.dirname(cargo) == "/usr/bin":
             self.environment["CARGO_HOME"] = os.path.join(room, "home")
 
-    def run(self, folder, *words):
-        status, said, why = run([self.cargo, *words], folder, self.environment)
+    def run(self, directory, *words):
+        status, said, why = run([self.cargo, *words], directory, self.environment)
         if status != 0:
             raise static_library.NotBuilt(f"cargo {' '.join(words)}: {said.decode(errors='replace')[-1500:]}{why[-1500:]}")
         return said.decode(errors="replace") + why
 
     def program(self, room, name, dependency, source):
         """The path of a program of a crate of its own, over this one."""
-        folder = os.path.join(room, name)
-        os.makedirs(os.path.join(folder, "src"))
-        write(folder, "Cargo.toml", PROGRAM.format(name=name, dependency=dependency).encode())
-        shutil.copy(os.path.join(HERE, "rust", source), os.path.join(folder, "src", "main.rs"))
-        self.run(folder, "build", "--release")
+        directory = os.path.join(room, name)
+        os.makedirs(os.path.join(directory, "src"))
+        write(directory, "Cargo.toml", PROGRAM.format(name=name, dependency=dependency).encode())
+        shutil.copy(os.path.join(HERE, "rust", source), os.path.join(directory, "src", "main.rs"))
+        self.run(directory, "build", "--release")
         return os.path.join(self.target, "release", name)
 
 
@@ -116,7 +116,7 @@ def check_sources(checks):
         words = re.sub(r"unsafe_code", "", "\n".join(code))
         checks.check(name.startswith("src/raw") or "unsafe" not in words, f"{name}: it has `unsafe`")
     checks.check(lines <= LINES, f"the crate has {lines} lines")
-    there = [os.path.relpath(os.path.join(folder, it), CRATE) for folder, _, names in os.walk(os.path.join(CRATE, "src")) for it in names]
+    there = [os.path.relpath(os.path.join(directory, it), CRATE) for directory, _, names in os.walk(os.path.join(CRATE, "src")) for it in names]
     checks.check({*there, "build.rs"} == {*BY_HAND, MADE}, f"the crate has the files {sorted(there)}")
     status, said, _ = run([sys.executable, os.path.join(TOP, "tools", "bindings.py"), "--check"])
     checks.check(status == 0, said.decode())
@@ -214,15 +214,15 @@ def check_vectors(checks, program):
         checks.check(answer == str(wanted).lower(), f"the vector {name}: {answer}")
 
 
-def check_refusals(checks, program):
-    """What is refused is so for the reason that the header names."""
-    cases = list(shared_cases.refusals())
+def check_rejections(checks, program):
+    """What is rejected is so for the reason that the header names."""
+    cases = list(shared_cases.rejections())
     for words, other in ((["strict"], {}), (["pieces", "7"], {"LEGACY_NOT_ACCEPTED": "UnsupportedLegacyMode"})):
         said = run([program, *words], data=shared_cases.lines_of([case for case, _ in cases]))[1].decode().splitlines()
-        checks.check(len(said) == len(cases), f"{len(said)} answers to {len(cases)} refusals")
+        checks.check(len(said) == len(cases), f"{len(said)} answers to {len(cases)} rejections")
         for (case, name), line in zip(cases, said):
             wanted = {**KNOWN, **other}.get(name, "InvalidEncoding")
-            checks.check(re.match(rf"refused {wanted}\b", line), f"{case.name}: {line} in place of {wanted}")
+            checks.check(re.match(rf"rejected {wanted}\b", line), f"{case.name}: {line} in place of {wanted}")
     bare = shared_cases.read(os.path.join(shared_cases.CORPUS, "published.pub")).decode().split("\n")[1]
     for text, wanted in ((bare, "Ok(None)"), (bare[:-1], "Err(InvalidEncoding)"), (bare[:-1] + "!", "Err(InvalidEncoding)"),
                          (f"x\n{bare}", "Err(InvalidEncoding)")):
@@ -234,37 +234,37 @@ def check_signing(checks, program, room, minisign):
     """The program and `c/minisign` read each other's keys and signatures."""
     numbers = shared_cases.error_numbers()
     data = write(room, "data", b"some data\n" * 500)
-    folders = {}
+    directories = {}
     for name, password in (("open", []), ("sealed", ["pass word"])):
-        folders[name] = folder = os.path.join(room, name)
-        os.mkdir(folder)
-        said = run([program, "make", folder, *password])[1]
+        directories[name] = directory = os.path.join(room, name)
+        os.mkdir(directory)
+        said = run([program, "make", directory, *password])[1]
         checks.check(said == b"Ok(())\n", f"a key, {name}: {said!r}")
-        key, public, sig = (os.path.join(folder, it) for it in ("secret", "public", "sig"))
+        key, public, sig = (os.path.join(directory, it) for it in ("secret", "public", "sig"))
         run([minisign, "-S", "-s", key, "-m", data, "-x", sig, "-t", "t"], data=b"pass word\n")
         status, said, why = run([minisign, "-V", "-Q", "-p", public, "-m", data, "-x", sig])
         checks.check((status, said) == (0, b"t\n"), f"c/minisign with a key, {name}: {status}, {why}")
-        run([minisign, "-R", "-s", key, "-p", f"{folder}/again"], data=b"pass word\n")
-        checks.check(shared_cases.read(public) == shared_cases.read(f"{folder}/again"), f"c/minisign writes another public key, {name}")
-    records = [base64.b64decode(shared_cases.read(f"{room}/{name}/public").split(b"\n")[1]) for name in folders]
+        run([minisign, "-R", "-s", key, "-p", f"{directory}/again"], data=b"pass word\n")
+        checks.check(shared_cases.read(public) == shared_cases.read(f"{directory}/again"), f"c/minisign writes another public key, {name}")
+    records = [base64.b64decode(shared_cases.read(f"{room}/{name}/public").split(b"\n")[1]) for name in directories]
     checks.check(all(records[0][at:at + 8] != records[1][at:at + 8] for at in (2, 10)), "two keys have one key ID, or are the same")
     made = os.path.join(room, "by-c")
     os.mkdir(made)
     run([minisign, "-G", "-W", "-s", f"{made}/secret", "-p", f"{made}/public"])
-    folders["of c/minisign"] = made
-    refused = lambda name: f"Err(Refused(Reason({numbers[name]})))"
+    directories["of c/minisign"] = made
+    rejected = lambda name: f"Err(Refused(Reason({numbers[name]})))"
     cases = [("open", COMMENT, [], "Ok(())"), ("sealed", COMMENT, ["pass word"], "Ok(())"), ("of c/minisign", "", [], "Ok(())"),
-             ("open", "a\nb", [], refused("BAD_COMMENT")), ("open", "a\rb", [], refused("UNREADABLE_COMMENT")),
-             ("open", "a", ["pass word"], refused("KEY_NOT_SEALED")), ("sealed", "a", [], refused("KEY_SEALED")),
-             ("sealed", "a", ["password"], refused("WRONG_PASSWORD"))]
+             ("open", "a\nb", [], rejected("BAD_COMMENT")), ("open", "a\rb", [], rejected("UNREADABLE_COMMENT")),
+             ("open", "a", ["pass word"], rejected("KEY_NOT_SEALED")), ("sealed", "a", [], rejected("KEY_SEALED")),
+             ("sealed", "a", ["password"], rejected("WRONG_PASSWORD"))]
     for name, comment, password, wanted in cases:
         sig = os.path.join(room, "signature")
         if os.path.exists(sig):
             os.remove(sig)
-        status, said, why = run([program, "sign", f"{folders[name]}/secret", data, sig, comment, *password])
+        status, said, why = run([program, "sign", f"{directories[name]}/secret", data, sig, comment, *password])
         checks.check(said.decode().strip() == wanted, f"signing, {name}, {comment!r}: {said!r} {why} in place of {wanted}")
         if wanted == "Ok(())":
-            status, said, why = run([minisign, "-V", "-H", "-Q", "-p", f"{folders[name]}/public", "-m", data, "-x", sig])
+            status, said, why = run([minisign, "-V", "-H", "-Q", "-p", f"{directories[name]}/public", "-m", data, "-x", sig])
             checks.check((status, said.decode()) == (0, comment + "\n"), f"c/minisign of a signature, {name}: {status}, {said!r}, {why}")
         else:
             checks.check(not os.path.exists(sig), f"signing, {name}, {comment!r}: a file was written")
@@ -319,18 +319,18 @@ def check_planted(checks, cargo, crate, room, minisign):
     lenient = copy.copy(cargo)
     lenient.environment = {**cargo.environment, "RUSTFLAGS": ""}
     for number, (file, old, new) in enumerate(BUGS):
-        folder = os.path.join(room, f"planted-{number}")
-        changed = os.path.join(folder, "crate")
+        directory = os.path.join(room, f"planted-{number}")
+        changed = os.path.join(directory, "crate")
         shutil.copytree(crate, changed)
         text = shared_cases.read(os.path.join(changed, file)).decode()
         write(changed, file, text.replace(old, new).encode())
         found = Checks()
-        program = lenient.program(folder, f"planted-{number}", RENAMED.format(crate=changed), "answers.rs")
+        program = lenient.program(directory, f"planted-{number}", RENAMED.format(crate=changed), "answers.rs")
         shared_cases.compare(found, "kept", kept, run([program, "verify"], data=shared_cases.lines_of(kept))[1], wanted)
-        check_refusals(found, program)
+        check_rejections(found, program)
         check_vectors(found, program)
         try:
-            check_signing(found, program, folder, minisign)
+            check_signing(found, program, directory, minisign)
         except OSError as why:
             found.check(False, f"it did not go on: {why}")
         checks.check(old in text and found.failures, f"planted in {file}, and not noticed: {new}")
@@ -346,7 +346,7 @@ def check_toolchain(checks, room, toolchain, minisign, plants_bugs):
     program = cargo.program(room, "answers", RENAMED.format(crate=crate), "answers.rs")
     check_answers(checks, program, room, minisign)
     check_vectors(checks, program)
-    check_refusals(checks, program)
+    check_rejections(checks, program)
     check_signing(checks, program, room, minisign)
     check_many(checks, program)
     check_own(checks, cargo, room, crate)
@@ -368,9 +368,9 @@ def main():
             check_sources(checks)
             check_declarations(checks)
             for number, toolchain in enumerate(toolchains()):
-                folder = os.path.join(room, str(number))
-                os.mkdir(folder)
-                check_toolchain(checks, folder, toolchain, minisign, number == 0)
+                directory = os.path.join(room, str(number))
+                os.mkdir(directory)
+                check_toolchain(checks, directory, toolchain, minisign, number == 0)
         except (needs.Missing, static_library.NotBuilt, OSError, ValueError, subprocess.SubprocessError) as why:
             checks.check(False, f"it did not go on: {why!r}")
     return checks.end()

@@ -58,15 +58,15 @@ def write(room, name, data):
     return path
 
 
-def run(command, folder=None, environment=None, data=b"", seconds=SECONDS):
+def run(command, directory=None, environment=None, data=b"", seconds=SECONDS):
     """Runs a command: its status, its output, and what it said."""
-    ran = subprocess.run(command, cwd=folder, env=dict(os.environ, **(environment or {})), input=data, stdout=subprocess.PIPE,
+    ran = subprocess.run(command, cwd=directory, env=dict(os.environ, **(environment or {})), input=data, stdout=subprocess.PIPE,
                          stderr=subprocess.PIPE, timeout=seconds)
     return ran.returncode, ran.stdout, ran.stderr.decode(errors="replace")
 
 
 def packed(package, room, environment=None, **chosen):
-    """What a package's archive holds, unpacked into an empty folder: `make -C bindings` packs it, without the kit."""
+    """What a package's archive holds, unpacked into an empty directory: `make -C bindings` packs it, without the kit."""
     out, to = os.path.join(room, "packed"), os.path.join(room, "unpacked")
     words = [f"{name}={value}" for name, value in {"OUT": out, "PYTHON": sys.executable, **chosen}.items()]
     command = [needs.program("make", "make"), "-s", "-C", os.path.join(TOP, "bindings"), package, *words]
@@ -121,8 +121,8 @@ def vectors():
 
 
 def vector_cases():
-    """The same signatures as cases of the older kind. A host that accepts one refuses the comment's signature, and so all of them
-    are refused: which of the two was refused tells the answer. Another case fits every file where small orders are accepted."""
+    """The same signatures as cases of the older kind. A host that accepts one rejects the comment's signature, and so all of them
+    are rejected: which of the two was rejected tells the answer. Another case fits every file where small orders are accepted."""
     cases = [Case(it["name"], edges.legacy_texts(it)[0], bytes.fromhex(it["msg"]), edges.legacy_texts(it)[1]) for it in edges.vectors()]
     key, signature = edges.texts_for_every_file()
     return cases + [Case("a signature for every file", key, data, signature) for data in (b"", b"data", bytes(100_000))]
@@ -165,8 +165,8 @@ def damage(choose, text):
     return choose.choice(ways)()
 
 
-def refusals():
-    """Cases that are refused, each with the header's name of why: no legacy signatures are allowed."""
+def rejections():
+    """Cases that are rejected, each with the header's name of why: no legacy signatures are allowed."""
     key, data, signature = (read(os.path.join(CORPUS, name)) for name in ("published.pub", "test", "published.minisig"))
     lines, rows = signature.split(b"\n"), key.split(b"\n")
     text_of = lambda number, line: b"\n".join(lines[:number] + [line] + lines[number + 1:])
@@ -206,7 +206,7 @@ def answer_of(program, room, number, case, allow_legacy):
 
 
 def answers_of(program, room, cases, allow_legacy=True):
-    """What `c/minisign` answers to each case: the trusted comment, or None where it refuses."""
+    """What `c/minisign` answers to each case: the trusted comment, or None where it rejects."""
     with concurrent.futures.ThreadPoolExecutor(4) as pool:
         return list(pool.map(lambda it: answer_of(program, room, it[0], it[1], allow_legacy), enumerate(cases)))
 
@@ -231,12 +231,12 @@ def lines_of(cases):
 
 def compare(checks, what, cases, said, wanted):
     """Checks what a program answered, one line a case: `accepted` with the trusted comment in hexadecimal digits, `-` where it is
-    empty; or `refused` and what it likes to say of it."""
+    empty; or `rejected` and what it likes to say of it."""
     lines = said.decode(errors="replace").splitlines()
     checks.check(len(lines) == len(cases), f"{what}: {len(lines)} answers to {len(cases)} cases")
     for case, line, comment in zip(cases, lines, wanted):
         if comment is None:
-            checks.check(line.split(" ")[0] == "refused", f"{what}, {case.name}: {line} in place of a refusal")
+            checks.check(line.split(" ")[0] == "rejected", f"{what}, {case.name}: {line} in place of a rejection")
         else:
             told = f"accepted {comment.hex() or '-'}"
             checks.check(line == told, f"{what}, {case.name}: {line} in place of {told}")

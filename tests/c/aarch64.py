@@ -6,7 +6,7 @@
 The layout of the header's structs as it is asserted; `make check` over the kept corpus; the programs of tests/c that
 need no tracing; a key that is made, sealed, opened and signed with, whose texts are those of the library for x86-64,
 and Minisign's own program verifies what it signed; an update that is installed, and an older one that is not. For other
-kinds of processors the compiler refuses the library with a sentence. It prints a line for each failure; the last line
+kinds of processors the compiler rejects the library with a sentence. It prints a line for each failure; the last line
 is `N passed, M failed`.
 
 Needs Python 3.9 or later, make, a C compiler, libsodium with its header, minisign, and of Debian gcc-aarch64-linux-gnu,
@@ -38,14 +38,14 @@ ROOT = "/usr/aarch64-linux-gnu"
 # Where the libsodium stands that is linked.
 SODIUM = os.path.join(TOP, "out", "libsodium-for-aarch64")
 PACKAGES = ("libsodium-dev", "libsodium23")
-REFUSAL = "minisign is for x86-64 and AArch64, little-endian and with pointers of 64 bits"
-# Flags under which the compilers build for what is refused.
-REFUSED = (("gcc", "-m32"), ("gcc", "-mx32"), (COMPILER, "-mbig-endian"), (COMPILER, "-mabi=ilp32"))
+REJECTION = "minisign is for x86-64 and AArch64, little-endian and with pointers of 64 bits"
+# Flags under which the compilers build for what is rejected.
+REJECTED = (("gcc", "-m32"), ("gcc", "-mx32"), (COMPILER, "-mbig-endian"), (COMPILER, "-mabi=ilp32"))
 
 
-def run(command, folder=None, typed=b"", **environment):
+def run(command, directory=None, typed=b"", **environment):
     """Runs a command: its status, and all that it said."""
-    ran = subprocess.run(command, cwd=folder, env=dict(os.environ, **environment), input=typed, stdout=subprocess.PIPE,
+    ran = subprocess.run(command, cwd=directory, env=dict(os.environ, **environment), input=typed, stdout=subprocess.PIPE,
                          stderr=subprocess.STDOUT, timeout=SECONDS)
     return ran.returncode, ran.stdout.decode(errors="replace")
 
@@ -55,8 +55,8 @@ def fetch_sodium():
     if not needs.may_install():
         return None
     with tempfile.TemporaryDirectory(prefix="packages-") as room:
-        for folder in ("lists/partial", "cache/archives/partial"):
-            os.makedirs(f"{room}/{folder}")
+        for directory in ("lists/partial", "cache/archives/partial"):
+            os.makedirs(f"{room}/{directory}")
         options = [word for option in (f"Dir::State::lists={room}/lists", f"Dir::Cache={room}/cache", "APT::Architecture=arm64",
                                        "APT::Architectures=arm64", "APT::Sandbox::User=root") for word in ("-o", option)]
         for words in (["update"], ["download", *PACKAGES]):
@@ -75,7 +75,7 @@ def fetch_sodium():
 
 
 def sodium():
-    """The folder of that libsodium, and its archive."""
+    """The directory of that libsodium, and its archive."""
     archive = f"{SODIUM}/usr/lib/aarch64-linux-gnu/libsodium.a"
     if not os.path.exists(archive) and fetch_sodium() is None:
         raise needs.Missing("libsodium for AArch64 is not here: Debian's libsodium-dev:arm64, unpacked into out/libsodium-for-aarch64")
@@ -104,9 +104,9 @@ class Emulated:
         self.compiler = COMPILER
         static_library.run_make(*self.flags, f"OUT={self.out}")
 
-    def run(self, program, *words, folder=None, typed=b""):
+    def run(self, program, *words, directory=None, typed=b""):
         """Runs a program that was built: its status, and what it said."""
-        return run([*self.emulator, program, *words], folder, typed)
+        return run([*self.emulator, program, *words], directory, typed)
 
     def compile(self, name, *flags):
         """A program of tests/c."""
@@ -123,11 +123,11 @@ def check_built(checks, it):
     checks.check("AArch64" in said, f"the program is for another processor: {said}")
     status, said = run([it.compiler, "-std=c11", *STRICT, "-I", INCLUDE, "-fsyntax-only", exports.write_layout(it.room)])
     checks.check(status == 0, f"the layout: {said[-600:]}")
-    status, said = run(["make", "-s", "-C", static_library.FOLDER, *it.flags, f"OUT={it.out}", "check"], RUN=" ".join(it.emulator))
+    status, said = run(["make", "-s", "-C", static_library.DIRECTORY, *it.flags, f"OUT={it.out}", "check"], RUN=" ".join(it.emulator))
     checks.check(status == 0 and re.search(r"^(2[5-9]|[3-9]\d) passed, 0 failed$", said, re.M), f"make check: status {status}: {said[-600:]}")
-    for compiler, flag in REFUSED:
-        status, said = run([compiler, flag, "-std=c11", "-I", INCLUDE, "-c", "-o", os.devnull, os.path.join(static_library.FOLDER, "boundary.c")])
-        checks.check(status != 0 and REFUSAL in said, f"{compiler} {flag}: status {status}: {said[-300:]}")
+    for compiler, flag in REJECTED:
+        status, said = run([compiler, flag, "-std=c11", "-I", INCLUDE, "-c", "-o", os.devnull, os.path.join(static_library.DIRECTORY, "boundary.c")])
+        checks.check(status != 0 and REJECTION in said, f"{compiler} {flag}: status {status}: {said[-300:]}")
 
 
 def check_programs(checks, it):
@@ -141,54 +141,54 @@ def check_programs(checks, it):
 
 def check_keys(checks, it):
     """A key from its making to a signature."""
-    folder = tempfile.mkdtemp(dir=it.room)
+    directory = tempfile.mkdtemp(dir=it.room)
     ours = f"{it.out}/minisign"
-    status, said = it.run(ours, "-G", "-W", "-p", "a.pub", "-s", "open.key", folder=folder)
+    status, said = it.run(ours, "-G", "-W", "-p", "a.pub", "-s", "open.key", directory=directory)
     checks.check(status == 0, f"-G -W: {said}")
     keys = it.compile("keys")
     own = f"{it.room}/own"
     static_library.run_make(f"OUT={own}", "library")
     own_keys = f"{it.room}/own-keys"
     run([needs.c_compiler(), "-std=c11", "-I", INCLUDE, "-o", own_keys, os.path.join(HERE, "keys.c"), f"{own}/libminisign.a"])
-    status, said = it.run(keys, "open", "1", "1", "open.key", folder=folder)
+    status, said = it.run(keys, "open", "1", "1", "open.key", directory=directory)
     checks.check(status == 0, f"the key does not open: {said}")
     key_id, secret = said.split()
     words = ["secret", key_id, secret, "5a" * 32, "32768", "1048576", "1", "4096", "sealed", "pw"]
     status, text = it.run(keys, *words)
     checks.check(status == 0 and (status, text) == run([own_keys, *words]), f"sealing: {text!r}")
-    with open(f"{folder}/sealed.key", "w", encoding="utf-8") as file:
+    with open(f"{directory}/sealed.key", "w", encoding="utf-8") as file:
         file.write(text)
     for keep_every in ("1", "16"):
-        status, said = it.run(keys, "open", keep_every, "1", "sealed.key", "pw", folder=folder)
+        status, said = it.run(keys, "open", keep_every, "1", "sealed.key", "pw", directory=directory)
         checks.check(status == 0 and said.split() == [key_id, secret], f"opening with {keep_every}: {said}")
-    status, said = it.run(keys, "open", "1", "1", "sealed.key", "pv", folder=folder)
+    status, said = it.run(keys, "open", "1", "1", "sealed.key", "pv", directory=directory)
     checks.check(status == 1, f"another password: {said}")
-    with open(f"{folder}/data", "wb") as file:
+    with open(f"{directory}/data", "wb") as file:
         file.write(bytes(range(256)) * 1000)
-    status, said = it.run(ours, "-S", "-s", "sealed.key", "-m", "data", "-t", "a comment", folder=folder, typed=b"pw\n")
+    status, said = it.run(ours, "-S", "-s", "sealed.key", "-m", "data", "-t", "a comment", directory=directory, typed=b"pw\n")
     checks.check(status == 0, f"-S: {said}")
     for command in ([needs.minisign(), "-V", "-Q"], [*it.emulator, ours, "-V", "-Q"]):
-        status, said = run([*command, "-p", "a.pub", "-m", "data"], folder)
+        status, said = run([*command, "-p", "a.pub", "-m", "data"], directory)
         checks.check(status == 0 and said == "a comment\n", f"{command}: {said}")
-    with open(f"{folder}/data", "ab") as file:
+    with open(f"{directory}/data", "ab") as file:
         file.write(b"more")
-    status, said = it.run(ours, "-V", "-p", "a.pub", "-m", "data", folder=folder)
+    status, said = it.run(ours, "-V", "-p", "a.pub", "-m", "data", directory=directory)
     checks.check(status == 1, f"changed data: {said}")
 
 
 def check_installing(checks, it):
     """A first installation, an update, an older one, and one that is there already."""
-    folder = tempfile.mkdtemp(dir=it.room)
-    os.mkdir(f"{folder}/there")
-    it.run(f"{it.out}/minisign", "-G", "-W", "-p", "a.pub", "-s", "a.key", folder=folder)
+    directory = tempfile.mkdtemp(dir=it.room)
+    os.mkdir(f"{directory}/there")
+    it.run(f"{it.out}/minisign", "-G", "-W", "-p", "a.pub", "-s", "a.key", directory=directory)
     for number in "12":
-        with open(f"{folder}/{number}", "w", encoding="ascii") as file:
+        with open(f"{directory}/{number}", "w", encoding="ascii") as file:
             file.write(f"version {number}\n")
-        it.run(f"{it.out}/minisign", "-S", "-s", "a.key", "-m", number, "-t", f"version:{number}\tfile:app", folder=folder)
+        it.run(f"{it.out}/minisign", "-S", "-s", "a.key", "-m", number, "-t", f"version:{number}\tfile:app", directory=directory)
     words = ["--numbering", "version", "a.pub"]
     for number, first, wanted, there in (("1", ["--first"], 0, "1"), ("2", [], 0, "2"), ("1", [], 4, "2"), ("2", [], 10, "2")):
-        status, said = it.run(f"{it.out}/minisign-install", *first, *words, number, f"{number}.minisig", "there/app", folder=folder)
-        with open(f"{folder}/there/app", encoding="ascii") as file:
+        status, said = it.run(f"{it.out}/minisign-install", *first, *words, number, f"{number}.minisig", "there/app", directory=directory)
+        with open(f"{directory}/there/app", encoding="ascii") as file:
             checks.check(status == wanted and file.read() == f"version {there}\n", f"installing {number}: status {status}: {said}")
 
 

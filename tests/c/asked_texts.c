@@ -1,6 +1,6 @@
 /*
  * What asking about texts tells, of keys and signatures that Minisign 0.11 made of the bytes `hello` and a line feed,
- * and the number for each text that is refused. The bytes were read from the texts by Python's base64; the digest is
+ * and the number for each text that is rejected. The bytes were read from the texts by Python's base64; the digest is
  * that of its hashlib.
  *
  * Prints a line for each check that failed; the last line is `N passed, M failed`.
@@ -90,7 +90,7 @@ static void feed(minisign_state *state)
     CHECK(minisign_digest(state, questions.digest) == MINISIGN_OK && memcmp(questions.digest, DIGEST, 64) == 0);
 }
 
-/* Reads the key and asks: the number of the first that refuses. */
+/* Reads the key and asks: the number of the first that rejects. */
 static enum minisign_error ask(minisign_state *state, const char *key, const char *signature, uint32_t allow_legacy)
 {
     minisign_public_key pk;
@@ -133,7 +133,7 @@ static void told(void)
 }
 
 /* The number for each text of a public key and of a signature, which leaves the state as it was. */
-static void refused(void)
+static void rejected(void)
 {
     static const struct {
         const char *key, *signature;
@@ -228,7 +228,7 @@ static void written(void)
 int main(void)
 {
     told();
-    refused();
+    rejected();
     opened();
     not_opened();
     written();

@@ -4,9 +4,9 @@
     tests/c/c_library.py [LIBRARY]
 
 Its declarations beside the exports of the sources, the layout of its structs as C and as C++ (`exports.py`), wrong use (`wrong_use.c`), what texts are asked about and the
-number of each refusal (`asked_texts.c`), the text of each number (`error_texts.c`), an installation at each of its
+number of each rejection (`asked_texts.c`), the text of each number (`error_texts.c`), an installation at each of its
 calls (`installations.c`), the texts of public keys (`public_keys.c`), what is taken from malloc and cleared before it
-is given back (`allocations.c`), each request for memory refused, of which verifying makes none (`out_of_memory.c`),
+is given back (`allocations.c`), each allocation failing, of which verifying makes none (`out_of_memory.c`),
 buffers beside pages without access (`guard_pages.c`), NULL (`null.c`), threads (`threads.c`), and calls at random
 beside a model (`random_calls.c`); each program also with what finds wrong use of memory, where the compiler has it.
 LIBRARY is a `libminisign.a`; where none is named it is built over `dist/` (`static_library.py`), once more with the

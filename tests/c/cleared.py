@@ -152,7 +152,7 @@ class Builder:
 
 def cleared_bytes():
     """How much of the stack is cleared."""
-    with open(os.path.join(static_library.FOLDER, "clearing.h"), encoding="utf-8") as file:
+    with open(os.path.join(static_library.DIRECTORY, "clearing.h"), encoding="utf-8") as file:
         return int(re.search(r"^#define CLEARED_BYTES (\d+)$", file.read(), re.M)[1])
 
 
@@ -206,19 +206,19 @@ class Searched:
         subprocess.run([needs.c_compiler(), "-shared", "-fPIC", "-O1", "-I", self.room, "-o", self.finder, os.path.join(SHARED, "search_calls.c")],
                        check=True)
 
-    def run(self, arguments, typed, preloaded, folder, **variables):
-        """Runs it in a folder."""
-        return subprocess.run([self.program, *arguments], cwd=folder, input=typed, env={"HOME": folder, "LD_PRELOAD": preloaded, **variables},
+    def run(self, arguments, typed, preloaded, directory, **variables):
+        """Runs it in a directory."""
+        return subprocess.run([self.program, *arguments], cwd=directory, input=typed, env={"HOME": directory, "LD_PRELOAD": preloaded, **variables},
                               stdout=subprocess.PIPE, stderr=subprocess.PIPE, timeout=SECONDS)
 
     def search(self, arguments, typed):
         """Runs it while it is searched: its status, what it said of trouble, and what is found each time."""
         # (salt that is drawn of the known bytes would be taken for the seed)
         preloaded = f"{self.finder} {self.draws if arguments[0] == '-G' else ''}"
-        with tempfile.TemporaryDirectory(dir=self.room) as folder:
-            put_files(folder, self.files)
-            says = os.path.join(folder, "found")
-            ran = self.run(arguments, typed, preloaded, folder, SEARCH_SAYS=says)
+        with tempfile.TemporaryDirectory(dir=self.room) as directory:
+            put_files(directory, self.files)
+            says = os.path.join(directory, "found")
+            ran = self.run(arguments, typed, preloaded, directory, SEARCH_SAYS=says)
             with open(says, encoding="ascii") as file:
                 return ran.returncode, ran.stderr, [needles.counts_of(line) for line in file]
 

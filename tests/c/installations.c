@@ -1,7 +1,7 @@
 /*
  * An installation through minisign.h: at each call that may be due each call of the header is made, and what is due
- * then is compared with a table of its own here; where a call is refused as a wrong use, no byte of the struct changes.
- * Also the records and the signed comments that are taken and refused, what is asked of Ed25519, and that no memory is
+ * then is compared with a table of its own here; where a call is rejected as a wrong use, no byte of the struct changes.
+ * Also the records and the signed comments that are taken and rejected, what is asked of Ed25519, and that no memory is
  * taken.
  *
  * Linked with -Wl,--wrap=malloc -Wl,--wrap=realloc -Wl,--wrap=free. Prints a line for each check that failed; the last
@@ -258,7 +258,7 @@ static void order(void)
     }
 }
 
-/* What a run is refused for in the end: the first failure, whatever comes of the removals. */
+/* What a run is rejected for in the end: the first failure, whatever comes of the removals. */
 static void failures(void)
 {
     static const enum minisign_error reasons[] = { MINISIGN_OUT_OF_MEMORY, MINISIGN_READING_FAILED, MINISIGN_WRITING_FAILED,
@@ -316,8 +316,8 @@ static void beginnings(void)
     }
 }
 
-/* A record where it is the first installation by this field or not: what is due then, and the refusal. */
-static void record_gives(const uint8_t *text, size_t len, uint32_t is_first, uint32_t numbering, enum minisign_error refused)
+/* A record where it is the first installation by this field or not: what is due then, and the rejection. */
+static void record_gives(const uint8_t *text, size_t len, uint32_t is_first, uint32_t numbering, enum minisign_error rejected)
 {
     minisign_installation i;
 
@@ -325,8 +325,8 @@ static void record_gives(const uint8_t *text, size_t len, uint32_t is_first, uin
     step(&i);
     step(&i);
     CHECK((text == NULL ? minisign_install_no_record(&i) : minisign_install_record(&i, text, len)) == MINISIGN_OK);
-    CHECK(minisign_install_due(&i) == (refused == MINISIGN_OK ? MINISIGN_DUE_CREATE : MINISIGN_DUE_REFUSED));
-    CHECK(minisign_install_error(&i) == refused);
+    CHECK(minisign_install_due(&i) == (rejected == MINISIGN_OK ? MINISIGN_DUE_CREATE : MINISIGN_DUE_REFUSED));
+    CHECK(minisign_install_error(&i) == rejected);
 }
 
 /* A text of a record, by each field and at the first installation or not. */
@@ -401,16 +401,16 @@ static void gives(const char *kept, const char *signature, const char *file, uin
                   enum minisign_answer second, enum minisign_error asked, enum minisign_error answered)
 {
     minisign_installation i = at_after(MINISIGN_DUE_ANSWER, kept, numbering);
-    enum minisign_error refused = asked == MINISIGN_OK ? answered : asked;
+    enum minisign_error rejected = asked == MINISIGN_OK ? answered : asked;
 
     CHECK(ask_of(&i, signature, file, sizeof message) == asked);
     if (asked == MINISIGN_OK) {
         CHECK(minisign_install_error(&i) == MINISIGN_OK && minisign_install_due(&i) == MINISIGN_DUE_ANSWER);
         CHECK(minisign_install_answer(&i, first, second) == answered);
     }
-    CHECK(minisign_install_due(&i) == (refused == MINISIGN_OK ? MINISIGN_DUE_TAKE_PERMISSIONS : MINISIGN_DUE_REMOVE));
-    if (refused != MINISIGN_OK) {
-        CHECK(minisign_install_done(&i) == MINISIGN_OK && minisign_install_error(&i) == refused);
+    CHECK(minisign_install_due(&i) == (rejected == MINISIGN_OK ? MINISIGN_DUE_TAKE_PERMISSIONS : MINISIGN_DUE_REMOVE));
+    if (rejected != MINISIGN_OK) {
+        CHECK(minisign_install_done(&i) == MINISIGN_OK && minisign_install_error(&i) == rejected);
     }
 }
 
@@ -494,7 +494,7 @@ static void comments(void)
     comment_gives("\xff", "test", by_time, 0, MINISIGN_NOT_UTF8, 0);
     comment_gives(COMMENT, "\xff", by_time, 0, MINISIGN_NOT_UTF8, 0);
 
-    /* It expires at a moment that is to come, or has done so; and what does not say when is refused. */
+    /* It expires at a moment that is to come, or has done so; and what does not say when is rejected. */
     comment_gives("file:a\tversion:1\texpires:1001", "a", by_version, 0, MINISIGN_OK, 1);
     comment_gives("expires:18446744073709551615\tfile:a\tversion:1", "a", by_version, 0, MINISIGN_OK, 1);
     comment_gives("file:a\tversion:1\texpires:1000", "a", by_version, 0, MINISIGN_EXPIRED, 0);
@@ -552,7 +552,7 @@ static void checks(void)
         check_gives(offered, "a", 2, is_first, "4", MINISIGN_BAD_NUMBERING, 0);
         check_gives(offered, "a", 2, 2, "4", MINISIGN_BAD_FIRST_FLAG, 0);
     }
-    /* What holds no number of the field is refused as installing refuses it, or counts for nothing. */
+    /* What holds no number of the field is rejected as installing rejects it, or counts for nothing. */
     check_gives(offered, "b", by_version, 0, NULL, MINISIGN_NO_RECORD, 0);
     check_gives(offered, "b", by_version, 0, "", MINISIGN_DAMAGED_RECORD, 0);
     check_gives(offered, "b", by_version, 0, "version:x", MINISIGN_DAMAGED_RECORD, 0);

@@ -1,5 +1,5 @@
 #!/usr/bin/env python3
-"""Installs the library of `c/` into a folder of its own, and uses it from what was installed alone: from C, linked as a
+"""Installs the library of `c/` into a directory of its own, and uses it from what was installed alone: from C, linked as a
 static and as a shared library, from C++, from Rust and from Python. The examples of the header verify and sign good and
 bad input.
 
@@ -57,9 +57,9 @@ SEED_AT, PUBLIC_HALF_AT = 62, 94
 COMMENT = "version 2 \u00e9"
 
 
-def run(command, folder=None, environment=None):
+def run(command, directory=None, environment=None):
     """Runs a command: its status, its output, and what it said."""
-    ran = subprocess.run(command, cwd=folder, env=dict(os.environ, **(environment or {})), stdin=subprocess.DEVNULL,
+    ran = subprocess.run(command, cwd=directory, env=dict(os.environ, **(environment or {})), stdin=subprocess.DEVNULL,
                          stdout=subprocess.PIPE, stderr=subprocess.PIPE, timeout=SECONDS)
     return ran.returncode, ran.stdout.decode(errors="replace"), ran.stderr.decode(errors="replace")
 
@@ -212,7 +212,7 @@ def run_verifiers(checks, programs, root, room, minisign):
 
 
 def run_signer(checks, program, room, minisign):
-    """Signs, and has Minisign's own program verify what was signed; what is refused leaves no signature."""
+    """Signs, and has Minisign's own program verify what was signed; what is rejected leaves no signature."""
     data, sealed = os.path.join(room, "data"), write(room, "sealed.key", SEALED.encode())
     good, wrong, endless = (write(room, name, text) for name, text in (("pw", b"pw\n"), ("wrong", b"pv\n"), ("endless", b"pw")))
     key, nothing = os.path.join(room, "key.key"), os.path.join(room, "nothing")
@@ -241,21 +241,21 @@ def run_signer(checks, program, room, minisign):
         ("no key", (nothing, data, COMMENT), "a file cannot be opened"),
     ]
     # The public key of the sealed one, which its signature is verified under, is read from that signature's maker.
-    for what, (secret, of, comment, *password), refused in cases:
+    for what, (secret, of, comment, *password), rejected in cases:
         made = os.path.join(room, "made")
         if os.path.exists(made):
             os.remove(made)
         status, said, why = run([*program, secret, of, made, comment, *password])
-        if refused is None:
+        if rejected is None:
             checks.check(status == 0 and not why, f"sign, {what}: status {status}, {why!r}")
             if secret == key:
                 status, said, why = run([minisign, "-Q", "-V", "-p", "key.pub", "-m", of, "-x", made], room)
                 checks.check(status == 0 and said == comment + "\n", f"sign, {what}: minisign says {said!r}, {why!r}")
         else:
-            checks.check(status == 1 and why == f"sign: {refused}\n", f"sign, {what}: status {status}, {why!r}")
+            checks.check(status == 1 and why == f"sign: {rejected}\n", f"sign, {what}: status {status}, {why!r}")
             checks.check(not os.path.exists(made), f"sign, {what}: a signature was written")
     status, _, why = run([*program, key, data, os.path.join(room, "nothing", "made"), COMMENT])
-    checks.check(status == 1 and why == "sign: a file cannot be opened\n", f"sign, no folder: {why!r}")
+    checks.check(status == 1 and why == "sign: a file cannot be opened\n", f"sign, no directory: {why!r}")
     status, _, why = run([*program, key, data, "/dev/full", COMMENT])
     checks.check(status == 1 and why == "sign: the signature cannot be written\n", f"sign, a full disk: {why!r}")
 
@@ -280,7 +280,7 @@ def run_programs(checks, root, room, minisign):
 
 def use(checks, root, room, minisign):
     """Looks at what was installed there, and uses it from each language; what is made meanwhile stands in the other
-    folder."""
+    directory."""
     installed_files(checks, root)
     programs = build_all(checks, root, room)
     run_verifiers(checks, programs, root, room, minisign)

@@ -6,7 +6,7 @@
 With the limits of `minisign -G` and the random bytes that it drew (`known_random.c` is preloaded into it), the texts
 have to be those that it wrote, byte for byte. Keys that the library makes are used by Minisign; keys of `minisign -G`
 are opened, made again under another password and used by Minisign, and their public keys are written again. Opening is
-bounded in work and in memory, and what is refused has its number, in the order that the header says. LIBRARY is the one
+bounded in work and in memory, and what is rejected has its number, in the order that the header says. LIBRARY is the one
 of `c/`, which is built where none is named (`static_library.py`). It prints a line for each failure; the last line is
 `N passed, M failed`.
 
@@ -47,26 +47,26 @@ KEPT_IN_FEW_ROWS = 80 << 20
 ALL_ROWS = 1 << 30
 
 
-def run(command, folder, typed=b"", preloaded=None):
-    """Runs a command in a folder: its status, what it wrote, and the most memory that it held, in bytes."""
+def run(command, directory, typed=b"", preloaded=None):
+    """Runs a command in a directory: its status, what it wrote, and the most memory that it held, in bytes."""
     environment = dict(os.environ, LD_PRELOAD=preloaded) if preloaded else None
     with tempfile.TemporaryFile() as output, tempfile.TemporaryFile() as given:
         given.write(typed)
         given.seek(0)
-        ran = subprocess.Popen(command, cwd=folder, stdin=given, stdout=output, stderr=subprocess.DEVNULL, env=environment)
+        ran = subprocess.Popen(command, cwd=directory, stdin=given, stdout=output, stderr=subprocess.DEVNULL, env=environment)
         _, status, used = os.wait4(ran.pid, 0)
         ran.returncode = os.waitstatus_to_exitcode(status)
         output.seek(0)
         return ran.returncode, output.read(), used.ru_maxrss << 10
 
 
-def read(folder, name):
-    with open(os.path.join(folder, name), "rb") as file:
+def read(directory, name):
+    with open(os.path.join(directory, name), "rb") as file:
         return file.read()
 
 
-def write(folder, name, data):
-    with open(os.path.join(folder, name), "wb") as file:
+def write(directory, name, data):
+    with open(os.path.join(directory, name), "wb") as file:
         file.write(data)
 
 
@@ -79,10 +79,10 @@ def public_comment(key_id):
 
 
 class Keys:
-    """The program over the library, and Minisign's own, in a folder."""
+    """The program over the library, and Minisign's own, in a directory."""
 
-    def __init__(self, program, minisign, known, folder):
-        self.program, self.minisign, self.known, self.folder = program, minisign, known, folder
+    def __init__(self, program, minisign, known, directory):
+        self.program, self.minisign, self.known, self.directory = program, minisign, known, directory
         self.failures, self.count = [], 0
 
     def holds(self, name, held):
@@ -92,7 +92,7 @@ class Keys:
 
     def ours(self, *arguments):
         """What ours wrote, or the number of its error, with the memory that it took."""
-        status, output, memory = run([self.program, *arguments], self.folder)
+        status, output, memory = run([self.program, *arguments], self.directory)
         if status not in (0, 1):
             return f"status {status}: {output!r}", memory
         return (output if status == 0 else int(output)), memory
@@ -107,7 +107,7 @@ class Keys:
 
     def opened(self, text, password=None, keep_every=1, greatest_work=1):
         """The identifier and the secret of a key, or the number of an error; and the memory that it took."""
-        write(self.folder, "opened.key", text)
+        write(self.directory, "opened.key", text)
         passed_in = [] if password is None else [password]
         answer, memory = self.ours("open", str(keep_every), str(greatest_work), "opened.key", *passed_in)
         return (tuple(map(bytes.fromhex, answer.decode().split())) if isinstance(answer, bytes) else answer), memory
@@ -117,22 +117,22 @@ class Keys:
         secret, public = f"{name}.key", f"{name}.pub"
         flags = ["-W"] if password is None else []
         typed = b"" if password is None else f"{password}\n{password}\n".encode()
-        status, _, _ = run([self.minisign, "-G", "-f", *flags, "-s", secret, "-p", public], self.folder, typed, preloaded)
+        status, _, _ = run([self.minisign, "-G", "-f", *flags, "-s", secret, "-p", public], self.directory, typed, preloaded)
         self.holds(f"{name}: minisign -G ended with {status}", status == 0)
-        return read(self.folder, secret), read(self.folder, public)
+        return read(self.directory, secret), read(self.directory, public)
 
     def is_used(self, secret, public, password=None):
         """Whether Minisign signs with the one key and verifies with the other."""
-        write(self.folder, "used.key", secret)
-        write(self.folder, "used.pub", public)
-        write(self.folder, "data", b"data that is signed")
-        if os.path.exists(os.path.join(self.folder, "data.minisig")):
-            os.remove(os.path.join(self.folder, "data.minisig"))
+        write(self.directory, "used.key", secret)
+        write(self.directory, "used.pub", public)
+        write(self.directory, "data", b"data that is signed")
+        if os.path.exists(os.path.join(self.directory, "data.minisig")):
+            os.remove(os.path.join(self.directory, "data.minisig"))
         typed = b"" if password is None else f"{password}\n".encode()
-        signed, _, _ = run([self.minisign, "-S", "-s", "used.key", "-m", "data"], self.folder, typed)
+        signed, _, _ = run([self.minisign, "-S", "-s", "used.key", "-m", "data"], self.directory, typed)
         if signed != 0:
             return False
-        return run([self.minisign, "-V", "-p", "used.pub", "-m", "data"], self.folder)[0] == 0
+        return run([self.minisign, "-V", "-p", "used.pub", "-m", "data"], self.directory)[0] == 0
 
 
 def same_bytes(keys):
@@ -167,7 +167,7 @@ def made_again(keys):
     everything, memory = keys.opened(theirs, "old")
     keys.holds("another number of rows opens to another key", everything == answer)
     keys.holds(f"all rows take {memory} bytes", memory > ALL_ROWS)
-    keys.holds("another password is not refused", keys.opened(theirs, "older", keep_every=16)[0] == 42)
+    keys.holds("another password is not rejected", keys.opened(theirs, "older", keep_every=16)[0] == 42)
     keys.holds("the public key that is written again", keys.public(key_id, secret) == their_public)
     changed = keys.secret(key_id, secret, "new", salt=os.urandom(32), limits=USUAL)
     keys.holds("Minisign does not use the key under its new password", keys.is_used(changed, their_public, "new"))
@@ -219,8 +219,8 @@ def comments(keys):
     keys.holds("Minisign reads a longer comment", not keys.is_used(unsealed, longer))
 
 
-def refusals(keys):
-    """Each refusal has its number, and comes before those behind it."""
+def rejections(keys):
+    """Each rejection has its number, and comes before those behind it."""
     secret = SEED + SALT
     too_much = (33554432, 1073741825)
     for name, wanted, arguments in (
@@ -258,7 +258,7 @@ def run_all(library, room):
         if ran.returncode != 0:
             return [f"{command[-2]} was not built: {ran.stdout.decode(errors='replace')[-1000:]}"], 0
     keys = Keys(program, minisign, known, room)
-    for part in (refusals, other_limits, sealed_as_hashlib_says, comments, same_bytes, made_again):
+    for part in (rejections, other_limits, sealed_as_hashlib_says, comments, same_bytes, made_again):
         part(keys)
     return keys.failures, keys.count - len(keys.failures)
 

@@ -42,28 +42,28 @@ CORPUS = os.path.join(TOP, "tests", "corpus")
 COMPILING, LINKING = ("-DNAMED=1", "-O1"), ("-O1", "-Wl,--hash-style=gnu")
 
 
-def run(command, folder=None, environment=None):
+def run(command, directory=None, environment=None):
     """Runs a command: its status, and all that it said."""
-    ran = subprocess.run(command, cwd=folder, env=environment, stdin=subprocess.DEVNULL, stdout=subprocess.PIPE,
+    ran = subprocess.run(command, cwd=directory, env=environment, stdin=subprocess.DEVNULL, stdout=subprocess.PIPE,
                          stderr=subprocess.STDOUT, timeout=SECONDS)
     return ran.returncode, ran.stdout.decode(errors="replace")
 
 
 def make(*words):
     """Runs make in c/, with no kit in PATH: its status, and what it said."""
-    return run([needs.program("make", "make"), "-C", static_library.FOLDER, *words],
+    return run([needs.program("make", "make"), "-C", static_library.DIRECTORY, *words],
                environment=dict(os.environ, PATH=static_library.path_without_kit()))
 
 
-def files_below(folder):
-    return sorted(os.path.relpath(os.path.join(at, name), folder) for at, _, names in os.walk(folder) for name in names)
+def files_below(directory):
+    return sorted(os.path.relpath(os.path.join(at, name), directory) for at, _, names in os.walk(directory) for name in names)
 
 
 def check_flags(checks, room):
     """The flags are in each command, also of the environment."""
     given = {"CPPFLAGS": COMPILING[0], "CFLAGS": COMPILING[1], "LDFLAGS": LINKING[1]}
     for how in ([f"{name}={value}" for name, value in given.items()], []):
-        ran = subprocess.run(["make", "-C", static_library.FOLDER, "-Bn", "CC=gcc", f"OUT={room}/flags", "all", *how],
+        ran = subprocess.run(["make", "-C", static_library.DIRECTORY, "-Bn", "CC=gcc", f"OUT={room}/flags", "all", *how],
                              env=dict(os.environ, PATH=static_library.path_without_kit(), **({} if how else given)),
                              stdout=subprocess.PIPE, stderr=subprocess.STDOUT)
         lines = [line.split() for line in ran.stdout.decode().splitlines() if line.startswith("gcc ")]
@@ -130,7 +130,7 @@ def check_check(checks, room):
     status, said = make("-s", "check", f"OUT={room}/out")
     checks.check(status == 0 and re.search(r"^(2[5-9]|[3-9]\d) passed, 0 failed$", said, re.M), f"make check: status {status}: {said[-600:]}")
     for program in ("/bin/true", "/bin/false"):
-        status, said = run(["sh", os.path.join(static_library.FOLDER, "check.sh"), program])
+        status, said = run(["sh", os.path.join(static_library.DIRECTORY, "check.sh"), program])
         checks.check(status != 0 and "FAILED" in said, f"check.sh {program}: status {status}: {said[-300:]}")
 
 

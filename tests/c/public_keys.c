@@ -1,7 +1,7 @@
 /*
- * The texts of public keys, with the key and the identifier that they give, and those that are refused, with the
- * number of the refusal. The keys were made by Minisign; their bytes and identifiers are those that Python's base64
- * decodes from the second lines. After a refusal both stay as they were, and nothing asks for memory.
+ * The texts of public keys, with the key and the identifier that they give, and those that are rejected, with the
+ * number of the rejection. The keys were made by Minisign; their bytes and identifiers are those that Python's base64
+ * decodes from the second lines. After a rejection both stay as they were, and nothing asks for memory.
  *
  * Prints a line for each check that failed; the last line is `N passed, M failed`.
  */
@@ -86,7 +86,7 @@ static void reads(const char *text, const uint8_t *key, const uint8_t *key_id)
     check(minisign_read_public_key, "two lines", text, strlen(text), MINISIGN_OK, key, key_id);
 }
 
-static void refuses(const char *text, enum minisign_error wanted)
+static void rejects(const char *text, enum minisign_error wanted)
 {
     check(minisign_read_public_key, "two lines", text, strlen(text), wanted, NULL, NULL);
 }
@@ -96,7 +96,7 @@ static void reads_bare(const char *text, const uint8_t *key, const uint8_t *key_
     check(minisign_read_bare_public_key, "bare", text, strlen(text), MINISIGN_OK, key, key_id);
 }
 
-static void refuses_bare(const char *text, enum minisign_error wanted)
+static void rejects_bare(const char *text, enum minisign_error wanted)
 {
     check(minisign_read_bare_public_key, "bare", text, strlen(text), wanted, NULL, NULL);
 }
@@ -108,27 +108,27 @@ int main(void)
     reads(COMMENT LINE "\r\n", KEY, KEY_ID);
     reads("\n" LINE "\nmore\n", KEY, KEY_ID);
     reads("any comment\n" OTHER_LINE "\n", OTHER_KEY, OTHER_KEY_ID);
-    refuses("", MINISIGN_MISSING_PUBLIC_KEY_COMMENT);
-    refuses(COMMENT, MINISIGN_MISSING_PUBLIC_KEY);
-    refuses(LINE "\n", MINISIGN_MISSING_PUBLIC_KEY);
-    refuses(COMMENT LINE "A\n", MINISIGN_PUBLIC_KEY_LENGTH);
-    refuses(COMMENT " " LINE "\n", MINISIGN_PUBLIC_KEY_LENGTH);
-    refuses(COMMENT "!WQf6LRCGA9i53mlYecO4IzT51TGPpvWucNSCh1CBM0QTaLn73Y7GFO3\n", MINISIGN_PUBLIC_KEY_NOT_BASE64);
-    refuses(COMMENT "RWQf6LRCGA9i53mlYecO4IzT51TGPpvWucNSCh1CBM0QTaLn73Y7GFO=\n", MINISIGN_PUBLIC_KEY_NOT_BASE64);
-    refuses(COMMENT "RWQf6LRCGA9i53mlYecO4IzT51TGPpvWucNSCh1CBM0QTaLn73Y7GA==\n", MINISIGN_RECORD_TOO_SHORT);
-    refuses(COMMENT "    RWQf6LRCGA9i53mlYecO4IzT51TGPpvWucNSCh1CBM0QTaLn73Y7\n", MINISIGN_RECORD_TOO_SHORT);
-    refuses("\xff\n" LINE "\n", MINISIGN_NOT_UTF8);
+    rejects("", MINISIGN_MISSING_PUBLIC_KEY_COMMENT);
+    rejects(COMMENT, MINISIGN_MISSING_PUBLIC_KEY);
+    rejects(LINE "\n", MINISIGN_MISSING_PUBLIC_KEY);
+    rejects(COMMENT LINE "A\n", MINISIGN_PUBLIC_KEY_LENGTH);
+    rejects(COMMENT " " LINE "\n", MINISIGN_PUBLIC_KEY_LENGTH);
+    rejects(COMMENT "!WQf6LRCGA9i53mlYecO4IzT51TGPpvWucNSCh1CBM0QTaLn73Y7GFO3\n", MINISIGN_PUBLIC_KEY_NOT_BASE64);
+    rejects(COMMENT "RWQf6LRCGA9i53mlYecO4IzT51TGPpvWucNSCh1CBM0QTaLn73Y7GFO=\n", MINISIGN_PUBLIC_KEY_NOT_BASE64);
+    rejects(COMMENT "RWQf6LRCGA9i53mlYecO4IzT51TGPpvWucNSCh1CBM0QTaLn73Y7GA==\n", MINISIGN_RECORD_TOO_SHORT);
+    rejects(COMMENT "    RWQf6LRCGA9i53mlYecO4IzT51TGPpvWucNSCh1CBM0QTaLn73Y7\n", MINISIGN_RECORD_TOO_SHORT);
+    rejects("\xff\n" LINE "\n", MINISIGN_NOT_UTF8);
 
     reads_bare(LINE, KEY, KEY_ID);
     reads_bare(OTHER_LINE, OTHER_KEY, OTHER_KEY_ID);
-    refuses_bare("", MINISIGN_BARE_PUBLIC_KEY_LENGTH);
-    refuses_bare(COMMENT LINE, MINISIGN_BARE_PUBLIC_KEY_LENGTH);
-    refuses_bare(LINE "A", MINISIGN_BARE_PUBLIC_KEY_LENGTH);
-    refuses_bare(LINE "\n", MINISIGN_BARE_PUBLIC_KEY_NOT_BASE64);
-    refuses_bare(" " LINE, MINISIGN_BARE_PUBLIC_KEY_NOT_BASE64);
-    refuses_bare("!WQf6LRCGA9i53mlYecO4IzT51TGPpvWucNSCh1CBM0QTaLn73Y7GFO3", MINISIGN_BARE_PUBLIC_KEY_NOT_BASE64);
-    refuses_bare("RWQf6LRCGA9i53mlYecO4IzT51TGPpvWucNSCh1CBM0QTaLn73Y7GA==", MINISIGN_RECORD_TOO_SHORT);
-    refuses_bare("\xff", MINISIGN_NOT_UTF8);
+    rejects_bare("", MINISIGN_BARE_PUBLIC_KEY_LENGTH);
+    rejects_bare(COMMENT LINE, MINISIGN_BARE_PUBLIC_KEY_LENGTH);
+    rejects_bare(LINE "A", MINISIGN_BARE_PUBLIC_KEY_LENGTH);
+    rejects_bare(LINE "\n", MINISIGN_BARE_PUBLIC_KEY_NOT_BASE64);
+    rejects_bare(" " LINE, MINISIGN_BARE_PUBLIC_KEY_NOT_BASE64);
+    rejects_bare("!WQf6LRCGA9i53mlYecO4IzT51TGPpvWucNSCh1CBM0QTaLn73Y7GFO3", MINISIGN_BARE_PUBLIC_KEY_NOT_BASE64);
+    rejects_bare("RWQf6LRCGA9i53mlYecO4IzT51TGPpvWucNSCh1CBM0QTaLn73Y7GA==", MINISIGN_RECORD_TOO_SHORT);
+    rejects_bare("\xff", MINISIGN_NOT_UTF8);
     printf("%u passed, %u failed\n", passed, failed);
     return failed != 0;
 }

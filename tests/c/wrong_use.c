@@ -1,6 +1,6 @@
 /*
  * Calls of the library in the wrong order, on states that were never begun and with answers that are none: each
- * is an error number, and changes nothing. Also right calls beside them, so that it is the use that is refused.
+ * is an error number, and changes nothing. Also right calls beside them, so that it is the use that is rejected.
  *
  * Prints a line for each check that failed; the last line is `N passed, M failed`. What Ed25519 would answer is made
  * up here: no check depends on it.
@@ -304,7 +304,7 @@ static void before_opening(void)
     text_len = 0;
 }
 
-/* No key is opened that was not read, whatever it holds, and a text that is refused is not read. */
+/* No key is opened that was not read, whatever it holds, and a text that is rejected is not read. */
 static void keys_of_no_text(void)
 {
     minisign_unopened_key other, before;
@@ -459,7 +459,7 @@ static void write_record(char base64[100], const uint8_t key_id[8], const uint8_
 /* The signatures of a text make that text again under the key ID of the key, where it has room. */
 static void texts_of_signatures(void)
 {
-    static const char *const refused[][2] = { { "t\n", "u" }, { "t ", "u" }, { "\tt", "u" }, { "t", "u\r" }, { "t", "\n" } };
+    static const char *const rejected[][2] = { { "t\n", "u" }, { "t ", "u" }, { "\tt", "u" }, { "t", "u\r" }, { "t", "\n" } };
     static const char untrusted[] = "signature from minisign secret key";
     static char expected[sizeof PREHASHED + 1];
     const size_t second_line = strlen("untrusted comment: ") + sizeof untrusted;
@@ -471,8 +471,8 @@ static void texts_of_signatures(void)
     for (size_t room = 0; room < sizeof PREHASHED; room++) {
         CHECK(make_short_text(&key, COMMENT, untrusted, room) == MINISIGN_NO_ROOM);
     }
-    for (size_t i = 0; i < sizeof refused / sizeof refused[0]; i++) {
-        CHECK(make_short_text(&key, refused[i][0], refused[i][1], 0) == MINISIGN_BAD_COMMENT);
+    for (size_t i = 0; i < sizeof rejected / sizeof rejected[0]; i++) {
+        CHECK(make_short_text(&key, rejected[i][0], rejected[i][1], 0) == MINISIGN_BAD_COMMENT);
     }
     CHECK(make_short_text(&key, "\xff", "u\r", 0) == MINISIGN_NOT_UTF8);
     CHECK(make_short_text(&key, "t\n", "\xff", 0) == MINISIGN_NOT_UTF8);
@@ -495,7 +495,7 @@ static void texts_of_signatures(void)
 /* What minisign -V would not read back: too long a comment, a zero byte, a carriage return. */
 static void texts_for_minisign(void)
 {
-    static const char *const refused[][2] = { { "a\rb", "u" }, { "t", "a\rb" }, { "t", "\ru" } };
+    static const char *const rejected[][2] = { { "a\rb", "u" }, { "t", "a\rb" }, { "t", "\ru" } };
     static char letters[10000];
 
     memset(letters, 'a', sizeof letters);
@@ -507,8 +507,8 @@ static void texts_for_minisign(void)
     CHECK(make_text(&key, "a\0b", 3, "u", 1, sizeof text) == MINISIGN_UNREADABLE_COMMENT);
     CHECK(make_text(&key, "t", 1, "a\0b", 3, sizeof text) == MINISIGN_UNREADABLE_COMMENT);
     CHECK(make_text(&key, "t", 1, "\0", 1, sizeof text) == MINISIGN_UNREADABLE_COMMENT);
-    for (size_t i = 0; i < sizeof refused / sizeof refused[0]; i++) {
-        CHECK(make_short_text(&key, refused[i][0], refused[i][1], sizeof text) == MINISIGN_UNREADABLE_COMMENT);
+    for (size_t i = 0; i < sizeof rejected / sizeof rejected[0]; i++) {
+        CHECK(make_short_text(&key, rejected[i][0], rejected[i][1], sizeof text) == MINISIGN_UNREADABLE_COMMENT);
     }
 }
 

@@ -1,7 +1,7 @@
 """A disk that crashes: a file system in a file, which is copied as it is on the disk at some moment of a run. The copy is what
 a machine that loses its power then finds, with all that the system had not yet brought to the disk lost.
 
-Needs Python 3.9 or later, and root rights to mount.
+Needs Python 3.9 or later, and a run as root to mount.
 """
 
 import os

@@ -16,14 +16,14 @@ SECONDS = 30
 PLACE, RECORD, LOCK = "place", ".place.number", ".place.lock"
 
 # The exit statuses of `minisign-install`.
-FAILED, MISUSED, REFUSED, OLDER, IN_USE, NOT_ON_DISK, UNRECORDED, SAME, EXPIRED, THERE = range(1, 11)
+FAILED, MISUSED, REJECTED, OLDER, IN_USE, NOT_ON_DISK, UNRECORDED, SAME, EXPIRED, THERE = range(1, 11)
 
 
 class Updater:
     """`minisign_updater`, an example under the toy scheme, whose options are `--first` and, behind it, `--again`."""
 
     name = "minisign_updater"
-    # Which ending of `minisign-install` the number of a fault stands for; all others refuse the update.
+    # Which ending of `minisign-install` the number of a fault stands for; all others reject the update.
     endings = {0: 0, 1: MISUSED, 7: FAILED, 64: FAILED, 65: FAILED, 67: FAILED, 46: IN_USE, 47: UNRECORDED, 48: UNRECORDED, 51: OLDER,
                52: NOT_ON_DISK, 53: UNRECORDED, 54: UNRECORDED, 55: EXPIRED, 57: SAME, 255: THERE}
     # Each of these calls fails in turn, and is interrupted in turn.
@@ -31,8 +31,8 @@ class Updater:
     interrupted = ("open", "openat", "read", "write", "fsync", "rename", "unlink", "pread", "flock", "getdents64", "fchmod",
                    "fchown", "statx")
     # What the C library calls its calls that `trace_calls.c` tells.
-    called = {"write": "write", "read-back": "pread", "rights": "fchmod", "sync": "fsync", "rename": "rename"}
-    # Whether it is the one in C: that looks up all names in the folder that it has opened, and reads access control lists.
+    called = {"write": "write", "read-back": "pread", "permissions": "fchmod", "sync": "fsync", "rename": "rename"}
+    # Whether it is the one in C: that looks up all names in the directory that it has opened, and reads access control lists.
     is_in_c = False
     # Whether it tells if there is anything newer, and takes keys that are named themselves.
     has_checks = False
@@ -53,7 +53,7 @@ make S new 600
 write S
 read-back S
 owner S
-rights S 711
+permissions S 711
 sync S
 make N new 600
 write N
@@ -69,7 +69,7 @@ sync .
 
     def ending(self, status):
         """The exit status that `minisign-install` has where this one is that."""
-        return status if status < 0 else self.endings.get(status, REFUSED)
+        return status if status < 0 else self.endings.get(status, REJECTED)
 
     def is_said(self, text, said):
         """Whether it says what that line of `minisign-install` does, without the file and what is in brackets behind it."""
@@ -84,7 +84,7 @@ sync .
 
 
 class RealInstaller:
-    """`minisign-install`, with a key that Minisign's own program makes in this folder."""
+    """`minisign-install`, with a key that Minisign's own program makes in this directory."""
 
     name = "minisign-install"
     version = b"0.2.0"
@@ -112,7 +112,7 @@ write S
 read-back S
 open {PLACE}
 owner S
-rights S 751
+permissions S 751
 sync S
 make N new 600
 write N

@@ -2,13 +2,13 @@
 """Runs the built program `minisign_updater` on real files: updates that are good, bad and older, over what cannot be used, while
 it is killed at each of its calls of the system and with each of them failing or interrupted, four at once with a reader beside
 them, while stage, place and lock file are changed by others, by root over files of others, on links, on files with access
-control lists, in a folder that may not be written, on a full disk, and on a disk that crashes. What stands at the place is
+control lists, in a directory that may not be written, on a full disk, and on a disk that crashes. What stands at the place is
 always the old or a new update, whole. `real_installing.py` runs `minisign-install` through these cases, and through more: each
-option, words that ask for nothing, a bound on the data, data from a pipe that stands still, memory that is refused.
+option, words that ask for nothing, a bound on the data, data from a pipe that stands still, an allocation that fails.
 
     tests/installer/installing.py [PROGRAM ..]
 
-Without arguments it runs the program that `rt ci` or `rt run` left in the folder `out` of `crates/minisign_updater`. It
+Without arguments it runs the program that `rt ci` or `rt run` left in the directory `out` of `crates/minisign_updater`. It
 prints a line for each case that failed or was skipped; the last line is `N passed, M failed`.
 
 Needs Python 3.9 or later, a C compiler and setfacl, which it installs where it may. The disk that crashes is a file system
@@ -35,7 +35,7 @@ sys.path += [os.path.join(HERE, "..", it) for it in ("shared", "tool")]
 
 from real_runs import count_over
 from crashing import Disk, check_image, crash, make_image
-from installers import EXPIRED, FAILED, IN_USE, LOCK, MISUSED, NOT_ON_DISK, OLDER, PLACE, RECORD, REFUSED, SAME, THERE, UNRECORDED, Updater
+from installers import EXPIRED, FAILED, IN_USE, LOCK, MISUSED, NOT_ON_DISK, OLDER, PLACE, RECORD, REJECTED, SAME, THERE, UNRECORDED, Updater
 from owners import owner_cases
 from permissions import permission_cases
 from running import NOBODY, SECONDS, Failure, Skip, build_preload, set_list
@@ -69,17 +69,17 @@ def comment_of(number, names=PLACE, label="timestamp", more=""):
 
 # Calls that fail: by which name, which of them, which stages are removed then, and how the run ends.
 FAILING = [
-    ("write", 1, "S", FAILED), ("read-back", 1, "S", FAILED), ("rights", 1, "S", FAILED), ("sync", 1, "S", FAILED),
+    ("write", 1, "S", FAILED), ("read-back", 1, "S", FAILED), ("permissions", 1, "S", FAILED), ("sync", 1, "S", FAILED),
     ("write", 2, "NS", FAILED), ("sync", 2, "NS", FAILED), ("rename", 1, "NS", FAILED), ("sync", 3, "NS", FAILED),
     ("rename", 2, "S", FAILED), ("sync", 4, "S", NOT_ON_DISK),
 ]
 
 # What is taken away by `trace_calls.c`.
-STEPS = ("sync", "folder", "new", "mode", "rights", "owner", "lock", "rename", "digit")
+STEPS = ("sync", "directory", "new", "mode", "permissions", "owner", "lock", "rename", "digit")
 
 
-class Folder:
-    """A folder with a place, at which an update of the number 5 stands, or nothing."""
+class Directory:
+    """A directory with a place, at which an update of the number 5 stands, or nothing."""
 
     def __init__(self, path, kind, is_installed=True):
         self.path = path
@@ -95,11 +95,11 @@ class Folder:
 
     @classmethod
     def there(cls, path, kind):
-        """A folder as it is."""
-        folder = cls.__new__(cls)
-        folder.path = path
-        folder.kind = kind
-        return folder
+        """A directory as it is."""
+        directory = cls.__new__(cls)
+        directory.path = path
+        directory.kind = kind
+        return directory
 
     def put(self, name, data):
         with open(os.path.join(self.path, name), "wb") as file:
@@ -132,7 +132,7 @@ class Folder:
 
 
 class Installing:
-    """Runs a program in fresh folders, in memory where that can be had; `kind` is one of `installers.py`."""
+    """Runs a program in fresh directories, in memory where that can be had; `kind` is one of `installers.py`."""
 
     def __init__(self, program, kind, room):
         self.kind = kind
@@ -146,22 +146,22 @@ class Installing:
         self.preload = build_preload(room, "break_calls")
         self.trace = build_preload(room, "trace_calls")
 
-    def folder(self):
+    def directory(self):
         return tempfile.TemporaryDirectory(dir=self.place)
 
     def installed(self, path, number=6, **how):
-        """A folder there that has an older update, and is offered one of this number."""
-        folder = Folder(path, self.kind, **how)
-        folder.offer("new", NEW, number)
-        return folder
+        """A directory there that has an older update, and is offered one of this number."""
+        directory = Directory(path, self.kind, **how)
+        directory.offer("new", NEW, number)
+        return directory
 
-    def run(self, folder, arguments, environment=None, passed=(), **how):
-        ran = subprocess.run([self.program, *arguments], cwd=folder.path, env=environment or {}, stdin=subprocess.DEVNULL,
+    def run(self, directory, arguments, environment=None, passed=(), **how):
+        ran = subprocess.run([self.program, *arguments], cwd=directory.path, env=environment or {}, stdin=subprocess.DEVNULL,
                              stdout=subprocess.DEVNULL, stderr=subprocess.PIPE, pass_fds=passed, umask=0o022, timeout=SECONDS, **how)
         return self.kind.ending(ran.returncode), ran.stderr
 
-    def check(self, folder, name, status, *options, said=None):
-        ended, text = self.run(folder, folder.arguments(name, *options))
+    def check(self, directory, name, status, *options, said=None):
+        ended, text = self.run(directory, directory.arguments(name, *options))
         if ended != status or said is not None and not self.kind.is_said(text, said):
             raise Failure(f"it ended with status {ended} in place of {status}, and said {text}")
 
@@ -169,28 +169,28 @@ class Installing:
 
     def installs(self):
         """A newer update, and what is kept of the file that was there."""
-        with self.folder() as path:
-            folder = Folder(path, self.kind)
-            folder.offer("new", NEW, 6)
-            self.check(folder, "new", 0)
-            folder.expect(NEW, b"6")
-            if folder.mode() != self.kind.kept_mode:
-                raise Failure(f"the place has the mode {folder.mode():o}")
+        with self.directory() as path:
+            directory = Directory(path, self.kind)
+            directory.offer("new", NEW, 6)
+            self.check(directory, "new", 0)
+            directory.expect(NEW, b"6")
+            if directory.mode() != self.kind.kept_mode:
+                raise Failure(f"the place has the mode {directory.mode():o}")
 
     # == Whether it is there already ==
 
     def finds_it_there(self, record=b"timestamp:6", options=()):
         """What stands there already is not written again, whatever DATA holds: no call makes, writes, renames or removes anything."""
-        with self.folder() as path:
-            folder = self.installed(path)
-            self.check(folder, "new", 0)
-            folder.put(RECORD, record)
-            folder.put("new", LATER)
-            folder.put(STAGE + "0" * 32, b"left")
+        with self.directory() as path:
+            directory = self.installed(path)
+            self.check(directory, "new", 0)
+            directory.put(RECORD, record)
+            directory.put("new", LATER)
+            directory.put(STAGE + "0" * 32, b"left")
             before = self.all_of(path)
             told, says = os.pipe()
             try:
-                ended, text = self.run(folder, folder.arguments("new", *options), {"LD_PRELOAD": self.trace, "TRACE_TO": str(says)}, [says])
+                ended, text = self.run(directory, directory.arguments("new", *options), {"LD_PRELOAD": self.trace, "TRACE_TO": str(says)}, [says])
             finally:
                 os.close(says)
             with os.fdopen(told) as pipe:
@@ -201,96 +201,96 @@ class Installing:
                 raise Failure(f"its calls were {calls}")
 
     def finds_other_data(self, options=(), change=lambda data: data[:-1] + b"x"):
-        """Other data of the kept number is refused, and replaced where that is asked for. Then it is there."""
-        with self.folder() as path:
-            folder = self.installed(path)
-            self.check(folder, "new", 0, *options)
-            folder.put(PLACE, change(NEW))
-            self.check(folder, "new", SAME, *options, said=OTHER_DATA)
-            folder.expect(change(NEW), b"6")
-            self.check(folder, "new", 0, *options, "--again")
-            folder.expect(NEW, b"6")
-            self.check(folder, "new", THERE, *options, "--again", said=b"")
+        """Other data of the kept number is rejected, and replaced where that is asked for. Then it is there."""
+        with self.directory() as path:
+            directory = self.installed(path)
+            self.check(directory, "new", 0, *options)
+            directory.put(PLACE, change(NEW))
+            self.check(directory, "new", SAME, *options, said=OTHER_DATA)
+            directory.expect(change(NEW), b"6")
+            self.check(directory, "new", 0, *options, "--again")
+            directory.expect(NEW, b"6")
+            self.check(directory, "new", THERE, *options, "--again", said=b"")
 
     def finds_other_update(self):
         """Two updates have one number: the second is installed only where that is asked for."""
-        with self.folder() as path:
-            folder = self.installed(path)
-            self.check(folder, "new", 0)
-            folder.offer("later", LATER, 6)
-            self.check(folder, "later", SAME, said=OTHER_DATA)
-            folder.expect(NEW, b"6")
-            self.check(folder, "later", 0, "--again")
-            folder.expect(LATER, b"6")
+        with self.directory() as path:
+            directory = self.installed(path)
+            self.check(directory, "new", 0)
+            directory.offer("later", LATER, 6)
+            self.check(directory, "later", SAME, said=OTHER_DATA)
+            directory.expect(NEW, b"6")
+            self.check(directory, "later", 0, "--again")
+            directory.expect(LATER, b"6")
 
     def puts_it_back(self):
         """A file that was removed is installed again."""
-        with self.folder() as path:
-            folder = self.installed(path)
-            self.check(folder, "new", 0)
+        with self.directory() as path:
+            directory = self.installed(path)
+            self.check(directory, "new", 0)
             os.remove(os.path.join(path, PLACE))
-            self.check(folder, "new", 0)
-            folder.expect(NEW, b"6")
+            self.check(directory, "new", 0)
+            directory.expect(NEW, b"6")
 
     def asks_with_the_lock(self):
         """While another run holds the lock, nothing is said of what stands there."""
-        with self.folder() as path:
-            folder = self.installed(path)
-            self.check(folder, "new", 0)
+        with self.directory() as path:
+            directory = self.installed(path)
+            self.check(directory, "new", 0)
             with open(os.path.join(path, LOCK), "rb") as lock:
                 fcntl.flock(lock, fcntl.LOCK_EX)
-                self.check(folder, "new", IN_USE, said=b"error: place: another installation is at work at this place\n")
-            self.check(folder, "new", THERE)
+                self.check(directory, "new", IN_USE, said=b"error: place: another installation is at work at this place\n")
+            self.check(directory, "new", THERE)
 
-    def refuses_of_kept_number(self, said, number=6, status=REFUSED, **how):
-        """What is refused of a newer update is refused of one whose number is kept, though its data stands there."""
-        with self.folder() as path:
-            folder = self.installed(path)
-            self.check(folder, "new", 0)
-            folder.offer("bad", NEW, number, **how)
-            self.check(folder, "bad", status, said=said)
-            folder.expect(NEW, b"6")
+    def rejects_of_kept_number(self, said, number=6, status=REJECTED, **how):
+        """What is rejected of a newer update is rejected of one whose number is kept, though its data stands there."""
+        with self.directory() as path:
+            directory = self.installed(path)
+            self.check(directory, "new", 0)
+            directory.offer("bad", NEW, number, **how)
+            self.check(directory, "bad", status, said=said)
+            directory.expect(NEW, b"6")
 
     def looks_at_no_other(self, make, said):
         """A link at the place, or what is no file, is not read where the number is the kept one."""
-        with self.folder() as path:
-            folder = self.installed(path)
-            self.check(folder, "new", 0)
-            folder.put("behind", NEW)
+        with self.directory() as path:
+            directory = self.installed(path)
+            self.check(directory, "new", 0)
+            directory.put("behind", NEW)
             os.remove(os.path.join(path, PLACE))
             make(os.path.join(path, PLACE))
-            self.check(folder, "new", FAILED, said=b"error: place: " + said + b"\n")
+            self.check(directory, "new", FAILED, said=b"error: place: " + said + b"\n")
 
     def after_kill_between_renames(self):
-        """The record has the new number, and the place the older data: that is refused, and healed where it is asked for."""
-        with self.folder() as path:
-            folder = self.installed(path)
+        """The record has the new number, and the place the older data: that is rejected, and healed where it is asked for."""
+        with self.directory() as path:
+            directory = self.installed(path)
             environment = {"LD_PRELOAD": self.preload, "BREAK_CALLS": self.kind.called["rename"], "BREAK_AT": "2",
                            "BREAK_SIGNAL": str(int(signal.SIGKILL))}
-            status, said = self.run(folder, folder.arguments("new"), environment)
-            if status != -signal.SIGKILL or (folder.holds(), folder.holds(RECORD)) != (OLD, b"6"):
-                raise Failure(f"it ended with status {status}, and the record holds {folder.holds(RECORD)}")
-            self.check(folder, "new", SAME, said=OTHER_DATA)
-            self.check(folder, "new", 0, "--again")
-            folder.expect(NEW, b"6")
-            self.check(folder, "new", THERE, "--again")
+            status, said = self.run(directory, directory.arguments("new"), environment)
+            if status != -signal.SIGKILL or (directory.holds(), directory.holds(RECORD)) != (OLD, b"6"):
+                raise Failure(f"it ended with status {status}, and the record holds {directory.holds(RECORD)}")
+            self.check(directory, "new", SAME, said=OTHER_DATA)
+            self.check(directory, "new", 0, "--again")
+            directory.expect(NEW, b"6")
+            self.check(directory, "new", THERE, "--again")
 
     def fails_to_look(self):
         """The file at the place cannot be read: that is said, and nothing is installed."""
-        with self.folder() as path:
-            folder = self.installed(path)
-            self.check(folder, "new", 0)
+        with self.directory() as path:
+            directory = self.installed(path)
+            self.check(directory, "new", 0)
             before = self.all_of(path)
-            ended, text = self.run(folder, folder.arguments("new"), {"LD_PRELOAD": self.preload, "BREAK_CALLS": self.kind.looking,
+            ended, text = self.run(directory, directory.arguments("new"), {"LD_PRELOAD": self.preload, "BREAK_CALLS": self.kind.looking,
                                                                      "BREAK_AT": str(self.kind.looked_at), "BREAK_ERRNO": str(errno.EIO)})
             if ended != FAILED or not self.kind.is_said(text, b"error: place: Input/output error (os error 5)\n") or self.all_of(path) != before:
                 raise Failure(f"it ended with status {ended}, and said {text}")
 
     def finds_it_there_unfed(self):
         """Through a pipe that nobody feeds nothing is waited for."""
-        with self.folder() as path:
-            folder = self.installed(path)
-            self.check(folder, "new", 0)
+        with self.directory() as path:
+            directory = self.installed(path)
+            self.check(directory, "new", 0)
             before = self.all_of(path)
             says, told = os.pipe()
             try:
@@ -303,30 +303,30 @@ class Installing:
                 os.close(told)
             if ran.returncode != THERE or ran.stderr or self.all_of(path) != before:
                 raise Failure(f"it ended with status {ran.returncode}, and said {ran.stderr}")
-            folder.put(PLACE, OLD)
+            directory.put(PLACE, OLD)
             for words, status in (([], SAME), (["--again"], 0)):
                 ran = subprocess.run([self.program, *words, PK, "/dev/stdin", "new.sig", PLACE], cwd=path, env={}, input=NEW,
                                      stdout=subprocess.DEVNULL, stderr=subprocess.PIPE, timeout=SECONDS)
                 if ran.returncode != status or ran.stderr != (OTHER_DATA if status else b""):
                     raise Failure(f"it ended with status {ran.returncode}, and said {ran.stderr}")
-            folder.expect(NEW, b"6")
+            directory.expect(NEW, b"6")
 
     def is_overtaken(self):
         """What comes through a pipe another run installs meanwhile: then it is there already."""
-        with self.folder() as path:
-            folder = self.installed(path)
+        with self.directory() as path:
+            directory = self.installed(path)
             os.rename(os.path.join(path, "new"), os.path.join(path, "whole"))
             os.mkfifo(os.path.join(path, "new"))
-            process = subprocess.Popen([self.program, *folder.arguments("new")], cwd=path, env={}, stdin=subprocess.DEVNULL,
+            process = subprocess.Popen([self.program, *directory.arguments("new")], cwd=path, env={}, stdin=subprocess.DEVNULL,
                                        stdout=subprocess.DEVNULL, stderr=subprocess.PIPE)
             with open(os.path.join(path, "new"), "r+b", buffering=0) as pipe:
                 pipe.write(NEW[:1000])
                 wait_until_read(pipe)
-                self.check_words(folder, [PK, "whole", "new.sig", PLACE], 0)
+                self.check_words(directory, [PK, "whole", "new.sig", PLACE], 0)
                 before = os.stat(os.path.join(path, PLACE))
                 pipe.write(NEW[1000:])
             said = process.communicate(timeout=SECONDS)[1]
-            folder.expect(NEW, b"6")
+            directory.expect(NEW, b"6")
             if process.returncode != THERE or said or os.stat(os.path.join(path, PLACE)).st_ino != before.st_ino:
                 raise Failure(f"it ended with status {process.returncode}, and said {said}")
 
@@ -335,81 +335,81 @@ class Installing:
     def keeps_field(self):
         """The record has the field's name beside the number, and a place stays with its field, but for `--first`."""
         version = ("--numbering", "version")
-        with self.folder() as path:
-            folder = Folder(path, self.kind)
-            folder.offer("version", NEW, 2 ** 64 - 1, label="version")
-            self.check(folder, "version", 0, *version)
-            self.is_kept(folder, NEW, b"version:18446744073709551615")
-            folder.offer("time", OLD, 1700000000)
-            self.check(folder, "time", UNRECORDED,
+        with self.directory() as path:
+            directory = Directory(path, self.kind)
+            directory.offer("version", NEW, 2 ** 64 - 1, label="version")
+            self.check(directory, "version", 0, *version)
+            self.is_kept(directory, NEW, b"version:18446744073709551615")
+            directory.offer("time", OLD, 1700000000)
+            self.check(directory, "time", UNRECORDED,
                        said=b"error: place: the number that is kept beside the place is a version, and no timestamp\n")
-            self.is_kept(folder, NEW, b"version:18446744073709551615")
-            self.check(folder, "time", 0, "--first")
-            self.is_kept(folder, OLD, b"timestamp:1700000000")
-            folder.offer("version", NEW, 2, label="version")
-            self.check(folder, "version", UNRECORDED, *version,
+            self.is_kept(directory, NEW, b"version:18446744073709551615")
+            self.check(directory, "time", 0, "--first")
+            self.is_kept(directory, OLD, b"timestamp:1700000000")
+            directory.offer("version", NEW, 2, label="version")
+            self.check(directory, "version", UNRECORDED, *version,
                        said=b"error: place: the number that is kept beside the place is a timestamp, and no version\n")
-            self.is_kept(folder, OLD, b"timestamp:1700000000")
-            self.check(folder, "version", 0, "--first", *version)
-            self.is_kept(folder, NEW, b"version:2")
-            folder.offer("version", LATER, 1, label="version")
-            self.check(folder, "version", OLDER, "--first", *version)
-            folder.offer("version", LATER, 3, label="version")
-            self.check(folder, "version", 0, *version)
-            self.is_kept(folder, LATER, b"version:3")
+            self.is_kept(directory, OLD, b"timestamp:1700000000")
+            self.check(directory, "version", 0, "--first", *version)
+            self.is_kept(directory, NEW, b"version:2")
+            directory.offer("version", LATER, 1, label="version")
+            self.check(directory, "version", OLDER, "--first", *version)
+            directory.offer("version", LATER, 3, label="version")
+            self.check(directory, "version", 0, *version)
+            self.is_kept(directory, LATER, b"version:3")
 
     @staticmethod
-    def is_kept(folder, data, record):
-        if (content(folder.path, PLACE), content(folder.path, RECORD)) != (data, record):
-            raise Failure(f"the place holds {str(folder.holds())[:40]}, and the record {content(folder.path, RECORD)}")
+    def is_kept(directory, data, record):
+        if (content(directory.path, PLACE), content(directory.path, RECORD)) != (data, record):
+            raise Failure(f"the place holds {str(directory.holds())[:40]}, and the record {content(directory.path, RECORD)}")
 
     def installs_first(self):
-        with self.folder() as path:
-            folder = Folder(path, self.kind, is_installed=False)
-            folder.offer("new", NEW, 6)
-            self.check(folder, "new", UNRECORDED, said=b"error: place: no number is kept beside the place (`--first` installs all the same)\n")
-            folder.expect(None, None)
-            self.check(folder, "new", 0, "--first")
-            folder.expect(NEW, b"6")
-            if folder.mode() != 0o600:
-                raise Failure(f"the place has the mode {folder.mode():o}")
-            folder.put(RECORD, b"six")
-            self.check(folder, "new", UNRECORDED, said=b"error: place: what is kept beside the place is no number (`--first` installs all the same)\n")
-            folder.expect(NEW, b"six")
-            self.check(folder, "new", 0, "--first")
-            folder.offer("old", OLD, 4)
-            self.check(folder, "old", OLDER, "--first", said=b"error: old: the update is older than what was installed\n")
-            folder.expect(NEW, b"6")
+        with self.directory() as path:
+            directory = Directory(path, self.kind, is_installed=False)
+            directory.offer("new", NEW, 6)
+            self.check(directory, "new", UNRECORDED, said=b"error: place: no number is kept beside the place (`--first` installs all the same)\n")
+            directory.expect(None, None)
+            self.check(directory, "new", 0, "--first")
+            directory.expect(NEW, b"6")
+            if directory.mode() != 0o600:
+                raise Failure(f"the place has the mode {directory.mode():o}")
+            directory.put(RECORD, b"six")
+            self.check(directory, "new", UNRECORDED, said=b"error: place: what is kept beside the place is no number (`--first` installs all the same)\n")
+            directory.expect(NEW, b"six")
+            self.check(directory, "new", 0, "--first")
+            directory.offer("old", OLD, 4)
+            self.check(directory, "old", OLDER, "--first", said=b"error: old: the update is older than what was installed\n")
+            directory.expect(NEW, b"6")
 
-    def refuses(self, said, data=NEW, number=6, status=REFUSED, words=(), **how):
-        with self.folder() as path:
-            folder = Folder(path, self.kind)
-            folder.offer("bad", data, number, **how)
-            self.check(folder, "bad", status, *words, said=said)
-            folder.expect(OLD, b"5")
+    def rejects(self, said, data=NEW, number=6, status=REJECTED, words=(), **how):
+        with self.directory() as path:
+            directory = Directory(path, self.kind)
+            directory.offer("bad", data, number, **how)
+            self.check(directory, "bad", status, *words, said=said)
+            directory.expect(OLD, b"5")
 
-    def refuses_changed_comment(self):
+    def rejects_changed_comment(self):
         """An older update is offered with a greater number in its comment, and one for another file with this name."""
-        with self.folder() as path:
-            folder = Folder(path, self.kind)
+        with self.directory() as path:
+            directory = Directory(path, self.kind)
             for number, names, old, new in ((4, PLACE, b"timestamp:4", b"timestamp:9"), (6, "other", b"file:other", b"file:place")):
-                folder.offer("bad", NEW, number, names=names)
-                text = folder.holds("bad.sig")
+                directory.offer("bad", NEW, number, names=names)
+                text = directory.holds("bad.sig")
                 if text.count(old) != 1:
                     raise Failure(f"the signature is {text}")
-                folder.put("bad.sig", text.replace(old, new))
-                self.check(folder, "bad", REFUSED, said=b"error: bad.sig: Comment signature verification failed\n")
-                folder.expect(OLD, b"5")
+                directory.put("bad.sig", text.replace(old, new))
+                self.check(directory, "bad", REJECTED, said=b"error: bad.sig: Comment signature verification failed\n")
+                directory.expect(OLD, b"5")
 
     def draws_names(self):
         """The stages of two runs over the same files have four names."""
         names = set()
         for _ in range(2):
-            with self.folder() as path:
-                folder = self.installed(path)
+            with self.directory() as path:
+                directory = self.installed(path)
                 told, says = os.pipe()
                 try:
-                    self.run(folder, folder.arguments("new"), {"LD_PRELOAD": self.trace, "TRACE_TO": str(says)}, [says])
+                    self.run(directory, directory.arguments("new"), {"LD_PRELOAD": self.trace, "TRACE_TO": str(says)}, [says])
                 finally:
                     os.close(says)
                 with os.fdopen(told) as pipe:
@@ -417,97 +417,97 @@ class Installing:
         if len(names) != 4:
             raise Failure(f"the names are {sorted(names)}")
 
-    def refuses_legacy(self):
-        with self.folder() as path:
-            folder = Folder(path, self.kind)
-            folder.offer("bad", NEW, 6, legacy=True)
-            self.check(folder, "bad", REFUSED, said=b"error: bad.sig: Legacy signatures are not accepted\n")
-            folder.expect(OLD, b"5")
+    def rejects_legacy(self):
+        with self.directory() as path:
+            directory = Directory(path, self.kind)
+            directory.offer("bad", NEW, 6, legacy=True)
+            self.check(directory, "bad", REJECTED, said=b"error: bad.sig: Legacy signatures are not accepted\n")
+            directory.expect(OLD, b"5")
 
     def removes_leftovers(self):
         """Stages of killed runs go, and files that only look alike stay."""
-        with self.folder() as path:
-            folder = Folder(path, self.kind)
-            folder.offer("new", NEW, 6)
+        with self.directory() as path:
+            directory = Directory(path, self.kind)
+            directory.offer("new", NEW, 6)
             left = [STAGE + "0" * 32, STAGE + "0123456789abcdef" * 2]
             alike = [STAGE + "0" * 31, STAGE + "A" * 32, ".other.stage-" + "0" * 32, STAGE + "0" * 33]
             for name in left + alike:
-                folder.put(name, b"left")
-            self.check(folder, "new", 0)
+                directory.put(name, b"left")
+            self.check(directory, "new", 0)
             found = set(os.listdir(path))
             if found & set(left) or not found >= set(alike):
-                raise Failure(f"the folder has {sorted(found)}")
+                raise Failure(f"the directory has {sorted(found)}")
 
     # == Whether there is a newer one ==
 
     def checks(self, status, *options, said=b"", record=b"timestamp:5", number=6, words=(PK, "new.sig", PLACE), **how):
         """By the signature alone: nothing is written, and the lock may be held by another."""
-        with self.folder() as path:
-            folder = Folder(path, self.kind)
+        with self.directory() as path:
+            directory = Directory(path, self.kind)
             os.remove(os.path.join(path, RECORD))
             if record is not None:
-                folder.put(RECORD, record)
-            folder.offer("new", NEW, number, **how)
+                directory.put(RECORD, record)
+            directory.offer("new", NEW, number, **how)
             os.remove(os.path.join(path, "new"))
             before = self.all_of(path)
-            ended, text = self.run(folder, [*options, "--check", *words])
+            ended, text = self.run(directory, [*options, "--check", *words])
             if ended != status or said is not None and text != said:
                 raise Failure(f"it ended with status {ended} in place of {status}, and said {text}")
             if self.all_of(path) != before:
-                raise Failure(f"the folder has {os.listdir(path)}")
+                raise Failure(f"the directory has {os.listdir(path)}")
 
     @staticmethod
     def all_of(path):
-        """What a folder has, and when each file was changed."""
+        """What a directory has, and when each file was changed."""
         return {it.name: (content(path, it.name), it.stat().st_mtime_ns, it.stat().st_ino) for it in os.scandir(path)}, os.stat(path).st_mtime_ns
 
     def checks_changed_comment(self):
         """A greater number in the comment of an older update is no newer one."""
-        with self.folder() as path:
-            folder = Folder(path, self.kind)
-            folder.offer("bad", NEW, 4)
-            folder.put("bad.sig", folder.holds("bad.sig").replace(b"timestamp:4", b"timestamp:9"))
-            self.check_words(folder, ["--check", PK, "bad.sig", PLACE], REFUSED,
+        with self.directory() as path:
+            directory = Directory(path, self.kind)
+            directory.offer("bad", NEW, 4)
+            directory.put("bad.sig", directory.holds("bad.sig").replace(b"timestamp:4", b"timestamp:9"))
+            self.check_words(directory, ["--check", PK, "bad.sig", PLACE], REJECTED,
                              b"error: bad.sig: Comment signature verification failed\n")
 
-    def check_words(self, folder, words, status, said=b""):
-        ended, text = self.run(folder, words)
+    def check_words(self, directory, words, status, said=b""):
+        ended, text = self.run(directory, words)
         if ended != status or text != said:
             raise Failure(f"it ended with status {ended} in place of {status}, and said {text}")
 
     def checks_where(self, away, status, said):
-        """Without a folder, and where the record is no regular file."""
-        with self.folder() as path:
-            folder = Folder(path, self.kind)
-            folder.offer("new", NEW, 6)
+        """Without a directory, and where the record is no regular file."""
+        with self.directory() as path:
+            directory = Directory(path, self.kind)
+            directory.offer("new", NEW, 6)
             os.remove(os.path.join(path, RECORD))
             os.mkdir(os.path.join(path, RECORD))
-            self.check_words(folder, ["--check", PK, "new.sig", away], status, said)
+            self.check_words(directory, ["--check", PK, "new.sig", away], status, said)
 
     def checks_unlocked(self):
         """While another run holds the lock."""
-        with self.folder() as path:
-            folder = self.installed(path)
-            folder.put(LOCK, b"")
+        with self.directory() as path:
+            directory = self.installed(path)
+            directory.put(LOCK, b"")
             with open(os.path.join(path, LOCK), "rb") as lock:
                 fcntl.flock(lock, fcntl.LOCK_EX)
-                self.check_words(folder, ["--check", PK, "new.sig", PLACE], 0)
+                self.check_words(directory, ["--check", PK, "new.sig", PLACE], 0)
 
     def checks_beside_installations(self):
         """While installations rename new records into their place, a slow check reads an older one or a newer one, whole."""
-        with self.folder() as path:
-            folder, is_over = self.installed(path), threading.Event()
+        with self.directory() as path:
+            directory, is_over = self.installed(path), threading.Event()
 
             def rename():
                 while not is_over.wait(0.02):
-                    folder.put("made", b"timestamp:5")
+                    directory.put("made", b"timestamp:5")
                     os.replace(os.path.join(path, "made"), os.path.join(path, RECORD))
 
             renaming = threading.Thread(target=rename)
             renaming.start()
             try:
                 for _ in range(20):
-                    ended, text = self.run(folder, ["--check", PK, "new.sig", PLACE], {"LD_PRELOAD": self.trace, "SLOW": "5000"})
+                    ended, text = self.run(directory, ["--check", PK, "new.sig", PLACE], {"LD_PRELOAD": self.trace, "SLOW": "5000"})
                     if ended != 0 or text:
                         raise Failure(f"it ended with status {ended}, and said {text}")
             finally:
@@ -518,90 +518,90 @@ class Installing:
 
     def names_keys(self):
         """One key, two of which the second or the first has signed, and two that have not."""
-        with self.folder() as path:
-            folder = self.installed(path)
+        with self.directory() as path:
+            directory = self.installed(path)
             key, other = self.kind.public_text().split()[-1].decode(), OTHER_KEY
-            self.check_words(folder, ["--key", other, "new", "new.sig", PLACE], REFUSED,
+            self.check_words(directory, ["--key", other, "new", "new.sig", PLACE], REJECTED,
                              b"error: new.sig: Signature key id is different from public key\n")
             for words in (["--key", key], ["--key", key, "--key", other], ["--key", other, "--key", key]):
-                folder = self.installed(path)
-                self.check_words(folder, [*words, "--check", "new.sig", PLACE], 0)
-                self.check_words(folder, [*words, "new", "new.sig", PLACE], 0)
-                folder.expect(NEW, b"6")
-                self.check_words(folder, [*words, "--check", "new.sig", PLACE], SAME)
+                directory = self.installed(path)
+                self.check_words(directory, [*words, "--check", "new.sig", PLACE], 0)
+                self.check_words(directory, [*words, "new", "new.sig", PLACE], 0)
+                directory.expect(NEW, b"6")
+                self.check_words(directory, [*words, "--check", "new.sig", PLACE], SAME)
 
-    def refuses_key(self, key, said):
-        with self.folder() as path:
-            folder = self.installed(path)
-            self.check_words(folder, ["--key", key, "new", "new.sig", PLACE], REFUSED, said)
-            if folder.holds(LOCK) is not None:
-                raise Failure("the folder was touched")
+    def rejects_key(self, key, said):
+        with self.directory() as path:
+            directory = self.installed(path)
+            self.check_words(directory, ["--key", key, "new", "new.sig", PLACE], REJECTED, said)
+            if directory.holds(LOCK) is not None:
+                raise Failure("the directory was touched")
 
     # == What stands beside the place ==
 
     def passes_over(self, make, name):
         """What is no leftover, or cannot be removed, stays, and stops no update."""
-        with self.folder() as path:
-            folder = Folder(path, self.kind)
-            folder.offer("new", NEW, 6)
+        with self.directory() as path:
+            directory = Directory(path, self.kind)
+            directory.offer("new", NEW, 6)
             make(os.path.join(os.fsencode(path), name))
-            self.check(folder, "new", 0)
-            if name not in os.listdir(os.fsencode(path)) or folder.holds() != NEW or folder.holds(RECORD) != b"6":
+            self.check(directory, "new", 0)
+            if name not in os.listdir(os.fsencode(path)) or directory.holds() != NEW or directory.holds(RECORD) != b"6":
                 raise Failure(f"{name} was removed, or the update is not there")
 
-    def refuses_record(self, record, status, said):
-        with self.folder() as path:
-            folder = Folder(path, self.kind)
-            folder.put(RECORD, record)
-            folder.offer("new", NEW, 6)
-            self.check(folder, "new", status, said=said)
-            self.is_kept(folder, OLD, record)
+    def rejects_record(self, record, status, said):
+        with self.directory() as path:
+            directory = Directory(path, self.kind)
+            directory.put(RECORD, record)
+            directory.offer("new", NEW, 6)
+            self.check(directory, "new", status, said=said)
+            self.is_kept(directory, OLD, record)
 
     def takes_record(self, record):
-        with self.folder() as path:
-            folder = Folder(path, self.kind)
-            folder.put(RECORD, record)
-            folder.offer("old", LATER, 4)
-            self.check(folder, "old", OLDER)
-            self.is_kept(folder, OLD, record)
-            folder.offer("new", NEW, 6)
-            self.check(folder, "new", 0)
-            self.is_kept(folder, NEW, b"timestamp:6")
+        with self.directory() as path:
+            directory = Directory(path, self.kind)
+            directory.put(RECORD, record)
+            directory.offer("old", LATER, 4)
+            self.check(directory, "old", OLDER)
+            self.is_kept(directory, OLD, record)
+            directory.offer("new", NEW, 6)
+            self.check(directory, "new", 0)
+            self.is_kept(directory, NEW, b"timestamp:6")
 
-    def refuses_beside(self, name, make, said):
-        """A record or a lock file that is a link, or no regular file, is refused, left alone, and not waited for."""
-        with self.folder() as path:
-            folder = Folder(path, self.kind)
-            folder.offer("new", NEW, 6)
-            folder.put("behind", b"4")
+    def rejects_beside(self, name, make, said):
+        """A record or a lock file that is a link, or no regular file, is rejected, left alone, and not waited for."""
+        with self.directory() as path:
+            directory = Directory(path, self.kind)
+            directory.offer("new", NEW, 6)
+            directory.put("behind", b"4")
             at = os.path.join(path, name)
             if os.path.exists(at):
                 os.remove(at)
             make(at)
             before = os.lstat(at)
             names = set(os.listdir(path)) | {LOCK}
-            self.check(folder, "new", FAILED, said=f"error: ./{name}: {said}\n".encode())
+            self.check(directory, "new", FAILED, said=f"error: ./{name}: {said}\n".encode())
             after = os.lstat(at)
-            if (before.st_ino, before.st_mode) != (after.st_ino, after.st_mode) or folder.holds("behind") != b"4":
+            if (before.st_ino, before.st_mode) != (after.st_ino, after.st_mode) or directory.holds("behind") != b"4":
                 raise Failure(f"{name} or what it leads to was changed")
-            if folder.holds() != OLD or not set(os.listdir(path)) <= names:
+            if directory.holds() != OLD or not set(os.listdir(path)) <= names:
                 raise Failure("the update was installed, or something was left")
 
     # == Meanwhile ==
 
-    def while_staged(self, folder, meanwhile, where=".", name="new"):
-        """A run over the place in a folder of that folder: once it has staged all of its data it stops, something is done, and
+    def while_staged(self, directory, meanwhile, where=".", name="new"):
+        """A run over the place in a directory of that directory: once it has staged all of its data it stops, something is done, and
         then it goes on. Its status, and what it said."""
         environment = {"LD_PRELOAD": self.preload, "BREAK_CALLS": self.kind.called["read-back"], "BREAK_AT": "1",
                        "BREAK_SIGNAL": str(int(signal.SIGSTOP)), "BREAK_GOES_ON": "1"}
-        process = subprocess.Popen([self.program, PK, name, name + ".sig", os.path.join(where, PLACE)], cwd=folder.path,
+        process = subprocess.Popen([self.program, PK, name, name + ".sig", os.path.join(where, PLACE)], cwd=directory.path,
                                    env=environment, stdin=subprocess.DEVNULL, stdout=subprocess.DEVNULL, stderr=subprocess.PIPE)
         try:
             _, how = os.waitpid(process.pid, os.WUNTRACED)
             if not os.WIFSTOPPED(how):
                 process.returncode = os.waitstatus_to_exitcode(how)
                 raise Failure(f"it staged nothing, and said {process.stderr.read()}")
-            meanwhile(Folder.there(os.path.join(folder.path, where), self.kind))
+            meanwhile(Directory.there(os.path.join(directory.path, where), self.kind))
         finally:
             if process.returncode is None:
                 process.send_signal(signal.SIGCONT)
@@ -610,20 +610,20 @@ class Installing:
 
     def stalled_pipe(self):
         """A run whose data comes through a pipe that stands still holds up no other run, and leaves nothing where it is killed."""
-        with self.folder() as path:
-            folder = self.installed(path)
-            folder.offer("later", LATER, 7)
+        with self.directory() as path:
+            directory = self.installed(path)
+            directory.offer("later", LATER, 7)
             os.remove(os.path.join(path, "new"))
             os.mkfifo(os.path.join(path, "new"))
             for is_killed in (True, False):
-                process = subprocess.Popen([self.program, *folder.arguments("new")], cwd=path, env={}, stdin=subprocess.DEVNULL,
+                process = subprocess.Popen([self.program, *directory.arguments("new")], cwd=path, env={}, stdin=subprocess.DEVNULL,
                                            stdout=subprocess.DEVNULL, stderr=subprocess.PIPE)
                 # (also for reading, so that it is open at once)
                 with open(os.path.join(path, "new"), "r+b", buffering=0) as pipe:
                     pipe.write(NEW[:1000])
                     wait_until_read(pipe)
-                    self.check(folder, "later", 0 if is_killed else THERE)
-                    folder.expect(LATER, b"7")
+                    self.check(directory, "later", 0 if is_killed else THERE)
+                    directory.expect(LATER, b"7")
                     if is_killed:
                         process.kill()
                     else:
@@ -631,14 +631,14 @@ class Installing:
                 said = process.communicate(timeout=SECONDS)[1]
                 if process.returncode != (-signal.SIGKILL if is_killed else OLDER):
                     raise Failure(f"it ended with status {process.returncode}, and said {said}")
-                folder.expect(LATER, b"7")
+                directory.expect(LATER, b"7")
 
     def through_pipe(self):
-        """Data through a pipe is installed, and refused where it is longer than it may be or is not what was signed."""
-        with self.folder() as path:
-            folder = self.installed(path)
-            folder.offer("bad", NEW, 6, signed=LATER)
-            for name, bound, status in (("new", len(NEW) - 1, REFUSED), ("bad", len(NEW), REFUSED), ("new", len(NEW), 0)):
+        """Data through a pipe is installed, and rejected where it is longer than it may be or is not what was signed."""
+        with self.directory() as path:
+            directory = self.installed(path)
+            directory.offer("bad", NEW, 6, signed=LATER)
+            for name, bound, status in (("new", len(NEW) - 1, REJECTED), ("bad", len(NEW), REJECTED), ("new", len(NEW), 0)):
                 with open(os.path.join(path, "new"), "rb") as data:
                     feeding = subprocess.Popen(["cat"], stdin=data, stdout=subprocess.PIPE, stderr=subprocess.DEVNULL)
                     words = ["--most", str(bound), PK, "/dev/stdin", name + ".sig", PLACE]
@@ -648,11 +648,11 @@ class Installing:
                     feeding.wait(timeout=SECONDS)
                 if ran.returncode != status:
                     raise Failure(f"it ended with status {ran.returncode} in place of {status}, and said {ran.stderr}")
-                folder.expect(*((OLD, b"5") if status else (NEW, b"6")))
+                directory.expect(*((OLD, b"5") if status else (NEW, b"6")))
 
-    def misses_folder_for_pipe(self):
-        """Data through a pipe for a folder that is not there is told as that."""
-        with self.folder() as path:
+    def misses_directory_for_pipe(self):
+        """Data through a pipe for a directory that is not there is told as that."""
+        with self.directory() as path:
             self.installed(path)
             ran = subprocess.run([self.program, PK, "/dev/stdin", "new.sig", "none/place"], cwd=path, env={}, input=NEW,
                                  stdout=subprocess.DEVNULL, stderr=subprocess.PIPE, timeout=SECONDS)
@@ -661,54 +661,54 @@ class Installing:
 
     def loses_lock(self):
         """A run whose lock file is removed changes nothing once another one went past it."""
-        with self.folder() as path:
-            folder = self.installed(path)
-            folder.offer("later", LATER, 7)
+        with self.directory() as path:
+            directory = self.installed(path)
+            directory.offer("later", LATER, 7)
 
             def overtake(at):
                 os.remove(os.path.join(path, LOCK))
-                self.check(folder, "later", 0)
+                self.check(directory, "later", 0)
 
-            status, said = self.while_staged(folder, overtake)
-            if status != FAILED or b".place.lock: it was removed or replaced while it was locked" not in said or folder.holds() != LATER or folder.holds(RECORD) != b"7":
-                raise Failure(f"the slow run ended with status {status}, said {said}, and the record holds {folder.holds(RECORD)}")
+            status, said = self.while_staged(directory, overtake)
+            if status != FAILED or b".place.lock: it was removed or replaced while it was locked" not in said or directory.holds() != LATER or directory.holds(RECORD) != b"7":
+                raise Failure(f"the slow run ended with status {status}, said {said}, and the record holds {directory.holds(RECORD)}")
 
     def changed_stage(self):
         """What is judged is what the stage holds, whatever was copied."""
-        with self.folder() as path:
-            folder = self.installed(path)
+        with self.directory() as path:
+            directory = self.installed(path)
 
             def change(at):
                 with open(os.path.join(path, at.stages()[0]), "r+b") as stage:
                     stage.write(b"x")
 
-            status, said = self.while_staged(folder, change)
-            if status != REFUSED or not self.kind.is_said(said, b"error: new: Signature verification failed\n"):
+            status, said = self.while_staged(directory, change)
+            if status != REJECTED or not self.kind.is_said(said, b"error: new: Signature verification failed\n"):
                 raise Failure(f"it ended with status {status}, and said {said}")
-            folder.expect(OLD, b"5")
+            directory.expect(OLD, b"5")
 
-    def moved_folder(self):
-        """A folder that is moved meanwhile gets the update, and not the one that then stands under its path."""
-        with self.folder() as path:
+    def moved_directory(self):
+        """A directory that is moved meanwhile gets the update, and not the one that then stands under its path."""
+        with self.directory() as path:
             sub, moved = os.path.join(path, "sub"), os.path.join(path, "moved")
-            folder = self.installed(path)
+            directory = self.installed(path)
             os.mkdir(sub)
-            Folder(sub, self.kind)
+            Directory(sub, self.kind)
 
             def move(at):
                 os.rename(sub, moved)
                 os.mkdir(sub)
-                Folder(sub, self.kind)
+                Directory(sub, self.kind)
 
-            status, said = self.while_staged(folder, move, "sub")
+            status, said = self.while_staged(directory, move, "sub")
             if status != 0:
                 raise Failure(f"it ended with status {status}, and said {said}")
-            Folder.there(moved, self.kind).expect(NEW, b"6")
-            Folder.there(sub, self.kind).expect(OLD, b"5")
+            Directory.there(moved, self.kind).expect(NEW, b"6")
+            Directory.there(sub, self.kind).expect(OLD, b"5")
             if set(os.listdir(sub)) != {PK, PLACE, RECORD}:
-                raise Failure(f"the other folder has {os.listdir(sub)}")
+                raise Failure(f"the other directory has {os.listdir(sub)}")
 
-    def with_swapping(self, folder, swap, judge, rounds=40):
+    def with_swapping(self, directory, swap, judge, rounds=40):
         """Runs while something is swapped again and again, each of whose calls waits first for a short while."""
         stop, broken = threading.Event(), []
 
@@ -726,9 +726,9 @@ class Installing:
         thread.start()
         try:
             for _ in range(rounds):
-                judge(*self.run(folder, folder.arguments("new"), {"LD_PRELOAD": self.trace, "SLOW": "2000"}))
-                if folder.stages():
-                    raise Failure(f"it left {folder.stages()}")
+                judge(*self.run(directory, directory.arguments("new"), {"LD_PRELOAD": self.trace, "SLOW": "2000"}))
+                if directory.stages():
+                    raise Failure(f"it left {directory.stages()}")
         finally:
             stop.set()
             thread.join()
@@ -737,15 +737,15 @@ class Installing:
 
     def swapped_data(self):
         """The data is written over and replaced while it is copied: the place holds the old update or the new one, whole."""
-        with self.folder() as path:
-            folder = Folder(path, self.kind)
-            folder.offer("new", NEW, 6)
+        with self.directory() as path:
+            directory = Directory(path, self.kind)
+            directory.offer("new", NEW, 6)
             at = os.path.join(path, "new")
 
             def swap(number):
                 data = [NEW, LATER[:len(NEW)], NEW, NEW[:-1]][number % 4]
                 if number % 3 == 0:
-                    folder.put("other", data)
+                    directory.put("other", data)
                     os.rename(os.path.join(path, "other"), at)
                 else:
                     with open(at, "r+b") as file:
@@ -753,24 +753,24 @@ class Installing:
                         file.truncate()
 
             def judge(status, said):
-                if status not in (0, REFUSED):
+                if status not in (0, REJECTED):
                     raise Failure(f"it ended with status {status}, and said {said}")
-                state = (folder.holds(), folder.holds(RECORD))
+                state = (directory.holds(), directory.holds(RECORD))
                 if state != (NEW, b"6") and (status == 0 or state != (OLD, b"5")):
                     raise Failure(f"after status {status} the place holds {str(state[0])[:40]}, and the record {state[1]}")
-                folder.put(PLACE, OLD)
-                folder.put(RECORD, b"5")
+                directory.put(PLACE, OLD)
+                directory.put(RECORD, b"5")
 
-            self.with_swapping(folder, swap, judge)
+            self.with_swapping(directory, swap, judge)
 
     def swapped_place(self):
-        """Links, folders, pipes and files come to the place and go: none is followed, waited for or written into."""
-        with self.folder() as path:
-            folder = Folder(path, self.kind)
-            folder.offer("new", NEW, 6)
-            folder.put("behind", b"behind")
+        """Links, directories, pipes and files come to the place and go: none is followed, waited for or written into."""
+        with self.directory() as path:
+            directory = Directory(path, self.kind)
+            directory.offer("new", NEW, 6)
+            directory.put("behind", b"behind")
             at = os.path.join(path, PLACE)
-            makes = [lambda: folder.put("made", OLD), lambda: os.symlink("behind", os.path.join(path, "made")),
+            makes = [lambda: directory.put("made", OLD), lambda: os.symlink("behind", os.path.join(path, "made")),
                      lambda: os.mkfifo(os.path.join(path, "made")), lambda: os.mkdir(os.path.join(path, "made"))]
 
             def swap(number):
@@ -781,40 +781,40 @@ class Installing:
                     try:
                         return os.rename(os.path.join(path, "made"), at)
                     except NotADirectoryError:
-                        # (a folder replaces no file, and a run may put one there at any time)
+                        # (a directory replaces no file, and a run may put one there at any time)
                         os.remove(at)
 
             def judge(status, said):
                 if status not in (0, FAILED, SAME, THERE):
                     raise Failure(f"it ended with status {status}, and said {said}")
                 if status in (0, SAME):
-                    # (from then on it is looked at what stands there, until that was refused once)
-                    folder.put(RECORD, b"6" if status == 0 else b"5")
-                if folder.holds("behind") != b"behind" or folder.holds(RECORD) not in (b"5", b"6"):
-                    raise Failure(f"what a link leads to is {folder.holds('behind')}, and the record {folder.holds(RECORD)}")
+                    # (from then on it is looked at what stands there, until that was rejected once)
+                    directory.put(RECORD, b"6" if status == 0 else b"5")
+                if directory.holds("behind") != b"behind" or directory.holds(RECORD) not in (b"5", b"6"):
+                    raise Failure(f"what a link leads to is {directory.holds('behind')}, and the record {directory.holds(RECORD)}")
 
-            self.with_swapping(folder, swap, judge)
+            self.with_swapping(directory, swap, judge)
 
     # == Hurt ==
 
     def break_each(self, judge, prepare=None, **how):
         for number in range(1, MOST_CALLS):
             self.broken_at = number
-            with self.folder() as path:
-                folder = Folder(path, self.kind)
-                folder.offer("new", NEW, 6)
+            with self.directory() as path:
+                directory = Directory(path, self.kind)
+                directory.offer("new", NEW, 6)
                 if prepare:
-                    prepare(folder)
+                    prepare(directory)
                 told, says = os.pipe()
                 environment = {"LD_PRELOAD": self.preload, "BREAK_SAYS": str(says), "BREAK_AT": str(number), **how}
                 try:
-                    status, said = self.run(folder, folder.arguments("new"), environment, [says])
+                    status, said = self.run(directory, directory.arguments("new"), environment, [says])
                 finally:
                     os.close(says)
                 with os.fdopen(told, "rb") as pipe:
                     came = pipe.read(1) != b""
                 try:
-                    judge(folder, status, said, came)
+                    judge(directory, status, said, came)
                 except Failure as why:
                     raise Failure(f"at call {number}: {why}") from why
             if not came:
@@ -825,36 +825,36 @@ class Installing:
         """The place holds the old or the new one; the record is never behind it; the next run finishes and cleans up."""
         seen = set()
 
-        def judge(folder, status, said, came):
+        def judge(directory, status, said, came):
             if status != (-signal.SIGKILL if came else 0):
                 raise Failure(f"it ended with status {status}, and said {said}")
-            state = (folder.holds(), folder.holds(RECORD))
+            state = (directory.holds(), directory.holds(RECORD))
             if state not in [(OLD, b"5"), (OLD, b"6"), (NEW, b"6")]:
                 raise Failure("the place or the record is neither old nor new")
             seen.add(state)
-            folder.offer("old", OLD, 5)
-            self.check(folder, "old", THERE if state[1] == b"5" else OLDER)
-            self.finish(folder, state)
+            directory.offer("old", OLD, 5)
+            self.check(directory, "old", THERE if state[1] == b"5" else OLDER)
+            self.finish(directory, state)
 
         self.break_each(judge)
         if len(seen) != 3:
             raise Failure(f"the kills left {len(seen)} states alone")
 
-    def finish(self, folder, state):
+    def finish(self, directory, state):
         """The next run finishes what a run has left that was cut off: with the older data under the new number where that is
         asked for."""
-        self.check(folder, "new", {(OLD, b"5"): 0, (OLD, b"6"): SAME, (NEW, b"6"): THERE}[state])
+        self.check(directory, "new", {(OLD, b"5"): 0, (OLD, b"6"): SAME, (NEW, b"6"): THERE}[state])
         if state == (OLD, b"6"):
-            self.check(folder, "new", 0, "--again")
+            self.check(directory, "new", 0, "--again")
         # (what stands there already, no run removes anything beside)
-        self.finish_leftovers(folder, state)
-        folder.expect(NEW, b"6")
+        self.finish_leftovers(directory, state)
+        directory.expect(NEW, b"6")
 
-    def finish_leftovers(self, folder, state):
+    def finish_leftovers(self, directory, state):
         if state == (NEW, b"6"):
-            folder.offer("next", NEW, 7)
-            self.check(folder, "next", 0)
-            folder.put(RECORD, b"6")
+            directory.offer("next", NEW, 7)
+            self.check(directory, "next", 0)
+            directory.put(RECORD, b"6")
 
     def is_spared(self, calls):
         """Whether the call that failed is none that a run needs: a file that is closed is done with, and libsodium, which is the
@@ -864,9 +864,9 @@ class Installing:
     def failing(self, calls, number=errno.EIO):
         """Each of these calls fails in turn."""
 
-        def judge(folder, status, said, came):
-            state = (folder.holds(), folder.holds(RECORD))
-            if calls == "getrandom" and status == -signal.SIGABRT and state == (OLD, b"5") and folder.holds(LOCK) is None:
+        def judge(directory, status, said, came):
+            state = (directory.holds(), directory.holds(RECORD))
+            if calls == "getrandom" and status == -signal.SIGABRT and state == (OLD, b"5") and directory.holds(LOCK) is None:
                 # (libsodium ends a program that it can draw nothing for, before anything was touched)
                 return
             if came and status == 0 and not self.is_spared(calls):
@@ -876,32 +876,32 @@ class Installing:
                 wanted = [(NEW, b"6")]
             if status not in (0, FAILED, NOT_ON_DISK) or state not in wanted or status != 0 and not said:
                 raise Failure(f"it ended with status {status}, said {said}, and the place or the record is wrong")
-            if folder.stages():
-                raise Failure(f"it left {folder.stages()}")
+            if directory.stages():
+                raise Failure(f"it left {directory.stages()}")
 
         if not self.break_each(judge, BREAK_CALLS=calls, BREAK_ERRNO=str(number)):
             raise Failure("it made no such call")
 
     def without_lock(self):
         """Where the system has no lock to give, the place is not locked, and nobody else has it."""
-        with self.folder() as path:
-            folder = self.installed(path)
-            status, said = self.run(folder, folder.arguments("new"), {"LD_PRELOAD": self.preload, "BREAK_CALLS": "flock", "BREAK_AT": "1",
+        with self.directory() as path:
+            directory = self.installed(path)
+            status, said = self.run(directory, directory.arguments("new"), {"LD_PRELOAD": self.preload, "BREAK_CALLS": "flock", "BREAK_AT": "1",
                                                                       "BREAK_ERRNO": str(errno.ENOLCK)})
             if status != FAILED or not self.kind.is_said(said, b"error: ./.place.lock: No locks available (os error 37)\n"):
                 raise Failure(f"it ended with status {status}, and said {said}")
-            folder.expect(OLD, b"5")
+            directory.expect(OLD, b"5")
 
     def short_writes(self):
         """Each write takes half of its bytes at first: the rest follows, also of the number."""
 
-        def judge(folder, status, said, came):
+        def judge(directory, status, said, came):
             if status != 0:
                 raise Failure(f"it ended with status {status}, and said {said}")
-            folder.expect(NEW, b"1234")
+            directory.expect(NEW, b"1234")
 
-        def prepare(folder):
-            folder.offer("new", NEW, 1234)
+        def prepare(directory):
+            directory.offer("new", NEW, 1234)
 
         if self.break_each(judge, prepare, BREAK_CALLS="write", BREAK_SHORT="1", BREAK_GOES_ON="1") < 2:
             raise Failure("it made fewer than two such calls")
@@ -911,16 +911,16 @@ class Installing:
         root runs this, of another owner."""
         owner = NOBODY if os.geteuid() == 0 else os.geteuid()
 
-        def prepare(folder):
-            folder.put(STAGE + "0" * 32, b"left")
-            os.chown(os.path.join(folder.path, PLACE), owner, -1)
+        def prepare(directory):
+            directory.put(STAGE + "0" * 32, b"left")
+            os.chown(os.path.join(directory.path, PLACE), owner, -1)
 
-        def judge(folder, status, said, came):
+        def judge(directory, status, said, came):
             if status != 0:
                 raise Failure(f"it ended with status {status}, and said {said}")
-            folder.expect(NEW, b"6")
+            directory.expect(NEW, b"6")
             for name in (PLACE, RECORD, LOCK):
-                if os.stat(os.path.join(folder.path, name)).st_uid != owner:
+                if os.stat(os.path.join(directory.path, name)).st_uid != owner:
                     raise Failure(f"{name} is of another owner")
 
         if calls == "fchown" and os.geteuid() != 0:
@@ -929,32 +929,32 @@ class Installing:
             raise Failure("it made no such call")
 
     def refused_memory(self):
-        """Each request for memory is refused in turn: nothing is installed, and nothing left."""
+        """Each allocation fails in turn: nothing is installed, and nothing left."""
         preload = build_preload(self.room, "refuse_memory")
         for number in range(1, MOST_CALLS):
-            with self.folder() as path:
-                folder = Folder(path, self.kind)
-                folder.offer("new", NEW, 6)
+            with self.directory() as path:
+                directory = Directory(path, self.kind)
+                directory.offer("new", NEW, 6)
                 told, says = os.pipe()
                 try:
-                    status, said = self.run(folder, folder.arguments("new"), {"LD_PRELOAD": preload, "REFUSE_AT": str(number), "REFUSE_SAYS": str(says)}, [says])
+                    status, said = self.run(directory, directory.arguments("new"), {"LD_PRELOAD": preload, "REFUSE_AT": str(number), "REFUSE_SAYS": str(says)}, [says])
                 finally:
                     os.close(says)
                 with os.fdopen(told, "rb") as pipe:
                     if pipe.read(1) == b"":
                         if number == 1:
                             raise Failure("it asked for no memory")
-                        folder.expect(NEW, b"6")
+                        directory.expect(NEW, b"6")
                         return
                 if status != FAILED or b"memory" not in said:
                     raise Failure(f"at request {number} it ended with status {status}, and said {said}")
-                folder.expect(OLD, b"5")
+                directory.expect(OLD, b"5")
         raise Failure("it asks for memory without end")
 
     def on_full_disk(self):
-        with self.folder() as path, SmallDisk(path):
-            folder = Folder(path, self.kind)
-            folder.offer("new", b"n" * 20000, 6)
+        with self.directory() as path, SmallDisk(path):
+            directory = Directory(path, self.kind)
+            directory.offer("new", b"n" * 20000, 6)
             with open(os.path.join(path, "fill"), "wb", buffering=0) as fill:
                 try:
                     while True:
@@ -962,104 +962,104 @@ class Installing:
                 except OSError as error:
                     if error.errno != errno.ENOSPC:
                         raise
-            self.check(folder, "new", FAILED, said=b": No space left on device (os error 28)\n")
+            self.check(directory, "new", FAILED, said=b": No space left on device (os error 28)\n")
             os.remove(os.path.join(path, "fill"))
-            folder.expect(OLD, b"5")
+            directory.expect(OLD, b"5")
 
-    def in_locked_folder(self):
+    def in_locked_directory(self):
         if os.geteuid() != 0:
             raise Skip("only root may become nobody")
-        with self.folder() as path:
-            folder = Folder(path, self.kind)
-            folder.offer("new", NEW, 6)
+        with self.directory() as path:
+            directory = Directory(path, self.kind)
+            directory.offer("new", NEW, 6)
             os.chmod(path, 0o755)
-            status, said = self.run(folder, folder.arguments("new"), user=NOBODY, group=NOBODY, extra_groups=[])
+            status, said = self.run(directory, directory.arguments("new"), user=NOBODY, group=NOBODY, extra_groups=[])
             if status != FAILED or not self.kind.is_said(said, b"error: ./.place.lock: Permission denied (os error 13)\n"):
                 raise Failure(f"it ended with status {status}, and said {said}")
-            folder.expect(OLD, b"5")
+            directory.expect(OLD, b"5")
 
     def on_other(self, make, said):
-        """A link at the place is refused, and so is what is no file."""
-        with self.folder() as path:
-            folder = Folder(path, self.kind)
-            folder.offer("new", NEW, 6)
+        """A link at the place is rejected, and so is what is no file."""
+        with self.directory() as path:
+            directory = Directory(path, self.kind)
+            directory.offer("new", NEW, 6)
             at = os.path.join(path, PLACE)
             os.rename(at, os.path.join(path, "behind"))
             make(at)
             before = os.lstat(at)
-            self.check(folder, "new", FAILED, said=b"error: place: " + said + b"\n")
-            if (before.st_ino, before.st_mode) != (os.lstat(at).st_ino, os.lstat(at).st_mode) or folder.holds("behind") != OLD:
+            self.check(directory, "new", FAILED, said=b"error: place: " + said + b"\n")
+            if (before.st_ino, before.st_mode) != (os.lstat(at).st_ino, os.lstat(at).st_mode) or directory.holds("behind") != OLD:
                 raise Failure("the link or what it leads to was changed")
 
     # == What a person gives and sees ==
 
     def says(self, words, status, said, shown=b""):
         """Words that ask for no installation, or for one that fails: a line says why, and no file is made."""
-        with self.folder() as path:
-            folder = Folder(path, self.kind)
-            folder.offer("new", NEW, 6)
+        with self.directory() as path:
+            directory = Directory(path, self.kind)
+            directory.offer("new", NEW, 6)
             before = os.listdir(path)
             ran = subprocess.run([self.program, *words], cwd=path, env={}, stdin=subprocess.DEVNULL, stdout=subprocess.PIPE,
                                  stderr=subprocess.PIPE, timeout=SECONDS)
             if ran.returncode != status or said not in ran.stderr or bool(said) != bool(ran.stderr) or not ran.stdout.startswith(shown):
                 raise Failure(f"it ended with status {ran.returncode}, said {ran.stderr} and showed {ran.stdout[:100]}")
-            if set(os.listdir(path)) - {LOCK} != set(before) or folder.holds() != OLD:
-                raise Failure(f"the folder has {os.listdir(path)}")
+            if set(os.listdir(path)) - {LOCK} != set(before) or directory.holds() != OLD:
+                raise Failure(f"the directory has {os.listdir(path)}")
 
     def takes(self, words, name=PLACE, mode=None, number=b"6", **how):
         """An installation with these words."""
-        with self.folder() as path:
-            folder = Folder(path, self.kind)
-            folder.offer("new", NEW, int(number), **how)
+        with self.directory() as path:
+            directory = Directory(path, self.kind)
+            directory.offer("new", NEW, int(number), **how)
             if name != PLACE:
                 os.rename(os.path.join(path, PLACE), os.path.join(path, name))
                 os.rename(os.path.join(path, RECORD), os.path.join(path, f".{name}.number"))
-            status, said = self.run(folder, words)
+            status, said = self.run(directory, words)
             if status or said:
                 raise Failure(f"it ended with status {status}, and said {said}")
-            if folder.holds(name) != NEW or folder.holds(f".{name}.number") != number or folder.mode(name) != (mode or self.kind.kept_mode):
-                raise Failure(f"the place holds {str(folder.holds(name))[:40]}, with the mode {folder.mode(name):o}")
+            if directory.holds(name) != NEW or directory.holds(f".{name}.number") != number or directory.mode(name) != (mode or self.kind.kept_mode):
+                raise Failure(f"the place holds {str(directory.holds(name))[:40]}, with the mode {directory.mode(name):o}")
 
     def first_mode(self):
-        """A first installation with the rights that were asked for, whatever the mask."""
-        with self.folder() as path:
-            folder = Folder(path, self.kind, is_installed=False)
-            folder.offer("new", NEW, 6)
-            self.check(folder, "new", 0, "--first", "--mode", "0775")
-            folder.expect(NEW, b"6")
-            if folder.mode() != 0o775 or folder.mode(RECORD) != 0o600:
-                raise Failure(f"the place has the mode {folder.mode():o}, and the record {folder.mode(RECORD):o}")
+        """A first installation with the permissions that were asked for, whatever the mask."""
+        with self.directory() as path:
+            directory = Directory(path, self.kind, is_installed=False)
+            directory.offer("new", NEW, 6)
+            self.check(directory, "new", 0, "--first", "--mode", "0775")
+            directory.expect(NEW, b"6")
+            if directory.mode() != 0o775 or directory.mode(RECORD) != 0o600:
+                raise Failure(f"the place has the mode {directory.mode():o}, and the record {directory.mode(RECORD):o}")
 
     def bounded(self):
-        """Data of as many bytes as are allowed is taken; one more is refused, and data without end too."""
-        with self.folder() as path:
-            folder = Folder(path, self.kind)
-            folder.offer("new", NEW, 6)
-            self.check(folder, "new", REFUSED, "--most", str(len(NEW) - 1), said=b"error: new: it is longer than it may be\n")
-            folder.expect(OLD, b"5")
-            self.check(folder, "new", REFUSED, "--most", f"{len(NEW) // 1024}K", said=b"error: new: it is longer than it may be\n")
-            self.check(folder, "new", 0, "--most", f"{len(NEW) // 1024 + 1}K")
-            folder.offer("new", NEW, 7)
-            self.check(folder, "new", 0, "--most", str(len(NEW)))
-            folder.expect(NEW, b"7")
-            folder.offer("new", NEW, 8)
+        """Data of as many bytes as are allowed is taken; one more is rejected, and data without end too."""
+        with self.directory() as path:
+            directory = Directory(path, self.kind)
+            directory.offer("new", NEW, 6)
+            self.check(directory, "new", REJECTED, "--most", str(len(NEW) - 1), said=b"error: new: it is longer than it may be\n")
+            directory.expect(OLD, b"5")
+            self.check(directory, "new", REJECTED, "--most", f"{len(NEW) // 1024}K", said=b"error: new: it is longer than it may be\n")
+            self.check(directory, "new", 0, "--most", f"{len(NEW) // 1024 + 1}K")
+            directory.offer("new", NEW, 7)
+            self.check(directory, "new", 0, "--most", str(len(NEW)))
+            directory.expect(NEW, b"7")
+            directory.offer("new", NEW, 8)
             os.remove(os.path.join(path, "new"))
             os.symlink("/dev/zero", os.path.join(path, "new"))
-            self.check(folder, "new", REFUSED, "--most", "1000000", said=b"error: new: it is longer than it may be\n")
-            folder.expect(NEW, b"7")
+            self.check(directory, "new", REJECTED, "--most", "1000000", said=b"error: new: it is longer than it may be\n")
+            directory.expect(NEW, b"7")
             os.remove(os.path.join(path, PK))
             os.symlink("/dev/zero", os.path.join(path, PK))
-            self.check(folder, "new", REFUSED, said=b"error: key.pub: it is longer than it may be\n")
+            self.check(directory, "new", REJECTED, said=b"error: key.pub: it is longer than it may be\n")
 
     def at_terminal(self):
         """Where the error stream is a terminal, it shows how far it is."""
         data = b"large" * 1000000
-        with self.folder() as path:
-            folder = Folder(path, self.kind)
-            folder.offer("new", data, 6)
+        with self.directory() as path:
+            directory = Directory(path, self.kind)
+            directory.offer("new", data, 6)
             ours, theirs = pty.openpty()
             with open(ours, "rb", buffering=0) as screen:
-                process = subprocess.Popen([self.program, *folder.arguments("new")], cwd=path, env={}, stdin=subprocess.DEVNULL,
+                process = subprocess.Popen([self.program, *directory.arguments("new")], cwd=path, env={}, stdin=subprocess.DEVNULL,
                                            stdout=subprocess.DEVNULL, stderr=theirs)
                 os.close(theirs)
                 shown = b""
@@ -1071,61 +1071,61 @@ class Installing:
                 status = process.wait(timeout=SECONDS)
             if status or b"copied 4 of 4 MiB\r" not in shown or b"verified 4 MiB\r" not in shown:
                 raise Failure(f"it ended with status {status}, and showed {shown}")
-            folder.expect(data, b"6")
+            directory.expect(data, b"6")
 
     def without_errors(self):
         """No file gets the number of a closed error stream."""
-        with self.folder() as path:
-            folder = Folder(path, self.kind)
-            folder.offer("bad", NEW, 6, signed=LATER)
-            folder.offer("new", NEW, 6)
-            for name, status in (("bad", REFUSED), ("new", 0)):
-                ran = subprocess.run(["sh", "-c", 'exec "$@" 2>&-', "sh", self.program, *folder.arguments(name)], cwd=path, env={},
+        with self.directory() as path:
+            directory = Directory(path, self.kind)
+            directory.offer("bad", NEW, 6, signed=LATER)
+            directory.offer("new", NEW, 6)
+            for name, status in (("bad", REJECTED), ("new", 0)):
+                ran = subprocess.run(["sh", "-c", 'exec "$@" 2>&-', "sh", self.program, *directory.arguments(name)], cwd=path, env={},
                                      stdin=subprocess.DEVNULL, timeout=SECONDS)
                 if ran.returncode != status:
                     raise Failure(f"it ended with status {ran.returncode}")
-            folder.expect(NEW, b"6")
+            directory.expect(NEW, b"6")
 
-    # == Rights ==
+    # == Permissions ==
 
-    def keeps_rights(self, before, after, entries=None):
+    def keeps_permissions(self, before, after, entries=None):
         """An update over a file of this mode, with these entries of an access control list."""
-        with self.folder() as path:
-            folder = Folder(path, self.kind)
+        with self.directory() as path:
+            directory = Directory(path, self.kind)
             at = os.path.join(path, PLACE)
             os.chmod(at, before)
             if entries:
                 set_list(at, entries)
-            folder.offer("new", NEW, 6)
-            self.check(folder, "new", 0)
-            folder.expect(NEW, b"6")
-            if folder.mode() != after:
-                raise Failure(f"the place has the mode {folder.mode():o} in place of {after:o}")
+            directory.offer("new", NEW, 6)
+            self.check(directory, "new", 0)
+            directory.expect(NEW, b"6")
+            if directory.mode() != after:
+                raise Failure(f"the place has the mode {directory.mode():o} in place of {after:o}")
 
     # == In order ==
 
     def traced(self, away=None, status=0, data=NEW, **how):
         """The calls that an installation made, with a step taken away or none; and what it left."""
-        with self.folder() as path:
-            folder = Folder(path, self.kind)
+        with self.directory() as path:
+            directory = Directory(path, self.kind)
             os.chown(os.path.join(path, PLACE), NOBODY, NOBODY)
-            folder.offer("new", data, 16)
+            directory.offer("new", data, 16)
             told, says = os.pipe()
             environment = {"LD_PRELOAD": f"{self.trace}:{self.preload}", "TRACE_TO": str(says), **how}
             if away is not None:
                 environment["TAKE_AWAY"] = away
             try:
-                ended, said = self.run(folder, folder.arguments("new"), environment, [says])
+                ended, said = self.run(directory, directory.arguments("new"), environment, [says])
             finally:
                 os.close(says)
             with os.fdopen(told) as pipe:
                 calls = pipe.read().splitlines()
             if ended != status:
                 raise Failure(f"it ended with status {ended}, and said {said}")
-            return self.named(calls), (folder.holds(), folder.holds(RECORD))
+            return self.named(calls), (directory.holds(), directory.holds(RECORD))
 
     def named(self, calls):
-        """The calls on what is in the folder, repeated ones once, with S and N for the stages in the order of their making."""
+        """The calls on what is in the directory, repeated ones once, with S and N for the stages in the order of their making."""
         stages, lines = [], []
         for call in calls:
             words = call.split(" ")
@@ -1167,13 +1167,13 @@ class Installing:
 
     # == Crashes ==
 
-    def stopped(self, folder, number):
+    def stopped(self, directory, number):
         """A run that stops before its call of this number, and whether that call came."""
         told, says = os.pipe()
         environment = {"LD_PRELOAD": self.preload, "BREAK_SAYS": str(says), "BREAK_AT": str(number),
                        "BREAK_SIGNAL": str(int(signal.SIGSTOP))}
         try:
-            process = subprocess.Popen([self.program, *folder.arguments("new")], cwd=folder.path, env=environment, pass_fds=[says],
+            process = subprocess.Popen([self.program, *directory.arguments("new")], cwd=directory.path, env=environment, pass_fds=[says],
                                        stdin=subprocess.DEVNULL, stdout=subprocess.DEVNULL, stderr=subprocess.DEVNULL)
         finally:
             os.close(says)
@@ -1188,12 +1188,12 @@ class Installing:
             fresh, image, crashed = (os.path.join(room, name) for name in ("fresh", "image", "crashed"))
             make_image(fresh)
             with Disk(fresh) as path:
-                Folder(path, self.kind).offer("new", NEW, 6)
+                Directory(path, self.kind).offer("new", NEW, 6)
             seen = set()
             for number in range(1, MOST_CALLS):
                 shutil.copyfile(fresh, image)
                 with Disk(image) as path:
-                    process, came = self.stopped(Folder.there(path, self.kind), number)
+                    process, came = self.stopped(Directory.there(path, self.kind), number)
                     try:
                         if not came and process.wait(timeout=SECONDS) != 0:
                             raise Failure(f"it ended with status {process.returncode}")
@@ -1213,11 +1213,11 @@ class Installing:
     def after_crash(self, crashed, may_be_old):
         """What a machine finds that crashed; the next run finishes on it."""
         with Disk(crashed) as path:
-            folder = Folder.there(path, self.kind)
-            state = (folder.holds(), folder.holds(RECORD))
+            directory = Directory.there(path, self.kind)
+            state = (directory.holds(), directory.holds(RECORD))
             if state not in ([(OLD, b"5"), (OLD, b"6"), (NEW, b"6")] if may_be_old else [(NEW, b"6")]):
                 raise Failure(f"the place holds {str(state[0])[:40]}, and the record {state[1]}")
-            self.finish(folder, state)
+            self.finish(directory, state)
         check_image(crashed)
         return state
 
@@ -1227,10 +1227,10 @@ class Installing:
             image, crashed = (os.path.join(room, name) for name in ("image", "crashed"))
             make_image(image)
             with Disk(image) as path:
-                folder = Folder(path, self.kind)
-                folder.offer("new", NEW, 6)
+                directory = Directory(path, self.kind)
+                directory.offer("new", NEW, 6)
                 os.sync()
-                status, said = self.run(folder, folder.arguments("new"), {"LD_PRELOAD": self.trace, "TAKE_AWAY": away})
+                status, said = self.run(directory, directory.arguments("new"), {"LD_PRELOAD": self.trace, "TAKE_AWAY": away})
                 if status:
                     raise Failure(f"it ended with status {status}, and said {said}")
                 crash(image, crashed)
@@ -1247,16 +1247,16 @@ class Installing:
         whole, the record its number or a greater one, and that number never falls. Where `slow` is given, each call of a run
         waits first for up to so many microseconds."""
         environment = {} if slow is None else {"LD_PRELOAD": self.trace, "SLOW": str(slow)}
-        with self.folder() as path:
-            folder = Folder(path, self.kind)
+        with self.directory() as path:
+            directory = Directory(path, self.kind)
             updates = {OLD: 5}
             stop, wrong = threading.Event(), []
 
             def read():
                 before = 0
                 while not stop.is_set():
-                    found = folder.holds()
-                    kept = int(folder.holds(RECORD))
+                    found = directory.holds()
+                    kept = int(directory.holds(RECORD))
                     if found not in updates or kept < updates[found] or kept < before:
                         wrong.append((found, kept, before))
                     before = kept
@@ -1267,21 +1267,21 @@ class Installing:
                 for number in range(rounds):
                     one, two = (word * 20000 + str(number).encode() for word in (b"one", b"two"))
                     updates.update({one: 2 * number + 6, two: 2 * number + 7})
-                    folder.offer("one", one, 2 * number + 6)
-                    folder.offer("two", two, 2 * number + 7)
-                    folder.offer("bad", NEW, 1000, signed=LATER)
-                    folder.offer("older", LATER, 4)
-                    started = {name: subprocess.Popen([self.program, *folder.arguments(name)], cwd=path, env=environment,
+                    directory.offer("one", one, 2 * number + 6)
+                    directory.offer("two", two, 2 * number + 7)
+                    directory.offer("bad", NEW, 1000, signed=LATER)
+                    directory.offer("older", LATER, 4)
+                    started = {name: subprocess.Popen([self.program, *directory.arguments(name)], cwd=path, env=environment,
                                                       stdin=subprocess.DEVNULL, stderr=subprocess.PIPE)
                                for name in ("one", "two", "bad", "older")}
                     for name, process in started.items():
                         said = process.communicate(timeout=SECONDS)[1]
-                        allowed = {"bad": (REFUSED, IN_USE), "older": (OLDER, IN_USE), "one": (0, OLDER, IN_USE), "two": (0, IN_USE)}
+                        allowed = {"bad": (REJECTED, IN_USE), "older": (OLDER, IN_USE), "one": (0, OLDER, IN_USE), "two": (0, IN_USE)}
                         if self.kind.ending(process.returncode) not in allowed[name]:
                             raise Failure(f"{name} ended with status {process.returncode}, and said {said}")
-                    kept = int(folder.holds(RECORD))
-                    if folder.holds() == two and kept != 2 * number + 7 or folder.stages():
-                        raise Failure(f"the record holds {kept}, and the stages are {folder.stages()}")
+                    kept = int(directory.holds(RECORD))
+                    if directory.holds() == two and kept != 2 * number + 7 or directory.stages():
+                        raise Failure(f"the record holds {kept}, and the stages are {directory.stages()}")
             finally:
                 stop.set()
                 reader.join()
@@ -1290,14 +1290,14 @@ class Installing:
                 raise Failure(f"a reader found {str(found)[:40]}, and then {kept} in the record, behind {before}")
 
     def while_locked(self):
-        with self.folder() as path:
-            folder = Folder(path, self.kind)
-            folder.offer("new", NEW, 6)
+        with self.directory() as path:
+            directory = Directory(path, self.kind)
+            directory.offer("new", NEW, 6)
             with open(os.path.join(path, LOCK), "wb") as lock:
                 fcntl.flock(lock, fcntl.LOCK_EX)
-                self.check(folder, "new", IN_USE, said=b"error: place: another installation is at work at this place\n")
-                folder.expect(OLD, b"5")
-            self.check(folder, "new", 0)
+                self.check(directory, "new", IN_USE, said=b"error: place: another installation is at work at this place\n")
+                directory.expect(OLD, b"5")
+            self.check(directory, "new", 0)
 
 
 class ReplacingByUpdates:
@@ -1308,66 +1308,66 @@ class ReplacingByUpdates:
         self.place = it.place
 
     def prepare(self, path):
-        Folder(path, self.it.kind).offer("new", NEW, 6)
+        Directory(path, self.it.kind).offer("new", NEW, 6)
         return os.path.join(path, PLACE)
 
     def run(self, path, asked, breaking, user):
-        folder = Folder.there(path, self.it.kind)
+        directory = Directory.there(path, self.it.kind)
         options = ["--mode", asked] if asked else []
         environment = {"LD_PRELOAD": self.it.preload, **breaking} if breaking else {}
-        return self.it.run(folder, folder.arguments("new", *options), environment, **user)
+        return self.it.run(directory, directory.arguments("new", *options), environment, **user)
 
 
 def cases(it):
     yield "newer updates", it.installs
     yield "the first update", it.installs_first
     yield from there_cases(it)
-    yield "other data", lambda: it.refuses(b"error: bad: Signature verification failed\n", signed=LATER)
-    yield "no data", lambda: it.refuses(b"error: bad: Signature verification failed\n", data=b"", signed=LATER)
-    yield "an older update", lambda: it.refuses(b"error: bad: the update is older than what was installed\n", number=4, status=OLDER)
-    yield "another file", lambda: it.refuses(b"error: bad.sig: the signed comment does not name this file (place is wanted, by the place or `--name`)\n", names="other")
+    yield "other data", lambda: it.rejects(b"error: bad: Signature verification failed\n", signed=LATER)
+    yield "no data", lambda: it.rejects(b"error: bad: Signature verification failed\n", data=b"", signed=LATER)
+    yield "an older update", lambda: it.rejects(b"error: bad: the update is older than what was installed\n", number=4, status=OLDER)
+    yield "another file", lambda: it.rejects(b"error: bad.sig: the signed comment does not name this file (place is wanted, by the place or `--name`)\n", names="other")
     no_number = b"error: bad.sig: the signed comment has no such number (timestamp: is the field that is wanted, by `--numbering` or without it)\n"
-    yield "no number", lambda: it.refuses(no_number, label="version")
-    yield "a number too great", lambda: it.refuses(no_number, number=2 ** 64)
-    yield "a word for a number", lambda: it.refuses(no_number, number="six")
-    yield "a plus before a number", lambda: it.refuses(no_number, number="+6")
-    yield "a minus before a number", lambda: it.refuses(no_number, number="-6")
-    yield "a blank before a number", lambda: it.refuses(no_number, number=" 6")
-    yield "a legacy signature", it.refuses_legacy
-    yield "a signed comment that was changed", it.refuses_changed_comment
+    yield "no number", lambda: it.rejects(no_number, label="version")
+    yield "a number too great", lambda: it.rejects(no_number, number=2 ** 64)
+    yield "a word for a number", lambda: it.rejects(no_number, number="six")
+    yield "a plus before a number", lambda: it.rejects(no_number, number="+6")
+    yield "a minus before a number", lambda: it.rejects(no_number, number="-6")
+    yield "a blank before a number", lambda: it.rejects(no_number, number=" 6")
+    yield "a legacy signature", it.rejects_legacy
+    yield "a signed comment that was changed", it.rejects_changed_comment
     yield "names that are drawn", it.draws_names
     yield "leftovers", it.removes_leftovers
-    yield "a folder with a name that is not UTF-8", lambda: it.passes_over(os.mkdir, b"caf\xe9")
+    yield "a directory with a name that is not UTF-8", lambda: it.passes_over(os.mkdir, b"caf\xe9")
     yield "a file with a name that is not UTF-8", lambda: it.passes_over(lambda at: open(at, "wb").close(), b".place.stage-\xe9")
-    yield "a folder with a stage's name", lambda: it.passes_over(os.mkdir, os.fsencode(STAGE + "0" * 32))
+    yield "a directory with a stage's name", lambda: it.passes_over(os.mkdir, os.fsencode(STAGE + "0" * 32))
     too_long = b"error: ./.place.number: it is too long for a number\n"
     no_text = b"error: place: what is kept beside the place is no number (`--first` installs all the same)\n"
-    yield "a record that is too long", lambda: it.refuses_record(b"0" * 64 + b"99", FAILED, too_long)
-    yield "a record of two lines", lambda: it.refuses_record(b"5\n5\n", UNRECORDED, no_text)
+    yield "a record that is too long", lambda: it.rejects_record(b"0" * 64 + b"99", FAILED, too_long)
+    yield "a record of two lines", lambda: it.rejects_record(b"5\n5\n", UNRECORDED, no_text)
     yield "a record with a line feed", lambda: it.takes_record(b"5\n")
     yield "a record of 64 digits", lambda: it.takes_record(b"5".rjust(64, b"0"))
     yield "a record with its field", lambda: it.takes_record(b"timestamp:5")
     yield "a record with its field and a line feed", lambda: it.takes_record(b"timestamp:5\n")
     for record in (b"", b"\n", b"+5", b"timestamp:", b"timestamp:+5", b"timestamp: 5", b"Timestamp:5", b"time:5", b"5timestamp:",
                    b"timestamp:version:5", b"timestamp:5\tversion:5", b"timestamp:18446744073709551616", b"version:", b"version:x"):
-        yield f"a record of {record}", lambda record=record: it.refuses_record(record, UNRECORDED, no_text)
+        yield f"a record of {record}", lambda record=record: it.rejects_record(record, UNRECORDED, no_text)
     kept_by_version = b"error: place: the number that is kept beside the place is a version, and no timestamp\n"
-    yield "a record of the other field", lambda: it.refuses_record(b"version:5\n", UNRECORDED, kept_by_version)
+    yield "a record of the other field", lambda: it.rejects_record(b"version:5\n", UNRECORDED, kept_by_version)
     others = [("pipe", os.mkfifo, "what stands there is no regular file"),
               ("link", lambda at: os.symlink("behind", at), "a link stands there, which is not followed"),
               ("link to nothing", lambda at: os.symlink("nothing", at), "a link stands there, which is not followed"),
-              ("folder", os.mkdir, "a directory stands there")]
+              ("directory", os.mkdir, "a directory stands there")]
     for kind, make, said in others:
         for name, what in ((RECORD, "record"), (LOCK, "lock")):
-            yield f"a {what} that is a {kind}", lambda name=name, make=make, said=said: it.refuses_beside(name, make, said)
+            yield f"a {what} that is a {kind}", lambda name=name, make=make, said=said: it.rejects_beside(name, make, said)
         yield f"a {kind} at the place", lambda make=make, said=said.encode(): it.on_other(make, said)
     yield from permission_cases(ReplacingByUpdates(it), it.kind.permissions)
     if not it.kind.is_in_c:
-        yield "rights of a group alone", lambda: it.keeps_rights(0o770, 0o700)
-        yield "a list with a user who may write", lambda: it.keeps_rights(0o600, 0o600, "g::---,u:65534:rw")
-        yield "a list in a file that all may read", lambda: it.keeps_rights(0o644, 0o644, "g::---,u:65534:rw")
-        yield "a list with a group that may write", lambda: it.keeps_rights(0o600, 0o600, "g:65534:rwx")
-        yield "a list that keeps a group from what all others may", lambda: it.keeps_rights(0o604, 0o644, "g::---,g:65534:rwx")
+        yield "permissions of a group alone", lambda: it.keeps_permissions(0o770, 0o700)
+        yield "a list with a user who may write", lambda: it.keeps_permissions(0o600, 0o600, "g::---,u:65534:rw")
+        yield "a list in a file that all may read", lambda: it.keeps_permissions(0o644, 0o644, "g::---,u:65534:rw")
+        yield "a list with a group that may write", lambda: it.keeps_permissions(0o600, 0o600, "g:65534:rwx")
+        yield "a list that keeps a group from what all others may", lambda: it.keeps_permissions(0o604, 0o644, "g::---,g:65534:rwx")
     yield from owner_cases(it)
     yield "a lock file that is removed", it.loses_lock
     yield "a stage that is changed", it.changed_stage
@@ -1382,14 +1382,14 @@ def cases(it):
     yield "a lock that the system cannot give", it.without_lock
     yield "write fails for want of room", lambda: it.failing("write", errno.ENOSPC)
     yield "a full disk", it.on_full_disk
-    yield "a folder that may not be written", it.in_locked_folder
+    yield "a directory that may not be written", it.in_locked_directory
     yield "the calls in their order", it.in_order
     for case in FAILING:
         yield f"the calls after {case[0]} {case[1]} failed", lambda case=case: it.in_order_after(*case)
     for away in STEPS:
         yield f"{away} is taken away", lambda away=away: it.notices(away)
     yield "a disk that crashes before each call", it.crashes
-    for away in ("sync", "folder"):
+    for away in ("sync", "directory"):
         yield f"a disk that crashes, and {away} is taken away", lambda away=away: it.loses_without(away)
     yield "four at once", it.at_once
     yield "four slow ones at once", lambda: it.at_once(rounds=8, slow=20000)
@@ -1417,11 +1417,11 @@ def there_cases(it):
     yield "there already, while another holds the lock", it.asks_with_the_lock
     yield "a run killed between the renamings", it.after_kill_between_renames
     yield "a place that cannot be read", it.fails_to_look
-    yield "there already, and older", lambda: it.refuses_of_kept_number(b"error: bad: the update is older than what was installed\n", 5, OLDER)
-    yield "there already, and expired", lambda: it.refuses_of_kept_number(b"error: bad.sig: the update has expired\n", 6, EXPIRED, more=PAST)
-    yield "there already, for another file", lambda: it.refuses_of_kept_number(
+    yield "there already, and older", lambda: it.rejects_of_kept_number(b"error: bad: the update is older than what was installed\n", 5, OLDER)
+    yield "there already, and expired", lambda: it.rejects_of_kept_number(b"error: bad.sig: the update has expired\n", 6, EXPIRED, more=PAST)
+    yield "there already, for another file", lambda: it.rejects_of_kept_number(
         b"error: bad.sig: the signed comment does not name this file (place is wanted, by the place or `--name`)\n", names="other")
-    yield "there already, with a legacy signature", lambda: it.refuses_of_kept_number(b"error: bad.sig: Legacy signatures are not accepted\n", legacy=True)
+    yield "there already, with a legacy signature", lambda: it.rejects_of_kept_number(b"error: bad.sig: Legacy signatures are not accepted\n", legacy=True)
     yield "a link to it at the place", lambda: it.looks_at_no_other(lambda at: os.symlink("behind", at), b"a link stands there, which is not followed")
     yield "a pipe at the place, of the kept number", lambda: it.looks_at_no_other(os.mkfifo, b"what stands there is no regular file")
 
@@ -1430,16 +1430,16 @@ def program_cases(it):
     """What the example has not: each option, and more than paths of files that stand still."""
     yield "the field that a place is kept by", it.keeps_field
     no_version = b"error: bad.sig: the signed comment has no such number (version: is the field that is wanted, by `--numbering` or without it)\n"
-    yield "a version with a plus", lambda: it.refuses(no_version, number="+6", label="version", words=("--numbering", "version"))
+    yield "a version with a plus", lambda: it.rejects(no_version, number="+6", label="version", words=("--numbering", "version"))
     yield "a first installation with a mode", it.first_mode
     yield "a bound on the data", it.bounded
     yield "progress at a terminal", it.at_terminal
     yield "a closed error stream", it.without_errors
-    yield "memory that is refused", it.refused_memory
-    yield "a folder that is moved", it.moved_folder
+    yield "an allocation that fails", it.refused_memory
+    yield "a directory that is moved", it.moved_directory
     yield "a pipe that stands still", it.stalled_pipe
     yield "data through a pipe", it.through_pipe
-    yield "a pipe and no folder", it.misses_folder_for_pipe
+    yield "a pipe and no directory", it.misses_directory_for_pipe
     yield "there already, and a pipe that nobody feeds", it.finds_it_there_unfed
     yield "a pipe, and another run that is faster", it.is_overtaken
 
@@ -1449,10 +1449,10 @@ def expiry_cases(it):
     soon, past = SOON, PAST
     for what, status, more, said in [
         ("has expired", EXPIRED, past, b"error: bad.sig: the update has expired\n"),
-        ("expires twice", REFUSED, past + soon, b"error: bad.sig: the signed comment does not say once, in a number, when it expires\n"),
-        ("expires at no moment", REFUSED, "\texpires:soon", b"error: bad.sig: the signed comment does not say once, in a number, when it expires\n"),
+        ("expires twice", REJECTED, past + soon, b"error: bad.sig: the signed comment does not say once, in a number, when it expires\n"),
+        ("expires at no moment", REJECTED, "\texpires:soon", b"error: bad.sig: the signed comment does not say once, in a number, when it expires\n"),
     ]:
-        yield f"an update that {what}", lambda status=status, more=more, said=said: it.refuses(said, status=status, more=more)
+        yield f"an update that {what}", lambda status=status, more=more, said=said: it.rejects(said, status=status, more=more)
     yield "an update that expires later", lambda: it.takes([PK, "new", "new.sig", PLACE], more=soon)
 
 
@@ -1474,25 +1474,25 @@ def check_cases(it):
         ("no record", UNRECORDED, (), {"record": None, "said": b"error: place: no number is kept beside the place (`--first` installs all the same)\n"}),
         ("a record of the other field", UNRECORDED, version,
          {"label": "version", "said": b"error: place: the number that is kept beside the place is a timestamp, and no version\n"}),
-        ("another file", REFUSED, (), {"names": "app", "said": b"error: new.sig: the signed comment does not name this file (place is wanted, by the place or `--name`)\n"}),
-        ("no number of the field", REFUSED, version, {"record": b"version:5", "said": b"error: new.sig: the signed comment has no such number (version: is the field that is wanted, by `--numbering` or without it)\n"}),
+        ("another file", REJECTED, (), {"names": "app", "said": b"error: new.sig: the signed comment does not name this file (place is wanted, by the place or `--name`)\n"}),
+        ("no number of the field", REJECTED, version, {"record": b"version:5", "said": b"error: new.sig: the signed comment has no such number (version: is the field that is wanted, by `--numbering` or without it)\n"}),
         ("one that has expired", EXPIRED, (), {"more": past, "said": b"error: new.sig: the update has expired\n"}),
         ("an older one that has expired", EXPIRED, (), {"number": 4, "more": past, "said": b"error: new.sig: the update has expired\n"}),
-        ("one that expires twice", REFUSED, (), {"more": soon + soon, "said": b"error: new.sig: the signed comment does not say once, in a number, when it expires\n"}),
-        ("a legacy signature", REFUSED, (), {"legacy": True, "said": b"error: new.sig: Legacy signatures are not accepted\n"}),
+        ("one that expires twice", REJECTED, (), {"more": soon + soon, "said": b"error: new.sig: the signed comment does not say once, in a number, when it expires\n"}),
+        ("a legacy signature", REJECTED, (), {"legacy": True, "said": b"error: new.sig: Legacy signatures are not accepted\n"}),
         ("no signature", FAILED, (), {"words": (PK, "none.sig", PLACE), "said": b"error: none.sig: No such file or directory (os error 2)\n"}),
-        ("a text that is no signature", REFUSED, (), {"words": (PK, PK, PLACE), "said": None}),
+        ("a text that is no signature", REJECTED, (), {"words": (PK, PK, PLACE), "said": None}),
     ]
     for what, status, options, how in checks:
         yield f"a check: {what}", lambda status=status, options=options, how=how: it.checks(status, *options, **how)
     yield "a check: a changed comment", it.checks_changed_comment
-    yield "a check: no folder", lambda: it.checks_where("none/place", FAILED, b"error: none: there is no such directory\n")
-    yield "a check: a record that is a folder", lambda: it.checks_where(PLACE, FAILED, b"error: ./.place.number: a directory stands there\n")
+    yield "a check: no directory", lambda: it.checks_where("none/place", FAILED, b"error: none: there is no such directory\n")
+    yield "a check: a record that is a directory", lambda: it.checks_where(PLACE, FAILED, b"error: ./.place.number: a directory stands there\n")
     yield "a check: while the place is locked", it.checks_unlocked
     yield "a check: beside installations", it.checks_beside_installations
     yield "keys that are named themselves", it.names_keys
-    yield "a key that is too short", lambda: it.refuses_key("RWQ", b"error: RWQ: base64 conversion failed - was an actual public key given?\n")
-    yield "a key that is no base64", lambda: it.refuses_key("*" * 56, b"error: " + b"*" * 56 + b": base64 conversion failed - was an actual public key given?: invalid base64\n")
+    yield "a key that is too short", lambda: it.rejects_key("RWQ", b"error: RWQ: base64 conversion failed - was an actual public key given?\n")
+    yield "a key that is no base64", lambda: it.rejects_key("*" * 56, b"error: " + b"*" * 56 + b": base64 conversion failed - was an actual public key given?: invalid base64\n")
     paths = [PK, "new.sig", PLACE]
     for what, words, said in [
         ("a check of four paths", ["--check", PK, "new", "new.sig", PLACE], b"error: place: there are three paths, and this is a fourth\n"),
@@ -1531,7 +1531,7 @@ def word_cases(it):
         ("a field that there is not", ["--numbering", "versions", *paths], b"error: versions: the option before it has no such value\n"),
         ("a mode of two digits", ["--mode", "75", *paths], b"error: 75: the option before it has no such value\n"),
         ("a mode of five digits", ["--mode", "00755", *paths], b"error: 00755: the option before it has no such value\n"),
-        ("a mode beyond rights", ["--mode", "4755", *paths], b"error: 4755: the option before it has no such value\n"),
+        ("a mode beyond permissions", ["--mode", "4755", *paths], b"error: 4755: the option before it has no such value\n"),
         ("a mode that is not octal", ["--mode", "758", *paths], b"error: 758: the option before it has no such value\n"),
         ("a bound with another unit", ["--most", "5m", *paths], b"error: 5m: the option before it has no such value\n"),
         ("a bound with a longer unit", ["--most", "5MB", *paths], b"error: 5MB: the option before it has no such value\n"),
@@ -1543,8 +1543,8 @@ def word_cases(it):
         ("a bound too great", ["--most", str(2 ** 64), *paths], b": the option before it has no such value\n"),
         ("help beside other words", ["--help", *paths], b"error: --help: there is no such option\n" + usage),
         ("an option behind the end of options", ["--", "--first", *paths], b"error: place: there are four paths, and this is a fifth\n"),
-        ("a folder as place", [*paths[:3], "place/"], b"error: place/: it does not end with the name of a file\n"),
-        ("the folder itself as place", [*paths[:3], "."], b"error: .: it does not end with the name of a file\n"),
+        ("a directory as place", [*paths[:3], "place/"], b"error: place/: it does not end with the name of a file\n"),
+        ("the directory itself as place", [*paths[:3], "."], b"error: .: it does not end with the name of a file\n"),
         ("bytes that are not UTF-8", [*paths[:3], b"pl\xe4ce"], b"error: an argument is not UTF-8\n" + usage),
     ]
     for what, words, said in misuses:
@@ -1554,10 +1554,10 @@ def word_cases(it):
         ("no key", ["none.pub", *paths[1:]], FAILED, b"error: none.pub: No such file or directory (os error 2)\n"),
         ("no data", [PK, "none", *paths[2:]], FAILED, b"error: none: No such file or directory (os error 2)\n"),
         ("no signature", [PK, "new", "none.sig", PLACE], FAILED, b"error: none.sig: No such file or directory (os error 2)\n"),
-        ("no folder", [*paths[:3], "none/place"], FAILED, b"error: none: there is no such directory\n"),
-        ("a folder as key", [".", *paths[1:]], FAILED, b"error: .: Is a directory (os error 21)\n"),
-        ("a key that is no text", ["new.sig", *paths[1:]], REFUSED, b"error: new.sig: "),
-        ("a signature that is none", [PK, "new", PK, PLACE], REFUSED, b"error: key.pub: "),
+        ("no directory", [*paths[:3], "none/place"], FAILED, b"error: none: there is no such directory\n"),
+        ("a directory as key", [".", *paths[1:]], FAILED, b"error: .: Is a directory (os error 21)\n"),
+        ("a key that is no text", ["new.sig", *paths[1:]], REJECTED, b"error: new.sig: "),
+        ("a signature that is none", [PK, "new", PK, PLACE], REJECTED, b"error: key.pub: "),
     ]
     for what, words, status, said in failures:
         yield what, lambda words=words, status=status, said=said: it.says(words, status, said)

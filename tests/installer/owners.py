@@ -1,4 +1,4 @@
-"""Whose files are after an installation by root: who owns the place, or the folder, may go on, and nobody gets a file that was
+"""Whose files are after an installation by root: who owns the place, or the directory, may go on, and nobody gets a file that was
 not made for that. `installing.py` runs these cases; each needs root.
 
 Needs Python 3.9 or later.
@@ -27,92 +27,92 @@ def expect_nobodys(path, *names):
             raise Failure(f"{name} is of {found.st_uid}:{found.st_gid}")
 
 
-def install_as_nobody(it, folder, name, status=0, said=b""):
-    ended, text = it.run(folder, folder.arguments(name), **AS_NOBODY)
+def install_as_nobody(it, directory, name, status=0, said=b""):
+    ended, text = it.run(directory, directory.arguments(name), **AS_NOBODY)
     if ended != status or not it.kind.is_said(text, said):
         raise Failure(f"its owner's run ended with status {ended}, and said {text}")
 
 
 def after_root(it):
     """After an update by root the owner of the place may go on."""
-    with it.folder() as path:
-        folder = it.installed(path)
+    with it.directory() as path:
+        directory = it.installed(path)
         give(path, ".", PLACE)
-        it.check(folder, "new", 0)
+        it.check(directory, "new", 0)
         expect_nobodys(path, PLACE, RECORD, LOCK)
         if stat.S_IMODE(os.stat(os.path.join(path, RECORD)).st_mode) != 0o600:
             raise Failure("others may read the record")
-        folder.offer("later", LATER, 7)
-        install_as_nobody(it, folder, "later")
-        folder.expect(LATER, b"7")
+        directory.offer("later", LATER, 7)
+        install_as_nobody(it, directory, "later")
+        directory.expect(LATER, b"7")
 
 
 def after_first_by_root(it):
-    """After a first installation by root, and an update, in a folder of nobody's, the place becomes nobody's, who may go on."""
-    with it.folder() as path:
-        folder = it.installed(path, is_installed=False)
+    """After a first installation by root, and an update, in a directory of nobody's, the place becomes nobody's, who may go on."""
+    with it.directory() as path:
+        directory = it.installed(path, is_installed=False)
         give(path, ".")
-        it.check(folder, "new", 0, "--first")
-        folder.offer("later", LATER, 7)
-        it.check(folder, "later", 0)
+        it.check(directory, "new", 0, "--first")
+        directory.offer("later", LATER, 7)
+        it.check(directory, "later", 0)
         give(path, PLACE)
-        folder.offer("last", LAST, 8)
-        install_as_nobody(it, folder, "last")
-        folder.expect(LAST, b"8")
+        directory.offer("last", LAST, 8)
+        install_as_nobody(it, directory, "last")
+        directory.expect(LAST, b"8")
 
 
 def after_next_by_root(it):
-    """Where place and folder become nobody's after runs by root, the lock file is named, and what may be done about it; and after
+    """Where place and directory become nobody's after runs by root, the lock file is named, and what may be done about it; and after
     one more run by root nobody may go on."""
-    with it.folder() as path:
-        folder = it.installed(path, is_installed=False)
-        it.check(folder, "new", 0, "--first")
+    with it.directory() as path:
+        directory = it.installed(path, is_installed=False)
+        it.check(directory, "new", 0, "--first")
         give(path, ".", PLACE)
-        folder.offer("later", LATER, 7)
-        install_as_nobody(it, folder, "later", 1, b"error: ./.place.lock: it is for its owner alone: give it the owner of the place\n")
+        directory.offer("later", LATER, 7)
+        install_as_nobody(it, directory, "later", 1, b"error: ./.place.lock: it is for its owner alone: give it the owner of the place\n")
         give(path, LOCK)
-        install_as_nobody(it, folder, "later", 1, b"error: ./.place.number: it is for its owner alone: give it the owner of the place\n")
+        install_as_nobody(it, directory, "later", 1, b"error: ./.place.number: it is for its owner alone: give it the owner of the place\n")
         os.chown(os.path.join(path, LOCK), 0, 0)
-        it.check(folder, "later", 0)
+        it.check(directory, "later", 0)
         expect_nobodys(path, PLACE, RECORD, LOCK)
-        folder.offer("last", LAST, 8)
-        install_as_nobody(it, folder, "last")
-        folder.expect(LAST, b"8")
+        directory.offer("last", LAST, 8)
+        install_as_nobody(it, directory, "last")
+        directory.expect(LAST, b"8")
 
 
 def gives_nothing_found(it, make):
-    """A run by root gives away no file of root's that has the name of the lock, as nobody may rename or link it in the folder,
+    """A run by root gives away no file of root's that has the name of the lock, as nobody may rename or link it in the directory,
     and changes nothing in it."""
-    with it.folder() as path:
-        folder = it.installed(path)
-        folder.put("secret", SECRET)
+    with it.directory() as path:
+        directory = it.installed(path)
+        directory.put("secret", SECRET)
         os.chmod(os.path.join(path, "secret"), 0o600)
         give(path, ".", PLACE)
         with open(os.path.join(path, "secret"), "rb") as secret:
             make(os.path.join(path, "secret"), os.path.join(path, LOCK))
             for _ in range(2):
-                it.run(folder, folder.arguments("new"))
-                if os.fstat(secret.fileno()).st_uid != 0 or folder.holds(LOCK) != SECRET:
+                it.run(directory, directory.arguments("new"))
+                if os.fstat(secret.fileno()).st_uid != 0 or directory.holds(LOCK) != SECRET:
                     raise Failure("the file has another owner now, or holds something else")
 
 
 def gives_no_data(it):
     """Data that root alone may read, to which a link leads, is given to nobody: not by its stage either, which is renamed in
     time, and to the lock's name later."""
-    with it.folder() as path:
-        folder = it.installed(path)
-        folder.put("secret", SECRET)
+    with it.directory() as path:
+        directory = it.installed(path)
+        directory.put("secret", SECRET)
         os.chmod(os.path.join(path, "secret"), 0o600)
         os.remove(os.path.join(path, "new"))
         os.symlink("secret", os.path.join(path, "new"))
         give(path, ".", PLACE)
-        status, said = it.while_staged(folder, lambda at: os.rename(os.path.join(path, at.stages()[0]), os.path.join(path, "kept")))
+        status, said = it.while_staged(directory, lambda at: os.rename(os.path.join(path, at.stages()[0]), os.path.join(path, "kept")))
         if status == 0:
             raise Failure(f"it ended with status {status}, and said {said}")
         os.rename(os.path.join(path, "kept"), os.path.join(path, LOCK))
         for _ in range(2):
-            it.run(folder, folder.arguments("new"))
-            if os.stat(os.path.join(path, LOCK)).st_uid != 0 or folder.holds(LOCK) != SECRET:
+            it.run(directory, directory.arguments("new"))
+            if os.stat(os.path.join(path, LOCK)).st_uid != 0 or directory.holds(LOCK) != SECRET:
                 raise Failure("the stage has another owner now, or holds something else")
 
 
@@ -126,7 +126,7 @@ def owner_cases(it):
     """Names of cases, and what runs each."""
     yield "the owner after an update by root", lambda: as_root(after_root, it)
     yield "the owner after a first installation by root", lambda: as_root(after_first_by_root, it)
-    yield "the owner of a folder that was root's", lambda: as_root(after_next_by_root, it)
+    yield "the owner of a directory that was root's", lambda: as_root(after_next_by_root, it)
     for what, make in (("renamed to the lock's name", os.rename), ("linked to the lock's name", os.link)):
         yield f"a file of root's, {what}", lambda make=make: as_root(gives_nothing_found, it, make)
     yield "data of root's, whose stage is renamed", lambda: as_root(gives_no_data, it)

@@ -30,7 +30,7 @@ FIRST_PARTS_LINES = 530
 # Theorems that compute known values of the definitions of the hash and the derivation.
 KNOWN_FILES = ("crates/minisign_hash/proofs/Facts.antt", "crates/minisign_kdf/proofs/Facts.antt")
 CALLS = re.compile(r"crates/([^/]+)/CALLING\.md")
-FOLDERS = ("tests/", "crates/", "bench/", ".ci/", "docs/", "tools/", "examples/", "c/")
+DIRECTORIES = ("tests/", "crates/", "bench/", ".ci/", "docs/", "tools/", "examples/", "c/")
 QUOTED = re.compile(r"`([^`]+)`")
 BLOCK = re.compile(r"^```(\w*)\n(.*?)^```$", re.M | re.S)
 PATH_NAME = re.compile(r"[A-Za-z_]\w*(?:::(?:[A-Za-z_]\w*|\.\.))*$")
@@ -63,7 +63,7 @@ class Index:
         self.items = [item for source in self.all_sources for item in source.items]
         self.functions = by_name(item for item in self.items if item.what == "fn")
         self.types = by_name(item for item in self.items if item.what in ("struct", "enum", "trait", "type"))
-        specs = [file for folder in self.library.crates.values() for file in sources.files_below(f"{folder}/specs", ".antt")]
+        specs = [file for directory in self.library.crates.values() for file in sources.files_below(f"{directory}/specs", ".antt")]
         self.definitions = [it for file in specs for it in sources.read_module(file).definitions.values()]
         # Items, clauses, parameters, fields, variants, definitions, and all names in code.
         self.known = {*self.library.crates, *(it.name for it in self.items if it.what == "mod"), *(it.name for it in self.definitions)}
@@ -141,13 +141,13 @@ def shortened(text):
 
 def check_calls(report, index, document, text):
     """Each call that a page quotes stands so in its file, and has each clause that is quoted, word for word."""
-    folder = f"{ROOT}/crates/{CALLS.match(document)[1]}/"
+    directory = f"{ROOT}/crates/{CALLS.match(document)[1]}/"
     file, calls, is_quoted = "", [], False
     for where, line in places(document, text):
         if line.startswith("```"):
             is_quoted, file, calls = line == "```text", "", []
         elif is_quoted and line.startswith("src/"):
-            file = folder + line.partition(",")[0]
+            file = directory + line.partition(",")[0]
         elif is_quoted and line.startswith("fn "):
             path = re.match(r"fn ([\w:]+)", line)[1]
             calls = [it for it in index.functions.get(path.rpartition("::")[2], []) if (it.file, it.path) == (file, path)]
@@ -178,7 +178,7 @@ def check_links(report, document, text):
 
 
 class Paths:
-    """How the documents name files and folders."""
+    """How the documents name files and directories."""
 
     ENDINGS = ("", ".antt", ".rt", ".py", ".md", ".c", ".rs")
 
@@ -192,7 +192,7 @@ class Paths:
                     self.ends.setdefault("/".join(parts[first:last]), {})["/".join(parts[:last])] = None
 
     def find(self, path):
-        """The files or folders that a document's path may mean."""
+        """The files or directories that a document's path may mean."""
         path = path.rstrip("/")
         if "*" in path or "NAME" in path:
             return glob.glob(os.path.join(ROOT, path.replace("NAME", "*")))
@@ -200,7 +200,7 @@ class Paths:
 
 
 def is_path(text):
-    """Whether a quoted text names a file or folder of the repository."""
+    """Whether a quoted text names a file or directory of the repository."""
     if not re.fullmatch(r"[\w.*][\w.*/-]*", text) or "/out" in text or text.startswith("out/"):
         return False
     return bool("/" in text and not re.fullmatch(r"\d+(?:/\d+)*", text) or re.search(r"\.(?:rt|antt|py|md|c|txt|edit)$", text))
@@ -210,8 +210,8 @@ def check_paths(report, document, text, paths):
     """Each quoted path, and names that are said to stand in a file."""
     for where, line in places(document, text):
         for name in QUOTED.findall(line):
-            for word in [name] if " " not in name else [it for it in name.split() if it.startswith(FOLDERS)]:
-                report.check(not is_path(word) or paths.find(word), where, f"no file or folder {word}")
+            for word in [name] if " " not in name else [it for it in name.split() if it.startswith(DIRECTORIES)]:
+                report.check(not is_path(word) or paths.find(word), where, f"no file or directory {word}")
         for names, path in re.findall(r"((?:`[\w:]+`(?:, | and )?)+) of `([\w./]+)`", line):
             for name in QUOTED.findall(names) if is_path(path) else ():
                 there = {it for place in paths.find(path) for it in names_of(place)}
@@ -378,7 +378,7 @@ def main():
     for document, text in documents.items():
         check_links(report, document, text)
         place = re.search(r"(?<![\w.])/(?:opt|work|root|home|Users)/\S*", text)
-        report.check(place is None, document, f"it names a folder of one machine: {place and place[0]}")
+        report.check(place is None, document, f"it names a directory of one machine: {place and place[0]}")
         if document == MADE:
             continue
         check_paths(report, document, text, paths)

@@ -60,20 +60,20 @@ def lines_of_crates():
     return libraries, caller
 
 
-def fill(folder):
-    """Puts the caller's crate into a folder: the example of the documents behind the imports of the same in its crate."""
+def fill(directory):
+    """Puts the caller's crate into a directory: the example of the documents behind the imports of the same in its crate."""
     example = block_with("pub fn check_update")
     module = read(f"crates/{EXAMPLES}/src/{MODULE}.rt")
     if example not in module:
         raise Wrong(f"the example is not that of crates/{EXAMPLES}/src/{MODULE}.rt")
     for part in PARTS:
-        came, goes = os.path.join(proved.ROOT, "crates", EXAMPLES, part), os.path.join(folder, part)
+        came, goes = os.path.join(proved.ROOT, "crates", EXAMPLES, part), os.path.join(directory, part)
         os.makedirs(os.path.dirname(goes), exist_ok=True)
         (shutil.copytree if os.path.isdir(came) else shutil.copyfile)(came, goes)
-    write(folder, "src/lib.rt", f"//! An updater.\n\n#![tactic(auto)]\n\npub mod {MODULE};\n")
-    write(folder, "specs/Lib.antt", "pub mod Updating\n")
-    write(folder, "proofs/Lib.antt", "mod Refusals\n")
-    for at, _, names in os.walk(folder):
+    write(directory, "src/lib.rt", f"//! An updater.\n\n#![tactic(auto)]\n\npub mod {MODULE};\n")
+    write(directory, "specs/Lib.antt", "pub mod Updating\n")
+    write(directory, "proofs/Lib.antt", "mod Refusals\n")
+    for at, _, names in os.walk(directory):
         for name in names:
             path = os.path.join(at, name)
             with open(path, encoding="utf-8") as it:
@@ -81,8 +81,8 @@ def fill(folder):
             write(at, name, text.replace(f"Rattle.{EXAMPLES}.", f"Rattle.{CALLER}."))
 
 
-def write(folder, name, text):
-    with open(os.path.join(folder, name), "w", encoding="utf-8") as it:
+def write(directory, name, text):
+    with open(os.path.join(directory, name), "w", encoding="utf-8") as it:
         it.write(text)
 
 
@@ -96,9 +96,9 @@ def check():
     why = proved.supply(crate.below)
     if why:
         raise Wrong(why)
-    with tempfile.TemporaryDirectory(prefix="minisign-new-repository-") as folder:
-        fill(folder)
-        ran = proved.rattle("check", CALLER, folder, crate=crate)
+    with tempfile.TemporaryDirectory(prefix="minisign-new-repository-") as directory:
+        fill(directory)
+        ran = proved.rattle("check", CALLER, directory, crate=crate)
     words = ran.stdout
     if ran.returncode or f"{MODULE}::check_update" not in proved.functions_of(CALLER, words):
         raise Wrong(f"the example is not proved: {proved.first_of(words)}")
@@ -115,10 +115,10 @@ def check_page(page):
     why = proved.supply(crate.below)
     if why:
         raise Wrong(why)
-    with tempfile.TemporaryDirectory(prefix="minisign-caller-") as folder:
-        os.makedirs(f"{folder}/src")
-        write(folder, "src/lib.rt", f"//! A caller.\n\n{blocks[0]}")
-        words = proved.rattle("check", CALLER, folder, crate=crate).stdout
+    with tempfile.TemporaryDirectory(prefix="minisign-caller-") as directory:
+        os.makedirs(f"{directory}/src")
+        write(directory, "src/lib.rt", f"//! A caller.\n\n{blocks[0]}")
+        words = proved.rattle("check", CALLER, directory, crate=crate).stdout
     functions = re.findall(r"\bfn (\w+)", blocks[0])
     if "logic=proved" not in words or {*functions} - {*proved.functions_of(CALLER, words)}:
         raise Wrong(f"the caller of {page} is not proved: {proved.first_of(words)}")

@@ -3,9 +3,9 @@
 (`tests/shared/edges.py`).
 
 Each vector becomes a public key, a signature of the older kind and its data. A program that accepts the vector goes on to
-the comment's signature, which no vector has, and refuses that one; one that refuses it says so: the words tell which. The
-programs in Rust and Python refuse that kind, so their function that asks libsodium is called for each vector. Then a key and
-a signature of small order that would fit every file have to be refused by each. libsodium itself has to answer as the file
+the comment's signature, which no vector has, and rejects that one; one that rejects it says so: the words tell which. The
+programs in Rust and Python reject that kind, so their function that asks libsodium is called for each vector. Then a key and
+a signature of small order that would fit every file have to be rejected by each. libsodium itself has to answer as the file
 of vectors says. It prints a line for each failure; the last line is `N passed, M failed`.
 
 Needs Python 3.9 or later, make, a C compiler, rustc and libsodium with its header, and installs what is not there where
@@ -28,7 +28,7 @@ import needs
 import static_library
 
 SECONDS = 120
-REFUSED = b"Signature verification failed"
+REJECTED = b"Signature verification failed"
 ACCEPTED = b"Comment signature verification failed"
 # What stands for the example's own begin: it answers a line of a key, a signature and a message in hexadecimal digits.
 RUST_BEGIN = """
@@ -82,7 +82,7 @@ def program_failures(room, program):
         key, signature = edges.legacy_texts(it)
         paths = [put(room, "key", key), put(room, "data", bytes.fromhex(it["msg"])), put(room, "signature", signature)]
         status, said = run([program, "-V", "-p", paths[0], "-m", paths[1], "-x", paths[2]])
-        wanted = ACCEPTED if it["sodium"] else REFUSED
+        wanted = ACCEPTED if it["sodium"] else REJECTED
         if status != 1 or said.strip() != wanted:
             name = os.path.basename(program)
             failures.append(f"{name}: the vector {it['name']} ends with {status}: {said!r:.200}, and not {wanted!r}")
@@ -122,7 +122,7 @@ def python_failures():
 
 
 def every_file_failures(room, commands):
-    """What is wrong where a signature of small order would fit every file: each program has to refuse it."""
+    """What is wrong where a signature of small order would fit every file: each program has to reject it."""
     key, signature = edges.texts_for_every_file()
     paths = {"key": put(room, "key", key), "signature": put(room, "signature", signature)}
     failures = []
@@ -130,7 +130,7 @@ def every_file_failures(room, commands):
         paths["data"] = put(room, "data", data)
         for what, command in commands.items():
             status, said = run([part.format(**paths) for part in command])
-            if status != 1 or said.strip() != REFUSED:
+            if status != 1 or said.strip() != REJECTED:
                 failures.append(f"{what}: a signature for every file ends with {status}: {said!r:.200}")
     return failures
 

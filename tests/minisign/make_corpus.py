@@ -1,9 +1,9 @@
 #!/usr/bin/env python3
 """Made the files of tests/corpus, with Minisign's own program, once; kept to show how.
 
-    tests/minisign/make_corpus.py FOLDER
+    tests/minisign/make_corpus.py DIRECTORY
 
-Makes the same anew, with other keys, in an empty folder: keys with and without a password, data, signatures of
+Makes the same anew, with other keys, in an empty directory: keys with and without a password, data, signatures of
 both kinds with odd comments, some of them damaged, and in `cases.json`, for each case that is named there, what
 `minisign -V` answers. The texts of the published key are those that Minisign's author published with the Rust crate.
 """
@@ -83,13 +83,13 @@ def make_files(minisign):
     return rows + [("cr-lf.pub", "hello", "hello.minisig"), ("other-algorithm.pub", "hello", "hello.minisig")]
 
 
-def answer_of(program, folder, row):
+def answer_of(program, directory, row):
     """What `minisign -V` answers to a row, whose files get the names of the script that runs the corpus."""
     with_names = dict(zip(("minisign.pub", "data", "data.minisig"), row))
-    made = os.path.join(folder, "run")
+    made = os.path.join(directory, "run")
     os.makedirs(made, exist_ok=True)
     for name, kept in with_names.items():
-        with open(os.path.join(folder, kept), "rb") as source, open(os.path.join(made, name), "wb") as file:
+        with open(os.path.join(directory, kept), "rb") as source, open(os.path.join(made, name), "wb") as file:
             file.write(source.read())
     ran = subprocess.run([program, "-V", "-p", "minisign.pub", "-x", "data.minisig", "-m", "data"], cwd=made,
                          stdout=subprocess.PIPE, stderr=subprocess.PIPE)
@@ -97,13 +97,13 @@ def answer_of(program, folder, row):
             "output": ran.stdout.decode("latin-1"), "said": ran.stderr.decode("latin-1")}
 
 
-def main(folder):
-    minisign = Minisign(needs.minisign(), folder)
-    rows = [answer_of(minisign.program, folder, row) for row in make_files(minisign)]
-    shutil.rmtree(os.path.join(folder, "run"))
+def main(directory):
+    minisign = Minisign(needs.minisign(), directory)
+    rows = [answer_of(minisign.program, directory, row) for row in make_files(minisign)]
+    shutil.rmtree(os.path.join(directory, "run"))
     for name in ("signed", "made", "first.key", "second.key", "sealed.key"):
-        os.remove(os.path.join(folder, name))
-    with open(os.path.join(folder, "cases.json"), "w", encoding="utf-8") as file:
+        os.remove(os.path.join(directory, name))
+    with open(os.path.join(directory, "cases.json"), "w", encoding="utf-8") as file:
         json.dump(rows, file, indent=1)
         file.write("\n")
 

@@ -42,30 +42,30 @@ class Answer:
         return f"status {self.status}, {self.output[:80]!r}, {self.said[:120]!r}"
 
 
-def run(command, folder, stdin=None, stdout=subprocess.PIPE):
-    """Runs a program in a folder, with these bytes or nothing on its standard input."""
+def run(command, directory, stdin=None, stdout=subprocess.PIPE):
+    """Runs a program in a directory, with these bytes or nothing on its standard input."""
     how = {"input": stdin} if stdin is not None else {"stdin": subprocess.DEVNULL}
-    ran = subprocess.run(command, cwd=folder, stdout=stdout, stderr=subprocess.PIPE, timeout=SECONDS, **how)
+    ran = subprocess.run(command, cwd=directory, stdout=stdout, stderr=subprocess.PIPE, timeout=SECONDS, **how)
     return Answer(ran.returncode, ran.stdout or b"", ran.stderr)
 
 
-def write(folder, name, data):
-    with open(os.path.join(folder, name), "wb") as file:
+def write(directory, name, data):
+    with open(os.path.join(directory, name), "wb") as file:
         file.write(data)
 
 
-def read(folder, name):
-    with open(os.path.join(folder, name), "rb") as file:
+def read(directory, name):
+    with open(os.path.join(directory, name), "rb") as file:
         return file.read()
 
 
-def put_case(folder, case):
+def put_case(directory, case):
     """Writes the files of a case, or takes away those that it has to lack."""
     for name, data in (("minisign.pub", case.pk), ("data.minisig", case.sig), ("data", case.data)):
         if name not in case.without:
-            write(folder, name, data)
-        elif os.path.exists(os.path.join(folder, name)):
-            os.remove(os.path.join(folder, name))
+            write(directory, name, data)
+        elif os.path.exists(os.path.join(directory, name)):
+            os.remove(os.path.join(directory, name))
 
 
 def arguments_of(case):

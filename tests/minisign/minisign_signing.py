@@ -32,26 +32,26 @@ def is_kept(trusted):
 
 
 class Signing:
-    """The two signing programs, in a folder with keys that Minisign made."""
+    """The two signing programs, in a directory with keys that Minisign made."""
 
-    def __init__(self, programs, folder):
-        self.programs, self.folder = programs, folder
+    def __init__(self, programs, directory):
+        self.programs, self.directory = programs, directory
         self.failures, self.count = [], 0
         self.entries = collections.Counter()
 
     def ours(self, key, *flags, typed=None):
         """Runs ours: how it ended, and the text that it wrote, or None."""
-        made = os.path.join(self.folder, "ours.minisig")
+        made = os.path.join(self.directory, "ours.minisig")
         if os.path.exists(made):
             os.remove(made)
-        ran = run([self.programs.ours, "-S", "-s", key, "-m", "data", "-x", "ours.minisig", *flags], self.folder,
+        ran = run([self.programs.ours, "-S", "-s", key, "-m", "data", "-x", "ours.minisig", *flags], self.directory,
                   stdin=typed)
-        return ran, read(self.folder, "ours.minisig") if os.path.exists(made) else None
+        return ran, read(self.directory, "ours.minisig") if os.path.exists(made) else None
 
     def accepted(self, public):
         """Whether both verifiers accept what ours wrote."""
         return [name for name, program in (("Minisign", self.programs.minisign), ("ours", self.programs.ours))
-                if run([program, "-V", "-p", public, "-m", "data", "-x", "ours.minisig"], self.folder).status != 0]
+                if run([program, "-V", "-p", public, "-m", "data", "-x", "ours.minisig"], self.directory).status != 0]
 
     def case(self, name, wrong):
         self.count += 1
@@ -60,41 +60,41 @@ class Signing:
 
     def signs(self, name, data, trusted, untrusted=b"u", key="first"):
         """Ours signs, and Minisign with the same key and comments makes the same text."""
-        write(self.folder, "data", data)
+        write(self.directory, "data", data)
         comments = ("-t", trusted, "-c", untrusted)
         ran, text = self.ours(f"{key}.key", *comments)
         theirs = run([self.programs.minisign, "-S", "-s", f"{key}.key", "-m", "data", "-x", "theirs.minisig", *comments],
-                     self.folder)
+                     self.directory)
         if ran.status != 0 or text is None:
             self.case(name, f"ours: {ran}")
-        elif theirs.status != 0 or text != read(self.folder, "theirs.minisig"):
+        elif theirs.status != 0 or text != read(self.directory, "theirs.minisig"):
             self.case(name, f"Minisign writes another text: {theirs}: {text!r}")
         else:
-            refusing = self.accepted(f"{key}.pub")
-            self.case(name, f"refused by {refusing}" if refusing else "")
+            rejecting = self.accepted(f"{key}.pub")
+            self.case(name, f"rejected by {rejecting}" if rejecting else "")
 
-    def refuses(self, name, key, *flags, typed=None, said=b""):
-        """Ours refuses, and writes nothing."""
+    def rejects(self, name, key, *flags, typed=None, said=b""):
+        """Ours rejects, and writes nothing."""
         ran, text = self.ours(key, *flags, typed=typed)
         self.case(name, f"ours: {ran}" if ran.status != 2 or text is not None or said not in ran.said else "")
 
 
     def both(self, text, password):
         """What both programs do with a key: whether each signs so that Minisign accepts it, and what they said."""
-        write(self.folder, "data", b"some data\n")
-        write(self.folder, "differing.key", text)
+        write(self.directory, "data", b"some data\n")
+        write(self.directory, "differing.key", text)
         typed = None if password is None else password + b"\n"
         flags = ("-t", "t", "-c", "u")
         theirs = run([self.programs.minisign, "-S", "-s", "differing.key", "-m", "data", "-x", "theirs.minisig", *flags],
-                     self.folder, stdin=typed)
+                     self.directory, stdin=typed)
         ours, _ = self.ours("differing.key", *flags, typed=typed)
         signs = {differences.MINISIGN: theirs.status == 0, differences.OURS: ours.status == 0}
         if ours.status == 0 and self.accepted("first.pub"):
-            return signs, f"what ours signed is refused: {theirs}, {ours}"
+            return signs, f"what ours signed is rejected: {theirs}, {ours}"
         return signs, f"{theirs}, {ours}"
 
     def differs(self, entry, text, password):
-        """One of the programs signs, and the other refuses, as the entry says."""
+        """One of the programs signs, and the other rejects, as the entry says."""
         signs, said = self.both(text, password)
         self.entries[entry] += 1
         self.case(entry, "" if signs == {name: name == differences.SIGNING[entry] for name in signs} else said)
@@ -181,12 +181,12 @@ def damaged_keys(text):
 
 def signing_cases(programs, minisign):
     """Signs with keys that Minisign makes: the failures, how many cases ran, and how often each entry explained a difference."""
-    with tempfile.TemporaryDirectory(prefix="real-signing-") as folder:
-        signing = Signing(programs, folder)
+    with tempfile.TemporaryDirectory(prefix="real-signing-") as directory:
+        signing = Signing(programs, directory)
         for name in ("first.key", "first.pub", "sealed.key", "sealed.pub"):
-            write(folder, name, minisign.read(name))
-        write(folder, "checked.key", with_checksum(minisign.read("first.key")))
-        write(folder, "checked.pub", minisign.read("first.pub"))
+            write(directory, name, minisign.read(name))
+        write(directory, "checked.key", with_checksum(minisign.read("first.key")))
+        write(directory, "checked.pub", minisign.read("first.pub"))
         for length in [*LENGTHS, 2**20, 2**20 + 1]:
             for key in ("first", "checked"):
                 signing.signs(f"{length} bytes, {key} key", pattern(length), b"a trusted comment", key=key)
@@ -195,31 +195,31 @@ def signing_cases(programs, minisign):
                 for length in (0, 13):
                     signing.signs(f"trusted comment {comment[:20]!r}, {length} bytes", pattern(length), comment)
             else:
-                signing.refuses(f"trusted comment {comment[:20]!r}", "first.key", "-t", comment)
+                signing.rejects(f"trusted comment {comment[:20]!r}", "first.key", "-t", comment)
         for comment in [*UNTRUSTED_COMMENTS, *MORE_COMMENTS, *NOT_KEPT_UNTRUSTED]:
             if is_utf8(comment) and comment not in NOT_KEPT_UNTRUSTED:
                 for length in (0, 13):
                     signing.signs(f"untrusted comment {comment[:20]!r}", pattern(length), b"t", comment)
             else:
-                signing.refuses(f"untrusted comment {comment[:20]!r}", "first.key", "-t", "t", "-c", comment)
+                signing.rejects(f"untrusted comment {comment[:20]!r}", "first.key", "-t", "t", "-c", comment)
         by_default(signing)
         sealed(signing)
-        for name, text, said in damaged_keys(read(folder, "checked.key")):
-            write(folder, "damaged.key", text)
-            signing.refuses(f"key with {name}", "damaged.key", typed=b"x\n", said=said)
-        for entry, text, password in differing_keys(read(folder, "first.key"), read(folder, "checked.key")):
+        for name, text, said in damaged_keys(read(directory, "checked.key")):
+            write(directory, "damaged.key", text)
+            signing.rejects(f"key with {name}", "damaged.key", typed=b"x\n", said=said)
+        for entry, text, password in differing_keys(read(directory, "first.key"), read(directory, "checked.key")):
             signing.differs(entry, text, password)
-        for name, text, password in sealed_alike(read(folder, "first.key")):
+        for name, text, password in sealed_alike(read(directory, "first.key")):
             signing.signs_alike(name, text, password)
-        signing.refuses("no key file", "missing.key")
-        os.remove(os.path.join(folder, "data"))
-        signing.refuses("no data", "first.key")
+        signing.rejects("no key file", "missing.key")
+        os.remove(os.path.join(directory, "data"))
+        signing.rejects("no data", "first.key")
         return signing.failures, signing.count, signing.entries
 
 
 def by_default(signing):
     """The comments by default, as Minisign writes them."""
-    write(signing.folder, "data", b"some data\n")
+    write(signing.directory, "data", b"some data\n")
     _, text = signing.ours("first.key")
     wanted = rb"untrusted comment: signature from minisign secret key\n[^\n]*\n" \
         rb"trusted comment: timestamp:[0-9]+\tfile:data\thashed\n[^\n]*\n"
@@ -229,11 +229,11 @@ def by_default(signing):
 
 def sealed(signing):
     """A sealed key, with its password and with others."""
-    write(signing.folder, "data", pattern(1000))
+    write(signing.directory, "data", pattern(1000))
     for end in (b"\n", b"\r\n", b""):
         ran, text = signing.ours("sealed.key", "-t", "t", typed=PASSWORD.encode() + end)
-        refusing = signing.accepted("sealed.pub") if text is not None else ["ours"]
-        signing.case(f"sealed key, {end!r}", f"{ran}, refused by {refusing}" if ran.status != 0 or refusing else "")
-    signing.refuses("wrong password", "sealed.key", typed=b"wrong\n", said=b"Wrong password for that key")
-    signing.refuses("no password", "sealed.key", typed=b"")
-    signing.refuses("a password that is no UTF-8", "sealed.key", typed=b"\xff\n", said=b"The password is not UTF-8")
+        rejecting = signing.accepted("sealed.pub") if text is not None else ["ours"]
+        signing.case(f"sealed key, {end!r}", f"{ran}, rejected by {rejecting}" if ran.status != 0 or rejecting else "")
+    signing.rejects("wrong password", "sealed.key", typed=b"wrong\n", said=b"Wrong password for that key")
+    signing.rejects("no password", "sealed.key", typed=b"")
+    signing.rejects("a password that is no UTF-8", "sealed.key", typed=b"\xff\n", said=b"The password is not UTF-8")

@@ -89,20 +89,20 @@ def act(person, model, chance, texts, signatures):
 
 def drop(person, model, chance, texts, signatures):
     """Drops some files together."""
-    folder, files, paths = os.path.dirname(person.put("unused", b"")), [], []
+    directory, files, paths = os.path.dirname(person.put("unused", b"")), [], []
     for name in NAMES:
         if chance.random() < 0.6:
             data = chance.choice(DATA)
             files.append((name, "data", data))
-            paths.append(person.put_beside(folder, name, data))
+            paths.append(person.put_beside(directory, name, data))
         if chance.random() < 0.6:
             signed = chance.choice(tuple(signatures))
             files.append((name, "signature", signed))
-            paths.append(person.put_beside(folder, f"{name}.minisig", signatures[signed]))
+            paths.append(person.put_beside(directory, f"{name}.minisig", signatures[signed]))
     if chance.random() < 0.3:
         key = chance.choice(KEYS)
         files.append(("some.pub", "key", key))
-        paths.append(person.put_beside(folder, "some.pub", texts[key]))
+        paths.append(person.put_beside(directory, "some.pub", texts[key]))
     if files:
         person.browser.drop("downloads", *paths)
         model.take_files(files)

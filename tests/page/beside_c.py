@@ -43,23 +43,23 @@ def check_texts(person, count=TEXTS):
         browser.clear()
         browser.type_key("")
         browser.choose_key(key)
-        refusal = browser.run("return Number(document.getElementById('key-said').dataset.number)")
-        folder, paths = os.path.dirname(key), []
+        rejection = browser.run("return Number(document.getElementById('key-said').dataset.number)")
+        directory, paths = os.path.dirname(key), []
         for number, case in enumerate(some):
-            paths += [person.put_beside(folder, str(number), case.data), person.put_beside(folder, f"{number}.minisig", case.sig)]
-        if refusal == 0:
+            paths += [person.put_beside(directory, str(number), case.data), person.put_beside(directory, f"{number}.minisig", case.sig)]
+        if rejection == 0:
             browser.choose(*paths)
             rows = {row["name"]: row for row in person.settled("changed texts")}
         for number, case in enumerate(some):
             theirs = person.programs.verify(key, *paths[2 * number:2 * number + 2])
-            ours = rows[str(number)] if refusal == 0 else {"number": refusal, "comment": None, "verdict": "bad"}
+            ours = rows[str(number)] if rejection == 0 else {"number": rejection, "comment": None, "verdict": "bad"}
             counted[ours["verdict"]] += 1
             checks.check(is_same_verdict(person.programs, case, ours, theirs), f"{case.name}: the page says {ours}, and the program {theirs}")
     checks.check(min(counted.values()) >= count // 25 and sum(counted.values()) == count, f"the changed texts are {counted}")
 
 
 def check_flags(person):
-    """A number that is no flag is refused, and before the state is looked at, by the module as by the library for C."""
+    """A number that is no flag is rejected, and before the state is looked at, by the module as by the library for C."""
     browser, checks = person.browser, person.checks
     browser.open(person.address)
     key, sig = cases.read_kept("first.pub"), cases.read_kept("hello.minisig")

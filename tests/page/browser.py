@@ -139,17 +139,17 @@ class Browser:
 
 
 class Chromium(Browser):
-    """Debian's Chromium, whose profile is in this folder."""
+    """Debian's Chromium, whose profile is in this directory."""
 
     name = "Chromium"
     is_chromium = True
     # What the command of a process has that shows a page.
     SHOWS_PAGE = b"--type=renderer"
 
-    def __init__(self, chromium, chromedriver, folder, width=800, height=1000):
+    def __init__(self, chromium, chromedriver, directory, width=800, height=1000):
         options = Options()
         options.binary_location = chromium
-        for flag in (*FLAGS, f"--window-size={width},{height}", f"--user-data-dir={os.path.join(folder, 'profile')}"):
+        for flag in (*FLAGS, f"--window-size={width},{height}", f"--user-data-dir={os.path.join(directory, 'profile')}"):
             options.add_argument(flag)
         options.set_capability("goog:loggingPrefs", {"browser": "ALL", "performance": "ALL"})
         self.driver = webdriver.Chrome(service=Service(chromedriver), options=options)
@@ -200,7 +200,7 @@ class Chromium(Browser):
         return self.run("const it = document.activeElement; return it.id || it.className || it.textContent")
 
     def said(self):
-        """What the browser's console has: errors, and what the policy refused."""
+        """What the browser's console has: errors, and what the policy rejected."""
         return [entry["message"] for entry in self.driver.get_log("browser")]
 
     def requests(self):

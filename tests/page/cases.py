@@ -46,7 +46,7 @@ def kept_cases():
 
 @dataclass(frozen=True)
 class Fault:
-    """A number, words of what the page has to say, and the text that is refused so."""
+    """A number, words of what the page has to say, and the text that is rejected so."""
 
     number: int
     words: str

@@ -26,13 +26,13 @@ PREFERENCES = {
 
 
 class Firefox(Browser):
-    """Debian's Firefox, whose profile is in this folder."""
+    """Debian's Firefox, whose profile is in this directory."""
 
     name = "Firefox"
     SHOWS_PAGE = b" tab\0"
 
-    def __init__(self, program, folder, width=800, height=1000):
-        profile = os.path.join(folder, "firefox")
+    def __init__(self, program, directory, width=800, height=1000):
+        profile = os.path.join(directory, "firefox")
         os.makedirs(profile)
         with open(os.path.join(profile, "user.js"), "w", encoding="utf-8") as file:
             for name, value in PREFERENCES.items():

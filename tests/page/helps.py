@@ -52,7 +52,7 @@ def check_helps(person, minisign):
         browser.open(person.address)
         browser.drop("downloads", os.path.dirname(person.put("data", b"data")))
         checks.check("A folder cannot be verified" in browser.text_of("files-said") and not browser.rows(),
-                     "a folder that is dropped: nothing is said")
+                     "a directory that is dropped: nothing is said")
         browser.drop("key", os.path.dirname(person.put("data", b"data")))
         checks.check("A folder cannot be verified" in browser.text_of("files-said"), "a folder as the key: nothing is said")
         browser.drop("downloads", person.put("data", b"data"))
@@ -71,8 +71,8 @@ def check_known(person, minisign):
         browser.choose(data, person.put_beside(os.path.dirname(data), name, sign(b"data")))
         person.expect(person.only(person.settled(name), name), 0, f"the signature {name}", "t")
     browser.clear()
-    folder = os.path.dirname(person.put("a.zip", b"a"))
-    paths = [os.path.join(folder, "a.zip"), *(person.put_beside(folder, name, data) for name, data in (
+    directory = os.path.dirname(person.put("a.zip", b"a"))
+    paths = [os.path.join(directory, "a.zip"), *(person.put_beside(directory, name, data) for name, data in (
         ("a.zip.sig", sign(b"a")), ("b.zip", b"b"), ("b.zip.minisig.txt", sign(b"b"))))]
     browser.choose(*paths)
     checks.same({row["name"]: row["number"] for row in person.settled("by their texts")}, {"a.zip": 0, "b.zip": 0},

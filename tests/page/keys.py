@@ -28,10 +28,10 @@ def check_keys(person, minisign):
     good = minisign.sign("first", b"update", trusted="t")
     # What somebody else made: another file, a signature of it, and a key, all under the identifier of the project's key.
     data, key = person.put("update.zip", b"harmful"), None
-    folder = data.rpartition("/")[0]
+    directory = data.rpartition("/")[0]
     harmful = foreign_under(good, minisign.sign("second", b"harmful", trusted="t"))
-    sig = person.put_beside(folder, "update.zip.minisig", harmful)
-    key = person.put_beside(folder, "minisign.pub", foreign)
+    sig = person.put_beside(directory, "update.zip.minisig", harmful)
+    key = person.put_beside(directory, "minisign.pub", foreign)
 
     for how in ("typed", "chosen"):
         browser.open(person.address)

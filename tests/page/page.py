@@ -24,7 +24,7 @@ import sys
 
 HERE = os.path.dirname(os.path.realpath(__file__))
 TOP = os.path.join(HERE, "..", "..")
-sys.path += [os.path.join(TOP, *folder) for folder in (("tests", "shared"), ("tests", "minisign"), ("page",))]
+sys.path += [os.path.join(TOP, *directory) for directory in (("tests", "shared"), ("tests", "minisign"), ("page",))]
 
 import needs
 
@@ -99,9 +99,9 @@ def steps_in(person, minisign, programs, page):
 def run_in(browser, checks, room, made):
     """Runs everything in a browser."""
     minisign, programs, page = made
-    folder = os.path.join(room, browser.name)
-    os.mkdir(folder)
-    person = Person(checks, browser, f"file://{page}", folder, programs)
+    directory = os.path.join(room, browser.name)
+    os.mkdir(directory)
+    person = Person(checks, browser, f"file://{page}", directory, programs)
     for what, step in steps_in(person, minisign, programs, page).items():
         begun = time.monotonic()
         try:

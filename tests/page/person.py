@@ -18,29 +18,29 @@ class Checks(checks.Checks):
 
 
 class Person:
-    """Who uses the page: the browser, the page's address, and a folder for files."""
+    """Who uses the page: the browser, the page's address, and a directory for files."""
 
-    def __init__(self, checks, browser, address, folder, programs):
-        self.checks, self.browser, self.address, self.folder = checks, browser, address, folder
+    def __init__(self, checks, browser, address, directory, programs):
+        self.checks, self.browser, self.address, self.directory = checks, browser, address, directory
         self.programs = programs
         self.count = 0
 
     def put(self, name, data):
-        """Writes a file of this name into a folder of its own; its path."""
+        """Writes a file of this name into a directory of its own; its path."""
         self.count += 1
-        folder = os.path.join(self.folder, f"files{self.count}")
-        os.mkdir(folder)
-        return self.put_beside(folder, name, data)
+        directory = os.path.join(self.directory, f"files{self.count}")
+        os.mkdir(directory)
+        return self.put_beside(directory, name, data)
 
     @staticmethod
-    def put_beside(folder, name, data):
-        path = os.path.join(folder, name)
+    def put_beside(directory, name, data):
+        path = os.path.join(directory, name)
         with open(path, "wb") as file:
             file.write(data)
         return path
 
     def pair(self, name, data, sig):
-        """Writes a file and its signature into a folder of their own; their paths."""
+        """Writes a file and its signature into a directory of their own; their paths."""
         path = self.put(name, data)
         return path, self.put_beside(os.path.dirname(path), f"{name}.minisig", sig)
 

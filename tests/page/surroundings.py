@@ -24,13 +24,13 @@ def check_alone(person, minisign, page):
         person.address, kept = served.address, person.address
         person.expect(person.verdict("served", key, *paths), 0, "served", "t")
         person.address = kept
-        refused = browser.run_later("""const done = arguments[1], tried = [];
+        rejected = browser.run_later("""const done = arguments[1], tried = [];
           fetch(arguments[0] + "?fetched").then(() => tried.push("fetch"), () => {}).then(() => {
             const picture = new Image(); picture.onload = picture.onerror = () => done(tried); picture.src = arguments[0] + "?picture"; })""", served.address)
-        checks.same(refused, [], "what the policy lets through")
+        checks.same(rejected, [], "what the policy lets through")
         checks.same(served.asked, ["/minisign.html"], "what the page asks for, served")
-    refusals = [it for it in browser.said() if "Content Security Policy" in it or "Refused" in it]
-    checks.check(len(refusals) >= 2, f"the browser tells of {refusals} that the policy refused")
+    rejections = [it for it in browser.said() if "Content Security Policy" in it or "Refused" in it]
+    checks.check(len(rejections) >= 2, f"the browser tells of {rejections} that the policy rejected")
 
 
 class Served:

@@ -96,7 +96,7 @@ def check_faults(person, minisign, meaning):
             else:
                 browser.type_key(fault.text.decode())
             text = browser.text_of("key-said")
-            checks.check(text.startswith("No public key: ") and fault.words in text, f"a key refused by {fault.number}: {text!r}")
+            checks.check(text.startswith("No public key: ") and fault.words in text, f"a key rejected by {fault.number}: {text!r}")
             checks.same(browser.run("return document.getElementById('key-said').dataset.number"), str(fault.number), f"a key {how}: the number")
     browser.choose_key(person.put("first.pub", pk))
     faults = cases.signature_faults(sig, minisign.sign("second", data))
@@ -135,12 +135,12 @@ def check_several(person, minisign):
     browser, checks = person.browser, person.checks
     pk = minisign.read("first.pub")
     texts = {name: minisign.sign("first", name.encode(), trusted=name) for name in ("a", "b", "c", "d.pub")}
-    folder = os.path.dirname(person.put("a", b"a"))
+    directory = os.path.dirname(person.put("a", b"a"))
     for name, sig in texts.items():
-        person.put_beside(folder, name, name.encode())
-        person.put_beside(folder, f"{name}.minisig", sig)
-    at = lambda *names: [os.path.join(folder, name) for name in names]
-    key = person.put_beside(folder, "key.pub", pk)
+        person.put_beside(directory, name, name.encode())
+        person.put_beside(directory, f"{name}.minisig", sig)
+    at = lambda *names: [os.path.join(directory, name) for name in names]
+    key = person.put_beside(directory, "key.pub", pk)
     browser.open(person.address)
     browser.drop("downloads", *at("b.minisig", "a", "c", "a.minisig", "b", "d.pub.minisig", "d.pub"), key)
     rows = {row["name"]: row for row in person.settled("several files")}
@@ -158,7 +158,7 @@ def check_several(person, minisign):
     row = person.only(person.settled("two of other names"), "two of other names")
     checks.check(row["number"] == 31 and "with the signature b.minisig" in row["text"], f"two of other names: {row['text']!r}")
     browser.clear()
-    other = person.put_beside(folder, "renamed", b"a")
+    other = person.put_beside(directory, "renamed", b"a")
     browser.choose(other, *at("a.minisig"))
     person.expect(person.only(person.settled("a renamed file"), "a renamed file"), 0, "a renamed file", "a")
     # A file that is chosen anew takes the place of the older one.
@@ -169,4 +169,4 @@ def check_several(person, minisign):
     person.expect(person.only(person.settled("a changed file"), "a changed file"), 31, "a changed file")
     browser.click("key-remove")
     browser.drop("downloads", key, person.put("other.pub", minisign.read("second.pub")))
-    checks.check("several keys" in browser.text_of("key-said"), "two keys at once are not refused")
+    checks.check("several keys" in browser.text_of("key-said"), "two keys at once are not rejected")

@@ -97,8 +97,8 @@ def gives(stdout=b"", stderr=b"", typed_left=0, **values):
     return Answer("ok", values, stdout, stderr, typed_left)
 
 
-def refused(fault, stdout=b"", stderr=b"", typed_left=0, text=None, **values):
-    """The call is refused with this named fault, or with this text of it where the text names keys."""
+def rejected(fault, stdout=b"", stderr=b"", typed_left=0, text=None, **values):
+    """The call is rejected with this named fault, or with this text of it where the text names keys."""
     kind, usual = FAULTS[fault]
     return Answer(f"err {kind} {spelled(text or usual)}", values, stdout, stderr, typed_left)
 
@@ -116,9 +116,9 @@ class Row:
     answer: Answer
 
 
-def answers_of(requests, folder):
-    """Returns the program's answers, a line for each request. Paths are taken from the folder."""
-    ran = subprocess.run([PROGRAM], input="\n".join(requests) + "\n", cwd=folder, stdout=subprocess.PIPE,
+def answers_of(requests, directory):
+    """Returns the program's answers, a line for each request. Paths are taken from the directory."""
+    ran = subprocess.run([PROGRAM], input="\n".join(requests) + "\n", cwd=directory, stdout=subprocess.PIPE,
                          stderr=subprocess.STDOUT, text=True, timeout=SECONDS)
     lines = ran.stdout.splitlines()
     if ran.returncode or len(lines) != len(requests):
@@ -127,10 +127,10 @@ def answers_of(requests, folder):
     return lines
 
 
-def run(rows, folder):
+def run(rows, directory):
     """Runs the rows, prints those that differ, and returns how many passed and failed."""
     failed = 0
-    for row, line in zip(rows, answers_of([row.request for row in rows], folder)):
+    for row, line in zip(rows, answers_of([row.request for row in rows], directory)):
         wrong = row.answer.differs(line)
         if wrong:
             failed += 1

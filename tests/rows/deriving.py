@@ -3,7 +3,7 @@
 
 import hashlib
 
-from asking import Row, ask, gives, refused
+from asking import Row, ask, gives, rejected
 
 # Password, salt, the logarithm of N, r, p, and the key. (The fourth vector takes a gigabyte.)
 VECTORS = (
@@ -45,11 +45,11 @@ def keys():
 
 
 def asked(name, numbers, fault):
-    """A row of a key that is refused so."""
-    return Row(f"scrypt: {name}: {numbers}", ask("scrypt", *numbers, b"pw", b"salt"), refused(fault))
+    """A row of a key that is rejected so."""
+    return Row(f"scrypt: {name}: {numbers}", ask("scrypt", *numbers, b"pw", b"salt"), rejected(fault))
 
 
-def refusals():
+def rejections():
     """An output of no bytes, rows that no memory holds, and parameters that scrypt does not take."""
     for n_log2, r, p in ((4, 1, 1), (53, 8, 1)):
         yield asked("no bytes", (n_log2, r, p, 0), "InvalidOutputLength")
@@ -61,7 +61,7 @@ def refusals():
 
 
 def limits():
-    """What the limits of memory and of operations lead to, worked out by hand; in the first that is refused no
+    """What the limits of memory and of operations lead to, worked out by hand; in the first that is rejected no
     parallelization is left of 32 bits."""
     for memory, operations, n_log2, p in (
         (33554432, 1048576, 15, 1),
@@ -79,11 +79,11 @@ def limits():
         (33554432, 1048576, 14, "ParametersTooHigh"),
     ):
         request = ask("raw_scrypt_params", memory, operations, greatest)
-        yield Row(f"limits: not {memory} and {operations}", request, refused(fault))
+        yield Row(f"limits: not {memory} and {operations}", request, rejected(fault))
 
 
-def rows(folder):
-    """Yields all rows; none needs a folder."""
+def rows(directory):
+    """Yields all rows; none needs a directory."""
     yield from keys()
-    yield from refusals()
+    yield from rejections()
     yield from limits()

@@ -8,7 +8,7 @@ import base64
 import hashlib
 
 import toy
-from asking import Row, ask, counting, data, gives, refused, sink, typed
+from asking import Row, ask, counting, data, gives, rejected, sink, typed
 from signing import DEFAULT_COMMENT, VERIFIED, secret, sign, signature
 
 PREHASHED = toy.signature_text(b"abc")
@@ -31,10 +31,10 @@ def copied():
     for call in CALLS:
         name, asked = f"copy by {call[0]}", lambda fail: verify(PREHASHED, data(b"abc", chunk=1, fail=fail), True, call)
         for read in range(1, 5):
-            yield Row(f"{name}: read {read} fails", asked(read), refused("ReadingFailed", reads=read, pos=read - 1))
+            yield Row(f"{name}: read {read} fails", asked(read), rejected("ReadingFailed", reads=read, pos=read - 1))
         for read in range(5, 9):
             yield Row(f"{name}: read {read} fails", asked(read),
-                      refused("ReadingFailed", stdout=b"abc"[:read - 5], stderr=SAID, reads=read, pos=read - 5))
+                      rejected("ReadingFailed", stdout=b"abc"[:read - 5], stderr=SAID, reads=read, pos=read - 5))
         yield Row(f"{name}: no read fails", asked(9), gives(stdout=b"abc", stderr=SAID, reads=8, pos=3))
 
 
@@ -46,19 +46,19 @@ def read_once():
             name = f"read once by {call[0]}, {kind}"
             for read in range(1, 5):
                 yield Row(f"{name}: read {read} fails", verify(signed, data(b"abc", chunk=1, fail=read), output, call),
-                          refused("ReadingFailed", reads=read, pos=read - 1))
+                          rejected("ReadingFailed", reads=read, pos=read - 1))
             yield Row(f"{name}: no read fails", verify(signed, data(b"abc", chunk=1, fail=5), output, call),
                       gives(stdout=b"abc" if output else b"", stderr=SAID, reads=4, pos=3))
 
 
 def changed():
-    """Other data after going back is copied and refused; a legacy signature goes back nowhere."""
+    """Other data after going back is copied and rejected; a legacy signature goes back nowhere."""
     for chunk, reads in [(1, 4), (2, 3), (3, 2), (64, 2)]:
         source = lambda second: data(b"abc", chunk=chunk, second=second)
         yield Row(f"second reading is the same, chunks of {chunk}", verify(PREHASHED, source(b"abc"), True),
                   gives(stdout=b"abc", stderr=SAID, reads=2 * reads, pos=3))
         yield Row(f"second reading is another, chunks of {chunk}", verify(PREHASHED, source(b"abd"), True),
-                  refused("DataChanged", stdout=b"abd", stderr=SAID, reads=2 * reads, pos=3))
+                  rejected("DataChanged", stdout=b"abd", stderr=SAID, reads=2 * reads, pos=3))
         yield Row(f"legacy has no second reading, chunks of {chunk}", verify(LEGACY, source(b"abd"), True),
                   gives(stdout=b"abc", stderr=SAID, reads=reads, pos=3))
 
@@ -68,12 +68,12 @@ def signing():
     source = lambda read: data(b"abc", chunk=1, fail=read)
     for read in range(1, 5):
         yield Row(f"signing: read {read} fails", sign(source(read), None, None, moment=0),
-                  refused("ReadingFailed", drawn=0, reads=read, pos=read - 1))
+                  rejected("ReadingFailed", drawn=0, reads=read, pos=read - 1))
         yield Row(f"signing: read {read} fails before random bytes do", sign(source(read), None, None, b"", moment=0),
-                  refused("ReadingFailed", drawn=0, reads=read, pos=read - 1))
+                  rejected("ReadingFailed", drawn=0, reads=read, pos=read - 1))
     for length, drawn in [(0, 0), (63, 0), (64, 64), (127, 64)]:
         yield Row(f"signing: {length} random bytes", sign(source(5), None, None, bytes(length), moment=0),
-                  refused("RandomSourceFailed", drawn=drawn, reads=4, pos=3))
+                  rejected("RandomSourceFailed", drawn=drawn, reads=4, pos=3))
     yield Row("signing: no device fails", sign(source(5), None, None, moment=0),
               gives(**signature(b"abc", b"timestamp:0", DEFAULT_COMMENT), drawn=128, reads=4, pos=3))
 
@@ -122,7 +122,7 @@ def raw_sinks():
     public = b"Ed" + KEYNUM + KEY
     for first, second, public_took, secret_took in failing_sinks(42, 158):
         yield Row(f"raw pair: sinks {first} and {second}", ask("gen_write_plain", counting(0), first, second),
-                  refused("WritingFailed", drawn=40, sink1=public[:public_took], sink2=UNSEALED[:secret_took]))
+                  rejected("WritingFailed", drawn=40, sink1=public[:public_took], sink2=UNSEALED[:secret_took]))
     yield Row("raw pair: sinks with just enough room", ask("gen_write_plain", counting(0), sink(42), sink(158)),
               gives(pk=public, sk=UNSEALED, encrypted=False, drawn=40, sink1=public, sink2=UNSEALED))
 
@@ -134,7 +134,7 @@ def text_sinks():
     request = lambda first, second: ask("gen_write_sealed", counting(0), first, second, None, None, typed(b"p", b"p"))
     for first, second, public_took, secret_took in failing_sinks(114, 259):
         yield Row(f"sealed pair: sinks {first} and {second}", request(first, second),
-                  refused("WritingFailed", stdout=ASKED, drawn=72, sink1=PUBLIC_TEXT[:public_took],
+                  rejected("WritingFailed", stdout=ASKED, drawn=72, sink1=PUBLIC_TEXT[:public_took],
                           sink2=text[:secret_took]))
     yield Row("sealed pair: sinks with just enough room", request(sink(114), sink(259)),
               gives(stdout=ASKED, pk=b"Ed" + KEYNUM + KEY, sk=record, encrypted=True, drawn=72, sink1=PUBLIC_TEXT,
@@ -149,22 +149,22 @@ def pairs_undrawn():
     for length in range(40):
         name, undrawn = f"raw pair: {length} random bytes", {"drawn": length // 32 * 32}
         yield Row(name, ask("gen_write_plain", random[:length], None, None),
-                  refused("RandomSourceFailed", **undrawn, **unwritten))
-        yield Row(f"{name}, not written", ask("gen_plain", random[:length]), refused("RandomSourceFailed", **undrawn))
+                  rejected("RandomSourceFailed", **undrawn, **unwritten))
+        yield Row(f"{name}, not written", ask("gen_plain", random[:length]), rejected("RandomSourceFailed", **undrawn))
     for length in range(72):
         name = f"sealed pair: {length} random bytes"
         undrawn = {"typed_left": 2, "drawn": 0 if length < 32 else 32 if length < 40 else 40}
         yield Row(name, ask("gen_write_sealed", random[:length], None, None, None, *password),
-                  refused("RandomSourceFailed", **undrawn, **unwritten))
+                  rejected("RandomSourceFailed", **undrawn, **unwritten))
         yield Row(f"{name}, not written", ask("gen_sealed", random[:length], *password),
-                  refused("RandomSourceFailed", **undrawn))
+                  rejected("RandomSourceFailed", **undrawn))
     pair = {"pk": b"Ed" + KEYNUM + KEY, "sk": UNSEALED, "encrypted": False, "drawn": 40}
     yield Row("raw pair: 40 random bytes", ask("gen_write_plain", random[:40], None, None),
               gives(**pair, sink1=pair["pk"], sink2=UNSEALED))
     yield Row("raw pair: 40 random bytes, not written", ask("gen_plain", random[:40]), gives(**pair))
 
 
-def rows(folder):
+def rows(directory):
     yield from copied()
     yield from read_once()
     yield from changed()

@@ -3,7 +3,7 @@ RFC 7693."""
 
 import hashlib
 
-from asking import OUTSIDE, Row, Word, ask, gives, refused
+from asking import OUTSIDE, Row, Word, ask, gives, rejected
 
 # Appendix A of RFC 7693.
 OF_ABC = bytes.fromhex("ba80a53f981c4d0d6a2797b69f12f6e94c212f14685ac4b74b12bb6fdbffa2d1"
@@ -65,11 +65,11 @@ def moments():
     be read."""
     for moment in (0, 1, 1700000000, (1 << 31) - 1, 1 << 31, (1 << 32) - 1, 1 << 32, (1 << 63) - 1):
         yield Row(f"clock: {moment}", ask("unix_timestamp", moment), gives(out=moment))
-    yield Row("clock: it cannot be read", ask("unix_timestamp", -1), refused("ClockIncorrect"))
+    yield Row("clock: it cannot be read", ask("unix_timestamp", -1), rejected("ClockIncorrect"))
 
 
-def rows(folder):
-    """Yields all rows; none needs a folder."""
+def rows(directory):
+    """Yields all rows; none needs a directory."""
     yield from digests()
     yield from compared()
     yield from numbers()

@@ -8,7 +8,7 @@ from dataclasses import dataclass
 import public_keys
 import secret_keys
 import toy
-from asking import Answer, Row, ask, gives, refused, typed
+from asking import Answer, Row, ask, gives, rejected, typed
 
 # The pair that is made of random bytes that count up from 0: seed, identifier and salt.
 SEED, KEYNUM, SALT = bytes(range(32)), bytes(range(32, 40)), bytes(range(40, 72))
@@ -57,9 +57,9 @@ class Kind:
     read_long: Answer
 
     def row(self, name, path, answer):
-        """A row that reads a file, and where a fault is named is refused so."""
+        """A row that reads a file, and where a fault is named is rejected so."""
         if isinstance(answer, str):
-            answer = refused(answer, typed_left=self.left)
+            answer = rejected(answer, typed_left=self.left)
         return Row(f"{self.name} file: {name}", ask(self.request, path, *self.words), answer)
 
 
@@ -81,9 +81,9 @@ FILES = {
 }
 
 
-def put(folder, name, content):
-    """Writes a file of the folder, and returns its name."""
-    with open(os.path.join(folder, name), "wb") as file:
+def put(directory, name, content):
+    """Writes a file of the directory, and returns its name."""
+    with open(os.path.join(directory, name), "wb") as file:
         file.write(content)
     return name
 
@@ -102,7 +102,7 @@ def no_texts():
     for kind in KINDS:
         yield kind.row("it is missing", "missing", UNREADABLE)
         yield kind.row("it lies in a file", "empty/inside", UNREADABLE)
-        yield kind.row("it is a folder", ".", UNREADABLE)
+        yield kind.row("it is a directory", ".", UNREADABLE)
         yield kind.row("a byte that is no UTF-8", "ff", "NotUtf8")
         yield kind.row("the last of many bytes is no UTF-8", "long", "NotUtf8")
 
@@ -131,57 +131,57 @@ def long_lines():
     yield SIGNATURE_FILE.row("one long line", "cut", "MissingSignature")
 
 
-def without_rights(folder):
-    """A file without rights is unreadable. Whoever may read every file, as root may, sees nothing of this."""
-    path = put(folder, "closed", toy.public_text())
-    os.chmod(os.path.join(folder, path), 0o200)
-    if not os.access(os.path.join(folder, path), os.R_OK):
+def without_permissions(directory):
+    """A file without permissions is unreadable. Whoever may read every file, as root may, sees nothing of this."""
+    path = put(directory, "closed", toy.public_text())
+    os.chmod(os.path.join(directory, path), 0o200)
+    if not os.access(os.path.join(directory, path), os.R_OK):
         for kind in KINDS:
             yield kind.row("it may not be read", path, UNREADABLE)
 
 
-def behind(folder, kind, name, line, answer, letter, fault):
-    """The body is read behind this line, with and without a long line behind it, and a letter behind it is refused."""
+def behind(directory, kind, name, line, answer, letter, fault):
+    """The body is read behind this line, with and without a long line behind it, and a letter behind it is rejected."""
     for more, text, expected in (("nothing", b"", answer), ("a long line", b"\n" + LETTERS, answer),
                                  ("a letter", letter, fault)):
-        path = put(folder, f"{kind.name}: {name}, {more}", line + kind.body + text)
+        path = put(directory, f"{kind.name}: {name}, {more}", line + kind.body + text)
         yield kind.row(f"{name}, and {more} behind the text", path, expected)
 
 
-def whole(folder, kind, fed, letter, fault):
-    """The same behind a short comment and a long one; a line feed before them is refused."""
-    yield from behind(folder, kind, "a short comment", COMMENT, kind.read, letter, fault)
-    yield from behind(folder, kind, "a long comment", LONG_COMMENT, kind.read_long, letter, fault)
-    path = put(folder, f"{kind.name}: fed", public_keys.FED + kind.body)
+def whole(directory, kind, fed, letter, fault):
+    """The same behind a short comment and a long one; a line feed before them is rejected."""
+    yield from behind(directory, kind, "a short comment", COMMENT, kind.read, letter, fault)
+    yield from behind(directory, kind, "a long comment", LONG_COMMENT, kind.read_long, letter, fault)
+    path = put(directory, f"{kind.name}: fed", public_keys.FED + kind.body)
     yield kind.row("a line feed before the comment", path, fed)
 
 
-def all_whole(folder):
+def all_whole(directory):
     """Blanks at both ends, and more than is read at once, belong to a file's text."""
-    yield from whole(folder, PUBLIC_FILE, "PublicKeyLineNotBase64", b" ", "PublicKeyLineLength")
-    yield from whole(folder, SECRET_FILE, "SecretKeyNotBase64", b" ", "SecretKeyNotBase64")
-    yield from whole(folder, SIGNATURE_FILE, "UntrustedCommentPrefix", b"!", "SignatureNotBase64")
+    yield from whole(directory, PUBLIC_FILE, "PublicKeyLineNotBase64", b" ", "PublicKeyLineLength")
+    yield from whole(directory, SECRET_FILE, "SecretKeyNotBase64", b" ", "SecretKeyNotBase64")
+    yield from whole(directory, SIGNATURE_FILE, "UntrustedCommentPrefix", b"!", "SignatureNotBase64")
 
 
-def names_with_blanks(folder):
+def names_with_blanks(directory):
     """Blanks at both ends belong to a path: a file under this name is read, and one under the other name is not
     there."""
     for kind in KINDS:
         for place, name in (("before", f" {kind.name} led by a blank"), ("behind", f"{kind.name} ended by one ")):
-            path = put(folder, name, COMMENT + kind.body + b"\n")
+            path = put(directory, name, COMMENT + kind.body + b"\n")
             yield kind.row(f"a blank {place} its name", path, kind.read)
             yield kind.row(f"a blank {place} its name is left out", path.strip(), UNREADABLE)
 
 
-def rows(folder):
-    """Writes the files to the folder, and yields all rows."""
+def rows(directory):
+    """Writes the files to the directory, and yields all rows."""
     for name, content in FILES.items():
-        put(folder, name, content)
+        put(directory, name, content)
     yield from read_as_written()
     yield from no_texts()
     yield from other_texts()
     yield from devices_of_nothing()
     yield from long_lines()
-    yield from without_rights(folder)
-    yield from all_whole(folder)
-    yield from names_with_blanks(folder)
+    yield from without_permissions(directory)
+    yield from all_whole(directory)
+    yield from names_with_blanks(directory)

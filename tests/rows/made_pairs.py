@@ -1,11 +1,11 @@
-"""Pairs of keys that are made: their bytes, what sinks and prompts take, what is refused, and how their keys sign and
+"""Pairs of keys that are made: their bytes, what sinks and prompts take, what is rejected, and how their keys sign and
 verify."""
 
 import base64
 import hashlib
 
 import toy
-from asking import NOTHING_TYPED, Row, ask, bones, counting, data, gives, refused, sink, typed
+from asking import NOTHING_TYPED, Row, ask, bones, counting, data, gives, rejected, sink, typed
 from sealed_keys import KEY_A, USUAL, Key, opening, shown, text_of
 
 # What is drawn for a pair: 32 bytes of a seed, 8 of an identifier, and 32 of a salt where it is sealed.
@@ -61,8 +61,8 @@ def raw_pairs():
     """The public sink gets 42 bytes and is flushed, and then the secret one gets 158. Too few random bytes leave both
     alone."""
     public, secret = KEY_A.public_record, KEY_A.record()
-    unwritten = lambda first, second: refused(UNWRITTEN, drawn=DRAWN_RAW, sink1=first, sink2=second)
-    undrawn = lambda drawn: refused(UNDRAWN, drawn=drawn, sink1=b"", sink2=b"")
+    unwritten = lambda first, second: rejected(UNWRITTEN, drawn=DRAWN_RAW, sink1=first, sink2=second)
+    undrawn = lambda drawn: rejected(UNDRAWN, drawn=drawn, sink1=b"", sink2=b"")
     whole = made(KEY_A, secret, False, drawn=DRAWN_RAW, sink1=public, sink2=secret)
     for name, random, first, second, answer in (
         ("both sinks take all", FOR_KEY_A, sink(42), sink(158), whole),
@@ -93,7 +93,7 @@ def sealed_pairs_under_typed_passwords():
     """The password is asked for twice, once all is drawn. Both texts are written, the secret one with the comment by
     default, or none of them."""
     nothing = {"sink1": b"", "sink2": b""}
-    asked = lambda fault, told: refused(fault, drawn=DRAWN, stdout=told, **nothing)
+    asked = lambda fault, told: rejected(fault, drawn=DRAWN, stdout=told, **nothing)
     for name, lines, answer in (
         ("a letter", typed("p", "p"), made_sealed("p", stdout=SHOWN)),
         ("empty passwords, and a line behind them", typed("\r", "", "x"),
@@ -107,7 +107,7 @@ def sealed_pairs_under_typed_passwords():
 
 def sealed_pairs_under_given_passwords():
     """A password that is passed in leaves the prompt as it was, and the comment is the one that is passed in."""
-    untouched = refused(UNWRITTEN, drawn=DRAWN, sink1=b"untrusted", sink2=b"", typed_left=1)
+    untouched = rejected(UNWRITTEN, drawn=DRAWN, sink1=b"untrusted", sink2=b"", typed_left=1)
     for name, room, answer in (
         ("with a comment", 200, made_sealed("password", b"c", typed_left=1)),
         ("the public sink takes nine bytes", 9, untouched),
@@ -129,7 +129,7 @@ def sinks_that_fail():
         ("the secret sink lacks the last byte", (whole[0], sink(258)), (public, secret[:258])),
         ("the secret sink is not flushed", (whole[0], sink(259, False)), (public, secret)),
     ):
-        answer = refused(UNWRITTEN, drawn=DRAWN, sink1=took[0], sink2=took[1], stdout=SHOWN)
+        answer = rejected(UNWRITTEN, drawn=DRAWN, sink1=took[0], sink2=took[1], stdout=SHOWN)
         yield writing_sealed(name, COUNTED, sinks, None, typed("p", "p"), answer)
     yield writing_sealed("both sinks have just the room", COUNTED, whole, None, typed("p", "p"),
                          made_sealed("p", stdout=SHOWN))
@@ -141,9 +141,9 @@ def too_few_random_bytes():
     raw = made(PAIR, PAIR.record(), False, drawn=DRAWN_RAW, sink1=PAIR.public_record, sink2=PAIR.record())
     for count in range(DRAWN):
         random = COUNTED[:count]
-        undrawn = refused(UNDRAWN, drawn=drawn_of(count), typed_left=2, **nothing)
+        undrawn = rejected(UNDRAWN, drawn=drawn_of(count), typed_left=2, **nothing)
         yield writing_sealed(f"{count} random bytes", random, (sink(), sink()), None, typed("p", "p"), undrawn)
-        fails = refused(UNDRAWN, drawn=drawn_of(count), **nothing)
+        fails = rejected(UNDRAWN, drawn=drawn_of(count), **nothing)
         yield writing_raw(f"{count} random bytes", random, sink(), sink(), fails if count < DRAWN_RAW else raw)
 
 
@@ -180,7 +180,7 @@ def signing(name, record, source, answer):
 
 def does_not_sign(password):
     """The sealed key does not sign, and nothing is read or drawn."""
-    answer = refused("EncryptedKeyRefused", drawn=0, reads=0, pos=0)
+    answer = rejected("EncryptedKeyRefused", drawn=0, reads=0, pos=0)
     return signing(f"a key that is sealed under {password!r} does not sign", sealed(password), data(b"test"), answer)
 
 
@@ -203,7 +203,7 @@ def signatures_of_a_pair():
                             ("a bare signature", bones(signature_record(b"test")))):
         yield from judged(f"{name} of its data", "verify", PAIR.public_record, signature, b"test", gives(pos=4))
         yield from judged(f"{name} of other data", "verify", PAIR.public_record, signature, b"test2",
-                          refused("SignatureRefused", pos=5))
+                          rejected("SignatureRefused", pos=5))
 
 
 def unsealed_pairs():
@@ -223,7 +223,7 @@ def unsealed_pairs():
     yield Row("the text of its secret key", ask("sk_to_box", record, None), gives(text=text))
     yield Row("its secret key from its text", ask("sk_plain", text), shown(record))
     yield opening("no password opens the text of a pair that is not sealed", text, "", typed("typed"),
-                  refused("KeyNotEncrypted", typed_left=1))
+                  rejected("KeyNotEncrypted", typed_left=1))
 
 
 def sealed_pairs():
@@ -252,9 +252,9 @@ def opened_pairs():
     yield from signs("a key that was opened", OPENED)
     yield Row("the text of a key that was made and opened", ask("sk_to_box", OPENED, None), gives(text=text))
     yield Row("a key that was made and opened is not read as never sealed", ask("sk_plain", text),
-              refused("KeyMightBeEncrypted"))
+              rejected("KeyMightBeEncrypted"))
     yield opening("a key that was made and opened is not opened again", text, "", typed("typed"),
-                  refused("WrongPassword", typed_left=1))
+                  rejected("WrongPassword", typed_left=1))
 
 
 def through_texts():
@@ -287,7 +287,7 @@ def upstream_tests():
               made(PAIR, plain[:126] + checksum, False, drawn=DRAWN_RAW))
 
 
-def rows(folder):
+def rows(directory):
     yield from raw_pairs()
     yield from sealed_pairs_under_typed_passwords()
     yield from sealed_pairs_under_given_passwords()

@@ -3,7 +3,7 @@
 import base64
 
 import toy
-from asking import Row, ask, gives, refused
+from asking import Row, ask, gives, rejected
 
 RECORD = b"Ed" + toy.KEYNUM + toy.KEY
 LINE = base64.b64encode(RECORD)
@@ -18,13 +18,13 @@ SHOWN = b"untrusted comment: minisign public key: E7620F1842B4E81F"
 OTHER = b"RWRzq51bKcS8oJvZ4xEm+nRvGYPdsNRD3ciFPu1YJEL8Bl/3daWaj72r"
 LONGER = b"RWQt7oYqpar/yePp+nonossdnononovlOSkkckMMfvHuGc+0+oShmJyN5Y"
 
-NO_COMMENT = refused("MissingPublicKeyComment")
-NO_KEY = refused("MissingEncodedPublicKey")
-LENGTH = refused("PublicKeyLineLength")
-NOT_BASE64 = refused("PublicKeyLineNotBase64")
-BARE_LENGTH = refused("BarePublicKeyLength")
-BARE_NOT_BASE64 = refused("BarePublicKeyNotBase64")
-TOO_SHORT = refused("RecordTooShort")
+NO_COMMENT = rejected("MissingPublicKeyComment")
+NO_KEY = rejected("MissingEncodedPublicKey")
+LENGTH = rejected("PublicKeyLineLength")
+NOT_BASE64 = rejected("PublicKeyLineNotBase64")
+BARE_LENGTH = rejected("BarePublicKeyLength")
+BARE_NOT_BASE64 = rejected("BarePublicKeyNotBase64")
+TOO_SHORT = rejected("RecordTooShort")
 
 # Texts around each power of two up to 2^17, and the first 256 characters, but for a line feed, between letters.
 SIZED_COMMENTS = {f"{size} letters": b"x" * size
@@ -111,8 +111,8 @@ def comments():
         yield Row(f"public box: a comment of {name}", ask("pk_from_box", commented(comment)), KEY_A)
 
 
-def rows(folder):
-    """Yields all rows; none needs a folder."""
+def rows(directory):
+    """Yields all rows; none needs a directory."""
     yield from written_and_read_back()
     yield from halves()
     yield from beginnings()

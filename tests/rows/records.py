@@ -3,7 +3,7 @@
 import public_keys
 import secret_keys
 import toy
-from asking import Row, ask, gives, refused
+from asking import Row, ask, gives, rejected
 from secret_keys import CHECKSUM, record_of
 
 SIGNATURE = toy.signature_record(b"abc")
@@ -15,7 +15,7 @@ def read_back(name, request, record, answer):
     """Rows for a record that is read from its bytes and from more of them, and not from fewer."""
     yield Row(f"record of {name}: its bytes", ask(request, record), answer)
     yield Row(f"record of {name}: one byte more", ask(request, record + b"!"), answer)
-    yield Row(f"record of {name}: one byte less", ask(request, record[:-1]), refused("RecordTooShort"))
+    yield Row(f"record of {name}: one byte less", ask(request, record[:-1]), rejected("RecordTooShort"))
 
 
 def all_read_back():
@@ -33,7 +33,7 @@ def bare_signatures():
         name = f"bare signature: {algorithm.decode()}"
         yield Row(f"{name}: read", ask("sig_from_bytes", record), gives(bones=record, prehashed=is_prehashed))
         yield Row(f"{name}: untrusted comment", ask("bones_untrusted", record), gives(untrusted=b""))
-        yield Row(f"{name}: trusted comment", ask("bones_trusted", record), refused("TrustedCommentAbsent"))
+        yield Row(f"{name}: trusted comment", ask("bones_trusted", record), rejected("TrustedCommentAbsent"))
 
 
 def compared(name, request, record, begin, end):
@@ -68,8 +68,8 @@ def shown():
     yield Row("shown: a secret key", ask("sk_from_bytes", secret_keys.RECORD), gives(debug=SHOWN))
 
 
-def rows(folder):
-    """Yields all rows; none needs a folder."""
+def rows(directory):
+    """Yields all rows; none needs a directory."""
     yield from all_read_back()
     yield from bare_signatures()
     yield from all_compared()

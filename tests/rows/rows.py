@@ -1,11 +1,11 @@
 #!/usr/bin/env python3
-"""Has `minisign_compare`, as `rt ci` or `rt run` built it, answer the rows of this folder's modules, and compares.
+"""Has `minisign_compare`, as `rt ci` or `rt run` built it, answer the rows of this directory's modules, and compares.
 
     tests/rows/rows.py [MODULE..]
 
 Each expected value comes from outside: from a standard, from Python's hashlib and base64, from the upstream tool, or
 worked out by hand from a definition. None is what a crate of this repository answered. A module has a function `rows`,
-which is given an empty folder that is its own and yields rows. The named errors of docs/FORMATS.md are compared too.
+which is given an empty directory that is its own and yields rows. The named errors of docs/FORMATS.md are compared too.
 The last line is `N passed, M failed`.
 """
 
@@ -27,8 +27,8 @@ def main(names):
         print(f"FAILED: {it}")
     passed, failed = len(named_errors.ERRORS), len(wrong)
     for name in names or MODULES:
-        with tempfile.TemporaryDirectory(prefix="minisign-rows-") as folder:
-            well, badly = run([*importlib.import_module(name).rows(folder)], folder)
+        with tempfile.TemporaryDirectory(prefix="minisign-rows-") as directory:
+            well, badly = run([*importlib.import_module(name).rows(directory)], directory)
         print(f"{name}: {well} passed, {badly} failed")
         passed, failed = passed + well, failed + badly
     print(f"{passed} passed, {failed} failed")

@@ -1,4 +1,4 @@
-"""Secret keys that are sealed: opened with a password that is passed in or typed, from texts and files, and refused in
+"""Secret keys that are sealed: opened with a password that is passed in or typed, from texts and files, and rejected in
 their order; and keys that were never sealed."""
 
 import base64
@@ -9,7 +9,7 @@ import struct
 from dataclasses import dataclass
 
 import toy
-from asking import NOTHING_TYPED, Row, ask, gives, refused, typed
+from asking import NOTHING_TYPED, Row, ask, gives, rejected, typed
 
 COMMENT = b"rsign encrypted secret key"
 NEVER_SEALED = bytes(2)
@@ -126,8 +126,8 @@ def with_passwords():
 
 
 def with_other_passwords():
-    """Another password than the one that the key is sealed under is refused, and the prompt is left alone."""
-    wrong = refused("WrongPassword", typed_left=1)
+    """Another password than the one that the key is sealed under is rejected, and the prompt is left alone."""
+    wrong = rejected("WrongPassword", typed_left=1)
     for name, text, password in (
         ("a letter of another case", SEALED, "Password"),
         ("an empty one", SEALED, ""),
@@ -144,12 +144,12 @@ def written_as_they_stand():
                   shown(record, stdout=MARKED))
     yield Row("an opened key is written as it stands", ask("sk_to_box", record, None), gives(text=text))
     yield Row("an opened key does not pass for one that was never sealed", ask("sk_plain", text),
-              refused("KeyMightBeEncrypted"))
-    yield opening("an opened key is not opened again", text, "", typed("typed"), refused("WrongPassword", typed_left=1))
+              rejected("KeyMightBeEncrypted"))
+    yield opening("an opened key is not opened again", text, "", typed("typed"), rejected("WrongPassword", typed_left=1))
 
 
 def that_no_password_opens():
-    """What no password opens is refused before one is asked for. Other key derivations than the one that opens come
+    """What no password opens is rejected before one is asked for. Other key derivations than the one that opens come
     before the limits, which are too high here."""
     too_high = Limits(MOST_MEMORY + 1)
     for name, text, fault in (
@@ -163,13 +163,13 @@ def that_no_password_opens():
         ("an unknown key derivation without limits", text_of(KEY_A.record(b"Xx")), "UnsupportedEncryptionAlgorithm"),
         ("scrypt in another case", text_of(KEY_A.record(b"SC", too_high)), "UnsupportedEncryptionAlgorithm"),
     ):
-        yield opening(f"is refused unasked: {name}", text, None, typed("p"), refused(fault, typed_left=1))
+        yield opening(f"is rejected unasked: {name}", text, None, typed("p"), rejected(fault, typed_left=1))
 
 
 def with_typed_passwords():
     """A password that is not passed in is asked for, and one line is read."""
     record = KEY_A.opened()
-    wrong = refused("WrongPassword", stdout=DONE)
+    wrong = rejected("WrongPassword", stdout=DONE)
     for name, text, lines, answer in (
         ("a line, and one more", SEALED, typed("password", "more"), shown(record, stdout=DONE, typed_left=1)),
         ("a line", SEALED, typed("password"), shown(record, stdout=DONE)),
@@ -178,9 +178,9 @@ def with_typed_passwords():
         ("a letter", SEALED, typed("p"), wrong),
         ("two carriage returns before the line feed", SEALED, typed("password\r\r"), wrong),
         ("two empty lines", SEALED_UNDER_NOTHING, typed("", ""), shown(record, stdout=MARKED, typed_left=1)),
-        ("the end of the input", SEALED, NOTHING_TYPED, refused("EndOfInput", stdout=ASKED)),
+        ("the end of the input", SEALED, NOTHING_TYPED, rejected("EndOfInput", stdout=ASKED)),
         ("no line feed in 1026 bytes", SEALED, typed("a" * 1026),
-         refused("PasswordTooLong", stdout=ASKED, typed_left=1)),
+         rejected("PasswordTooLong", stdout=ASKED, typed_left=1)),
     ):
         yield opening(f"a typed password: {name}", text, None, lines, answer)
 
@@ -197,8 +197,8 @@ def with_other_limits():
         ("small limits", SMALL, "WrongPassword", DONE),
     ):
         text = text_of(KEY_A.record(SCRYPT, limits))
-        yield opening(f"limits: {name}, typed", text, None, typed("p"), refused(fault, stdout=told))
-        yield opening(f"limits: {name}, passed in", text, "p", typed("typed"), refused(fault, typed_left=1))
+        yield opening(f"limits: {name}, typed", text, None, typed("p"), rejected(fault, stdout=told))
+        yield opening(f"limits: {name}, passed in", text, "p", typed("typed"), rejected(fault, typed_left=1))
 
 
 def never_sealed():
@@ -206,32 +206,32 @@ def never_sealed():
     record = KEY_A.record()
     plain = lambda name, text, answer: Row(f"never sealed: {name}", ask("sk_plain", text), answer)
     yield plain("key A", text_of(record), shown(record))
-    yield plain("a sealed key", SEALED, refused("KeyMightBeEncrypted"))
-    yield plain("another checksum", toy.secret_text(last=1), refused("CorruptedKey"))
+    yield plain("a sealed key", SEALED, rejected("KeyMightBeEncrypted"))
+    yield plain("another checksum", toy.secret_text(last=1), rejected("CorruptedKey"))
 
 
-def from_files(folder):
+def from_files(directory):
     """The same calls over files."""
     for name, content in (
         ("sealed.key", SEALED),
         ("plain.key", text_of(KEY_A.record())),
         ("no_utf8.key", b"\xff" + SEALED),
     ):
-        with open(os.path.join(folder, name), "wb") as file:
+        with open(os.path.join(directory, name), "wb") as file:
             file.write(content)
     for name, path, password, lines, answer in (
         ("a password that is passed in", "sealed.key", "password", typed("typed"),
          shown(KEY_A.opened(), typed_left=1)),
         ("a typed password", "sealed.key", None, typed("password", "more"),
          shown(KEY_A.opened(), stdout=DONE, typed_left=1)),
-        ("another password", "sealed.key", "Password", typed("typed"), refused("WrongPassword", typed_left=1)),
-        ("a key that was never sealed", "plain.key", None, typed("p"), refused("KeyNotEncrypted", typed_left=1)),
-        ("a file that is not UTF-8", "no_utf8.key", None, typed("password"), refused("NotUtf8", typed_left=1)),
+        ("another password", "sealed.key", "Password", typed("typed"), rejected("WrongPassword", typed_left=1)),
+        ("a key that was never sealed", "plain.key", None, typed("p"), rejected("KeyNotEncrypted", typed_left=1)),
+        ("a file that is not UTF-8", "no_utf8.key", None, typed("password"), rejected("NotUtf8", typed_left=1)),
     ):
         yield Row(f"from a file: {name}", ask("sk_from_file", path, password, lines), answer)
 
 
-def rows(folder):
+def rows(directory):
     yield from with_passwords()
     yield from with_other_passwords()
     yield from written_as_they_stand()
@@ -239,4 +239,4 @@ def rows(folder):
     yield from with_typed_passwords()
     yield from with_other_limits()
     yield from never_sealed()
-    yield from from_files(folder)
+    yield from from_files(directory)

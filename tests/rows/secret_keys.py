@@ -3,17 +3,17 @@
 import base64
 
 import toy
-from asking import Row, ask, gives, refused
+from asking import Row, ask, gives, rejected
 from public_keys import COMMENTS
 
 SECRET = toy.SEED + toy.KEY
 CHECKSUM = toy.checksum(toy.KEYNUM, SECRET)
 CHANGED_CHECKSUM = CHECKSUM[:31] + bytes([CHECKSUM[31] ^ 1])
 
-NO_COMMENT = refused("MissingSecretKeyComment")
-NO_KEY = refused("MissingEncodedSecretKey")
-NOT_BASE64 = refused("SecretKeyNotBase64")
-TOO_SHORT = refused("RecordTooShort")
+NO_COMMENT = rejected("MissingSecretKeyComment")
+NO_KEY = rejected("MissingEncodedSecretKey")
+NOT_BASE64 = rejected("SecretKeyNotBase64")
+TOO_SHORT = rejected("RecordTooShort")
 
 
 def record_of(derivation=bytes(2), checksum=CHECKSUM):
@@ -82,10 +82,10 @@ def boxes():
 
 def not_unsealed():
     """Records that are written to a box, and read from it as a key that was never sealed."""
-    might_be_sealed = refused("KeyMightBeEncrypted")
+    might_be_sealed = rejected("KeyMightBeEncrypted")
     for name, record, answer in (
         ("no key derivation", RECORD, KEY_A),
-        ("another checksum", record_of(checksum=CHANGED_CHECKSUM), refused("CorruptedKey")),
+        ("another checksum", record_of(checksum=CHANGED_CHECKSUM), rejected("CorruptedKey")),
         ("the key derivation scrypt", record_of(b"Sc"), might_be_sealed),
         ("an unknown key derivation", record_of(b"Xx"), might_be_sealed),
     ):
@@ -100,8 +100,8 @@ def comments():
         yield from both_ways(f"a comment of {name}", comment)
 
 
-def rows(folder):
-    """Yields all rows; none needs a folder."""
+def rows(directory):
+    """Yields all rows; none needs a directory."""
     yield from written_and_read_back()
     yield from beginnings()
     yield from boxes()

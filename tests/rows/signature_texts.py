@@ -1,14 +1,14 @@
-"""Signatures from their texts and to them: what each holds, what a text is refused for, and comments and data of many
+"""Signatures from their texts and to them: what each holds, what a text is rejected for, and comments and data of many
 sizes."""
 
 import base64
 import os
 
 import toy
-from asking import Row, ask, data, gives, refused
+from asking import Row, ask, data, gives, rejected
 from verifying import (
     ACCEPTED,
-    COMMENT_REFUSED,
+    COMMENT_REJECTED,
     KEY_TEXT,
     LEGACY_RECORD,
     LEGACY_TEXT,
@@ -16,7 +16,7 @@ from verifying import (
     PREHASHED_RECORD,
     PREHASHED_TEXT,
     RECORD,
-    REFUSED,
+    REJECTED,
     UPSTREAM_LEGACY,
     UPSTREAM_PREHASHED,
     VERIFIED,
@@ -86,30 +86,30 @@ def written_and_read_back():
 
 
 def blanks():
-    """A trusted comment with blanks at both ends is written with them and read without, so that it is refused."""
+    """A trusted comment with blanks at both ends is written with them and read without, so that it is rejected."""
     text = toy.signature_text(b"abc", trusted=b" t ")
     comment_signature = base64.b64decode(text.splitlines()[3])
     trimmed = toy.signature_text(b"abc", trusted=b"t", comment_signature=comment_signature)
     for how, chunk in (("at once", PIECE), ("one byte a read", 1)):
         yield signed(f"blanks: signed, {how}", b"abc", b" t ", b"c", chunk=chunk)
     yield read("blanks: read", text, holds(PREHASHED_RECORD, trimmed))
-    yield from judged("blanks: verified", text, COMMENT_REFUSED)
+    yield from judged("blanks: verified", text, COMMENT_REJECTED)
 
 
 def bones_have_no_text():
-    """A bare signature has its record, no comments and no text; short records and other algorithms are refused."""
+    """A bare signature has its record, no comments and no text; short records and other algorithms are rejected."""
     for name, record in (("prehashed", PREHASHED_RECORD), ("legacy", LEGACY_RECORD)):
         kept = gives(bones=record, prehashed=record[:2] == b"ED")
         yield Row(f"bones: {name}", ask("sig_from_bytes", record), kept)
         yield Row(f"bones: {name}, longer", ask("sig_from_bytes", record + b"!"), kept)
         yield Row(f"bones: {name}, untrusted comment", ask("bones_untrusted", record), gives(untrusted=b""))
-        yield Row(f"bones: {name}, trusted comment", ask("bones_trusted", record), refused(ABSENT))
-        yield Row(f"bones: {name}, text", ask("bones_to_string", record), refused(INCOMPLETE))
+        yield Row(f"bones: {name}, trusted comment", ask("bones_trusted", record), rejected(ABSENT))
+        yield Row(f"bones: {name}, text", ask("bones_to_string", record), rejected(INCOMPLETE))
     for request in ("sig_from_bytes", "bones_untrusted", "bones_trusted", "bones_to_string"):
         unknown = b"Ex" + PREHASHED_RECORD[2:]
-        yield Row(f"{request}: short", ask(request, PREHASHED_RECORD[:73]), refused(TOO_SHORT))
-        yield Row(f"{request}: unknown algorithm", ask(request, unknown), refused(UNSUPPORTED))
-        yield Row(f"{request}: short, unknown algorithm", ask(request, unknown[:73]), refused(TOO_SHORT))
+        yield Row(f"{request}: short", ask(request, PREHASHED_RECORD[:73]), rejected(TOO_SHORT))
+        yield Row(f"{request}: unknown algorithm", ask(request, unknown), rejected(UNSUPPORTED))
+        yield Row(f"{request}: short, unknown algorithm", ask(request, unknown[:73]), rejected(TOO_SHORT))
 
 
 def outcome_of_beginning(length):
@@ -119,7 +119,7 @@ def outcome_of_beginning(length):
             return fault
     if length >= 229:
         return ACCEPTED
-    return COMMENT_REFUSED if (length - 141) % 4 == 0 else NOT_BASE64
+    return COMMENT_REJECTED if (length - 141) % 4 == 0 else NOT_BASE64
 
 
 def beginnings():
@@ -127,7 +127,7 @@ def beginnings():
     for length in range(len(PREHASHED_TEXT) + 1):
         text = PREHASHED_TEXT[:length]
         outcome = outcome_of_beginning(length)
-        answer = refused(outcome) if outcome not in (ACCEPTED, COMMENT_REFUSED) else holds(
+        answer = rejected(outcome) if outcome not in (ACCEPTED, COMMENT_REJECTED) else holds(
             PREHASHED_RECORD, text.rstrip(b"\n") + b"\n")
         yield read(f"beginning: {length} bytes, read", text, answer)
         yield from judged(f"beginning: {length} bytes, verified", text, outcome)
@@ -149,7 +149,7 @@ def lines_in_their_order():
         ("an unknown algorithm", FIRST + b"\n" + unknown + b"\ntrusted comment: t\n!", UNSUPPORTED),
         ("a wrong fourth line", FIRST + b"\n" + SECOND + b"\ntrusted comment: t\n!", NOT_BASE64),
     ):
-        yield read(f"lines: {name}, read", text, refused(fault))
+        yield read(f"lines: {name}, read", text, rejected(fault))
         yield from judged(f"lines: {name}, verified", text, fault)
 
 
@@ -169,7 +169,7 @@ def odd_texts():
         ("blanks at the ends of lines, and before the comment", odd_text(end=" \t\n", before=" "), ACCEPTED),
         ("an empty line in front", odd_text(front="\n"), UNTRUSTED),
         ("a no-break space before the comment", odd_text(before="\u00a0"), ACCEPTED),
-        ("a space of no width before the comment", odd_text(before="\u200b"), COMMENT_REFUSED),
+        ("a space of no width before the comment", odd_text(before="\u200b"), COMMENT_REJECTED),
     ):
         yield from judged(f"odd: {name}", text, outcome)
 
@@ -181,14 +181,14 @@ def odd_fourth_lines():
     long = base64.b64encode(changed + bytes(range(151)))
     for name, fourth, outcome in (
         ("both halves changed alike", base64.b64encode(changed), ACCEPTED),
-        ("short", base64.b64encode(changed[:63]), COMMENT_REFUSED),
+        ("short", base64.b64encode(changed[:63]), COMMENT_REJECTED),
         ("longer", base64.b64encode(changed + b"\x07"), ACCEPTED),
         ("much longer", long, ACCEPTED),
         ("much longer, with a letter that is none", long[:74] + b"!" + long[75:], NOT_BASE64),
         ("much longer, with a letter that is none behind its 64 bytes", long[:200] + b"!" + long[201:], NOT_BASE64),
         ("much longer, with padding inside", long[:86] + b"==" + long[88:], NOT_BASE64),
-        ("empty", b"", COMMENT_REFUSED),
-        ("blanks", " \u00a0".encode(), COMMENT_REFUSED),
+        ("empty", b"", COMMENT_REJECTED),
+        ("blanks", " \u00a0".encode(), COMMENT_REJECTED),
     ):
         yield from judged(f"fourth line: {name}", odd_text(fourth=fourth), outcome)
 
@@ -254,11 +254,11 @@ def signed_and_verified(name, content):
     yield asked.row(f"{name}, verified", ACCEPTED)
     if content:
         cut = texts(text, content[:-1], output=True, legacy=True)
-        yield cut.row(f"{name}, without its last byte", REFUSED)
+        yield cut.row(f"{name}, without its last byte", REJECTED)
 
 
 def data_of_many_sizes():
-    """The data of each size is accepted and copied, and refused without its last byte."""
+    """The data of each size is accepted and copied, and rejected without its last byte."""
     for size in SIZES:
         yield from signed_and_verified(f"data: {size} bytes", toy.some_data(size))
 
@@ -280,22 +280,22 @@ def moments():
         yield asked.row(f"moment: {moment}, verified", ACCEPTED)
 
 
-def files(folder):
+def files(directory):
     """Texts that are read from files."""
     for name, content, answer in (
         ("good", PREHASHED_TEXT, holds(PREHASHED_RECORD, PREHASHED_TEXT)),
-        ("cut", PREHASHED_TEXT[:141], refused(NO_FOURTH)),
-        ("empty", b"", refused(NO_FIRST)),
-        ("not_utf8", FIRST + b"\xff\n" + SECOND, refused("NotUtf8")),
-        ("missing", None, refused("ReadingFailed")),
+        ("cut", PREHASHED_TEXT[:141], rejected(NO_FOURTH)),
+        ("empty", b"", rejected(NO_FIRST)),
+        ("not_utf8", FIRST + b"\xff\n" + SECOND, rejected("NotUtf8")),
+        ("missing", None, rejected("ReadingFailed")),
     ):
         if content is not None:
-            with open(os.path.join(folder, name), "wb") as it:
+            with open(os.path.join(directory, name), "wb") as it:
                 it.write(content)
         yield Row(f"file: {name}", ask("sig_from_file", name), answer)
 
 
-def rows(folder):
+def rows(directory):
     yield from written_and_read_back()
     yield from blanks()
     yield from bones_have_no_text()
@@ -311,4 +311,4 @@ def rows(folder):
     yield from data_of_many_sizes()
     yield from data_of_every_byte()
     yield from moments()
-    yield from files(folder)
+    yield from files(directory)

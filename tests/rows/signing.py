@@ -5,7 +5,7 @@ byte a read.
 """
 
 import toy
-from asking import Row, ask, bones, data, gives, refused
+from asking import Row, ask, bones, data, gives, rejected
 
 MOMENT = 1555779966
 TIMESTAMP = b"timestamp:1555779966"
@@ -52,16 +52,16 @@ def judge(source, signed, public=PUBLIC):
 
 
 def judged(name, content, signed, said):
-    """The signature is accepted for its data, and this is said of it; for other data it is refused."""
+    """The signature is accepted for its data, and this is said of it; for other data it is rejected."""
     for way, source, reads in ways(content):
         yield Row(f"{name}: {way}", judge(source, signed), gives(stderr=said, reads=reads, pos=len(content)))
     for way, source, reads in ways(b"x"):
-        yield Row(f"{name}: other data, {way}", judge(source, signed), refused("SignatureRefused", reads=reads, pos=1))
+        yield Row(f"{name}: other data, {way}", judge(source, signed), rejected("SignatureRefused", reads=reads, pos=1))
 
 
 def worked_out(content, comment, said):
     """A box has its comments, both signatures byte by byte, and is accepted for its data alone, with its comments and
-    without them. With another comment signature it is refused."""
+    without them. With another comment signature it is rejected."""
     signed = signature(content, comment, comment)
     name = f"worked out of {content!r}"
     for way, source, reads in ways(content):
@@ -73,7 +73,7 @@ def worked_out(content, comment, said):
     changed = toy.signature_text(content, signed["bones"], comment, comment, right[:63] + bytes([right[63] ^ 1]))
     for way, source, reads in ways(content):
         yield Row(f"{name}: another comment signature, {way}", judge(source, changed),
-                  refused("CommentSignatureRefused", reads=reads, pos=len(content)))
+                  rejected("CommentSignatureRefused", reads=reads, pos=len(content)))
 
 
 def comments():
@@ -98,14 +98,14 @@ def random_bytes():
 
 
 def order():
-    """What a refused or a good run draws and reads. Each row: the key, how many reads pass, how many random bytes there
+    """What a rejected or a good run draws and reads. Each row: the key, how many reads pass, how many random bytes there
     are, the answer, how many of them are drawn, and how many reads are tried."""
     sevens = bytes([7]) * 128
     made = signature(b"abc", TIMESTAMP, DEFAULT_COMMENT, sevens)
     good = lambda **deeds: gives(**made, **deeds)
-    sealed = lambda **deeds: refused("EncryptedKeyRefused", **deeds)
-    undrawn = lambda **deeds: refused("RandomSourceFailed", **deeds)
-    unread = lambda **deeds: refused("ReadingFailed", **deeds)
+    sealed = lambda **deeds: rejected("EncryptedKeyRefused", **deeds)
+    undrawn = lambda **deeds: rejected("RandomSourceFailed", **deeds)
+    unread = lambda **deeds: rejected("ReadingFailed", **deeds)
     for name, key, passing, length, answer, drawn, reads in [
         ("a key that was never sealed needs no checksum", secret(checksum=bytes(32)), 4, 128, good, 128, 4),
         ("a key that was opened", secret(b"Sc"), 4, 128, good, 128, 4),
@@ -125,17 +125,17 @@ def sources():
     """A sealed key leaves all of the source, and too few random bytes leave none."""
     for way, source, reads in ways(b"abc"):
         yield Row(f"source: left by a sealed key, {way}", sign(source, None, None, b"", secret(b"Sc", bytes(32))),
-                  refused("EncryptedKeyRefused", drawn=0, reads=0, pos=0))
+                  rejected("EncryptedKeyRefused", drawn=0, reads=0, pos=0))
         yield Row(f"source: read to its end without random bytes, {way}",
                   sign(source, None, None, b"", secret(checksum=bytes(32))),
-                  refused("RandomSourceFailed", drawn=0, reads=reads, pos=3))
+                  rejected("RandomSourceFailed", drawn=0, reads=reads, pos=3))
 
 
 def given_keys():
     """The 32 bytes of a public key that is passed in are tested, and never its identifier: its own one, another one,
     and that of the key of a seed of 32 times 01."""
     good = lambda **deeds: gives(**signature(b"abc", b"t", b"c"), **deeds)
-    other = lambda **deeds: refused("RefusedByGivenKey", text=OTHER_GIVEN, **deeds)
+    other = lambda **deeds: rejected("RejectedByGivenKey", text=OTHER_GIVEN, **deeds)
     for name, keynum, key, answer in [
         ("its own", toy.KEYNUM, toy.KEY, good),
         ("with another identifier", toy.OTHER_KEYNUM, toy.KEY, good),
@@ -147,17 +147,17 @@ def given_keys():
 
 
 def other_identifiers():
-    """A signature is refused under another identifier, once the data was read."""
+    """A signature is rejected under another identifier, once the data was read."""
     public = b"Ed" + toy.OTHER_KEYNUM + toy.KEY
     signed = toy.signature_text(b"abc")
     for way, source, reads in ways(b"abc"):
         yield Row(f"another identifier: {way}", judge(source, signed, public),
-                  refused("DifferentKeyIds", text=OTHER_KEY, reads=reads, pos=3))
+                  rejected("DifferentKeyIds", text=OTHER_KEY, reads=reads, pos=3))
     yield Row("another identifier: data fails at its second read",
-              judge(data(b"abc", chunk=1, fail=2), signed, public), refused("ReadingFailed", reads=2, pos=1))
+              judge(data(b"abc", chunk=1, fail=2), signed, public), rejected("ReadingFailed", reads=2, pos=1))
 
 
-def rows(folder):
+def rows(directory):
     yield from worked_out(b"abc", b"t", VERIFIED + b"Trusted comment: t\n")
     yield from worked_out(b"", b"", VERIFIED + b"Trusted comment: \n")
     yield from comments()

@@ -1,4 +1,4 @@
-"""Signatures verified with keys and with texts: each verdict and each refusal, what is said and copied, and how far the
+"""Signatures verified with keys and with texts: each verdict and each rejection, what is said and copied, and how far the
 data is read."""
 
 import base64
@@ -6,7 +6,7 @@ import hashlib
 from dataclasses import dataclass, replace
 
 import toy
-from asking import Row, ask, bones, data, gives, refused
+from asking import Row, ask, bones, data, gives, rejected
 
 PIECE = 65536
 RECORD = b"Ed" + toy.KEYNUM + toy.KEY
@@ -23,14 +23,14 @@ LEGACY_TEXT = toy.signature_text(b"abc", LEGACY_RECORD)
 
 ACCEPTED = ""
 OTHER_KEY = "DifferentKeyIds"
-REFUSED = "SignatureRefused"
-COMMENT_REFUSED = "CommentSignatureRefused"
+REJECTED = "SignatureRefused"
+COMMENT_REJECTED = "CommentSignatureRefused"
 LEGACY = "LegacyNotAccepted"
 UNREAD = "ReadingFailed"
 CHANGED = "DataChanged"
 
 # What comes once the data is read; each other fault of a key or of a signature comes before.
-VERDICTS = (OTHER_KEY, LEGACY, REFUSED, COMMENT_REFUSED)
+VERDICTS = (OTHER_KEY, LEGACY, REJECTED, COMMENT_REJECTED)
 OTHER_KEY_SAYS = "Signature key id: 0807060504030201 is different from public key: E7620F1842B4E81F"
 
 
@@ -67,9 +67,9 @@ class Verifying:
         What is copied is read twice, unless the signature is over the data itself, which is kept."""
         once = {"reads": reads_of(len(self.content), chunk), "pos": place + len(self.content)}
         if outcome in VERDICTS:
-            return refused(outcome, text=OTHER_KEY_SAYS if outcome == OTHER_KEY else None, **once)
+            return rejected(outcome, text=OTHER_KEY_SAYS if outcome == OTHER_KEY else None, **once)
         if outcome != ACCEPTED:
-            return refused(outcome)
+            return rejected(outcome)
         times = 2 if self.output and self.is_prehashed else 1
         return gives(stdout=self.content if self.output else b"", stderr=self.status(),
                      reads=times * once["reads"], pos=once["pos"])
@@ -87,7 +87,7 @@ class Verifying:
         """The row of data that is given one byte a read, and whose read of this number fails, if it comes to that."""
         answer = self.answered(outcome, 1)
         if outcome == UNREAD:
-            answer = refused(UNREAD, reads=read, pos=read - 1)
+            answer = rejected(UNREAD, reads=read, pos=read - 1)
         return Row(name, self.asked(chunk=1, fail=read), answer)
 
     def changing(self, name, second, outcome):
@@ -96,7 +96,7 @@ class Verifying:
         if outcome in (ACCEPTED, CHANGED):
             deeds = {"stdout": second, "stderr": self.status(),
                      "reads": reads_of(len(self.content)) + reads_of(len(second)), "pos": len(second)}
-            answer = gives(**deeds) if outcome == ACCEPTED else refused(CHANGED, **deeds)
+            answer = gives(**deeds) if outcome == ACCEPTED else rejected(CHANGED, **deeds)
         return Row(name, self.asked(second=second), answer)
 
     def from_place(self, name, front):
@@ -123,21 +123,21 @@ def bare_signatures():
     changed = PREHASHED_RECORD[:-1] + bytes([PREHASHED_RECORD[-1] ^ 1])
     yield from bare().rows("bare: a signature", ACCEPTED)
     yield from bare(legacy=True).rows("bare: a signature, where legacy ones are accepted", ACCEPTED)
-    yield from bare(content=b"").rows("bare: a signature over no data", REFUSED)
-    yield from bare(content=b"abd").rows("bare: a signature over other data", REFUSED)
-    yield from bare(changed).rows("bare: a changed signature", REFUSED)
+    yield from bare(content=b"").rows("bare: a signature over no data", REJECTED)
+    yield from bare(content=b"abd").rows("bare: a signature over other data", REJECTED)
+    yield from bare(changed).rows("bare: a changed signature", REJECTED)
     yield from bare(toy.signature_record(b""), b"").rows("bare: a signature of nothing", ACCEPTED)
 
 
 def bare_legacy_signatures():
-    """They are refused where they are not accepted, whatever they are over."""
+    """They are rejected where they are not accepted, whatever they are over."""
     named = b"Ed" + PREHASHED_RECORD[2:]
     for name, record, content, is_allowed, outcome in (
         ("of the digest", named, b"abc", False, LEGACY),
-        ("of the digest", named, b"abc", True, REFUSED),
+        ("of the digest", named, b"abc", True, REJECTED),
         ("of the data", LEGACY_RECORD, b"abc", False, LEGACY),
         ("of the data", LEGACY_RECORD, b"abc", True, ACCEPTED),
-        ("of other data", LEGACY_RECORD, b"abd", True, REFUSED),
+        ("of other data", LEGACY_RECORD, b"abd", True, REJECTED),
     ):
         allowed = "allowed" if is_allowed else "not allowed"
         asked = bare(record, content, is_prehashed=False, legacy=is_allowed)
@@ -145,7 +145,7 @@ def bare_legacy_signatures():
 
 
 def records():
-    """Short records are refused, before an unknown algorithm; what stands behind a record is not read."""
+    """Short records are rejected, before an unknown algorithm; what stands behind a record is not read."""
     unknown = b"Ex" + PREHASHED_RECORD[2:]
     yield from bare(PREHASHED_RECORD[:73]).rows("bare: a short signature", "RecordTooShort")
     yield from bare(key=RECORD[:41]).rows("bare: a short key", "RecordTooShort")
@@ -156,7 +156,7 @@ def records():
 
 
 def bare_signatures_of_another_key():
-    """They are refused by the identifiers, whatever they are over, and before legacy ones are."""
+    """They are rejected by the identifiers, whatever they are over, and before legacy ones are."""
     yield from bare(key=OTHER_RECORD).rows("bare: another key", OTHER_KEY)
     yield from bare(LEGACY_RECORD, b"abd", OTHER_RECORD).rows("bare: another key, legacy, other data", OTHER_KEY)
 
@@ -167,7 +167,7 @@ def a_long_message():
     record = b"ED" + toy.KEYNUM + bytes(32) + bytes.fromhex(
         "d4f140d88e494e19283fe4a31a2b66a60cde500f743d176788259b07d1098643")
     yield from bare(record, message).rows("bare: a long message", ACCEPTED)
-    yield from bare(record, message[:-1]).rows("bare: a long message without its last byte", REFUSED)
+    yield from bare(record, message[:-1]).rows("bare: a long message without its last byte", REJECTED)
 
 
 def failing_data_of_bare_signatures():
@@ -194,7 +194,7 @@ def copies_of_bare_signatures():
     for second in (b"abd", b"ab", b""):
         yield copying.changing(f"bare: the second pass gives {second!r}", second, CHANGED)
     other = replace(copying, content=b"abd")
-    yield other.changing("bare: the second pass gives what was signed", b"abc", REFUSED)
+    yield other.changing("bare: the second pass gives what was signed", b"abc", REJECTED)
     yield from copying.from_place("bare: copied from the place that was reached", b"xx")
 
 
@@ -209,14 +209,14 @@ def texts_in_their_order():
         ("legacy, allowed", KEY_TEXT, LEGACY_TEXT, b"abc", True, ACCEPTED),
         ("legacy", KEY_TEXT, LEGACY_TEXT, b"abc", False, LEGACY),
         ("legacy, other data", KEY_TEXT, LEGACY_TEXT, b"abd", False, LEGACY),
-        ("legacy, allowed, other data", KEY_TEXT, LEGACY_TEXT, b"abd", True, REFUSED),
-        ("other data", KEY_TEXT, PREHASHED_TEXT, b"abd", False, REFUSED),
-        ("no data", KEY_TEXT, PREHASHED_TEXT, b"", False, REFUSED),
+        ("legacy, allowed, other data", KEY_TEXT, LEGACY_TEXT, b"abd", True, REJECTED),
+        ("other data", KEY_TEXT, PREHASHED_TEXT, b"abd", False, REJECTED),
+        ("no data", KEY_TEXT, PREHASHED_TEXT, b"", False, REJECTED),
         ("no signature", KEY_TEXT, b"", b"abc", False, "MissingUntrustedComment"),
-        ("a changed comment signature, other data", KEY_TEXT, changed, b"abd", False, REFUSED),
-        ("a changed comment signature", KEY_TEXT, changed, b"abc", False, COMMENT_REFUSED),
+        ("a changed comment signature, other data", KEY_TEXT, changed, b"abd", False, REJECTED),
+        ("a changed comment signature", KEY_TEXT, changed, b"abc", False, COMMENT_REJECTED),
         ("legacy, a changed comment signature", KEY_TEXT, changed_legacy, b"abc", False, LEGACY),
-        ("legacy, allowed, a changed comment signature", KEY_TEXT, changed_legacy, b"abc", True, COMMENT_REFUSED),
+        ("legacy, allowed, a changed comment signature", KEY_TEXT, changed_legacy, b"abc", True, COMMENT_REJECTED),
         ("another key", OTHER_KEY_TEXT, PREHASHED_TEXT, b"abc", False, OTHER_KEY),
         ("another key, legacy, other data", OTHER_KEY_TEXT, LEGACY_TEXT, b"abd", False, OTHER_KEY),
         ("another key, a changed comment signature, no data", OTHER_KEY_TEXT, changed, b"", False, OTHER_KEY),
@@ -243,8 +243,8 @@ def verdicts_of_two_texts():
     """Other data, no data, a text that is missing or has a line only, and another key, where the data is copied."""
     good = texts(output=True, legacy=True)
     yield from good.rows("two texts: good", ACCEPTED)
-    yield from replace(good, content=b"abd").rows("two texts: other data", REFUSED)
-    yield from replace(good, content=b"").rows("two texts: no data", REFUSED)
+    yield from replace(good, content=b"abd").rows("two texts: other data", REJECTED)
+    yield from replace(good, content=b"").rows("two texts: no data", REJECTED)
     yield from replace(good, key=b"", signature=b"").rows("two texts: none", "MissingPublicKeyComment")
     yield from replace(good, key=b"a", signature=b"").rows("two texts: a line of a key", "MissingEncodedPublicKey")
     yield from replace(good, signature=b"").rows("two texts: no signature", "MissingUntrustedComment")
@@ -252,14 +252,14 @@ def verdicts_of_two_texts():
 
 
 def failing_data_of_texts():
-    """A source that fails is told before any verdict, and after a refused text."""
+    """A source that fails is told before any verdict, and after a rejected text."""
     other = texts(key=OTHER_KEY_TEXT)
     changed = texts(turned(PREHASHED_TEXT))
     yield texts().failing("texts: the second read fails", 2, UNREAD)
     yield other.failing("texts: another key, the second read fails", 2, UNREAD)
     yield texts(LEGACY_TEXT, is_prehashed=False).failing("texts: legacy, the second read fails", 2, UNREAD)
     yield changed.failing("texts: a changed comment signature, the read of the end fails", 4, UNREAD)
-    yield changed.failing("texts: a changed comment signature, no read fails", 5, COMMENT_REFUSED)
+    yield changed.failing("texts: a changed comment signature, no read fails", 5, COMMENT_REJECTED)
     yield other.failing("texts: another key, no read fails", 5, OTHER_KEY)
     yield texts(key=b"").failing("texts: no key, the first read would fail", 1, "MissingPublicKeyComment")
     yield texts(b"").failing("texts: no signature, the first read would fail", 1, "MissingUntrustedComment")
@@ -276,7 +276,7 @@ def copies_of_texts():
         yield copying.changing(f"texts: a second reading gives {second!r}", second, CHANGED)
     yield copying.changing("texts: a second reading gives the same", b"abc", ACCEPTED)
     other = replace(copying, content=b"abd")
-    yield other.changing("texts: a second reading gives what was signed", b"abc", REFUSED)
+    yield other.changing("texts: a second reading gives what was signed", b"abc", REJECTED)
 
 
 # What the upstream tool wrote over `test`: its key, and the texts of a legacy signature and of a prehashed one.
@@ -323,10 +323,10 @@ def upstream_texts():
     for which, text, content, is_allowed, outcome in (
         ("legacy, allowed", UPSTREAM_LEGACY, b"test", True, ACCEPTED),
         ("legacy", UPSTREAM_LEGACY, b"test", False, LEGACY),
-        ("legacy, allowed, other data", UPSTREAM_LEGACY, b"test2", True, REFUSED),
+        ("legacy, allowed, other data", UPSTREAM_LEGACY, b"test2", True, REJECTED),
         ("prehashed", UPSTREAM_PREHASHED, b"test", False, ACCEPTED),
         ("prehashed, legacy allowed", UPSTREAM_PREHASHED, b"test", True, ACCEPTED),
-        ("prehashed, other data", UPSTREAM_PREHASHED, b"test2", False, REFUSED),
+        ("prehashed, other data", UPSTREAM_PREHASHED, b"test2", False, REJECTED),
     ):
         asked = texts(text, content, UPSTREAM_KEY_TEXT, is_prehashed=text == UPSTREAM_PREHASHED, quiet=True,
                       legacy=is_allowed)
@@ -350,10 +350,10 @@ def upstream_texts_that_are_told():
     yield prehashed.row(f"{name}: not copied", ACCEPTED)
     yield replace(prehashed, output=True).row(f"{name}: copied", ACCEPTED)
     yield no_table(name)
-    yield prehashed.row(f"{name}: no table", REFUSED)
+    yield prehashed.row(f"{name}: no table", REJECTED)
 
 
-def rows(folder):
+def rows(directory):
     yield from bare_signatures()
     yield from bare_legacy_signatures()
     yield from records()

@@ -95,7 +95,7 @@ static int is_from_there(const void *caller)
 #define is_broken_if_named(name) (is_from_there(__builtin_return_address(0)) && is_broken_if_named(name))
 #endif
 
-/* The rights of a file that may be made: only then is there a third argument. */
+/* The permissions of a file that may be made: only then is there a third argument. */
 static mode_t mode_of(int flags, va_list more)
 {
     return flags & (O_CREAT | O_TMPFILE) ? va_arg(more, mode_t) : 0;
@@ -113,7 +113,7 @@ int open(const char *path, int flags, ...)
     return is_broken("open") ? -1 : real(path, flags, mode);
 }
 
-int openat(int folder, const char *path, int flags, ...)
+int openat(int directory, const char *path, int flags, ...)
 {
     int (*real)(int, const char *, int, ...) = (int (*)(int, const char *, int, ...))dlsym(RTLD_NEXT, "openat");
     mode_t mode;
@@ -126,7 +126,7 @@ int openat(int folder, const char *path, int flags, ...)
         errno = EOPNOTSUPP;
         return -1;
     }
-    return is_broken("openat") ? -1 : real(folder, path, flags, mode);
+    return is_broken("openat") ? -1 : real(directory, path, flags, mode);
 }
 
 ssize_t write(int fd, const void *bytes, size_t length)
@@ -189,11 +189,11 @@ struct dirent *readdir(DIR *entries)
 #define BREAKS_IF_NAMED(answer, name, parameters, arguments) BREAKS_WHERE(is_broken_if_named, answer, name, parameters, arguments)
 
 BREAKS(int, rename, (const char *from, const char *to), (from, to))
-BREAKS(int, renameat2, (int from_folder, const char *from, int to_folder, const char *to, unsigned flags), (from_folder, from, to_folder, to, flags))
-BREAKS(int, linkat, (int from_folder, const char *from, int to_folder, const char *to, int flags), (from_folder, from, to_folder, to, flags))
-BREAKS(int, renameat, (int from_folder, const char *from, int to_folder, const char *to), (from_folder, from, to_folder, to))
+BREAKS(int, renameat2, (int from_directory, const char *from, int to_directory, const char *to, unsigned flags), (from_directory, from, to_directory, to, flags))
+BREAKS(int, linkat, (int from_directory, const char *from, int to_directory, const char *to, int flags), (from_directory, from, to_directory, to, flags))
+BREAKS(int, renameat, (int from_directory, const char *from, int to_directory, const char *to), (from_directory, from, to_directory, to))
 BREAKS(int, unlink, (const char *path), (path))
-BREAKS(int, unlinkat, (int folder, const char *path, int flags), (folder, path, flags))
+BREAKS(int, unlinkat, (int directory, const char *path, int flags), (directory, path, flags))
 BREAKS(int, fsync, (int fd), (fd))
 BREAKS(int, fchmod, (int fd, mode_t mode), (fd, mode))
 BREAKS(int, fchown, (int fd, uid_t uid, gid_t gid), (fd, uid, gid))
@@ -204,7 +204,7 @@ BREAKS(ssize_t, getdents64, (int fd, void *bytes, size_t length), (fd, bytes, le
 BREAKS(ssize_t, readlink, (const char *path, char *bytes, size_t length), (path, bytes, length))
 BREAKS(int, statx, (int fd, const char *path, int flags, unsigned mask, struct statx *found), (fd, path, flags, mask, found))
 BREAKS_IF_NAMED(int, fstat, (int fd, struct stat *found), (fd, found))
-BREAKS_IF_NAMED(int, fstatat, (int folder, const char *path, struct stat *found, int flags), (folder, path, found, flags))
+BREAKS_IF_NAMED(int, fstatat, (int directory, const char *path, struct stat *found, int flags), (directory, path, found, flags))
 BREAKS_IF_NAMED(ssize_t, getrandom, (void *bytes, size_t length, unsigned flags), (bytes, length, flags))
 BREAKS_IF_NAMED(ssize_t, fgetxattr, (int fd, const char *name, void *bytes, size_t length), (fd, name, bytes, length))
 BREAKS_IF_NAMED(int, fsetxattr, (int fd, const char *name, const void *bytes, size_t length, int flags), (fd, name, bytes, length, flags))

@@ -35,7 +35,7 @@ def texts_for_every_file():
 def legacy_texts(vector):
     """
     A public key and a signature of the older kind, of the vector's message as the data: a host that accepts the vector
-    refuses the comment's signature alone, or nothing.
+    rejects the comment's signature alone, or nothing.
     """
     key, signature = bytes.fromhex(vector["A"]), bytes.fromhex(vector["sig"])
     record = lambda rest: base64.b64encode(b"Ed" + KEY_ID + rest)

@@ -36,7 +36,7 @@ static void look(const char *before)
 {
     const char *turned = getenv("FIND"), *says = getenv("FIND_SAYS");
     FILE *maps = turned && says ? fopen("/proc/self/maps", "r") : NULL, *to_say = maps ? fopen(says, "a") : NULL;
-    char line[512], rights[5];
+    char line[512], permissions[5];
     unsigned long from, to;
     int found = 0;
 
@@ -44,7 +44,7 @@ static void look(const char *before)
         return;
     length = strlen(turned) / 2;
     while (fgets(line, sizeof line, maps))
-        if (sscanf(line, "%lx-%lx %4s", &from, &to, rights) == 3 && rights[0] == 'r' && rights[1] == 'w')
+        if (sscanf(line, "%lx-%lx %4s", &from, &to, permissions) == 3 && permissions[0] == 'r' && permissions[1] == 'w')
             found |= stands_in((const unsigned char *)from, (const unsigned char *)to, turned);
     fclose(maps);
     fprintf(to_say, "%s%c", before, found ? '+' : '-');

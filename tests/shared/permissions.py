@@ -23,7 +23,7 @@ OTHER_GROUP, OTHER_USER = 54321, 54322
 @dataclass(frozen=True)
 class Older:
     """A file that is replaced: its mode, which entries of an access control list it has, and which list each new file of its
-    folder inherits."""
+    directory inherits."""
 
     mode: int
     entries: str = ""
@@ -55,36 +55,36 @@ def list_of(path):
         return None
 
 
-def make_older(folder, path, older):
+def make_older(directory, path, older):
     """Makes a file what an older one is."""
     os.chmod(path, older.mode)
-    for entries, changed in ((["-m", older.entries], path), (["-d", "-m", older.inherited], folder)):
+    for entries, changed in ((["-m", older.entries], path), (["-d", "-m", older.inherited], directory)):
         if entries[-1]:
             subprocess.run([needs.program("setfacl", "acl"), *entries, changed], check=True, timeout=SECONDS)
 
 
-def give_to_nobody(folder, path, group):
-    """All in a folder is nobody's; a file in it is of this group."""
+def give_to_nobody(directory, path, group):
+    """All in a directory is nobody's; a file in it is of this group."""
     if os.geteuid() != 0:
         raise Skip("only root may become nobody")
-    for name in [".", *os.listdir(folder)]:
-        os.chown(os.path.join(folder, name), NOBODY, NOBODY)
+    for name in [".", *os.listdir(directory)]:
+        os.chown(os.path.join(directory, name), NOBODY, NOBODY)
     os.chown(path, NOBODY, group)
 
 
 def run_case(replacing, case):
-    """Makes one run. `replacing` has the place of fresh folders, `prepare`, which makes in such a folder the older file, whose
+    """Makes one run. `replacing` has the place of fresh directories, `prepare`, which makes in such a directory the older file, whose
     path it answers, and what else the run needs, and `run`, which replaces the file and answers how that ended: with the
     mode that is asked for, further words for the environment, and whom it runs as."""
-    with tempfile.TemporaryDirectory(dir=replacing.place) as folder:
-        path = replacing.prepare(folder)
+    with tempfile.TemporaryDirectory(dir=replacing.place) as directory:
+        path = replacing.prepare(directory)
         if case.as_nobody:
-            give_to_nobody(folder, path, case.group)
-        make_older(folder, path, case.older)
+            give_to_nobody(directory, path, case.group)
+        make_older(directory, path, case.older)
         before, older = os.stat(path), list_of(path)
         breaking = {"BREAK_CALLS": case.broken, "BREAK_AT": "1", "BREAK_ERRNO": str(errno.ENOSPC)} if case.broken else {}
         user = {"user": NOBODY, "group": NOBODY, "extra_groups": []} if case.as_nobody else {}
-        status, said = replacing.run(folder, case.asked, breaking, user)
+        status, said = replacing.run(directory, case.asked, breaking, user)
         after, newer = os.stat(path), list_of(path)
         if status != 0 or after.st_ino == before.st_ino:
             raise Failure(f"it ended with status {status}, said {said}, and the file was{' not' * (after.st_ino == before.st_ino)} replaced")
@@ -96,8 +96,8 @@ def run_case(replacing, case):
 
 # What holds of each program. Where the group cannot be given, all others get no more than it had.
 COMMON = [
-    ("rights that a group and all others have", Replaced(Older(0o755), 0o755)),
-    ("rights that all others and not the group have", Replaced(Older(0o705), 0o705)),
+    ("permissions that a group and all others have", Replaced(Older(0o755), 0o755)),
+    ("permissions that all others and not the group have", Replaced(Older(0o705), 0o705)),
     ("the bit that changes the user", Replaced(Older(0o4755), 0o755)),
     ("the bit that changes the group", Replaced(Older(0o2755), 0o755)),
     ("the bit that keeps others from removing", Replaced(Older(0o1755), 0o755)),
@@ -113,14 +113,14 @@ LESS = f"g::rwx,u:{OTHER_USER}:r--,m::rwx"
 NONE = f"g::rwx,g:{OTHER_GROUP}:---,m::rwx"
 INHERITED = f"u:{OTHER_USER}:rwx,g:{OTHER_GROUP}:rwx"
 WITH_LISTS = [
-    ("rights of a group alone", Replaced(Older(0o750), 0o750)),
-    ("more rights of a group than of all others", Replaced(Older(0o771), 0o771)),
+    ("permissions of a group alone", Replaced(Older(0o750), 0o750)),
+    ("more permissions of a group than of all others", Replaced(Older(0o771), 0o771)),
     ("a list of one who may do more", Replaced(Older(0o700, MORE), 0o770, has_list=True)),
     ("a list of one who may do less than all others", Replaced(Older(0o755, LESS), 0o775, has_list=True)),
     ("a list of a group that may do nothing", Replaced(Older(0o755, NONE), 0o775, has_list=True)),
     ("a list whose mask leaves nothing of it", Replaced(Older(0o700, f"u:{OTHER_USER}:rwx,m::---"), 0o700, has_list=True)),
-    ("a list that the folder gives to new files", Replaced(Older(0o770, inherited=INHERITED), 0o770)),
-    ("a list beside one that the folder gives to new files", Replaced(Older(0o755, LESS, INHERITED), 0o775, has_list=True)),
+    ("a list that the directory gives to new files", Replaced(Older(0o770, inherited=INHERITED), 0o770)),
+    ("a list beside one that the directory gives to new files", Replaced(Older(0o755, LESS, INHERITED), 0o775, has_list=True)),
     ("a list that cannot be copied, of one who may do more", Replaced(Older(0o755, MORE), 0o705, broken="fsetxattr")),
     ("a list that cannot be copied, of one who may do less", Replaced(Older(0o755, LESS), 0o704, broken="fsetxattr")),
     ("a list that cannot be copied, of a group that may do nothing", Replaced(Older(0o755, NONE), 0o700, broken="fsetxattr")),
@@ -129,15 +129,15 @@ WITH_LISTS = [
     ("a list of a file that may not be read", Replaced(Older(0o311, f"g::--x,u:{OTHER_USER}:--x"), 0o311, has_list=True, as_nobody=True)),
 ]
 
-# Of a program that can be asked for a mode: it has just these rights, and no list.
+# Of a program that can be asked for a mode: it has just these permissions, and no list.
 ASKED = [
     ("a mode that is asked for", Replaced(Older(0o700), 0o775, asked="775")),
     ("a mode that is asked for over another group", Replaced(Older(0o700), 0o705, asked="775", as_nobody=True, group=OTHER_GROUP)),
-    ("a mode without the group's rights over another group", Replaced(Older(0o755), 0o700, asked="705", as_nobody=True, group=OTHER_GROUP)),
+    ("a mode without the group's permissions over another group", Replaced(Older(0o755), 0o700, asked="705", as_nobody=True, group=OTHER_GROUP)),
 ]
 ASKED_WITH_LISTS = [
     ("a mode that is asked for over a list", Replaced(Older(0o755, MORE), 0o770, asked="770")),
-    ("a mode that is asked for over a list that the folder gives", Replaced(Older(0o700, inherited=INHERITED), 0o770, asked="770")),
+    ("a mode that is asked for over a list that the directory gives", Replaced(Older(0o700, inherited=INHERITED), 0o770, asked="770")),
 ]
 
 

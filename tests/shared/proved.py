@@ -62,7 +62,7 @@ def crates():
 
 @functools.lru_cache(maxsize=None)
 def kit():
-    """The folder of the kit."""
+    """The directory of the kit."""
     ran = subprocess.run(["rt", "doc"], stdout=subprocess.PIPE, check=True)
     return os.path.dirname(os.path.realpath(ran.stdout.decode().strip()))
 
@@ -110,7 +110,7 @@ def functions_of(crate, words):
 
 
 def place_of(library):
-    """The folder of a built library."""
+    """The directory of a built library."""
     return f"{ROOT}/crates/{library}/out/rlib/{library}.rlib"
 
 
@@ -133,9 +133,9 @@ def supply(libraries):
     return ""
 
 
-def run(command, folder):
-    """Runs a command in a folder: its status, and all that it said."""
-    return subprocess.run(command, cwd=folder, stdin=subprocess.DEVNULL, stdout=subprocess.PIPE, stderr=subprocess.STDOUT,
+def run(command, directory):
+    """Runs a command in a directory: its status, and all that it said."""
+    return subprocess.run(command, cwd=directory, stdin=subprocess.DEVNULL, stdout=subprocess.PIPE, stderr=subprocess.STDOUT,
                           errors="replace")
 
 
@@ -145,11 +145,11 @@ def first_of(words):
     return next((it for it in lines if "error" in it), lines[-1])[:300]
 
 
-def rattle(verb, name, folder, *flags, before=(), crate=None):
-    """Has the prover check or build a crate whose files are in this folder, over the libraries below it. It is one of
+def rattle(verb, name, directory, *flags, before=(), crate=None):
+    """Has the prover check or build a crate whose files are in this directory, over the libraries below it. It is one of
     crates.txt, or another one that is told by its line."""
     crate = crate or crates()[name]
-    root = next(it for it in ("src/main.rt", "src/lib.rt") if os.path.exists(f"{folder}/{it}"))
+    root = next(it for it in ("src/main.rt", "src/lib.rt") if os.path.exists(f"{directory}/{it}"))
     words = ["--crate-name", name, root, "-L", f"dependency={kit()}/rlibs"]
     for it in crate.of_kit:
         words += ["--extern", f"{it}={kit()}/rlibs/{it}.rlib"]
@@ -160,7 +160,7 @@ def rattle(verb, name, folder, *flags, before=(), crate=None):
     if "staticlib" in crate.words:
         words += ["--crate-type", "staticlib"]
     words += ["--antt-project", f"{kit()}/rattle/logic/antt-project.json", "--logic-built", f"{kit()}/logic_built"]
-    return run([*before, f"{kit()}/bin/rattle", verb, *words, "--jobs", "1", *flags], folder)
+    return run([*before, f"{kit()}/bin/rattle", verb, *words, "--jobs", "1", *flags], directory)
 
 
 def verdict_of(words):

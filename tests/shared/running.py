@@ -21,8 +21,8 @@ SECONDS = 30
 NOBODY = 65534
 HERE = os.path.dirname(os.path.realpath(__file__))
 
-FOLDER = "a folder"
-LOCKED = "a folder in which nothing may be made"
+DIRECTORY = "a directory"
+LOCKED = "a directory in which nothing may be made"
 MISSING = "nothing"
 CLOSED = "a closed stream"
 WRITE_ONLY = "a stream that cannot be read"
@@ -95,7 +95,7 @@ class ReadPipe:
 @dataclass(frozen=True)
 class ReadLate:
     """A pipe as standard output that is read only once the program has made so many writes on the error
-    stream and the folder that it runs in was changed. So a program that writes more than a pipe takes cannot
+    stream and the directory that it runs in was changed. So a program that writes more than a pipe takes cannot
     be further than that."""
 
     writes: int
@@ -118,7 +118,7 @@ class FromFile:
 
 @dataclass(frozen=True)
 class IntoFile:
-    """A file of the folder as standard output, opened with these flags."""
+    """A file of the directory as standard output, opened with these flags."""
 
     name: str
     flags: int
@@ -177,23 +177,23 @@ class Case:
     lines: object = field(default_factory=list)
     # All that is written on the standard output.
     output: object = b""
-    # The files of the folder that it runs in, by their names; they replace those of the command.
+    # The files of the directory that it runs in, by their names; they replace those of the command.
     files: dict = field(default_factory=dict)
     # Its streams: bytes come through a pipe.
     stdin: object = b""
     stdout: object = None
     stderr: object = None
-    # Each of its requests for memory is refused in turn; with `all`, all behind it too.
-    refusing: str = ""
+    # Each of its allocations fails in turn; with `all`, all behind it too.
+    rejecting: str = ""
     # Each of its calls of the system of this name fails in turn.
     breaking: str = ""
     # The `Sources` of what it draws and of what the clock shows, where these are not the system's.
     sources: object = None
-    # What looks at the folder that the run leaves, and raises a `Failure` where something is wrong there.
+    # What looks at the directory that the run leaves, and raises a `Failure` where something is wrong there.
     left: object = None
     # The permission bits that files that are made do not get.
     umask: int = 0o022
-    # Cases that run after it in the folder that it leaves.
+    # Cases that run after it in the directory that it leaves.
     then: tuple = ()
 
 
@@ -206,7 +206,7 @@ class Skip(Exception):
 
 
 class Runner:
-    """Runs a program in fresh folders below a temporary one, as nobody where the script itself runs as root."""
+    """Runs a program in fresh directories below a temporary one, as nobody where the script itself runs as root."""
 
     def __init__(self, program, room):
         self.room = room
@@ -221,8 +221,8 @@ class Runner:
         """Makes the run, or all runs of a case that is disturbed, and raises a `Failure` or a `Skip`."""
         if any(is_forbidding(it) for it in case.files.values()) and os.geteuid() == 0 and not self.nobody:
             raise Skip("root may read and write every file, and cannot become nobody here")
-        if case.refusing:
-            rest = {"REFUSE_REST": "1"} if case.refusing == "all" else {}
+        if case.rejecting:
+            rest = {"REFUSE_REST": "1"} if case.rejecting == "all" else {}
             self.run_each(case, "request for memory", "REFUSE", self.preloading("refuse_memory", **rest))
         elif case.breaking:
             broken = {"BREAK_CALLS": case.breaking, "BREAK_ERRNO": str(errno.EIO)}
@@ -240,7 +240,7 @@ class Runner:
         return {"LD_PRELOAD": self.preloads[name], **environment}
 
     def run_each(self, case, what, word, environment):
-        """Runs with each such request or call refused in turn. By names that begin with this word the library is told its
+        """Runs with each such allocation or call failing in turn. By names that begin with this word the library is told its
         number, and whom to tell."""
         for number in range(1, 1000):
             given = {**environment, f"{word}_AT": str(number)}
@@ -251,7 +251,7 @@ class Runner:
         raise Failure(f"it came to {what} number 1000")
 
     def run_refused(self, case, what, environment, says_name):
-        """Runs with one request or call refused, and answers whether the run came to it."""
+        """Runs with one allocation or call failing, and answers whether the run came to it."""
         told, says = os.pipe()
         environment = {**environment, says_name: str(says)}
         try:
@@ -268,39 +268,39 @@ class Runner:
             if says is not None:
                 os.close(says)
         if was_refused and failure:
-            raise Failure(f"with {what} refused: {failure}")
+            raise Failure(f"with {what} rejected: {failure}")
         return was_refused
 
     def run_once(self, case, environment=None, passed=()):
-        with tempfile.TemporaryDirectory(dir=self.room) as folder:
+        with tempfile.TemporaryDirectory(dir=self.room) as directory:
             for number, step in enumerate((case, *case.then)):
                 try:
-                    self.run_in(folder, step, environment, passed)
+                    self.run_in(directory, step, environment, passed)
                 except Failure as error:
                     raise Failure(f"at step {number}: {error}") if case.then else error
 
-    def run_in(self, folder, case, environment, passed):
-        """Makes the files and the run in a folder, and compares all that it answers."""
-        pipes = make_files(folder, case.files)
+    def run_in(self, directory, case, environment, passed):
+        """Makes the files and the run in a directory, and compares all that it answers."""
+        pipes = make_files(directory, case.files)
         if self.nobody:
-            for at, _, names in os.walk(folder):
+            for at, _, names in os.walk(directory):
                 for path in [at, *(os.path.join(at, name) for name in names)]:
                     os.lchown(path, NOBODY, NOBODY)
-        streams = Streams(folder, case)
+        streams = Streams(directory, case)
         try:
-            status = self.start(case, folder, streams, pipes, environment or {}, passed)
+            status = self.start(case, directory, streams, pipes, environment or {}, passed)
             compare(case, status, streams)
             if case.left:
-                case.left(folder)
+                case.left(directory)
         finally:
             streams.close()
 
-    def start(self, case, folder, streams, pipes, environment, passed):
+    def start(self, case, directory, streams, pipes, environment, passed):
         """Starts the program, serves it until it has ended, and answers its exit status."""
         how = {"user": NOBODY, "group": NOBODY, "extra_groups": []} if self.nobody else {}
         process = subprocess.Popen(
             [self.program, *case.arguments],
-            cwd=folder,
+            cwd=directory,
             env=environment,
             stdin=streams.stdin,
             stdout=streams.stdout,
@@ -398,16 +398,16 @@ def wait(process, pipes):
 class Streams:
     """The three streams of a run."""
 
-    def __init__(self, folder, case):
+    def __init__(self, directory, case):
         self.given = case.stdin
         self.pipe = None
         self.closed = [number for number, kind in enumerate((case.stdin, case.stdout, case.stderr)) if kind == CLOSED]
         self.terminal = Terminal(case.stdin) if isinstance(case.stdin, Typed) else None
-        self.stdin = self.open_stdin(folder)
+        self.stdin = self.open_stdin(directory)
         self.written = open_shared()
         self.early = []
         self.late = None
-        self.stdout = self.open_stdout(folder, case.stdout)
+        self.stdout = self.open_stdout(directory, case.stdout)
         # Of such a pair of sockets each write is read by itself.
         self.said, said = socket.socketpair(socket.AF_UNIX, socket.SOCK_SEQPACKET)
         self.told = open_shared() if isinstance(case.stderr, RoomFor) else None
@@ -421,7 +421,7 @@ class Streams:
             os.close(self.stderr)
             self.stderr = writer
 
-    def open_stdin(self, folder):
+    def open_stdin(self, directory):
         given = self.given
         if self.terminal:
             return os.dup(self.terminal.side)
@@ -433,28 +433,28 @@ class Streams:
                 file.write(given.data)
                 file.seek(0)
                 return os.dup(file.fileno())
-        if given == FOLDER:
-            return os.open(folder, os.O_RDONLY)
+        if given == DIRECTORY:
+            return os.open(directory, os.O_RDONLY)
         return os.open(os.devnull, os.O_WRONLY if given == WRITE_ONLY else os.O_RDONLY)
 
-    def open_stdout(self, folder, kind):
+    def open_stdout(self, directory, kind):
         if isinstance(kind, ReadLate):
             reader, writer = os.pipe()
-            self.late = threading.Thread(target=self.read_late, args=(reader, kind, folder), daemon=True)
+            self.late = threading.Thread(target=self.read_late, args=(reader, kind, directory), daemon=True)
             return writer
         if isinstance(kind, IntoFile):
-            return os.open(os.path.join(folder, kind.name), kind.flags)
+            return os.open(os.path.join(directory, kind.name), kind.flags)
         return open_full(kind) or os.dup(self.stdin if self.terminal else self.written.fileno())
 
-    def read_late(self, reader, kind, folder):
-        """Waits for the writes on the error stream, changes the folder, and reads the output to its end."""
+    def read_late(self, reader, kind, directory):
+        """Waits for the writes on the error stream, changes the directory, and reads the output to its end."""
         with os.fdopen(reader, "rb") as output:
             while len(self.early) < kind.writes:
                 text = self.said.recv(1 << 20)
                 if not text:
                     break
                 self.early.append(text.decode(errors="backslashreplace"))
-            kind.change(folder)
+            kind.change(directory)
             shutil.copyfileobj(output, self.written)
             self.written.flush()
 
@@ -604,14 +604,14 @@ def compare(case, status, streams):
         raise Failure(f"it wrote {output[:200]} in place of {case.output[:200]}")
 
 
-def make_files(folder, files):
+def make_files(directory, files):
     """Makes the files of a run, and answers its named pipes."""
     pipes = []
     for name, kind in files.items():
-        path = os.path.join(folder, name)
+        path = os.path.join(directory, name)
         if kind == MISSING:
             continue
-        if kind in (FOLDER, LOCKED):
+        if kind in (DIRECTORY, LOCKED):
             os.mkdir(path, 0o555 if kind == LOCKED else 0o755)
         elif isinstance(kind, (OpenedPipe, UnopenedPipe, FedPipe)):
             pipes.append(NamedPipe(path, kind))
@@ -620,7 +620,7 @@ def make_files(folder, files):
         elif isinstance(kind, Link):
             os.symlink(kind.target, path)
         elif isinstance(kind, SecondName):
-            os.link(os.path.join(folder, kind.first), path)
+            os.link(os.path.join(directory, kind.first), path)
         else:
             with open(path, "wb") as file:
                 file.write(kind if isinstance(kind, bytes) else kind.data)
@@ -643,7 +643,7 @@ def set_list(path, entries):
 
 
 def is_forbidding(kind):
-    """Whether a file or folder lacks rights that root would have all the same."""
+    """Whether a file or directory lacks permissions that root would have all the same."""
     return kind == LOCKED or isinstance(kind, (Unreadable, WithMode))
 
 

@@ -9,20 +9,20 @@ import needs
 import proved
 from proved import NotBuilt
 
-FOLDER = os.path.join(proved.ROOT, "c")
+DIRECTORY = os.path.join(proved.ROOT, "c")
 DIST = os.path.join(proved.ROOT, "dist")
 # Here each warning is an error; a user's compiler may have others.
 STRICT = "WARNINGS=-std=c11 -Wall -Wextra -Wpedantic -Werror"
 
 
 def path_without_kit():
-    """The folders of PATH that have no `rt`."""
+    """The directories of PATH that have no `rt`."""
     return os.pathsep.join(it for it in os.get_exec_path() if not os.path.exists(os.path.join(it, "rt"))) or "/usr/bin:/bin"
 
 
 def run_make(*arguments):
-    """Runs make in the folder of the library."""
-    command = [needs.program("make", "make"), "-s", "-C", FOLDER, STRICT, f"CC={needs.c_compiler()}", *arguments]
+    """Runs make in the directory of the library."""
+    command = [needs.program("make", "make"), "-s", "-C", DIRECTORY, STRICT, f"CC={needs.c_compiler()}", *arguments]
     ran = subprocess.run(command, env=dict(os.environ, PATH=path_without_kit()), stdin=subprocess.DEVNULL, stdout=subprocess.PIPE,
                          stderr=subprocess.STDOUT)
     if ran.returncode != 0:
@@ -30,6 +30,6 @@ def run_make(*arguments):
 
 
 def library(out, *arguments):
-    """The path of the static library that make builds in this folder."""
+    """The path of the static library that make builds in this directory."""
     run_make(f"OUT={out}", *arguments, "library")
     return os.path.join(out, "libminisign.a")

@@ -1,7 +1,7 @@
 /* Preloaded into a program, writes a line to the descriptor TRACE_TO for each of its calls that opens, writes, reads
-   back, locks, syncs, renames or removes a file below the working folder: what was really done, with the last part of
+   back, locks, syncs, renames or removes a file below the working directory: what was really done, with the last part of
    the file's path. With TAKE_AWAY a step is left out or done wrongly, as if it had succeeded: `sync` of files,
-   `folder` for syncs of folders, `new` for O_EXCL, `mode`, `rights`, `owner`, `lock`, `rename`, or `digit` for the
+   `directory` for syncs of directories, `new` for O_EXCL, `mode`, `permissions`, `owner`, `lock`, `rename`, or `digit` for the
    last digit of a number that is written. With SLOW each of these calls waits first, for up to as many microseconds.
    Compiled with ONLY_IN, the name of a library, it leaves alone what others call. */
 #define _GNU_SOURCE
@@ -61,7 +61,7 @@ static const char *last_part(const char *path)
     return slash ? slash + 1 : path;
 }
 
-/* The last part of the path that a descriptor was opened by, where it is a regular file or a folder. */
+/* The last part of the path that a descriptor was opened by, where it is a regular file or a directory. */
 static const char *name_of(int fd, char *room, size_t size)
 {
     char link[64];
@@ -89,7 +89,7 @@ static void say(const char *call, const char *name, const char *more)
         abort();
 }
 
-static int say_open(int folder, const char *path, int flags, mode_t mode)
+static int say_open(int directory, const char *path, int flags, mode_t mode)
 {
     int (*real)(int, const char *, int, ...) = (int (*)(int, const char *, int, ...))dlsym(RTLD_NEXT, "openat");
     char more[32];
@@ -100,7 +100,7 @@ static int say_open(int folder, const char *path, int flags, mode_t mode)
         flags &= ~O_EXCL;
     if (is_taken("mode") && flags & O_CREAT)
         mode |= 0044;
-    fd = real(folder, path, flags, mode);
+    fd = real(directory, path, flags, mode);
     if (fd < 0)
         return fd;
     more[0] = 0;
@@ -123,7 +123,7 @@ int open(const char *path, int flags, ...)
     return say_open(AT_FDCWD, path, flags, mode);
 }
 
-int openat(int folder, const char *path, int flags, ...)
+int openat(int directory, const char *path, int flags, ...)
 {
     LOOK;
     mode_t mode = 0;
@@ -133,7 +133,7 @@ int openat(int folder, const char *path, int flags, ...)
     if (flags & O_CREAT)
         mode = va_arg(more, mode_t);
     va_end(more);
-    return say_open(folder, path, flags, mode);
+    return say_open(directory, path, flags, mode);
 }
 
 /* Whether a number of two digits or more is written, behind the label of a field or alone. */
@@ -184,7 +184,7 @@ int fsync(int fd)
     char room[4096];
     const char *name = name_of(fd, room, sizeof room);
 
-    if (name && is_taken(strcmp(name, ".") == 0 ? "folder" : "sync"))
+    if (name && is_taken(strcmp(name, ".") == 0 ? "directory" : "sync"))
         return 0;
     wait_first();
     if (name)
@@ -209,13 +209,13 @@ int rename(const char *from, const char *to)
     return is_taken("rename") ? 0 : say_rename(real(from, to), from, to);
 }
 
-int renameat(int from_folder, const char *from, int to_folder, const char *to)
+int renameat(int from_directory, const char *from, int to_directory, const char *to)
 {
     LOOK;
     int (*real)(int, const char *, int, const char *) = (int (*)(int, const char *, int, const char *))dlsym(RTLD_NEXT, "renameat");
 
     wait_first();
-    return is_taken("rename") ? 0 : say_rename(real(from_folder, from, to_folder, to), from, to);
+    return is_taken("rename") ? 0 : say_rename(real(from_directory, from, to_directory, to), from, to);
 }
 
 int unlink(const char *path)
@@ -227,13 +227,13 @@ int unlink(const char *path)
     return real(path);
 }
 
-int unlinkat(int folder, const char *path, int flags)
+int unlinkat(int directory, const char *path, int flags)
 {
     LOOK;
     int (*real)(int, const char *, int) = (int (*)(int, const char *, int))dlsym(RTLD_NEXT, "unlinkat");
 
     say("remove", last_part(path), "");
-    return real(folder, path, flags);
+    return real(directory, path, flags);
 }
 
 int flock(int fd, int operation)
@@ -257,10 +257,10 @@ int fchmod(int fd, mode_t mode)
     char room[4096], more[16];
     const char *name = name_of(fd, room, sizeof room);
 
-    if (is_taken("rights"))
+    if (is_taken("permissions"))
         return 0;
     snprintf(more, sizeof more, "%o", (unsigned)mode);
-    say("rights", name ? name : "?", more);
+    say("permissions", name ? name : "?", more);
     return real(fd, mode);
 }
 

@@ -8,7 +8,7 @@ from dataclasses import replace
 
 from running import (
     CLOSED,
-    FOLDER,
+    DIRECTORY,
     FULL,
     LOCKED,
     WRITE_ONLY,
@@ -62,24 +62,24 @@ MADE_BEFORE = set()
 
 
 class Pair:
-    """Looks at the folder that a run leaves: the two files of a pair that opens under the password, their
+    """Looks at the directory that a run leaves: the two files of a pair that opens under the password, their
     modes, and nothing else."""
 
     def __init__(self, password, pk_mode=0o644, sk_mode=0o600):
         self.password = password
         self.modes = {PK: pk_mode, SK: sk_mode}
 
-    def __call__(self, folder):
-        names = set(os.listdir(folder))
+    def __call__(self, directory):
+        names = set(os.listdir(directory))
         if names != {PK, SK}:
             raise Failure(f"it left the files {sorted(names)}")
         for name, mode in self.modes.items():
-            has_mode(folder, name, mode)
-        check_pair(self.password, read(folder, PK), read(folder, SK))
+            has_mode(directory, name, mode)
+        check_pair(self.password, read(directory, PK), read(directory, SK))
 
 
 class Linked:
-    """Looks at the folder that a run leaves: a pair behind links, which stay, with these modes."""
+    """Looks at the directory that a run leaves: a pair behind links, which stay, with these modes."""
 
     def __init__(self, links, public, secret, public_mode, secret_mode):
         self.links = links
@@ -87,21 +87,21 @@ class Linked:
         self.secret = secret
         self.modes = {public: public_mode, secret: secret_mode}
 
-    def __call__(self, folder):
+    def __call__(self, directory):
         for name, target in self.links.items():
-            if not os.path.islink(os.path.join(folder, name)) or os.readlink(os.path.join(folder, name)) != target:
+            if not os.path.islink(os.path.join(directory, name)) or os.readlink(os.path.join(directory, name)) != target:
                 raise Failure(f"the link {name} is gone")
         for name, mode in self.modes.items():
-            has_mode(folder, name, mode)
-        check_pair(b"p", read(folder, self.public), read(folder, self.secret))
-        names = {os.path.join(at, name) for at, _, files in os.walk(folder) for name in files}
-        wanted = {os.path.join(folder, name) for name in (*self.links, self.public, self.secret)}
+            has_mode(directory, name, mode)
+        check_pair(b"p", read(directory, self.public), read(directory, self.secret))
+        names = {os.path.join(at, name) for at, _, files in os.walk(directory) for name in files}
+        wanted = {os.path.join(directory, name) for name in (*self.links, self.public, self.secret)}
         if names != wanted:
             raise Failure(f"it left the files {sorted(names)}")
 
 
 class OneFile:
-    """Looks at the folder that a run leaves: a secret key for its owner alone in this file, and these links to
+    """Looks at the directory that a run leaves: a secret key for its owner alone in this file, and these links to
     it."""
 
     def __init__(self, name, links=(), mode=0o600):
@@ -109,50 +109,50 @@ class OneFile:
         self.links = links
         self.mode = mode
 
-    def __call__(self, folder):
-        names = set(os.listdir(folder))
+    def __call__(self, directory):
+        names = set(os.listdir(directory))
         if names != {self.name, *self.links}:
             raise Failure(f"it left the files {sorted(names)}")
         for name in self.links:
-            if not os.path.islink(os.path.join(folder, name)):
+            if not os.path.islink(os.path.join(directory, name)):
                 raise Failure(f"{name} is no link any more")
-        has_mode(folder, self.name, self.mode)
-        record_of(read(folder, self.name), 158)
+        has_mode(directory, self.name, self.mode)
+        record_of(read(directory, self.name), 158)
 
 
 class Left:
-    """Looks at the folder that a run leaves: these files and folders alone, by what they hold."""
+    """Looks at the directory that a run leaves: these files and directories alone, by what they hold."""
 
     def __init__(self, files):
         self.files = files
 
-    def __call__(self, folder):
-        names = set(os.listdir(folder))
+    def __call__(self, directory):
+        names = set(os.listdir(directory))
         if names != set(self.files):
             raise Failure(f"it left the files {sorted(names)} in place of {sorted(self.files)}")
         for name, data in self.files.items():
-            if data in (FOLDER, LOCKED):
-                if os.listdir(os.path.join(folder, name)):
-                    raise Failure(f"it left something in the folder {name}")
-            elif read(folder, name) != data:
-                raise Failure(f"{name} holds {read(folder, name)[:200]} in place of {data[:200]}")
+            if data in (DIRECTORY, LOCKED):
+                if os.listdir(os.path.join(directory, name)):
+                    raise Failure(f"it left something in the directory {name}")
+            elif read(directory, name) != data:
+                raise Failure(f"{name} holds {read(directory, name)[:200]} in place of {data[:200]}")
 
 
 NOTHING = Left({})
 
 
-def read(folder, name):
+def read(directory, name):
     """What a file holds, whatever its mode."""
-    path = os.path.join(folder, name)
+    path = os.path.join(directory, name)
     if not os.access(path, os.R_OK):
         os.chmod(path, 0o600)
     with open(path, "rb") as file:
         return file.read()
 
 
-def has_mode(folder, name, mode):
+def has_mode(directory, name, mode):
     """Raises a `Failure` where a file has another mode."""
-    found = stat.S_IMODE(os.stat(os.path.join(folder, name)).st_mode)
+    found = stat.S_IMODE(os.stat(os.path.join(directory, name)).st_mode)
     if found != mode:
         raise Failure(f"{name} has the mode {found:o} in place of {mode:o}")
 
@@ -214,7 +214,7 @@ def made(name, password=b"p", lines=(WARNING,), **how):
 def keygen_cases():
     return [
         *password_cases(),
-        *refused_cases(),
+        *rejected_cases(),
         *source_cases(),
         *terminal_cases(),
         *file_cases(),
@@ -244,7 +244,7 @@ def password_cases():
     ]
 
 
-def refused_cases():
+def rejected_cases():
     longer = b"x" * 1025
     rows = [
         ("two passwords that differ", b"a\nb\n", TWICE, DIFFERENT),
@@ -268,7 +268,7 @@ def refused_cases():
         keygen("two passwords that differ, and files that exist", 1, WARNING, DIFFERENT, typed=b"a\nb\n",
                output=TWICE, files=older, left=Left(older)),
         keygen("an input that cannot be read", 1, WARNING, READING_FAILED, typed=WRITE_ONLY, output=ONCE),
-        keygen("a folder as input", 1, WARNING, READING_FAILED, typed=FOLDER, output=ONCE),
+        keygen("a directory as input", 1, WARNING, READING_FAILED, typed=DIRECTORY, output=ONCE),
     ]
 
 
@@ -319,47 +319,47 @@ def file_cases():
              left=Pair(b"p", 0o600, 0o600)),
         made("files whose groups have what all others have", files={PK: WithMode(longer, 0o664), SK: WithMode(longer, 0o646)},
              left=Pair(b"p", 0o644, 0o646)),
-        made("a secret file with a list of others' rights", files={SK: WithList(longer, 0o600, "u:65534:r")},
+        made("a secret file with a list of others' permissions", files={SK: WithList(longer, 0o600, "u:65534:r")},
              left=Pair(b"p", 0o644, 0o600)),
-        made("files with lists of others' rights", files={PK: WithList(longer, 0o644, "g::---,u:65534:rw"), SK: WithList(longer, 0o600, "u:65534:rw")},
+        made("files with lists of others' permissions", files={PK: WithList(longer, 0o644, "g::---,u:65534:rw"), SK: WithList(longer, 0o600, "u:65534:rw")},
              left=Pair(b"p", 0o644, 0o600)),
         made("files that exist and can only be written", files={PK: WithMode(longer, 0o200), SK: WithMode(longer, 0o200)},
              left=Pair(b"p", 0o200, 0o200)),
         made("a mask of nothing", umask=0, left=Pair(b"p", 0o666, 0o600)),
         made("a mask of all but the owner", umask=0o077, left=Pair(b"p", 0o600, 0o600)),
         made("a mask that leaves no right to write", umask=0o222, left=Pair(b"p", 0o444, 0o400)),
-        made("names that lead through the folder itself", arguments=("./" + PK, "././" + SK)),
+        made("names that lead through the directory itself", arguments=("./" + PK, "././" + SK)),
     ]
 
 
 def link_cases():
     """Links are followed and stay; what they lead to is replaced, and keeps its mode, or gets that of new files."""
     older = WithMode(b"older", 0o604)
-    kept = {"kept": FOLDER}
+    kept = {"kept": DIRECTORY}
     links = {PK: "kept/public", SK: "kept/secret"}
     chain = {PK: "first", "first": "./second", "second": "kept/public", SK: "kept/secret"}
     rows = [
         ("links to files", links, {**kept, "kept/public": older, "kept/secret": older}, 0o604, 0o604),
         ("links that lead nowhere", links, kept, 0o644, 0o600),
         ("links to links", chain, {**kept, "kept/public": older}, 0o604, 0o600),
-        ("a link to a link in another folder", {PK: "kept/link", "kept/link": "public", SK: "kept/secret"}, kept, 0o644, 0o600),
+        ("a link to a link in another directory", {PK: "kept/link", "kept/link": "public", SK: "kept/secret"}, kept, 0o644, 0o600),
     ]
     return [
         *(made(name, files={**files, **{link: Link(target) for link, target in these.items()}},
                left=Linked(these, "kept/public", "kept/secret", public_mode, secret_mode))
           for name, these, files, public_mode, secret_mode in rows),
         keygen("a link to itself as secret key", 1, WARNING, WRITING_FAILED, files={PK: b"older", SK: Link(SK)}, left=KeptPublic()),
-        keygen("a link into a missing folder as secret key", 1, WARNING, WRITING_FAILED, files={PK: b"older", SK: Link("none/key")},
+        keygen("a link into a missing directory as secret key", 1, WARNING, WRITING_FAILED, files={PK: b"older", SK: Link("none/key")},
                left=KeptPublic()),
     ]
 
 
 class KeptPublic:
-    """Looks at the folder that a run leaves: the older public file, and a link."""
+    """Looks at the directory that a run leaves: the older public file, and a link."""
 
-    def __call__(self, folder):
-        if set(os.listdir(folder)) != {PK, SK} or read(folder, PK) != b"older":
-            raise Failure(f"it left the files {sorted(os.listdir(folder))}")
+    def __call__(self, directory):
+        if set(os.listdir(directory)) != {PK, SK} or read(directory, PK) != b"older":
+            raise Failure(f"it left the files {sorted(os.listdir(directory))}")
 
 
 def one_file_cases():
@@ -397,12 +397,12 @@ def unwritten_cases():
         ("no room for the public key, and a secret file that exists", (FULL_DEVICE, SK), {SK: b"older"}, {SK: b"older"}),
         ("no room for the secret key", (PK, FULL_DEVICE), {}, {}),
         ("no room for the secret key, and a public file that exists", (PK, FULL_DEVICE), {PK: b"older" * 99}, {PK: b"older" * 99}),
-        ("a folder as public key", (PK, SK), {PK: FOLDER, SK: b"older"}, {PK: FOLDER, SK: b"older"}),
-        ("a folder as secret key", (PK, SK), {SK: FOLDER}, {SK: FOLDER}),
-        ("a missing folder of the public key", ("none/key", SK), {}, {}),
-        ("a missing folder of the secret key", (PK, "none/key"), {}, {}),
-        ("a locked folder of the public key", ("locked/key", SK), {"locked": LOCKED}, {"locked": LOCKED}),
-        ("a locked folder of the secret key", (PK, "locked/key"), {"locked": LOCKED}, {"locked": LOCKED}),
+        ("a directory as public key", (PK, SK), {PK: DIRECTORY, SK: b"older"}, {PK: DIRECTORY, SK: b"older"}),
+        ("a directory as secret key", (PK, SK), {SK: DIRECTORY}, {SK: DIRECTORY}),
+        ("a missing directory of the public key", ("none/key", SK), {}, {}),
+        ("a missing directory of the secret key", (PK, "none/key"), {}, {}),
+        ("a locked directory of the public key", ("locked/key", SK), {"locked": LOCKED}, {"locked": LOCKED}),
+        ("a locked directory of the secret key", (PK, "locked/key"), {"locked": LOCKED}, {"locked": LOCKED}),
         ("a public file that may not be written", (PK, SK), {PK: WithMode(b"older", 0o444)}, {PK: b"older"}),
         ("a secret file that may not be written", (PK, SK), {SK: WithMode(b"older", 0o400)}, {SK: b"older"}),
         ("an empty name of the public key", ("", SK), {}, {}),
@@ -465,12 +465,12 @@ def stream_cases():
 
 
 def memory_cases():
-    """Each request for memory is refused: where it is for the texts of a pair that was made, that is reported as a failed
+    """Each allocation fails: where it is for the texts of a pair that was made, that is reported as a failed
     write. No file is touched."""
     older = {PK: b"older public", SK: b"older secret"}
     lines = OneOf(([WARNING, OUT_OF_MEMORY], [WARNING, WRITING_FAILED]))
     case = replace(keygen("", 1, files=older, left=Left(older)), lines=lines, output=BeginningOf(MADE))
     return [
-        replace(case, name=f"{many} for memory refused", refusing=refusing)
-        for refusing, many in (("one", "one request"), ("all", "each request from one on"))
+        replace(case, name=f"{many} failing", rejecting=rejecting)
+        for rejecting, many in (("one", "one allocation"), ("all", "each allocation from one on"))
     ]

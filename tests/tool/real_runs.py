@@ -3,7 +3,7 @@
 
     tests/tool/real_runs.py [PROGRAM ..]
 
-Without arguments it runs the program that `rt ci` or `rt run` left in the folder `out` of
+Without arguments it runs the program that `rt ci` or `rt run` left in the directory `out` of
 `crates/minisign_tool`, as each compiler built it, and builds it by `rt run` where there is none. It
 prints a line for each case that failed or was skipped; the last line is `N passed, M failed`.
 

@@ -9,7 +9,7 @@ import toy
 from keygen_runs import MADE, PK
 from running import (
     CLOSED,
-    FOLDER,
+    DIRECTORY,
     FULL,
     LOCKED,
     MISSING,
@@ -68,7 +68,7 @@ DRAWN_BEFORE = set()
 
 
 class Signed:
-    """Looks at the folder that a run leaves: the signature's file, in which the data is signed with the
+    """Looks at the directory that a run leaves: the signature's file, in which the data is signed with the
     comments by default, and nothing else beside the files that it was given."""
 
     def __init__(self, data=b"abc", name=SIG, mode=0o644):
@@ -76,39 +76,39 @@ class Signed:
         self.name = name
         self.mode = mode
 
-    def __call__(self, folder):
-        path = os.path.join(folder, self.name)
+    def __call__(self, directory):
+        path = os.path.join(directory, self.name)
         if not os.path.exists(path):
             raise Failure("it left no signature")
         if os.stat(path).st_mode & 0o777 != self.mode:
             raise Failure(f"the signature has the mode {os.stat(path).st_mode & 0o777:o}")
-        if not set(os.listdir(folder)) <= {SK, FILE, self.name}:
-            raise Failure(f"it left the files {sorted(os.listdir(folder))}")
+        if not set(os.listdir(directory)) <= {SK, FILE, self.name}:
+            raise Failure(f"it left the files {sorted(os.listdir(directory))}")
         with open(path, "rb") as file:
             check_signature(self.data, file.read())
 
 
 class Left:
-    """Looks at the folder that a run leaves: this signature's file, or none."""
+    """Looks at the directory that a run leaves: this signature's file, or none."""
 
     def __init__(self, signature=MISSING):
         self.signature = signature
 
-    def __call__(self, folder):
-        path = os.path.join(folder, SIG)
+    def __call__(self, directory):
+        path = os.path.join(directory, SIG)
         if self.signature == MISSING:
             if os.path.exists(path):
                 raise Failure("it left a signature")
-        elif self.signature == FOLDER:
+        elif self.signature == DIRECTORY:
             if os.listdir(path):
-                raise Failure("it left something in a folder")
+                raise Failure("it left something in a directory")
         else:
             with open(path, "rb") as file:
                 held = file.read()
             if held != self.signature:
                 raise Failure(f"it left {held[:200]} in place of {self.signature[:200]}")
-        if not set(os.listdir(folder)) <= {SK, FILE, SIG, "locked"}:
-            raise Failure(f"it left the files {sorted(os.listdir(folder))}")
+        if not set(os.listdir(directory)) <= {SK, FILE, SIG, "locked"}:
+            raise Failure(f"it left the files {sorted(os.listdir(directory))}")
 
 
 def check_signature(data, text):
@@ -180,9 +180,9 @@ def data_cases():
         sign("data from a pipe", 0, WARNING, files={FILE: FedPipe(b"abc")}),
         sign("large data from a pipe", 0, WARNING, files={FILE: FedPipe(large)}, left=Signed(large)),
         sign("a key from a pipe", 0, WARNING, files={SK: FedPipe(OPEN_KEY)}),
-        sign("a folder as data", 1, WARNING, READING_FAILED, files={FILE: FOLDER}),
-        sealed("a folder as data, and a sealed key", 1, WARNING, READING_FAILED, files={FILE: FOLDER}),
-        sealed("a folder as data, and a wrong password", 1, WARNING, WRONG_PASSWORD, typed=b"q\n", files={FILE: FOLDER}),
+        sign("a directory as data", 1, WARNING, READING_FAILED, files={FILE: DIRECTORY}),
+        sealed("a directory as data, and a sealed key", 1, WARNING, READING_FAILED, files={FILE: DIRECTORY}),
+        sealed("a directory as data, and a wrong password", 1, WARNING, WRONG_PASSWORD, typed=b"q\n", files={FILE: DIRECTORY}),
     ]
 
 
@@ -214,7 +214,7 @@ def password_cases():
 
 
 def key_cases():
-    """The key's text is read whole and has to be UTF-8; a key that is refused is refused before anything is asked
+    """The key's text is read whole and has to be UTF-8; a key that is rejected is rejected before anything is asked
     or read."""
     rows = [
         ("an empty key", b"", NO_SECRET_KEY),
@@ -232,9 +232,9 @@ def key_cases():
         *(sign(name, 1, WARNING, line, files={SK: key}) for name, key, line in rows),
         *(sign(f"{name} before the data is read", 1, WARNING, line, files={SK: key, FILE: OpenedPipe()}) for name, key, line in rows),
         sign("lines that end with carriage return and line feed", 0, WARNING, files={SK: windows}),
-        sign("a folder as key", 1, WARNING, READING_FAILED, files={SK: FOLDER}),
-        sign("a folder as key before a folder as data", 1, WARNING, READING_FAILED, files={SK: FOLDER, FILE: FOLDER}),
-        sign("a key that is no UTF-8 before a folder as data", 1, WARNING, NOT_UTF8, files={SK: NO_TEXT, FILE: FOLDER}),
+        sign("a directory as key", 1, WARNING, READING_FAILED, files={SK: DIRECTORY}),
+        sign("a directory as key before a directory as data", 1, WARNING, READING_FAILED, files={SK: DIRECTORY, FILE: DIRECTORY}),
+        sign("a key that is no UTF-8 before a directory as data", 1, WARNING, NOT_UTF8, files={SK: NO_TEXT, FILE: DIRECTORY}),
         sealed("a key whose derivation takes too much memory", 1, WARNING, TOO_HIGH,
                key=toy.secret_text(kdf=b"Sc", memory=(1 << 30) + 1), output=ASKED + DERIVING),
         sealed("a key whose derivation has too many parts", 1, WARNING, INVALID,
@@ -288,9 +288,9 @@ def signature_file_cases():
     older = b"older\n" * 200
     rows = [
         ("no room for the signature", FULL_DEVICE, {}, MISSING),
-        ("a folder as signature", SIG, {SIG: FOLDER}, FOLDER),
-        ("a missing folder of the signature", "none/" + SIG, {}, MISSING),
-        ("a locked folder of the signature", "locked/" + SIG, {"locked": LOCKED}, MISSING),
+        ("a directory as signature", SIG, {SIG: DIRECTORY}, DIRECTORY),
+        ("a missing directory of the signature", "none/" + SIG, {}, MISSING),
+        ("a locked directory of the signature", "locked/" + SIG, {"locked": LOCKED}, MISSING),
         ("a signature that may not be written", SIG, {SIG: WithMode(older, 0o444)}, older),
         ("an empty name of the signature", "", {}, MISSING),
         ("a name of the signature that is too long", "s" * 256, {}, MISSING),
@@ -299,7 +299,7 @@ def signature_file_cases():
         sign("a signature that exists", 0, WARNING, files={SIG: older}),
         sign("an empty signature that exists", 0, WARNING, files={SIG: b""}),
         sign("a signature that exists, with a mode", 0, WARNING, files={SIG: WithMode(older, 0o640)}, left=Signed(mode=0o600)),
-        sign("a signature that exists, with a list of others' rights", 0, WARNING, files={SIG: WithList(older, 0o644, "g::---,u:65534:rw")},
+        sign("a signature that exists, with a list of others' permissions", 0, WARNING, files={SIG: WithList(older, 0o644, "g::---,u:65534:rw")},
              left=Signed(mode=0o644)),
         sign("a mask of all but the owner", 0, WARNING, umask=0o077, left=Signed(mode=0o600)),
         sign("the signature in place of the data", 0, WARNING, arguments=(SK, FILE, FILE), left=Signed(name=FILE)),
@@ -308,8 +308,8 @@ def signature_file_cases():
           for name, path, files, kept in rows),
         *(sealed(f"{name}, and a sealed key", 1, WARNING, WRITING_FAILED, arguments=(SK, FILE, path), files=files, left=Left(kept))
           for name, path, files, kept in rows),
-        sealed("a wrong password before a folder as signature", 1, WARNING, WRONG_PASSWORD, typed=b"q\n",
-               files={SIG: FOLDER}, left=Left(FOLDER)),
+        sealed("a wrong password before a directory as signature", 1, WARNING, WRONG_PASSWORD, typed=b"q\n",
+               files={SIG: DIRECTORY}, left=Left(DIRECTORY)),
         sign("the signature into standard output", 0, WARNING, arguments=(SK, FILE, "/dev/stdout"), sources=Sources(),
              output=signed_at(Sources.moment), left=Left()),
         sign("the signature into standard output with room for nine bytes", 1, WARNING, WRITING_FAILED,
@@ -332,7 +332,7 @@ def stream_cases():
             how = {"stdin": stdin, "stdout": stdout, "stderr": errors}
             cases += [
                 sign(f"a key that was never sealed, {streams}", 0, *said, **how),
-                sign(f"a folder as data, {streams}", 1, *unread, files={FILE: FOLDER, **older}, left=same, **how),
+                sign(f"a directory as data, {streams}", 1, *unread, files={FILE: DIRECTORY, **older}, left=same, **how),
                 sign(f"no room for the signature, {streams}", 1, *unwritten, arguments=(SK, FILE, FULL_DEVICE), **how),
             ]
         cases += [
@@ -347,7 +347,7 @@ def stream_cases():
 
 
 def memory_cases():
-    """Each request for memory is refused: where it is for the text that was made, that is reported as a failed write. No
+    """Each allocation fails: where it is for the text that was made, that is reported as a failed write. No
     file is touched."""
     older = {SIG: b"older"}
     lines = OneOf(([WARNING, OUT_OF_MEMORY], [WARNING, WRITING_FAILED]))
@@ -357,15 +357,15 @@ def memory_cases():
         ("an empty key", sign("", 1, files={SK: b"", **older}, left=Left(b"older"))),
     ]
     return [
-        replace(case, name=f"{name}, and {many} for memory refused", lines=lines, refusing=refusing)
+        replace(case, name=f"{name}, and {many} failing", lines=lines, rejecting=rejecting)
         for name, case in rows
-        for refusing, many in (("one", "one request"), ("all", "each request from one on"))
+        for rejecting, many in (("one", "one allocation"), ("all", "each allocation from one on"))
     ]
 
 
 def whole_way_cases():
     """A pair is made, a file is signed with its secret key, and whoever has the public one verifies it and copies
-    it out; where the file, the signature or the key is another one, it is refused."""
+    it out; where the file, the signature or the key is another one, it is rejected."""
     now = int(time.time())
     # The signature is made some time after this table.
     verified = [f"{VERIFIED_BARE}Trusted comment: timestamp:{now + passed}\n" for passed in range(600)]

@@ -5,7 +5,7 @@ each run every older file is the old or the new one, whole, and but for a kill n
 
     tests/tool/surviving.py [PROGRAM ..]
 
-Without arguments it runs the program that `rt ci` or `rt run` left in the folder `out` of
+Without arguments it runs the program that `rt ci` or `rt run` left in the directory `out` of
 `crates/minisign_tool`. It prints a line for each case that failed or was skipped; the last line is `N passed, M failed`.
 
 Needs Python 3.9 or later and a C compiler, which it installs where it may.
@@ -40,7 +40,7 @@ MOST_CALLS = 500
 
 
 class Task:
-    """A run that replaces files, by what stands in its folder before it. What a link names is its value."""
+    """A run that replaces files, by what stands in its directory before it. What a link names is its value."""
 
     def __init__(self, name, arguments, targets, files, links=None, mode=0o644):
         self.name = name
@@ -51,72 +51,72 @@ class Task:
         self.links = links or {}
         self.mode = mode
 
-    def make(self, folder):
-        os.makedirs(os.path.join(folder, "kept"))
+    def make(self, directory):
+        os.makedirs(os.path.join(directory, "kept"))
         for name, data in self.files.items():
-            path = os.path.join(folder, name)
+            path = os.path.join(directory, name)
             with open(path, "wb") as file:
                 file.write(data)
             os.chmod(path, self.mode)
         for name, target in self.links.items():
-            os.symlink(target, os.path.join(folder, name))
+            os.symlink(target, os.path.join(directory, name))
 
-    def check(self, folder, killed=False):
+    def check(self, directory, killed=False):
         """Which of the targets are new. Raises a `Failure` where one is neither the old nor a new one, where anything
         else was changed, and where a file stands beside them."""
         for name, target in self.links.items():
-            if not os.path.islink(os.path.join(folder, name)) or os.readlink(os.path.join(folder, name)) != target:
+            if not os.path.islink(os.path.join(directory, name)) or os.readlink(os.path.join(directory, name)) != target:
                 raise Failure(f"the link {name} is gone")
-        found = {os.path.relpath(os.path.join(at, name), folder) for at, _, names in os.walk(folder) for name in names}
+        found = {os.path.relpath(os.path.join(at, name), directory) for at, _, names in os.walk(directory) for name in names}
         for name in sorted(found - set(self.files) - set(self.links) - set(self.targets)):
-            self.check_stage(folder, name, killed)
+            self.check_stage(directory, name, killed)
         for name, data in self.files.items():
-            if name not in self.targets and content(folder, name) != data:
+            if name not in self.targets and content(directory, name) != data:
                 raise Failure(f"{name} was changed")
-        return tuple(self.is_new(folder, name, judge) for name, judge in self.targets.items())
+        return tuple(self.is_new(directory, name, judge) for name, judge in self.targets.items())
 
-    def check_stage(self, folder, name, killed):
-        """Only a killed run leaves a file beside the others, under a name of its own. It has no more rights than the
+    def check_stage(self, directory, name, killed):
+        """Only a killed run leaves a file beside the others, under a name of its own. It has no more permissions than the
         files that were there, or than a new file of its kind, whatever it holds by then."""
         if not killed or not os.path.basename(name).startswith(STAGE):
             raise Failure(f"it left {name}")
-        if mode_of(folder, name) & ~self.rights_of(folder, name):
-            raise Failure(f"{name} has the mode {mode_of(folder, name):o}")
+        if mode_of(directory, name) & ~self.permissions_of(directory, name):
+            raise Failure(f"{name} has the mode {mode_of(directory, name):o}")
 
-    def rights_of(self, folder, name):
-        """The most rights that a file may have which a killed run left. The file of a secret key is made once that of its
+    def permissions_of(self, directory, name):
+        """The most permissions that a file may have which a killed run left. The file of a secret key is made once that of its
         public key is whole."""
         if set(self.targets) & set(self.files):
             return self.mode
-        held = content(folder, name)
-        stages = [it for it in os.listdir(os.path.join(folder, os.path.dirname(name))) if it.startswith(STAGE)]
+        held = content(directory, name)
+        stages = [it for it in os.listdir(os.path.join(directory, os.path.dirname(name))) if it.startswith(STAGE)]
         if held.startswith(SECRET_FRONT) or (len(stages) == 2 and not held.startswith(PUBLIC_FRONT)):
             return 0o600
         return 0o644
 
-    def is_new(self, folder, name, judge):
-        held, older = content(folder, name), self.files.get(name)
+    def is_new(self, directory, name, judge):
+        held, older = content(directory, name), self.files.get(name)
         if held == older:
             return False
         if held is None:
             raise Failure(f"{name} is gone")
         judge(held)
-        if older is not None and mode_of(folder, name) != self.mode:
-            raise Failure(f"{name} has the mode {mode_of(folder, name):o}")
+        if older is not None and mode_of(directory, name) != self.mode:
+            raise Failure(f"{name} has the mode {mode_of(directory, name):o}")
         return True
 
 
-def content(folder, name):
+def content(directory, name):
     """What a file holds, or None where it is not there."""
     try:
-        with open(os.path.join(folder, name), "rb") as file:
+        with open(os.path.join(directory, name), "rb") as file:
             return file.read()
     except FileNotFoundError:
         return None
 
 
-def mode_of(folder, name):
-    return stat.S_IMODE(os.stat(os.path.join(folder, name)).st_mode)
+def mode_of(directory, name):
+    return stat.S_IMODE(os.stat(os.path.join(directory, name)).st_mode)
 
 
 def is_secret(text):
@@ -149,8 +149,8 @@ TASKS = [
 
 
 class Surviving:
-    """Runs a program in fresh folders, in memory where that can be had, since each run brings its files to the disk.
-    What is run stands in a folder of its own, as programs in memory may not be run everywhere."""
+    """Runs a program in fresh directories, in memory where that can be had, since each run brings its files to the disk.
+    What is run stands in a directory of its own, as programs in memory may not be run everywhere."""
 
     def __init__(self, program, room):
         self.program = program
@@ -158,18 +158,18 @@ class Surviving:
         self.place = MEMORY if os.access(MEMORY, os.W_OK) else room
         self.preload = build_preload(room, "break_calls")
 
-    def run(self, folder, arguments, environment=None, passed=(), prepare=None, stdin=TYPED):
-        """The exit status and the error stream of a run in a folder."""
-        ran = subprocess.run([self.program, *arguments], cwd=folder, env=environment or {}, input=stdin, pass_fds=passed,
+    def run(self, directory, arguments, environment=None, passed=(), prepare=None, stdin=TYPED):
+        """The exit status and the error stream of a run in a directory."""
+        ran = subprocess.run([self.program, *arguments], cwd=directory, env=environment or {}, input=stdin, pass_fds=passed,
                              stdout=subprocess.PIPE, stderr=subprocess.PIPE, preexec_fn=prepare, umask=0o022, timeout=SECONDS)
         return ran.returncode, ran.stderr
 
-    def run_broken(self, folder, task, **how):
+    def run_broken(self, directory, task, **how):
         """The same with a call broken, and whether the run came to that call."""
         told, says = os.pipe()
         environment = {"LD_PRELOAD": self.preload, "BREAK_SAYS": str(says), **{name: str(value) for name, value in how.items()}}
         try:
-            status, said = self.run(folder, task.arguments, environment, [says])
+            status, said = self.run(directory, task.arguments, environment, [says])
         finally:
             os.close(says)
         with os.fdopen(told, "rb") as pipe:
@@ -178,11 +178,11 @@ class Surviving:
     def break_each(self, task, judge, **how):
         """Breaks each of the calls in turn, and hands to `judge` what each run left; answers how many there were."""
         for number in range(1, MOST_CALLS):
-            with tempfile.TemporaryDirectory(dir=self.place) as folder:
-                task.make(folder)
-                status, said, came = self.run_broken(folder, task, BREAK_AT=number, **how)
+            with tempfile.TemporaryDirectory(dir=self.place) as directory:
+                task.make(directory)
+                status, said, came = self.run_broken(directory, task, BREAK_AT=number, **how)
                 try:
-                    judge(number if came else None, status, said, folder)
+                    judge(number if came else None, status, said, directory)
                 except Failure as why:
                     raise Failure(f"at call {number}: {why}") from why
             if not came:
@@ -193,9 +193,9 @@ class Surviving:
         """A run that is killed before each of its calls. The secret key is replaced last."""
         seen = set()
 
-        def judge(number, status, said, folder):
+        def judge(number, status, said, directory):
             expect(status, -signal.SIGKILL if number else 0, said)
-            new = task.check(folder, killed=number is not None)
+            new = task.check(directory, killed=number is not None)
             if list(new) != sorted(new, reverse=True):
                 raise Failure("a later file is new, and an earlier one is not")
             seen.add(sum(new))
@@ -208,8 +208,8 @@ class Surviving:
         """A run in which each of these calls fails in turn; `number_of_new` answers how many files are new then, or
         None where it has to succeed all the same."""
 
-        def judge(at, status, said, folder):
-            new = sum(task.check(folder))
+        def judge(at, status, said, directory):
+            new = sum(task.check(directory))
             wanted = number_of_new(at) if at else None
             if wanted is None:
                 expect(status, 0, said)
@@ -227,8 +227,8 @@ class Surviving:
     def failing_whatever(self, task, calls):
         """A run in which each of these calls fails in turn, and which ends with all files old or all new."""
 
-        def judge(at, status, said, folder):
-            new = sum(task.check(folder))
+        def judge(at, status, said, directory):
+            new = sum(task.check(directory))
             if (status, new) not in [(0, len(task.targets)), (1, 0)]:
                 raise Failure(f"it ended with status {status} and {new} new files, and said {said}")
 
@@ -236,9 +236,9 @@ class Surviving:
 
     def on_full_disk(self, task):
         """A run on a small file system without room."""
-        with tempfile.TemporaryDirectory(dir=self.place) as folder, SmallDisk(folder):
-            task.make(folder)
-            fill = os.open(os.path.join(folder, "fill"), os.O_WRONLY | os.O_CREAT)
+        with tempfile.TemporaryDirectory(dir=self.place) as directory, SmallDisk(directory):
+            task.make(directory)
+            fill = os.open(os.path.join(directory, "fill"), os.O_WRONLY | os.O_CREAT)
             try:
                 while True:
                     os.write(fill, bytes(4096))
@@ -247,10 +247,10 @@ class Surviving:
                     raise
             finally:
                 os.close(fill)
-            status, said = self.run(folder, task.arguments)
-            os.remove(os.path.join(folder, "fill"))
+            status, said = self.run(directory, task.arguments)
+            os.remove(os.path.join(directory, "fill"))
             expect(status, 1, said)
-            if not said.endswith(WRITING_FAILED) or any(task.check(folder)):
+            if not said.endswith(WRITING_FAILED) or any(task.check(directory)):
                 raise Failure(f"it said {said}")
 
     def within_file_size(self, task, ignored):
@@ -260,11 +260,11 @@ class Surviving:
             resource.setrlimit(resource.RLIMIT_FSIZE, (100, 100))
             signal.signal(signal.SIGXFSZ, signal.SIG_IGN if ignored else signal.SIG_DFL)
 
-        with tempfile.TemporaryDirectory(dir=self.place) as folder:
-            task.make(folder)
-            status, said = self.run(folder, task.arguments, prepare=prepare)
+        with tempfile.TemporaryDirectory(dir=self.place) as directory:
+            task.make(directory)
+            status, said = self.run(directory, task.arguments, prepare=prepare)
             expect(status, 1 if ignored else -signal.SIGXFSZ, said)
-            if any(task.check(folder, killed=not ignored)):
+            if any(task.check(directory, killed=not ignored)):
                 raise Failure("a file is new")
             if ignored and not said.endswith(WRITING_FAILED):
                 raise Failure(f"it said {said}")
@@ -274,16 +274,16 @@ class Surviving:
         if os.geteuid() != 0:
             raise Skip("only root may give a file away")
         task = REPLACED_PAIR
-        with tempfile.TemporaryDirectory(dir=self.place) as folder:
-            task.make(folder)
+        with tempfile.TemporaryDirectory(dir=self.place) as directory:
+            task.make(directory)
             for name in (PK, SK):
-                os.chown(os.path.join(folder, name), 12345, 54321)
-            status, said = self.run(folder, task.arguments)
+                os.chown(os.path.join(directory, name), 12345, 54321)
+            status, said = self.run(directory, task.arguments)
             expect(status, 0, said)
-            if not all(task.check(folder)):
+            if not all(task.check(directory)):
                 raise Failure("a file is old")
             for name in (PK, SK):
-                found = os.stat(os.path.join(folder, name))
+                found = os.stat(os.path.join(directory, name))
                 if (found.st_uid, found.st_gid) != (12345, 54321):
                     raise Failure(f"{name} belongs to {found.st_uid} and {found.st_gid}")
 
@@ -291,122 +291,122 @@ class Surviving:
         """A run as nobody over a file that may be written, of this owner, group and mode, which leaves `left`."""
         if os.geteuid() != 0:
             raise Skip("only root may give a file away and become nobody")
-        with tempfile.TemporaryDirectory(dir=self.place) as folder:
-            REPLACED_SIGNATURE.make(folder)
+        with tempfile.TemporaryDirectory(dir=self.place) as directory:
+            REPLACED_SIGNATURE.make(directory)
             program = os.path.join(self.room, "program")
             shutil.copy(self.program, program)
             os.chmod(self.room, 0o711)
-            os.chown(folder, NOBODY, NOBODY)
-            os.chown(os.path.join(folder, SIG), owner, group)
-            os.chmod(os.path.join(folder, SIG), mode)
-            ran = subprocess.run([program, *SIGN], cwd=folder, env={}, stdin=subprocess.DEVNULL, stdout=subprocess.DEVNULL,
+            os.chown(directory, NOBODY, NOBODY)
+            os.chown(os.path.join(directory, SIG), owner, group)
+            os.chmod(os.path.join(directory, SIG), mode)
+            ran = subprocess.run([program, *SIGN], cwd=directory, env={}, stdin=subprocess.DEVNULL, stdout=subprocess.DEVNULL,
                                  stderr=subprocess.PIPE, user=NOBODY, group=NOBODY, extra_groups=[], timeout=SECONDS)
             expect(ran.returncode, 0, ran.stderr)
-            is_signature(content(folder, SIG))
-            found = os.stat(os.path.join(folder, SIG))
+            is_signature(content(directory, SIG))
+            found = os.stat(os.path.join(directory, SIG))
             if (found.st_uid, found.st_gid, stat.S_IMODE(found.st_mode)) != left:
                 raise Failure(f"it left the owner {found.st_uid}, the group {found.st_gid} and the mode {stat.S_IMODE(found.st_mode):o}")
 
     def taken_names(self, count):
-        """A run that draws the same number each time, in a folder in which so many names from that one on are taken."""
+        """A run that draws the same number each time, in a directory in which so many names from that one on are taken."""
         taken = [f"{STAGE}{number:016x}" for number in range(count)]
         environment = {"LD_PRELOAD": self.preload, "DRAW_ZEROS": "1"}
-        with tempfile.TemporaryDirectory(dir=self.place) as folder:
-            REPLACED_PAIR.make(folder)
+        with tempfile.TemporaryDirectory(dir=self.place) as directory:
+            REPLACED_PAIR.make(directory)
             for name in taken:
-                with open(os.path.join(folder, name), "wb") as file:
+                with open(os.path.join(directory, name), "wb") as file:
                     file.write(b"another's")
-            status, said = self.run(folder, REPLACED_PAIR.arguments, environment)
+            status, said = self.run(directory, REPLACED_PAIR.arguments, environment)
             for name in taken:
-                if content(folder, name) != b"another's":
+                if content(directory, name) != b"another's":
                     raise Failure(f"{name} was changed")
-                os.remove(os.path.join(folder, name))
+                os.remove(os.path.join(directory, name))
             expect(status, 0 if count < 99 else 1, said)
-            if sum(REPLACED_PAIR.check(folder)) != (2 if status == 0 else 0):
+            if sum(REPLACED_PAIR.check(directory)) != (2 if status == 0 else 0):
                 raise Failure("a file is old, or new")
 
     def at_once(self, runs=8):
         """Runs that replace the same file at once."""
-        with tempfile.TemporaryDirectory(dir=self.place) as folder:
-            NEW_SIGNATURE.make(folder)
-            started = [subprocess.Popen([self.program, *SIGN], cwd=folder, env={}, stdin=subprocess.DEVNULL, stdout=subprocess.DEVNULL,
+        with tempfile.TemporaryDirectory(dir=self.place) as directory:
+            NEW_SIGNATURE.make(directory)
+            started = [subprocess.Popen([self.program, *SIGN], cwd=directory, env={}, stdin=subprocess.DEVNULL, stdout=subprocess.DEVNULL,
                                         stderr=subprocess.PIPE) for _ in range(runs)]
             for process in started:
                 said = process.communicate(timeout=SECONDS)[1]
                 expect(process.returncode, 0, said)
-            if not all(NEW_SIGNATURE.check(folder)):
+            if not all(NEW_SIGNATURE.check(directory)):
                 raise Failure("there is no signature")
 
     def into_standard_output(self):
         """A signature into a file that standard output leads into goes into that very file."""
-        with tempfile.TemporaryDirectory(dir=self.place) as folder:
-            NEW_SIGNATURE.make(folder)
-            with open(os.path.join(folder, SIG), "w+b") as output:
+        with tempfile.TemporaryDirectory(dir=self.place) as directory:
+            NEW_SIGNATURE.make(directory)
+            with open(os.path.join(directory, SIG), "w+b") as output:
                 inode = os.fstat(output.fileno()).st_ino
-                ran = subprocess.run([self.program, "sign", SK, FILE, "/dev/stdout"], cwd=folder, env={}, stdin=subprocess.DEVNULL,
+                ran = subprocess.run([self.program, "sign", SK, FILE, "/dev/stdout"], cwd=directory, env={}, stdin=subprocess.DEVNULL,
                                      stdout=output, stderr=subprocess.PIPE, timeout=SECONDS)
                 expect(ran.returncode, 0, ran.stderr)
-            is_signature(content(folder, SIG))
-            if os.stat(os.path.join(folder, SIG)).st_ino != inode or set(os.listdir(folder)) != {SK, FILE, SIG, "kept"}:
+            is_signature(content(directory, SIG))
+            if os.stat(os.path.join(directory, SIG)).st_ino != inode or set(os.listdir(directory)) != {SK, FILE, SIG, "kept"}:
                 raise Failure("it replaced the file")
 
     def under_odd_path(self):
         """A program whose path is no UTF-8."""
-        with tempfile.TemporaryDirectory(dir=self.place) as folder:
+        with tempfile.TemporaryDirectory(dir=self.place) as directory:
             odd = os.path.join(os.fsencode(self.room), b"tool\xff")
             shutil.copy(self.program, odd)
-            NEW_SIGNATURE.make(folder)
-            ran = subprocess.run([odd, b"sign", os.fsencode(SK), os.fsencode(FILE), os.fsencode(SIG)], cwd=folder, env={},
+            NEW_SIGNATURE.make(directory)
+            ran = subprocess.run([odd, b"sign", os.fsencode(SK), os.fsencode(FILE), os.fsencode(SIG)], cwd=directory, env={},
                                  stdin=subprocess.DEVNULL, stdout=subprocess.PIPE, stderr=subprocess.PIPE, timeout=SECONDS)
             expect(ran.returncode, 0, ran.stderr)
-            is_signature(content(folder, SIG))
+            is_signature(content(directory, SIG))
 
     def legacy_within(self, command, mebibytes=2):
-        """A legacy signature over 1 GiB is refused within so many MiB more than a prehashed one over nothing takes."""
-        with tempfile.TemporaryDirectory(dir=self.place) as folder:
+        """A legacy signature over 1 GiB is rejected within so many MiB more than a prehashed one over nothing takes."""
+        with tempfile.TemporaryDirectory(dir=self.place) as directory:
             legacy, prehashed = (toy.signature_record(b"", algorithm=algorithm) for algorithm in (b"Ed", b"ED"))
             contents = {"raw.pk": b"Ed" + toy.KEYNUM + toy.KEY, PK: toy.public_text(), "large": b"", "nothing": b"",
                         "old.raw": legacy, "old.sig": toy.signature_text(b"", record=legacy),
                         "new.raw": prehashed, "new.sig": toy.signature_text(b"", record=prehashed)}
             for name, data in contents.items():
-                with open(os.path.join(folder, name), "wb") as file:
+                with open(os.path.join(directory, name), "wb") as file:
                     file.write(data)
-            os.truncate(os.path.join(folder, "large"), 1 << 30)
+            os.truncate(os.path.join(directory, "large"), 1 << 30)
             least = next((kibibytes for kibibytes in range(1024, 65536, 256)
-                          if self.run_within(folder, command, "nothing", "new", kibibytes)[0] == 0), None)
+                          if self.run_within(directory, command, "nothing", "new", kibibytes)[0] == 0), None)
             if least is None:
                 raise Failure("64 MiB are not enough for no data")
-            status, said = self.run_within(folder, command, "large", "old", least + 1024 * mebibytes)
+            status, said = self.run_within(directory, command, "large", "old", least + 1024 * mebibytes)
             expect(status, 1, said)
             if not said.endswith(LEGACY):
                 raise Failure(f"it said {said}")
 
-    def run_within(self, folder, command, data, signature, kibibytes):
+    def run_within(self, directory, command, data, signature, kibibytes):
         """A run of a command that verifies within so much memory."""
         raw = command == "verify-raw"
         arguments = [command, "raw.pk", signature + ".raw"] if raw else [command, PK, data, signature + ".sig"]
         bound = kibibytes * 1024
-        with open(os.path.join(folder, data), "rb") as file:
-            ran = subprocess.run([self.program, *arguments], cwd=folder, env={}, stdin=file if raw else subprocess.DEVNULL,
+        with open(os.path.join(directory, data), "rb") as file:
+            ran = subprocess.run([self.program, *arguments], cwd=directory, env={}, stdin=file if raw else subprocess.DEVNULL,
                                  stdout=subprocess.DEVNULL, stderr=subprocess.PIPE, timeout=SECONDS,
                                  preexec_fn=lambda: resource.setrlimit(resource.RLIMIT_AS, (bound, bound)))
         return ran.returncode, ran.stderr
 
 
 class SmallDisk:
-    """A file system of 64 KiB in a folder, while it is entered."""
+    """A file system of 64 KiB in a directory, while it is entered."""
 
-    def __init__(self, folder):
-        self.folder = folder
+    def __init__(self, directory):
+        self.directory = directory
 
     def __enter__(self):
         if os.geteuid() != 0 or shutil.which("mount") is None:
             raise Skip("no small disk may be mounted here")
-        if subprocess.run(["mount", "-t", "tmpfs", "-o", "size=64k", "tmpfs", self.folder], stderr=subprocess.DEVNULL).returncode:
+        if subprocess.run(["mount", "-t", "tmpfs", "-o", "size=64k", "tmpfs", self.directory], stderr=subprocess.DEVNULL).returncode:
             raise Skip("no small disk may be mounted here")
 
     def __exit__(self, *_):
-        subprocess.run(["umount", self.folder], check=True)
+        subprocess.run(["umount", self.directory], check=True)
 
 
 def expect(status, wanted, said):
@@ -424,7 +424,7 @@ def cases(surviving):
             name = f"{task.name}, and a write fails by {errno.errorcode[number]}"
             yield name, lambda it=task, number=number: surviving.failing(it, "write", lambda at: 0, number)
             yield f"{name} half way", lambda it=task, number=number: surviving.failing(it, "write", lambda at: 0, number, BREAK_SHORT=1)
-        # Behind the files themselves their folder is brought to the disk, when all are replaced.
+        # Behind the files themselves their directory is brought to the disk, when all are replaced.
         yield f"{task.name}, and a sync fails", lambda it=task, n=count: surviving.failing(it, "fsync", lambda at: 0 if at <= n else n)
         yield (f"{task.name}, and a sync is of no use", lambda it=task, n=count:
                surviving.failing(it, "fsync", lambda at: 0 if at <= n else None, errno.EINVAL))
@@ -432,7 +432,7 @@ def cases(surviving):
         yield f"{task.name}, and a close fails", lambda it=task: surviving.failing(it, "close", lambda at: None)
         yield f"{task.name}, and no name is drawn", lambda it=task: surviving.failing(it, "getentropy", lambda at: 0)
         if is_replaced:
-            yield f"{task.name}, and no rights are given", lambda it=task: surviving.failing(it, "fchmod", lambda at: 0)
+            yield f"{task.name}, and no permissions are given", lambda it=task: surviving.failing(it, "fchmod", lambda at: 0)
         for calls in ("open", "read", "statx readlink"):
             yield f"{task.name}, and {calls} fails", lambda it=task, calls=calls: surviving.failing_whatever(it, calls)
         yield f"{task.name}, on a full disk", lambda it=task: surviving.on_full_disk(it)

@@ -6,7 +6,7 @@ from dataclasses import replace
 import toy
 from running import (
     CLOSED,
-    FOLDER,
+    DIRECTORY,
     FULL,
     MISSING,
     NO_READER,
@@ -24,7 +24,7 @@ from toy import OUT_OF_MEMORY, READING_FAILED, TOO_SHORT, WARNING
 VERIFIED = "Signature and comment signature verified\n"
 UNSUPPORTED = "error: Unsupported signature algorithm\n"
 LEGACY = "error: Legacy signatures are not accepted\n"
-REFUSED = "error: Signature verification failed\n"
+REJECTED = "error: Signature verification failed\n"
 OTHER_KEYNUM = "error: Signature key id: 0807060504030201 is different from public key: E7620F1842B4E81F\n"
 
 KEY = b"Ed" + toy.KEYNUM + toy.KEY
@@ -64,11 +64,11 @@ def verdict_cases():
     changed = SIGNATURE[:-1] + b"\xa9"
     legacy = b"Ed" + toy.KEYNUM + toy.signature_of(b"abc")
     return [
-        verify_raw("other data", 1, WARNING, REFUSED, stdin=b"abd"),
-        verify_raw("no data", 1, WARNING, REFUSED, stdin=b""),
-        verify_raw("more data", 1, WARNING, REFUSED, stdin=b"abc\n"),
-        verify_raw("a changed signature", 1, WARNING, REFUSED, files={"abc.sig": changed}),
-        verify_raw("another public key", 1, WARNING, REFUSED, files={"key.pk": KEY[:-1] + b"z"}),
+        verify_raw("other data", 1, WARNING, REJECTED, stdin=b"abd"),
+        verify_raw("no data", 1, WARNING, REJECTED, stdin=b""),
+        verify_raw("more data", 1, WARNING, REJECTED, stdin=b"abc\n"),
+        verify_raw("a changed signature", 1, WARNING, REJECTED, files={"abc.sig": changed}),
+        verify_raw("another public key", 1, WARNING, REJECTED, files={"key.pk": KEY[:-1] + b"z"}),
         verify_raw("another identifier", 1, WARNING, OTHER_KEYNUM, files={"key.pk": OTHER_KEY}),
         verify_raw("another identifier before a changed signature", 1, WARNING, OTHER_KEYNUM,
                    files={"key.pk": OTHER_KEY, "abc.sig": changed}),
@@ -128,14 +128,14 @@ def opening_cases():
 def reading_cases():
     """The key is read first, then the signature, then both are tested, and then the data is read."""
     rows = [
-        ("a folder as key", FOLDER, SIGNATURE, READING_FAILED),
-        ("a folder as signature", KEY, FOLDER, READING_FAILED),
-        ("folders as key and signature", FOLDER, FOLDER, READING_FAILED),
-        ("a folder as key before the signature is read", FOLDER, OpenedPipe(), READING_FAILED),
-        ("a folder as key and a missing signature", FOLDER, MISSING, READING_FAILED),
-        ("a missing key and a folder as signature", MISSING, FOLDER, READING_FAILED),
-        ("a folder as signature before a short key", KEY[:41], FOLDER, READING_FAILED),
-        ("a folder as key before a short signature", FOLDER, SIGNATURE[:73], READING_FAILED),
+        ("a directory as key", DIRECTORY, SIGNATURE, READING_FAILED),
+        ("a directory as signature", KEY, DIRECTORY, READING_FAILED),
+        ("directories as key and signature", DIRECTORY, DIRECTORY, READING_FAILED),
+        ("a directory as key before the signature is read", DIRECTORY, OpenedPipe(), READING_FAILED),
+        ("a directory as key and a missing signature", DIRECTORY, MISSING, READING_FAILED),
+        ("a missing key and a directory as signature", MISSING, DIRECTORY, READING_FAILED),
+        ("a directory as signature before a short key", KEY[:41], DIRECTORY, READING_FAILED),
+        ("a directory as key before a short signature", DIRECTORY, SIGNATURE[:73], READING_FAILED),
     ]
     cases = [
         verify_raw(name, 1, WARNING, line, files={"key.pk": key, "abc.sig": signature})
@@ -143,16 +143,16 @@ def reading_cases():
     ]
     return [
         *cases,
-        verify_raw("a folder as data", 1, WARNING, READING_FAILED, stdin=FOLDER),
-        verify_raw("a folder as data before another identifier", 1, WARNING, READING_FAILED,
-                   files={"key.pk": OTHER_KEY}, stdin=FOLDER),
-        verify_raw("a folder as data before a signature of the data itself", 1, WARNING, READING_FAILED,
-                   files={"abc.sig": b"Ed" + SIGNATURE[2:]}, stdin=FOLDER),
-        verify_raw("a short key before a folder as data", 1, WARNING, TOO_SHORT, files={"key.pk": KEY[:41]}, stdin=FOLDER),
-        verify_raw("a short signature before a folder as data", 1, WARNING, TOO_SHORT,
-                   files={"abc.sig": SIGNATURE[:73]}, stdin=FOLDER),
-        verify_raw("an unknown algorithm before a folder as data", 1, WARNING, UNSUPPORTED,
-                   files={"abc.sig": b"Ex" + SIGNATURE[2:]}, stdin=FOLDER),
+        verify_raw("a directory as data", 1, WARNING, READING_FAILED, stdin=DIRECTORY),
+        verify_raw("a directory as data before another identifier", 1, WARNING, READING_FAILED,
+                   files={"key.pk": OTHER_KEY}, stdin=DIRECTORY),
+        verify_raw("a directory as data before a signature of the data itself", 1, WARNING, READING_FAILED,
+                   files={"abc.sig": b"Ed" + SIGNATURE[2:]}, stdin=DIRECTORY),
+        verify_raw("a short key before a directory as data", 1, WARNING, TOO_SHORT, files={"key.pk": KEY[:41]}, stdin=DIRECTORY),
+        verify_raw("a short signature before a directory as data", 1, WARNING, TOO_SHORT,
+                   files={"abc.sig": SIGNATURE[:73]}, stdin=DIRECTORY),
+        verify_raw("an unknown algorithm before a directory as data", 1, WARNING, UNSUPPORTED,
+                   files={"abc.sig": b"Ex" + SIGNATURE[2:]}, stdin=DIRECTORY),
         verify_raw("data that cannot be read", 1, WARNING, READING_FAILED, stdin=WRITE_ONLY),
     ]
 
@@ -202,10 +202,10 @@ def input_cases():
         verify_raw("data in pieces", 0, WARNING, VERIFIED,
                    files={"abc.sig": toy.signature_record(b"".join(pieces))}, stdin=Pieces(pieces)),
         verify_raw("data from a file", 0, WARNING, VERIFIED, stdin=FromFile(b"abc")),
-        verify_raw("no data from a file", 1, WARNING, REFUSED, stdin=FromFile(b"")),
+        verify_raw("no data from a file", 1, WARNING, REJECTED, stdin=FromFile(b"")),
         verify_raw("large data", 0, WARNING, VERIFIED, files={"abc.sig": toy.signature_record(large)}, stdin=large),
         verify_raw("large data from a file", 0, WARNING, VERIFIED, files={"abc.sig": toy.signature_record(large)}, stdin=FromFile(large)),
-        verify_raw("large data and a byte more", 1, WARNING, REFUSED, files={"abc.sig": toy.signature_record(large)}, stdin=large + b"\0"),
+        verify_raw("large data and a byte more", 1, WARNING, REJECTED, files={"abc.sig": toy.signature_record(large)}, stdin=large + b"\0"),
     ]
 
 
@@ -228,13 +228,13 @@ def stream_cases():
 
 
 def memory_cases():
-    """Each request for memory is refused, first while the arguments are read."""
+    """Each allocation fails, first while the arguments are read."""
     good = verify_raw("", 1, WARNING, OUT_OF_MEMORY)
     other = verify_raw("", 1, WARNING, OUT_OF_MEMORY, stdin=b"abd")
     arguments = Case("", [], 1, [WARNING, OUT_OF_MEMORY])
     rows = [("good data", good), ("other data", other), ("no arguments", arguments)]
     return [
-        replace(case, name=f"{name}, and {many} for memory refused", refusing=refusing)
+        replace(case, name=f"{name}, and {many} failing", rejecting=rejecting)
         for name, case in rows
-        for refusing, many in (("one", "one request"), ("all", "each request from one on"))
+        for rejecting, many in (("one", "one allocation"), ("all", "each allocation from one on"))
     ]

@@ -6,7 +6,7 @@ from dataclasses import replace
 import toy
 from running import (
     CLOSED,
-    FOLDER,
+    DIRECTORY,
     FULL,
     MISSING,
     NO_READER,
@@ -27,8 +27,8 @@ from running import (
 from toy import NOT_UTF8, OUT_OF_MEMORY, READING_FAILED, TOO_SHORT, WARNING, WRITING_FAILED
 
 VERIFIED = "Signature and comment signature verified\nTrusted comment: t\n"
-REFUSED = "error: Signature verification failed\n"
-COMMENT_REFUSED = "error: Comment signature verification failed\n"
+REJECTED = "error: Signature verification failed\n"
+COMMENT_REJECTED = "error: Comment signature verification failed\n"
 LEGACY = "error: Legacy signatures are not accepted\n"
 OTHER_KEYNUM = "error: Signature key id: 0807060504030201 is different from public key: E7620F1842B4E81F\n"
 NO_PUBLIC_KEY = "error: Missing comment in public key\n"
@@ -91,21 +91,21 @@ def verdict_cases():
     other_key = toy.public_text(keynum=toy.OTHER_KEYNUM)
     return [
         verify("a good signature", 0, WARNING, VERIFIED),
-        verify("other data", 1, WARNING, REFUSED, files={FILE: b"abd"}),
-        verify("no data", 1, WARNING, REFUSED, files={FILE: b""}),
-        verify("more data", 1, WARNING, REFUSED, files={FILE: b"abc\n"}),
-        verify("a letter more", 1, WARNING, REFUSED, files={FILE: b"abcd"}),
-        verify("a changed signature", 1, WARNING, REFUSED, files={SIG: toy.signature_text(b"abc", record=changed)}),
-        verify("a changed trusted comment", 1, WARNING, COMMENT_REFUSED,
+        verify("other data", 1, WARNING, REJECTED, files={FILE: b"abd"}),
+        verify("no data", 1, WARNING, REJECTED, files={FILE: b""}),
+        verify("more data", 1, WARNING, REJECTED, files={FILE: b"abc\n"}),
+        verify("a letter more", 1, WARNING, REJECTED, files={FILE: b"abcd"}),
+        verify("a changed signature", 1, WARNING, REJECTED, files={SIG: toy.signature_text(b"abc", record=changed)}),
+        verify("a changed trusted comment", 1, WARNING, COMMENT_REJECTED,
                files={SIG: GOOD[SIG].replace(b"comment: t\n", b"comment: u\n")}),
-        verify("a changed comment signature", 1, WARNING, COMMENT_REFUSED,
+        verify("a changed comment signature", 1, WARNING, COMMENT_REJECTED,
                files={SIG: toy.signature_text(b"abc", comment_signature=comment[:-1] + bytes([comment[-1] ^ 1]))}),
-        verify("a short comment signature", 1, WARNING, COMMENT_REFUSED,
+        verify("a short comment signature", 1, WARNING, COMMENT_REJECTED,
                files={SIG: toy.signature_text(b"abc", comment_signature=comment[:63])}),
         verify("a longer comment signature", 0, WARNING, VERIFIED,
                files={SIG: toy.signature_text(b"abc", comment_signature=comment + b"\xff")}),
         verify("another untrusted comment", 0, WARNING, VERIFIED, files={SIG: toy.signature_text(b"abc", untrusted=b"u")}),
-        verify("another key", 1, WARNING, REFUSED, files={PK: toy.public_text(key=b"z" * 32)}),
+        verify("another key", 1, WARNING, REJECTED, files={PK: toy.public_text(key=b"z" * 32)}),
         verify("another identifier", 1, WARNING, OTHER_KEYNUM, files={PK: other_key}),
         verify("another identifier before other data", 1, WARNING, OTHER_KEYNUM, files={PK: other_key, FILE: b"abd"}),
         verify("a signature of the data itself", 1, WARNING, LEGACY,
@@ -189,19 +189,19 @@ def reading_cases():
     """The key is read first, then the signature, then both are judged, and then the data is read."""
     other_key = toy.public_text(keynum=toy.OTHER_KEYNUM)
     rows = [
-        ("a folder as key", {PK: FOLDER}, READING_FAILED),
-        ("a folder as data", {FILE: FOLDER}, READING_FAILED),
-        ("a folder as signature", {SIG: FOLDER}, READING_FAILED),
-        ("a folder as key before the signature is read", {PK: FOLDER, SIG: OpenedPipe()}, READING_FAILED),
-        ("a folder as key before a signature that is no UTF-8", {PK: FOLDER, SIG: NO_TEXT}, READING_FAILED),
+        ("a directory as key", {PK: DIRECTORY}, READING_FAILED),
+        ("a directory as data", {FILE: DIRECTORY}, READING_FAILED),
+        ("a directory as signature", {SIG: DIRECTORY}, READING_FAILED),
+        ("a directory as key before the signature is read", {PK: DIRECTORY, SIG: OpenedPipe()}, READING_FAILED),
+        ("a directory as key before a signature that is no UTF-8", {PK: DIRECTORY, SIG: NO_TEXT}, READING_FAILED),
         ("a key that is no UTF-8 before the signature is read", {PK: NO_TEXT, SIG: OpenedPipe()}, NOT_UTF8),
-        ("a key that is no UTF-8 before a folder as signature", {PK: NO_TEXT, SIG: FOLDER}, NOT_UTF8),
-        ("a folder as signature before an empty key", {PK: b"", SIG: FOLDER}, READING_FAILED),
-        ("a key that is no UTF-8 before a folder as data", {PK: NO_TEXT, FILE: FOLDER}, NOT_UTF8),
-        ("an empty key before a folder as data", {PK: b"", FILE: FOLDER}, NO_PUBLIC_KEY),
-        ("an empty signature before a folder as data", {SIG: b"", FILE: FOLDER}, NO_SIGNATURE),
+        ("a key that is no UTF-8 before a directory as signature", {PK: NO_TEXT, SIG: DIRECTORY}, NOT_UTF8),
+        ("a directory as signature before an empty key", {PK: b"", SIG: DIRECTORY}, READING_FAILED),
+        ("a key that is no UTF-8 before a directory as data", {PK: NO_TEXT, FILE: DIRECTORY}, NOT_UTF8),
+        ("an empty key before a directory as data", {PK: b"", FILE: DIRECTORY}, NO_PUBLIC_KEY),
+        ("an empty signature before a directory as data", {SIG: b"", FILE: DIRECTORY}, NO_SIGNATURE),
         ("an empty signature before the data is read", {SIG: b"", FILE: OpenedPipe()}, NO_SIGNATURE),
-        ("a folder as data before another identifier", {PK: other_key, FILE: FOLDER}, READING_FAILED),
+        ("a directory as data before another identifier", {PK: other_key, FILE: DIRECTORY}, READING_FAILED),
     ]
     return [verify(name, 1, WARNING, line, files=files) for name, files, line in rows]
 
@@ -211,7 +211,7 @@ def verify_pipe_cases():
     return [
         verify("data from a pipe", 0, WARNING, VERIFIED, files={FILE: FedPipe(b"abc")}),
         verify("large data from a pipe", 0, WARNING, VERIFIED, files={FILE: FedPipe(large), SIG: toy.signature_text(large)}),
-        verify("other data from a pipe", 1, WARNING, REFUSED, files={FILE: FedPipe(b"abd")}),
+        verify("other data from a pipe", 1, WARNING, REJECTED, files={FILE: FedPipe(b"abd")}),
         verify("texts from pipes", 0, WARNING, VERIFIED, files={PK: FedPipe(GOOD[PK]), SIG: FedPipe(GOOD[SIG])}),
     ]
 
@@ -260,7 +260,7 @@ def cat_stream_cases():
                 cat(f"input {stdin}, and as output {stdout}", 1, WARNING, VERIFIED, WRITING_FAILED, stdin=stdin, stdout=stdout),
                 cat(f"no data, input {stdin}, and as output {stdout}", 0, WARNING, VERIFIED, stdin=stdin, stdout=stdout,
                     files={FILE: b"", SIG: toy.signature_text(b"")}),
-                cat(f"other data, input {stdin}, and as output {stdout}", 1, WARNING, REFUSED, stdin=stdin, stdout=stdout,
+                cat(f"other data, input {stdin}, and as output {stdout}", 1, WARNING, REJECTED, stdin=stdin, stdout=stdout,
                     files={FILE: b"abd"}),
             ]
     for errors in (CLOSED, FULL, NO_READER):
@@ -271,7 +271,7 @@ def cat_stream_cases():
 
 
 def own_output_cases():
-    """Data from the file that standard output leads into is refused before anything is read or written, and after
+    """Data from the file that standard output leads into is rejected before anything is read or written, and after
     all files were opened. Another file takes the copy."""
     append, over = os.O_WRONLY | os.O_APPEND, os.O_RDWR
     rows = [
@@ -295,14 +295,14 @@ def own_output_cases():
 
 
 class Holds:
-    """Looks at the folder that a run leaves: what one of its files holds."""
+    """Looks at the directory that a run leaves: what one of its files holds."""
 
     def __init__(self, name, data):
         self.name = name
         self.data = data
 
-    def __call__(self, folder):
-        with open(os.path.join(folder, self.name), "rb") as file:
+    def __call__(self, directory):
+        with open(os.path.join(directory, self.name), "rb") as file:
             held = file.read()
         if held != self.data:
             raise Failure(f"{self.name} holds {held[:200]} in place of {self.data}")
@@ -316,7 +316,7 @@ def changed_cases():
     files = {FILE: data, SIG: toy.signature_text(data)}
 
     def change(edit):
-        return ReadLate(2, lambda folder: edit(os.path.join(folder, FILE)))
+        return ReadLate(2, lambda directory: edit(os.path.join(directory, FILE)))
 
     def set_last(path):
         with open(path, "r+b") as file:
@@ -348,12 +348,12 @@ def changed_cases():
 
 
 def memory_cases(command):
-    """Each request for memory is refused. Of a copy that is reported behind the status."""
+    """Each allocation fails. Of a copy that is reported behind the status."""
     lines = OneOf(([WARNING, OUT_OF_MEMORY], [WARNING, VERIFIED, OUT_OF_MEMORY]) if command is cat else ([WARNING, OUT_OF_MEMORY],))
     rows = [("a good signature", {}), ("other data", {FILE: b"abd"}), ("an empty key", {PK: b""})]
     return [
-        replace(command(f"{name}, and {many} for memory refused", 1, files=files, refusing=refusing),
+        replace(command(f"{name}, and {many} failing", 1, files=files, rejecting=rejecting),
                 lines=lines, output=BeginningOf(b"abc"))
         for name, files in rows
-        for refusing, many in (("one", "one request"), ("all", "each request from one on"))
+        for rejecting, many in (("one", "one allocation"), ("all", "each allocation from one on"))
     ]

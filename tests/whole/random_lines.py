@@ -4,7 +4,7 @@
     tests/whole/random_lines.py [SEED [NUMBER]]
 
 Each line has a command, most often with what it needs, and flags, names, comments and passwords of a kind that fits or not, in a
-folder of keys, signatures, texts of other kinds, links, folders and devices. It has to end with 0, 1 or 2 and without a word of
+directory of keys, signatures, texts of other kinds, links, directories and devices. It has to end with 0, 1 or 2 and without a word of
 AddressSanitizer or UndefinedBehaviorSanitizer; a file that it does not name stays as it was, no file is left half, no secret key is
 lost or given to others, and nothing is left beside them; what it signs Minisign's own program verifies, and of what it verifies both
 say the same. SEED is drawn where none is given, and printed; with NUMBER that line alone is tried. All 2,000 take a minute on four
@@ -45,7 +45,7 @@ SANITIZED = "-O1 -g -fno-omit-frame-pointer -fsanitize=address,undefined -fno-sa
 ENVIRONMENT = {"HOME": "home", "ASAN_OPTIONS": "detect_leaks=0:exitcode=99", "UBSAN_OPTIONS": "exitcode=99"}
 REPORTS = (b"Sanitizer", b"runtime error")
 
-NAMES = ["data", "more", "empty", "folder", "none", "none/none", "", "link", "dangling", "/dev/null", "x" * 300,
+NAMES = ["data", "more", "empty", "directory", "none", "none/none", "", "link", "dangling", "/dev/null", "x" * 300,
          "data/x", ".", "..", "./data", "odd\x1b\u202ename", b"caf\xe9", "end ", "text", "page", "archive", "wide"]
 # (what is read from these would never come)
 STREAMS = ["/dev/stdout", "/proc/self/fd/1", "/dev/full", "/dev/stderr"]
@@ -58,8 +58,8 @@ TYPED = [PASSWORD + b"\n", b"wrong\n", b"\n", b"", b"\0\n", b"\xff\n", b"x" * 10
 SEALING = 0.002
 
 
-class Folder:
-    """What stands in the folder of a line before it."""
+class Directory:
+    """What stands in the directory of a line before it."""
 
     def __init__(self, whole, room):
         self.whole = whole
@@ -76,7 +76,7 @@ class Folder:
                 made[name] = file.read()
         turned = bytearray(keys[OPEN])
         turned[-30] ^= 2
-        self.files = {**keys, **made, "data": b"some data\n", "more": b"more data\n", "empty": b"", "folder/kept": b"kept",
+        self.files = {**keys, **made, "data": b"some data\n", "more": b"more data\n", "empty": b"", "directory/kept": b"kept",
                       "cut.key": keys[OPEN][:100], "turned.key": bytes(turned), "cut.pub": keys[PUBLIC][:60], "cut.minisig": made["data.minisig"][:150],
                       "text": b"a text\nof\nfour\nlines\n", "page": b"<!DOCTYPE html>\n<html>\n", "archive": bytes.fromhex("1f8b0800") + bytes(40),
                       "wide": keys[PUBLIC].decode().encode("utf-16"), "end ": b"end", "odd\x1b\u202ename": b"odd", os.fsdecode(b"caf\xe9"): b"latin",
@@ -84,17 +84,17 @@ class Folder:
         self.secrets = [keys[OPEN], keys[CLOSED]]
         self.links = {"link": "data", "dangling": "made", "link.key": OPEN, "link.pub": PUBLIC}
 
-    def make(self, folder):
-        put_files(folder, self.files)
+    def make(self, directory):
+        put_files(directory, self.files)
         for name, target in self.links.items():
-            os.symlink(target, os.path.join(folder, name))
+            os.symlink(target, os.path.join(directory, name))
 
 
 class Line:
     """A random command line."""
 
-    def __init__(self, folder, source):
-        self.folder, self.source = folder, source
+    def __init__(self, directory, source):
+        self.directory, self.source = directory, source
         self.command = source.choice("GGRCSSSVVVV")
         self.arguments, self.outputs = [f"-{self.command}"], set()
         self.typed = b"".join(source.choice(TYPED) for _ in range(source.randint(0, 3)))
@@ -167,7 +167,7 @@ class Line:
         if self.source.random() < 0.2:
             self.add("-p", self.name_of(PUBLICS))
         if self.source.random() < 0.1:
-            self.add("-P", self.source.choice([self.folder.inline, "", "x", "-" * 56, self.folder.inline[:-1]]))
+            self.add("-P", self.source.choice([self.directory.inline, "", "x", "-" * 56, self.directory.inline[:-1]]))
 
     def add_V(self):
         if self.source.random() < 0.95:
@@ -177,7 +177,7 @@ class Line:
         if self.source.random() < 0.7:
             self.add("-p", self.name_of(PUBLICS))
         elif self.source.random() < 0.5:
-            self.add("-P", self.source.choice([self.folder.inline, "", "x", "-" * 56, self.folder.inline[:-1]]))
+            self.add("-P", self.source.choice([self.directory.inline, "", "x", "-" * 56, self.directory.inline[:-1]]))
 
     def add_flags(self):
         source = self.source
@@ -191,10 +191,10 @@ class Line:
             if source.random() < 0.05:
                 self.add(f"-{flag}", source.choice(["1", "16", "0", "-1", "x", "1048577"]))
 
-    def may_be_tested_in_another_order(self, folder):
-        """Whether more than one thing may be wrong of which each program names another first: a folder is among its names, or a
-        signature of the older kind is refused (the row on the order of the tests in docs/DIFFERENCES.md)."""
-        names = (os.path.join(os.fsencode(folder), os.fsencode(it)) for it in self.arguments[1:])
+    def may_be_tested_in_another_order(self, directory):
+        """Whether more than one thing may be wrong of which each program names another first: a directory is among its names, or a
+        signature of the older kind is rejected (the row on the order of the tests in docs/DIFFERENCES.md)."""
+        names = (os.path.join(os.fsencode(directory), os.fsencode(it)) for it in self.arguments[1:])
         return "-H" in self.arguments or any(map(os.path.isdir, names))
 
     @property
@@ -212,25 +212,25 @@ def beside(name):
     return name + (b".minisig" if isinstance(name, bytes) else ".minisig")
 
 
-def run(program, folder, line):
-    return subprocess.run([program, *line.arguments], cwd=folder, env=ENVIRONMENT, input=line.typed, stdout=subprocess.PIPE, stderr=subprocess.PIPE,
+def run(program, directory, line):
+    return subprocess.run([program, *line.arguments], cwd=directory, env=ENVIRONMENT, input=line.typed, stdout=subprocess.PIPE, stderr=subprocess.PIPE,
                           timeout=SECONDS_OF_LINE, umask=0o022)
 
 
-def check_files(before, folder, line):
+def check_files(before, directory, line):
     """What the line may not do to the files."""
-    outputs = {os.path.realpath(os.path.join(folder, os.fsdecode(name))) for name in line.outputs}
+    outputs = {os.path.realpath(os.path.join(directory, os.fsdecode(name))) for name in line.outputs}
     found = {}
-    for at, _, names in os.walk(folder):
+    for at, _, names in os.walk(directory):
         for name in names:
             path = os.path.join(at, name)
             if name.startswith(STAGE):
                 raise Failure(f"it left {name}")
             if not os.path.islink(path):
                 with open(path, "rb") as file:
-                    found[os.path.relpath(path, folder)] = file.read()
+                    found[os.path.relpath(path, directory)] = file.read()
     for name, data in before.files.items():
-        path = os.path.join(folder, name)
+        path = os.path.join(directory, name)
         if name not in found:
             raise Failure(f"{name!r} is gone")
         if found[name] != data and os.path.realpath(path) not in outputs:
@@ -238,14 +238,14 @@ def check_files(before, folder, line):
         if data in before.secrets and (name == line.secret and line.command != "G" or line.command == "C"):
             is_secret(found[name])
     for name, data in found.items():
-        mode = stat.S_IMODE(os.stat(os.path.join(folder, name)).st_mode)
+        mode = stat.S_IMODE(os.stat(os.path.join(directory, name)).st_mode)
         if data.startswith(b"untrusted comment: minisign encrypted secret key") and data != before.files.get(name) and mode != 0o600:
             raise Failure(f"{name!r} has the mode {mode:o}")
         if data == b"" and before.files.get(name) != b"":
             raise Failure(f"{name!r} is empty")
 
 
-def check_signatures(before, folder, line):
+def check_signatures(before, directory, line):
     """What was signed well Minisign verifies."""
     if "-x" in line.arguments or "-m" not in line.arguments:
         return
@@ -254,25 +254,25 @@ def check_signatures(before, folder, line):
         # (a signature that was signed, and then replaced by another)
         return
     command = [before.whole.theirs, "-Vm", data, "-P", before.inline]
-    ran = subprocess.run(command, cwd=folder, stdin=subprocess.DEVNULL, stdout=subprocess.DEVNULL, stderr=subprocess.PIPE, timeout=SECONDS_OF_LINE)
+    ran = subprocess.run(command, cwd=directory, stdin=subprocess.DEVNULL, stdout=subprocess.DEVNULL, stderr=subprocess.PIPE, timeout=SECONDS_OF_LINE)
     if ran.returncode != 0:
         raise Failure(f"Minisign does not verify what was signed: {ran.stderr!r}")
 
 
 def check_line(before, line):
     """Raises a `Failure` where a line does something that it may not."""
-    with tempfile.TemporaryDirectory(prefix="random-line-") as folder:
-        before.make(folder)
-        ran = run(before.whole.ours, folder, line)
+    with tempfile.TemporaryDirectory(prefix="random-line-") as directory:
+        before.make(directory)
+        ran = run(before.whole.ours, directory, line)
         if ran.returncode not in (0, 1, 2) or any(word in ran.stderr for word in REPORTS):
             raise Failure(f"it ended with {ran.returncode}, and said {ran.stderr[-1500:].decode(errors='replace')}")
-        check_files(before, folder, line)
+        check_files(before, directory, line)
         if line.command == "S" and ran.returncode == 0 and not any(it in line.arguments for it in ("-v", "-p", "-P")):
-            check_signatures(before, folder, line)
+            check_signatures(before, directory, line)
         if line.command == "V" and line.is_plain():
-            theirs = run(before.whole.theirs, folder, line)
+            theirs = run(before.whole.theirs, directory, line)
             is_same_verdict = (theirs.returncode == 0) == (ran.returncode == 0)
-            if theirs.returncode != ran.returncode and not (is_same_verdict and line.may_be_tested_in_another_order(folder)):
+            if theirs.returncode != ran.returncode and not (is_same_verdict and line.may_be_tested_in_another_order(directory)):
                 raise Failure(f"it ended with {ran.returncode}, {ran.stderr!r}, and Minisign with {theirs.returncode}, {theirs.stderr!r}")
 
 
@@ -300,7 +300,7 @@ def build(room):
 
 def run_all(seed, numbers, room):
     """Tries the lines, several at a time: the failures, and how many were tried."""
-    before = Folder(Whole(needs.minisign(), build(room), build_preload(room, "fixed_sources")), room)
+    before = Directory(Whole(needs.minisign(), build(room), build_preload(room, "fixed_sources")), room)
     workers = os.cpu_count() or 1
     end = time.time() + SECONDS
     with concurrent.futures.ProcessPoolExecutor(workers) as pool:

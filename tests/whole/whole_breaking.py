@@ -22,16 +22,16 @@ STAGE = ".minisign-"
 
 
 class Task:
-    """A run that replaces files: what stands in its folder before it, a judge of each file that it writes, and how many may be
+    """A run that replaces files: what stands in its directory before it, a judge of each file that it writes, and how many may be
     new where it fails, which is none where they belong together."""
 
     def __init__(self, name, arguments, files, judges, before_failing=0):
         self.name, self.arguments, self.files, self.judges, self.before_failing = name, arguments, files, judges, before_failing
         self.belong_together = len(judges) == 2
 
-    def check(self, folder, killed=False):
+    def check(self, directory, killed=False):
         """How many files are new."""
-        found = {name: held for name, held in files_in(folder).items() if held[1] is not None}
+        found = {name: held for name, held in files_in(directory).items() if held[1] is not None}
         new = 0
         for name, (mode, data) in found.items():
             if name.endswith(".key") or data.startswith(b"untrusted comment: minisign encrypted"):
@@ -93,16 +93,16 @@ def tasks(keys):
 
 
 class Breaking:
-    """Runs the program in fresh folders, in memory where that can be had."""
+    """Runs the program in fresh directories, in memory where that can be had."""
 
     def __init__(self, program, room):
         self.program = program
         self.place = MEMORY if os.access(MEMORY, os.W_OK) else room
         self.preload = build_preload(room, "break_calls")
-        self.refusing = build_preload(room, "refuse_memory")
+        self.rejecting = build_preload(room, "refuse_memory")
 
-    def run(self, folder, task, environment=None, passed=(), prepare=None):
-        ran = subprocess.run([self.program, *task.arguments], cwd=folder, env=environment or {}, stdin=subprocess.DEVNULL,
+    def run(self, directory, task, environment=None, passed=(), prepare=None):
+        ran = subprocess.run([self.program, *task.arguments], cwd=directory, env=environment or {}, stdin=subprocess.DEVNULL,
                              pass_fds=passed, stdout=subprocess.PIPE, stderr=subprocess.PIPE, umask=0o022, timeout=SECONDS,
                              preexec_fn=prepare)
         return ran.returncode, ran.stderr
@@ -110,19 +110,19 @@ class Breaking:
     def break_each(self, task, judge, **how):
         """Breaks each of the calls in turn, and hands to `judge` what each run left: how many calls there were."""
         for number in range(1, MOST_CALLS):
-            with tempfile.TemporaryDirectory(dir=self.place) as folder:
-                put_files(folder, task.files)
+            with tempfile.TemporaryDirectory(dir=self.place) as directory:
+                put_files(directory, task.files)
                 told, says = os.pipe()
                 environment = {"LD_PRELOAD": self.preload, "BREAK_SAYS": str(says), "BREAK_AT": str(number),
                                **{name: str(value) for name, value in how.items()}}
                 try:
-                    status, said = self.run(folder, task, environment, [says])
+                    status, said = self.run(directory, task, environment, [says])
                 finally:
                     os.close(says)
                 with os.fdopen(told, "rb") as pipe:
                     came = pipe.read(1) != b""
                 try:
-                    judge(came, status, said, folder)
+                    judge(came, status, said, directory)
                 except Failure as why:
                     raise Failure(f"at call {number}: {why}") from why
             if not came:
@@ -134,12 +134,12 @@ class Breaking:
         secret one."""
         seen = set()
 
-        def judge(came, status, said, folder):
+        def judge(came, status, said, directory):
             if status != (-signal.SIGKILL if came else 0):
                 raise Failure(f"it ended with {status}, and said {said}")
-            new = task.check(folder, killed=came)
+            new = task.check(directory, killed=came)
             seen.add(new)
-            if new == 1 and len(task.judges) == 2 and files_in(folder).get("a.pub", (0, None))[1] == task.files.get("a.pub"):
+            if new == 1 and len(task.judges) == 2 and files_in(directory).get("a.pub", (0, None))[1] == task.files.get("a.pub"):
                 raise Failure("the secret key is new, and the public one is not")
 
         self.break_each(task, judge)
@@ -150,8 +150,8 @@ class Breaking:
         """A run in which each call fails in turn: it ends with 2 and says why, or does all that it has to."""
         count = len(task.judges)
 
-        def judge(came, status, said, folder):
-            new = task.check(folder)
+        def judge(came, status, said, directory):
+            new = task.check(directory)
             if status == 0 and new != count or status != 0 and (status != 2 or not said) or task.belong_together and new not in (0, count):
                 raise Failure(f"it ended with {status} and {new} new files, and said {said}")
             if not came and status != 0:
@@ -163,8 +163,8 @@ class Breaking:
     def failing_writes(self, task, number, **how):
         """A run in which a write fails: nothing is new but what was written before."""
 
-        def judge(came, status, said, folder):
-            new = task.check(folder)
+        def judge(came, status, said, directory):
+            new = task.check(directory)
             if came and (status != 2 or new > task.before_failing or os.strerror(number).encode() not in said):
                 raise Failure(f"it ended with {status} and {new} new files, and said {said}")
 
@@ -172,20 +172,20 @@ class Breaking:
             raise Failure("it writes nothing")
 
     def refused_allocations(self, task):
-        """A run with each of its requests for memory refused in turn ends with 2 and no new file, or does all that it has to."""
+        """A run with each of its allocations failing in turn ends with 2 and no new file, or does all that it has to."""
         count = len(task.judges)
         for number in range(1, MOST_CALLS):
-            with tempfile.TemporaryDirectory(dir=self.place) as folder:
-                put_files(folder, task.files)
+            with tempfile.TemporaryDirectory(dir=self.place) as directory:
+                put_files(directory, task.files)
                 told, says = os.pipe()
                 try:
-                    status, said = self.run(folder, task, {"LD_PRELOAD": self.refusing, "REFUSE_AT": str(number),
+                    status, said = self.run(directory, task, {"LD_PRELOAD": self.rejecting, "REFUSE_AT": str(number),
                                                            "REFUSE_SAYS": str(says)}, [says])
                 finally:
                     os.close(says)
                 with os.fdopen(told, "rb") as pipe:
                     came = pipe.read(1) != b""
-                new = task.check(folder)
+                new = task.check(directory)
                 if (status, new) != (0, count) and (status != 2 or not said or not came):
                     raise Failure(f"request {number}: it ended with {status} and {new} new files, and said {said}")
             if not came:
@@ -194,73 +194,73 @@ class Breaking:
 
     def on_full_disk(self, task):
         """A run on a file system without room: nothing is new, and it says so."""
-        with tempfile.TemporaryDirectory(dir=self.place) as folder, SmallDisk(folder):
-            put_files(folder, task.files)
-            with open(os.path.join(folder, "fill"), "wb", buffering=0) as fill:
+        with tempfile.TemporaryDirectory(dir=self.place) as directory, SmallDisk(directory):
+            put_files(directory, task.files)
+            with open(os.path.join(directory, "fill"), "wb", buffering=0) as fill:
                 try:
                     while True:
                         fill.write(bytes(4096))
                 except OSError as error:
                     if error.errno != errno.ENOSPC:
                         raise
-            status, said = self.run(folder, task)
-            os.remove(os.path.join(folder, "fill"))
-            if status != 2 or os.strerror(errno.ENOSPC).encode() not in said or task.check(folder) != 0:
+            status, said = self.run(directory, task)
+            os.remove(os.path.join(directory, "fill"))
+            if status != 2 or os.strerror(errno.ENOSPC).encode() not in said or task.check(directory) != 0:
                 raise Failure(f"it ended with {status}, and said {said}")
 
     def within_file_size(self, task):
         """A run with a bound on the size of files."""
-        with tempfile.TemporaryDirectory(dir=self.place) as folder:
-            put_files(folder, task.files)
-            status, said = self.run(folder, task, prepare=lambda: resource.setrlimit(resource.RLIMIT_FSIZE, (50, 50)))
-            if status != 2 or os.strerror(errno.EFBIG).encode() not in said or task.check(folder) != 0:
+        with tempfile.TemporaryDirectory(dir=self.place) as directory:
+            put_files(directory, task.files)
+            status, said = self.run(directory, task, prepare=lambda: resource.setrlimit(resource.RLIMIT_FSIZE, (50, 50)))
+            if status != 2 or os.strerror(errno.EFBIG).encode() not in said or task.check(directory) != 0:
                 raise Failure(f"it ended with {status}, and said {said}")
 
     def ended_by_signal(self, task, number):
         """A run gets a signal when it brings its file to the disk or puts it in its place: nothing is left beside it."""
-        with tempfile.TemporaryDirectory(dir=self.place) as folder:
-            put_files(folder, task.files)
-            status, said = self.run(folder, task, {"LD_PRELOAD": self.preload, "BREAK_AT": "1", "BREAK_CALLS": "fsync linkat rename renameat renameat2",
+        with tempfile.TemporaryDirectory(dir=self.place) as directory:
+            put_files(directory, task.files)
+            status, said = self.run(directory, task, {"LD_PRELOAD": self.preload, "BREAK_AT": "1", "BREAK_CALLS": "fsync linkat rename renameat renameat2",
                                                    "BREAK_SIGNAL": str(int(number))})
-            if status != -number or task.check(folder) != 0:
+            if status != -number or task.check(directory) != 0:
                 raise Failure(f"it ended with {status}, and said {said}")
 
-    def keeps_rights(self, task, mode):
-        """A run over a file with these rights, of another owner where that can be had, keeps both."""
+    def keeps_permissions(self, task, mode):
+        """A run over a file with these permissions, of another owner where that can be had, keeps both."""
         name = next(iter(task.judges))
-        with tempfile.TemporaryDirectory(dir=self.place) as folder:
-            put_files(folder, task.files)
-            path = os.path.join(folder, name)
+        with tempfile.TemporaryDirectory(dir=self.place) as directory:
+            put_files(directory, task.files)
+            path = os.path.join(directory, name)
             os.chmod(path, mode)
             owner = (12345, 54321) if os.geteuid() == 0 else (os.geteuid(), os.stat(path).st_gid)
             os.chown(path, *owner)
-            status, said = self.run(folder, task)
+            status, said = self.run(directory, task)
             found = os.stat(path)
             if status != 0 or (found.st_uid, found.st_gid, stat.S_IMODE(found.st_mode)) != (*owner, mode):
                 raise Failure(f"it ended with {status}, and left {found.st_uid}, {found.st_gid}, {found.st_mode:o}: {said}")
 
     def through_links(self, task):
         """A run over files that are reached by links, of which the last may lead to nothing yet, keeps the links."""
-        with tempfile.TemporaryDirectory(dir=self.place) as folder:
-            put_files(folder, {"kept": None, **task.files})
+        with tempfile.TemporaryDirectory(dir=self.place) as directory:
+            put_files(directory, {"kept": None, **task.files})
             for name in task.judges:
-                kept = os.path.join(folder, "kept", name)
+                kept = os.path.join(directory, "kept", name)
                 if name in task.files:
-                    os.rename(os.path.join(folder, name), kept)
-                os.symlink(f"./kept/{name}", os.path.join(folder, f"{name}.link"))
-                os.symlink(f"{name}.link", os.path.join(folder, name))
-            status, said = self.run(folder, task)
-            if status != 0 or not all(os.path.islink(os.path.join(folder, name)) for name in task.judges):
+                    os.rename(os.path.join(directory, name), kept)
+                os.symlink(f"./kept/{name}", os.path.join(directory, f"{name}.link"))
+                os.symlink(f"{name}.link", os.path.join(directory, name))
+            status, said = self.run(directory, task)
+            if status != 0 or not all(os.path.islink(os.path.join(directory, name)) for name in task.judges):
                 raise Failure(f"it ended with {status}, and said {said}")
             for name, judge in task.judges.items():
-                with open(os.path.join(folder, "kept", name), "rb") as file:
+                with open(os.path.join(directory, "kept", name), "rb") as file:
                     judge(file.read())
 
     def into_pipe(self, task):
         """A signature that goes into a pipe."""
-        with tempfile.TemporaryDirectory(dir=self.place) as folder:
-            put_files(folder, task.files)
-            ran = subprocess.run([self.program, *task.arguments, "-x", "/dev/stdout"], cwd=folder, stdin=subprocess.DEVNULL,
+        with tempfile.TemporaryDirectory(dir=self.place) as directory:
+            put_files(directory, task.files)
+            ran = subprocess.run([self.program, *task.arguments, "-x", "/dev/stdout"], cwd=directory, stdin=subprocess.DEVNULL,
                                  stdout=subprocess.PIPE, stderr=subprocess.PIPE, timeout=SECONDS)
             if ran.returncode != 0:
                 raise Failure(f"it ended with {ran.returncode}, and said {ran.stderr}")
@@ -268,23 +268,23 @@ class Breaking:
 
     def at_once(self, task, runs=8):
         """Runs that write the same files at once: all end well, and each file is whole."""
-        with tempfile.TemporaryDirectory(dir=self.place) as folder:
-            put_files(folder, task.files)
-            started = [subprocess.Popen([self.program, *task.arguments], cwd=folder, stdin=subprocess.DEVNULL,
+        with tempfile.TemporaryDirectory(dir=self.place) as directory:
+            put_files(directory, task.files)
+            started = [subprocess.Popen([self.program, *task.arguments], cwd=directory, stdin=subprocess.DEVNULL,
                                         stdout=subprocess.DEVNULL, stderr=subprocess.PIPE, umask=0o022) for _ in range(runs)]
             ended = [(process.communicate(timeout=SECONDS)[1], process.returncode) for process in started]
-            if any(status for _, status in ended) or task.check(folder) != len(task.judges):
+            if any(status for _, status in ended) or task.check(directory) != len(task.judges):
                 raise Failure(f"they ended with {ended}")
 
     def first_alone(self, task, runs=8):
         """Runs that make the same new pair at once: it is the pair of one of them."""
-        with tempfile.TemporaryDirectory(dir=self.place) as folder:
-            started = [subprocess.Popen([self.program, *task.arguments], cwd=folder, stdin=subprocess.DEVNULL,
+        with tempfile.TemporaryDirectory(dir=self.place) as directory:
+            started = [subprocess.Popen([self.program, *task.arguments], cwd=directory, stdin=subprocess.DEVNULL,
                                         stdout=subprocess.DEVNULL, stderr=subprocess.PIPE, umask=0o022) for _ in range(runs)]
             statuses = sorted(process.wait(SECONDS) for process in started)
             for process in started:
                 process.stderr.close()
-            public, secret = (record_of(files_in(folder)[name][1]) for name in ("a.pub", "a.key"))
+            public, secret = (record_of(files_in(directory)[name][1]) for name in ("a.pub", "a.key"))
             if statuses != [0] + [1] * (runs - 1) or (public[2:10], public[10:]) != (secret[54:62], secret[94:126]):
                 raise Failure(f"they ended with {statuses}")
 
@@ -295,16 +295,16 @@ class ReplacingBySigning:
     def __init__(self, breaking, task):
         self.breaking, self.task, self.place = breaking, task, breaking.place
 
-    def prepare(self, folder):
-        put_files(folder, self.task.files)
-        return os.path.join(folder, next(iter(self.task.judges)))
+    def prepare(self, directory):
+        put_files(directory, self.task.files)
+        return os.path.join(directory, next(iter(self.task.judges)))
 
-    def run(self, folder, asked, breaking, user):
+    def run(self, directory, asked, breaking, user):
         """The program and what is preloaded stand where nobody reaches them."""
         with tempfile.TemporaryDirectory() as reached:
             os.chmod(reached, 0o711)
             program, preload = (shutil.copy(path, reached) for path in (self.breaking.program, self.breaking.preload))
-            ran = subprocess.run([program, *self.task.arguments], cwd=folder, env={"LD_PRELOAD": preload, **breaking} if breaking else {},
+            ran = subprocess.run([program, *self.task.arguments], cwd=directory, env={"LD_PRELOAD": preload, **breaking} if breaking else {},
                                  stdin=subprocess.DEVNULL, stdout=subprocess.DEVNULL, stderr=subprocess.PIPE, umask=0o022,
                                  timeout=SECONDS, **user)
             return ran.returncode, ran.stderr
@@ -319,7 +319,7 @@ def cases(breaking, keys):
         for number in (errno.ENOSPC, errno.EDQUOT):
             yield f"{task.name}, and a write fails by {errno.errorcode[number]}", lambda it=task, n=number: breaking.failing_writes(it, n)
         yield f"{task.name}, and a write fails half way", lambda it=task: breaking.failing_writes(it, errno.ENOSPC, BREAK_SHORT=1)
-        yield f"{task.name}, and memory is refused", lambda it=task: breaking.refused_allocations(it)
+        yield f"{task.name}, and an allocation fails", lambda it=task: breaking.refused_allocations(it)
         yield f"{task.name}, on a full disk", lambda it=task: breaking.on_full_disk(it)
         yield f"{task.name}, with a bound on files", lambda it=task: breaking.within_file_size(it)
         yield f"{task.name}, through links", lambda it=task: breaking.through_links(it)
@@ -328,8 +328,8 @@ def cases(breaking, keys):
         if set(task.judges) <= set(task.files):
             yield f"{task.name}, at once", lambda it=task: breaking.at_once(it)
     yield "a new pair, at once", lambda: breaking.first_alone(found[0])
-    yield "a signature over an older one keeps its rights", lambda: breaking.keeps_rights(found[5], 0o640)
-    yield "a key that is changed keeps its rights", lambda: breaking.keeps_rights(found[2], 0o400 if os.geteuid() == 0 else 0o600)
+    yield "a signature over an older one keeps its permissions", lambda: breaking.keeps_permissions(found[5], 0o640)
+    yield "a key that is changed keeps its permissions", lambda: breaking.keeps_permissions(found[2], 0o400 if os.geteuid() == 0 else 0o600)
     yield "a signature into a pipe", lambda: breaking.into_pipe(found[4])
     yield from permission_cases(ReplacingBySigning(breaking, found[5]), (COMMON, WITH_LISTS))
 

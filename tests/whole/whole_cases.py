@@ -20,7 +20,7 @@ DATA = {"data": b"some data\n", "more": b"more data\n", "empty": b""}
 
 @dataclass(frozen=True)
 class Case:
-    """Runs in a folder with these files. With a row, how Minisign's runs and ours end, and what else is looked at: a
+    """Runs in a directory with these files. With a row, how Minisign's runs and ours end, and what else is looked at: a
     function of what each has answered and left, which says what is wrong."""
 
     name: str
@@ -163,14 +163,14 @@ def generating(keys):
 
     yield unsealed("with names", *pair)
     yield unsealed("by default")
-    yield unsealed("in a folder of settings", MINISIGN_CONFIG_DIR="settings")
-    yield unsealed("in a folder of settings that is there", files={"settings/x": b"x"}, MINISIGN_CONFIG_DIR="settings")
+    yield unsealed("in a directory of settings", MINISIGN_CONFIG_DIR="settings")
+    yield unsealed("in a directory of settings that is there", files={"settings/x": b"x"}, MINISIGN_CONFIG_DIR="settings")
     yield unsealed("with no home", HOME=None)
     yield unsealed("with a comment", *pair, "-c", "my key")
     yield unsealed("with an empty comment", *pair, "-c", "")
     yield unsealed("with flags of other commands", *pair, "-q", "-Q", "-l", "-H", "-o", "-t", "t", "-x", "x", "-P", "p", "-m", "m")
     yield unsealed("over older ones", *pair, "-f", files={"a.pub": b"older", "a.key": b"older"})
-    yield unsealed("in a folder that is made", "-p", "new/a.pub", "-s", "new/a.key")
+    yield unsealed("in a directory that is made", "-p", "new/a.pub", "-s", "new/a.key")
     yield unsealed("named by its path", "-p", "./a.pub", "-s", "./a.key")
     for public, secret in (("a.key", "a.key"), ("./a.key", "a.key")):
         yield Case(f"the keys {public} and {secret}", (Step(("-GW", "-p", public, "-s", secret)),), row="equal names", theirs=(0,), ours=(2,),
@@ -181,10 +181,10 @@ def generating(keys):
     for there in ("a.pub", "a.key"):
         yield Case(f"{there} is there", (Step(("-GW", *pair)),), {there: b"older"})
     yield Case("both are there", (Step(("-G", *pair), b"p\np\n"),), {"a.pub": b"older", "a.key": b"older"})
-    yield Case("a folder is there", (Step(("-GW", *pair)),), {"a.pub": None})
+    yield Case("a directory is there", (Step(("-GW", *pair)),), {"a.pub": None})
     for what, variables in (("of settings", {"MINISIGN_CONFIG_DIR": "none/settings"}), ("of a home", {"HOME": "none/home"})):
-        yield Case(f"the folder {what} cannot be made", (Step(("-GW", "-p", "a.pub"), variables=variables),))
-    yield Case("no folder for the public key", (Step(("-GW", "-p", "none/a.pub", "-s", "a.key")),),
+        yield Case(f"the directory {what} cannot be made", (Step(("-GW", "-p", "a.pub"), variables=variables),))
+    yield Case("no directory for the public key", (Step(("-GW", "-p", "none/a.pub", "-s", "a.key")),),
                row="a key pair of which one file cannot be written", theirs=(2,), ours=(2,), judge=nothing_left("a.key"))
     yield Case("further names", (Step(("-GW", *pair, "more")),), row="further names with `-G`, `-R` and `-C`", theirs=(0,),
                ours=(2,), judge=nothing_left("a.key", "a.pub"))
@@ -216,7 +216,7 @@ def recreating(keys):
         ("over an older one", {**keys, "a.pub": b"older"}, (*pair, OPEN), b""),
         ("over an older one, by force", {**keys, "a.pub": b"older"}, ("-f", *pair, OPEN), b""),
         ("of no key", {}, (*pair, OPEN), b""),
-        ("where there is no folder", keys, ("-p", "none/a.pub", "-s", OPEN), b""),
+        ("where there is no directory", keys, ("-p", "none/a.pub", "-s", OPEN), b""),
         ("with an empty name", keys, ("-p", "", "-s", OPEN), b""),
     ):
         yield Case(f"a public key recreated {what}", (Step(("-R", *arguments), typed),), files)
@@ -270,7 +270,7 @@ def signing(keys):
         ("with no public key", (*key, "-p", "none.pub")), ("with two public keys", (*key, "-P", "x", "-p", PUBLIC)), ("with no data", ("-s", OPEN, "-m", "none")),
         ("of files, one of which is not there", (*key, "none", "more")), ("with no key", ("-s", "none.key", "-m", "data")),
         ("with a key of no name", ("-s", "", "-m", "data")), ("of data of no name", ("-s", OPEN, "-m", "")),
-        ("of a folder", ("-s", OPEN, "-m", "home")), ("into no folder", (*key, "-x", "none/sig")),
+        ("of a directory", ("-s", OPEN, "-m", "home")), ("into no directory", (*key, "-x", "none/sig")),
         ("with flags of other commands", (*key, "-f", "-q", "-Q", "-o")), ("by default of all", ("-m", "data")),
     ):
         yield Case(f"signed {what}", (Step(("-S", *arguments)),), files)
@@ -324,7 +324,7 @@ def signing(keys):
                    theirs=(0,), ours=(2,), judge=nothing_left("data.minisig"))
     yield Case("signed with white space around the trusted comment", (Step(("-S", *key, "-t", " t")),), files,
                row="white space around a trusted comment that is signed", theirs=(0,), ours=(2,), judge=nothing_left("data.minisig"))
-    yield Case("signed with a key that is a folder", (Step(("-S", "-s", "home", "-m", "data")),), files, row="a directory in place of a key",
+    yield Case("signed with a key that is a directory", (Step(("-S", "-s", "home", "-m", "data")),), files, row="a directory in place of a key",
                theirs=(2,), ours=(2,), judge=says(b"home: Is a directory"))
     yield Case("signed with the longest comments of Minisign", (Step(("-S", *key, "-t", "t" * 4077, "-c", "u" * 1003)),), files)
     yield Case("signed with longer comments", (Step(("-S", *key, "-t", "t" * 8173, "-c", "u" * 1003)), Step(("-V", "-m", "data", "-p", PUBLIC))),
@@ -353,7 +353,7 @@ def verifying(keys, signature, legacy):
                row="a directory in place of a signature", theirs=(2,), ours=(2,), judge=says(b"home: Is a directory"))
     for what, arguments in (("by default", ("-Vm", "data")), ("with a signature file of no name", ("-Vm", "data", "-x", "")),
                             ("with a key file of no name", ("-Vm", "data", "-p", "")), ("with two keys", ("-Vm", "data", "-p", PUBLIC, "-P", inline)),
-                            ("of a folder", ("-Vm", "home", "-x", "data.minisig"))):
+                            ("of a directory", ("-Vm", "home", "-x", "data.minisig"))):
         yield Case(f"verified {what}", (Step(arguments),), {**files, "minisign.pub": keys[PUBLIC]})
     yield Case("verified at a terminal", (Step(("-Vm", "data", "-p", PUBLIC), at_terminal=True),), files)
     yield Case("verified with further names", (Step(("-Vm", "data", "-p", PUBLIC, "more")),), files, row="further names of files",

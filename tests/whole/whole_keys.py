@@ -28,20 +28,20 @@ LETTERS = 212
 
 def signature_cases(whole, room):
     """Texts of public keys and signatures, damaged and not, some of all those of tests/minisign/real_minisign.py."""
-    folder = os.path.join(room, "signatures")
-    os.mkdir(folder)
+    directory = os.path.join(room, "signatures")
+    os.mkdir(directory)
     kept, _ = kept_cases()
-    found = [*fresh_cases(Minisign(whole.theirs, folder)), *random_cases(kept, SIGNATURES)]
+    found = [*fresh_cases(Minisign(whole.theirs, directory)), *random_cases(kept, SIGNATURES)]
     return random.Random(35).sample(found, SIGNATURES)
 
 
 def run_signatures(whole, cases):
     """Verifies these cases with both programs: the failures, and how many ran."""
     failures = []
-    with tempfile.TemporaryDirectory(prefix="whole-signatures-") as folder:
+    with tempfile.TemporaryDirectory(prefix="whole-signatures-") as directory:
         for case in cases:
-            put_case(folder, case)
-            theirs, ours = (run([program, *arguments_of(case)], folder) for program in (whole.theirs, whole.ours))
+            put_case(directory, case)
+            theirs, ours = (run([program, *arguments_of(case)], directory) for program in (whole.theirs, whole.ours))
             # (that the line behind the first one is right is tested in `whole_words.py`)
             if theirs.status == ours.status == 2 and names_text(theirs.said, ours.said):
                 ours = Answer(ours.status, ours.output, theirs.said)
@@ -107,11 +107,11 @@ def run_keys(whole, rows):
     """Writes the public key of each of these texts, and signs with it, with both programs: the failures, how many ran,
     and how often each row explained a difference."""
     failures, seen = [], collections.Counter()
-    with tempfile.TemporaryDirectory(prefix="whole-keys-") as folder:
-        os.mkdir(os.path.join(folder, HOME))
+    with tempfile.TemporaryDirectory(prefix="whole-keys-") as directory:
+        os.mkdir(os.path.join(directory, HOME))
         for kind, name, text in rows:
-            put_files(folder, {"some.key": text, "data": b"some data\n"})
-            answers = [answer(program, whole.preload, folder) for program in (whole.theirs, whole.ours)]
+            put_files(directory, {"some.key": text, "data": b"some data\n"})
+            answers = [answer(program, whole.preload, directory) for program in (whole.theirs, whole.ours)]
             wrong, entry = wrong_of_key(answers, text)
             if wrong:
                 failures.append(f"{kind}, {name}: {wrong}")
@@ -120,15 +120,15 @@ def run_keys(whole, rows):
     return failures, len(rows), seen
 
 
-def answer(program, preload, folder):
+def answer(program, preload, directory):
     """How a program answers to a key: the two runs, and what they left."""
     left = {}
     ran = []
     for arguments, made in ((("-R", "-f", "-s", "some.key", "-p", "a.pub"), "a.pub"), (("-S", "-s", "some.key", "-m", "data"), "data.minisig")):
-        path = os.path.join(folder, made)
+        path = os.path.join(directory, made)
         if os.path.exists(path):
             os.remove(path)
-        ran.append(run_step(program, preload, folder, Step(arguments, PASSWORD + b"\n")))
+        ran.append(run_step(program, preload, directory, Step(arguments, PASSWORD + b"\n")))
         if os.path.exists(path):
             with open(path, "rb") as file:
                 left[made] = file.read()
@@ -142,7 +142,7 @@ def wrong_of_key(answers, text):
         if ran.status not in (0, 2):
             return f"ours ended with {ran}", ""
     if any(ran.status != 0 for ran in ours) and set(our_files) == {"a.pub", "data.minisig"}:
-        return "ours refuses and writes", ""
+        return "ours rejects and writes", ""
     if [ran.status for ran in theirs] == [ran.status for ran in ours] and (any(ran.status for ran in ours) or their_files == our_files):
         return "", ""
     entries = [name for name, speaks in ROWS.items() if speaks(text)]

@@ -1,4 +1,4 @@
-"""How Minisign's own program and `c/minisign` are run side by side: each in a folder of its own with the same files, with
+"""How Minisign's own program and `c/minisign` are run side by side: each in a directory of its own with the same files, with
 the same random bytes and at the same time, over pipes or at a terminal."""
 
 import base64
@@ -59,8 +59,8 @@ class Whole:
     preload: str
 
 
-def run_step(program, preload, folder, step):
-    """Runs one step in a folder."""
+def run_step(program, preload, directory, step):
+    """Runs one step in a directory."""
     environment = {"HOME": HOME, "PATH": os.environ.get("PATH", "")}
     if preload:
         environment["LD_PRELOAD"] = preload
@@ -68,8 +68,8 @@ def run_step(program, preload, folder, step):
     environment = {name: value for name, value in environment.items() if value is not None}
     command = ["minisign", *step.arguments]
     if step.at_terminal:
-        return run_at_terminal(command, program, folder, environment, step.typed.splitlines(True))
-    ran = subprocess.run(command, executable=program, cwd=folder, env=environment, input=step.typed,
+        return run_at_terminal(command, program, directory, environment, step.typed.splitlines(True))
+    ran = subprocess.run(command, executable=program, cwd=directory, env=environment, input=step.typed,
                          stdout=subprocess.PIPE, stderr=subprocess.PIPE, umask=0o022, timeout=SECONDS)
     return Ran(ran.returncode, ran.stdout, ran.stderr)
 
@@ -77,9 +77,9 @@ def run_step(program, preload, folder, step):
 class AtTerminal:
     """A program at a terminal of its own, and a person at it."""
 
-    def __init__(self, command, program, folder, environment):
+    def __init__(self, command, program, directory, environment):
         self.person, side = pty.openpty()
-        self.process = subprocess.Popen(command, executable=program, cwd=folder, env=environment, stdin=side, stdout=side,
+        self.process = subprocess.Popen(command, executable=program, cwd=directory, env=environment, stdin=side, stdout=side,
                                         stderr=side, umask=0o022, start_new_session=True,
                                         preexec_fn=lambda: own_terminal(side))
         self.side = side
@@ -132,9 +132,9 @@ def own_terminal(side):
     fcntl.ioctl(side, termios.TIOCSCTTY, 0)
 
 
-def run_at_terminal(command, program, folder, environment, lines):
+def run_at_terminal(command, program, directory, environment, lines):
     """Runs a program at a terminal at which a person types a line at each question."""
-    at = AtTerminal(command, program, folder, environment)
+    at = AtTerminal(command, program, directory, environment)
     questions = 0
     for line in lines:
         questions += 1
@@ -147,42 +147,42 @@ def run_at_terminal(command, program, folder, environment, lines):
     return Ran(status, PROGRESS.sub(b"", DOTS.sub(rb"\1", at.shown)), b"")
 
 
-def put_files(folder, files):
-    """Makes files of their names and bytes; a folder is None."""
+def put_files(directory, files):
+    """Makes files of their names and bytes; a directory is None."""
     for name, data in files.items():
-        path = os.path.join(folder, name)
+        path = os.path.join(directory, name)
         if data is None:
             os.makedirs(path, exist_ok=True)
             continue
-        os.makedirs(os.path.dirname(path) or folder, exist_ok=True)
+        os.makedirs(os.path.dirname(path) or directory, exist_ok=True)
         with open(path, "wb") as file:
             file.write(data)
         if name.endswith(".key"):
             os.chmod(path, 0o600)
 
 
-def files_in(folder):
-    """The bytes and rights of all files in a folder, by their names; of a folder its rights alone."""
+def files_in(directory):
+    """The bytes and permissions of all files in a directory, by their names; of a directory its permissions alone."""
     found = {}
-    for at, folders, names in os.walk(folder):
-        for name in folders + names:
+    for at, directories, names in os.walk(directory):
+        for name in directories + names:
             path = os.path.join(at, name)
             mode = stat.S_IMODE(os.stat(path).st_mode)
             data = None
             if name in names:
                 with open(path, "rb") as file:
                     data = file.read()
-            found[os.path.relpath(path, folder)] = (mode, data)
+            found[os.path.relpath(path, directory)] = (mode, data)
     return found
 
 
 def run_steps(program, preload, files, steps):
-    """Runs steps in a fresh folder: how each ended, and the files afterwards."""
-    with tempfile.TemporaryDirectory(prefix="whole-") as folder:
-        os.mkdir(os.path.join(folder, HOME))
-        put_files(folder, files)
-        ran = [run_step(program, preload, folder, step) for step in steps]
-        return ran, files_in(folder)
+    """Runs steps in a fresh directory: how each ended, and the files afterwards."""
+    with tempfile.TemporaryDirectory(prefix="whole-") as directory:
+        os.mkdir(os.path.join(directory, HOME))
+        put_files(directory, files)
+        ran = [run_step(program, preload, directory, step) for step in steps]
+        return ran, files_in(directory)
 
 
 # ---- Texts of keys ----

@@ -21,7 +21,7 @@ from whole_cases import CLOSED, DATA, OPEN, OTHER, PASSWORD, PUBLIC
 from whole_running import HOME, SECONDS, AtTerminal, Step, put_files, record_of, run_step, run_steps, sealed, text_of
 
 HERE = os.path.dirname(os.path.realpath(__file__))
-C_FOLDER = static_library.FOLDER
+C_DIRECTORY = static_library.DIRECTORY
 QUESTION = rb"Password: $"
 # A key of Minisign's limits takes 1 GiB; with one of 16 rows it has to open within so many MiB, all of the program's.
 ROWS, MEBIBYTES = "16", 68
@@ -53,18 +53,18 @@ class Safety:
     def __init__(self, whole, room, keys):
         self.whole, self.room, self.keys = whole, room, keys
 
-    def folder(self, **files):
+    def directory(self, **files):
         made = tempfile.mkdtemp(dir=self.room)
         os.mkdir(os.path.join(made, HOME))
         put_files(made, {**self.keys, **DATA, **files})
         return made
 
-    def ours(self, folder, *arguments, typed=b"", at_terminal=False):
-        return run_step(self.whole.ours, "", folder, Step(arguments, typed, at_terminal=at_terminal))
+    def ours(self, directory, *arguments, typed=b"", at_terminal=False):
+        return run_step(self.whole.ours, "", directory, Step(arguments, typed, at_terminal=at_terminal))
 
-    def asked(self, folder, *arguments):
+    def asked(self, directory, *arguments):
         """A run at a terminal that has asked for a password."""
-        at = AtTerminal(["minisign", *arguments], self.whole.ours, folder, {"HOME": HOME})
+        at = AtTerminal(["minisign", *arguments], self.whole.ours, directory, {"HOME": HOME})
         if not at.read_until(QUESTION):
             raise Failure(f"it never asked: {at.shown!r}")
         wait_until(lambda: not at.shows_typed(), "it shows what is typed")
@@ -75,7 +75,7 @@ class Safety:
     def echo_after(self, number):
         """A signal while a password is typed ends the program, and the terminal shows again what is typed."""
         for arguments in (("-Sm", "data", "-s", CLOSED), ("-G", "-p", "a.pub", "-s", "a.key")):
-            at = self.asked(self.folder(), *arguments)
+            at = self.asked(self.directory(), *arguments)
             at.type(b"half")
             at.process.send_signal(number)
             at.process.wait(SECONDS)
@@ -86,7 +86,7 @@ class Safety:
 
     def echo_by_key(self):
         """The keys of a person that end a program do the same."""
-        at = self.asked(self.folder(), "-Sm", "data", "-s", CLOSED)
+        at = self.asked(self.directory(), "-Sm", "data", "-s", CLOSED)
         at.type(b"half\x03")
         at.process.wait(SECONDS)
         shows = at.shows_typed()
@@ -95,8 +95,8 @@ class Safety:
 
     def stopped_and_continued(self):
         """A program that a person stops while it asks lets the terminal show what is typed, and asks again afterwards."""
-        folder = self.folder()
-        at = AtTerminal(["python", "-c", SHELL, self.whole.ours, "-Sm", "data", "-s", CLOSED], sys.executable, folder, {"HOME": HOME})
+        directory = self.directory()
+        at = AtTerminal(["python", "-c", SHELL, self.whole.ours, "-Sm", "data", "-s", CLOSED], sys.executable, directory, {"HOME": HOME})
         if not at.read_until(QUESTION):
             raise Failure(f"it never asked: {at.shown!r}")
         wait_until(lambda: not at.shows_typed(), "it shows what is typed")
@@ -107,12 +107,12 @@ class Safety:
         wait_until(lambda: not at.shows_typed(), "it shows what is typed")
         at.type(PASSWORD + b"\n")
         at.read_until(None)
-        if at.end() != 0 or not os.path.exists(os.path.join(folder, "data.minisig")):
+        if at.end() != 0 or not os.path.exists(os.path.join(directory, "data.minisig")):
             raise Failure(f"it did not sign: {at.shown!r}")
 
     def locked(self):
         """While it asks, its secrets are locked in memory, and no core file would be written."""
-        at = self.asked(self.folder(), "-Sm", "data", "-s", CLOSED)
+        at = self.asked(self.directory(), "-Sm", "data", "-s", CLOSED)
         with open(f"/proc/{at.process.pid}/status", encoding="ascii") as status:
             kibibytes = int(re.search(r"VmLck:\s+(\d+) kB", status.read()).group(1))
         with open(f"/proc/{at.process.pid}/limits", encoding="ascii") as limits:
@@ -129,10 +129,10 @@ class Safety:
         # The first key was made of the same random bytes.
         seed = record_of(self.keys[OPEN])[62:94]
         for secret, draws in ((b"a long password", ""), (seed, self.whole.preload)):
-            folder = self.folder()
-            says = os.path.join(folder, "found")
+            directory = self.directory()
+            says = os.path.join(directory, "found")
             turned = bytes(byte ^ 0xff for byte in secret).hex()
-            at = AtTerminal(["minisign", "-G", "-p", "a.pub", "-s", "a.key"], self.whole.ours, folder,
+            at = AtTerminal(["minisign", "-G", "-p", "a.pub", "-s", "a.key"], self.whole.ours, directory,
                             {"HOME": HOME, "LD_PRELOAD": f"{finder} {draws}", "FIND": turned, "FIND_SAYS": says})
             for question, typed in ((QUESTION, b"a long password\n"), (rb"\(one more time\): $", b"a long p")):
                 if not at.read_until(question):
@@ -153,7 +153,7 @@ class Safety:
         os.write(writer, PASSWORD + b"\nleft over")
         os.close(writer)
         with os.fdopen(reader, "rb", buffering=0) as pipe:
-            ran = subprocess.run([self.whole.ours, "-Sm", "data", "-s", CLOSED], cwd=self.folder(), stdin=pipe,
+            ran = subprocess.run([self.whole.ours, "-Sm", "data", "-s", CLOSED], cwd=self.directory(), stdin=pipe,
                                  stdout=subprocess.PIPE, stderr=subprocess.PIPE, timeout=SECONDS)
             if ran.returncode != 0 or pipe.read() != b"left over":
                 raise Failure(f"it ended with {ran.returncode}: {ran.stderr!r}")
@@ -165,15 +165,15 @@ class Safety:
         ran, files = run_steps(self.whole.theirs, self.whole.preload, {}, (Step(("-G", "-p", "a.pub", "-s", "a.key"), b"p\np\n"),))
         if ran[0].status != 0:
             raise Failure(f"Minisign makes no key: {ran[0]}")
-        folder = self.folder(**{"default.key": files["a.key"][1], "default.pub": files["a.pub"][1]})
-        status, kibibytes, said = with_memory([self.whole.ours, "-Sm", "data", "-s", "default.key", "-k", ROWS], folder, b"p\n")
+        directory = self.directory(**{"default.key": files["a.key"][1], "default.pub": files["a.pub"][1]})
+        status, kibibytes, said = with_memory([self.whole.ours, "-Sm", "data", "-s", "default.key", "-k", ROWS], directory, b"p\n")
         if status != 0 or kibibytes > 1024 * MEBIBYTES:
             raise Failure(f"it ended with {status} and took {kibibytes} KiB: {said!r}")
-        self.expect_accepted(folder, "default.pub")
-        status, kibibytes, said = with_memory([self.whole.ours, "-C", "-s", "default.key", "-k", ROWS], folder, b"p\nq\nq\n")
+        self.expect_accepted(directory, "default.pub")
+        status, kibibytes, said = with_memory([self.whole.ours, "-C", "-s", "default.key", "-k", ROWS], directory, b"p\nq\nq\n")
         if status != 0 or kibibytes > 1024 * MEBIBYTES:
             raise Failure(f"changing: it ended with {status} and took {kibibytes} KiB: {said!r}")
-        ran = run_step(self.whole.theirs, "", folder, Step(("-Sm", "more", "-s", "default.key"), b"q\n"))
+        ran = run_step(self.whole.theirs, "", directory, Step(("-Sm", "more", "-s", "default.key"), b"q\n"))
         if ran.status != 0:
             raise Failure(f"Minisign does not open what was changed: {ran}")
 
@@ -181,24 +181,24 @@ class Safety:
         """A key of usual limits opens where there is no room for all of its rows: of those that do not fit, fewer are kept."""
         record = record_of(self.keys[CLOSED])
         costly = text_of(record[:38] + (33554432).to_bytes(8, "little") + (1 << 30).to_bytes(8, "little") + record[54:])
-        folder = self.folder(**{"costly.key": costly})
+        directory = self.directory(**{"costly.key": costly})
         bound = 300 << 20
-        ran = subprocess.run([self.whole.ours, "-Sm", "data", "-s", "costly.key"], cwd=folder, input=b"wrong\n", stdout=subprocess.PIPE,
+        ran = subprocess.run([self.whole.ours, "-Sm", "data", "-s", "costly.key"], cwd=directory, input=b"wrong\n", stdout=subprocess.PIPE,
                              stderr=subprocess.PIPE, timeout=SECONDS, preexec_fn=lambda: resource.setrlimit(resource.RLIMIT_AS, (bound, bound)))
         if ran.returncode != 2 or not ran.stderr.endswith(b"Wrong password for that key\n"):
             raise Failure(f"it ended with {ran.returncode}: {ran.stderr!r}")
 
-    def expect_accepted(self, folder, public):
+    def expect_accepted(self, directory, public):
         for program in (self.whole.theirs, self.whole.ours):
-            ran = run_step(program, "", folder, Step(("-Vm", "data", "-p", public)))
+            ran = run_step(program, "", directory, Step(("-Vm", "data", "-p", public)))
             if ran.status != 0:
-                raise Failure(f"{program} refuses it: {ran}")
+                raise Failure(f"{program} rejects it: {ran}")
 
     def shows_derivation(self):
         """At a terminal a long derivation shows a dot each second."""
         record = record_of(self.keys[CLOSED])
         costly = record[:38] + (33554432).to_bytes(8, "little") + (1 << 30).to_bytes(8, "little") + record[54:]
-        at = self.asked(self.folder(**{"costly.key": text_of(costly)}), "-Sm", "data", "-s", "costly.key", "-k", "2")
+        at = self.asked(self.directory(**{"costly.key": text_of(costly)}), "-Sm", "data", "-s", "costly.key", "-k", "2")
         at.type(b"wrong\n")
         at.read_until(None)
         if at.end() != 2 or not re.search(rb"secret key\.\.\. \.+done\r\n\r\nWrong password", at.shown):
@@ -206,12 +206,12 @@ class Safety:
 
     def shows_reading(self):
         """At a terminal it shows how much of a file was read that takes long, and takes that away at the end."""
-        folder = self.folder()
-        self.ours(folder, "-Sm", "data", "-s", OPEN)
-        os.mkfifo(os.path.join(folder, "slow"))
-        writer = threading.Thread(target=write_slowly, args=(os.path.join(folder, "slow"), DATA["data"]))
+        directory = self.directory()
+        self.ours(directory, "-Sm", "data", "-s", OPEN)
+        os.mkfifo(os.path.join(directory, "slow"))
+        writer = threading.Thread(target=write_slowly, args=(os.path.join(directory, "slow"), DATA["data"]))
         writer.start()
-        at = AtTerminal(["minisign", "-Vm", "slow", "-x", "data.minisig", "-p", PUBLIC], self.whole.ours, folder, {})
+        at = AtTerminal(["minisign", "-Vm", "slow", "-x", "data.minisig", "-p", PUBLIC], self.whole.ours, directory, {})
         at.read_until(None)
         writer.join(SECONDS)
         if at.end() != 0 or not re.search(rb"\rslow: 0 MB\r\x1b\[KSignature and", at.shown):
@@ -223,13 +223,13 @@ class Safety:
         """Control characters and those that turn the direction are made visible at a terminal, and written as they are
         elsewhere."""
         comment = "tab\there \x1b[31mred\x07 \x7f \u0085 \u009b2J \u202egnp\u202c \u2066x\u2069 \u00e9\u20ac\U0001f511"
-        folder = self.folder()
-        self.ours(folder, "-Sm", "data", "-s", OPEN, "-t", comment)
-        piped = self.ours(folder, "-Vm", "data", "-p", PUBLIC)
+        directory = self.directory()
+        self.ours(directory, "-Sm", "data", "-s", OPEN, "-t", comment)
+        piped = self.ours(directory, "-Vm", "data", "-p", PUBLIC)
         if not piped.output.endswith(f"Trusted comment: {comment}\n".encode()):
             raise Failure(f"into a pipe: {piped}")
         for flags in ((), ("-Q",)):
-            shown = self.ours(folder, "-Vm", "data", "-p", PUBLIC, *flags, at_terminal=True)
+            shown = self.ours(directory, "-Vm", "data", "-p", PUBLIC, *flags, at_terminal=True)
             wanted = ("tab\there \\u{1b}[31mred\\u{7} \\u{7f} \\u{85} \\u{9b}2J \\u{202e}gnp\\u{202c} \\u{2066}x\\u{2069} "
                       "\u00e9\u20ac\U0001f511\r\n")
             # A terminal may show a tab as spaces.
@@ -238,23 +238,23 @@ class Safety:
 
     def copies_of_pipes(self):
         """Data from a pipe is copied out once it was verified, and nothing is copied where it was not."""
-        folder = self.folder()
-        self.ours(folder, "-Sm", "data", "-s", OPEN)
+        directory = self.directory()
+        self.ours(directory, "-Sm", "data", "-s", OPEN)
         for data, wanted in ((DATA["data"], (0, DATA["data"])), (b"other data\n", (1, b""))):
-            ran = self.ours(folder, "-Vom", "/dev/stdin", "-x", "data.minisig", "-p", PUBLIC, typed=data)
+            ran = self.ours(directory, "-Vom", "/dev/stdin", "-x", "data.minisig", "-p", PUBLIC, typed=data)
             if (ran.status, ran.output) != wanted:
                 raise Failure(f"{data!r}: {ran}")
 
     def changed_while_copied(self, change):
         """Data that changes once it was verified: what is copied is the front of what was verified, and it ends badly."""
         # Each block of 4096 bytes is another, and the last byte is zero.
-        folder = self.folder(large=b"".join(number.to_bytes(4, "little") * 1024 for number in range(LARGE // 4096)) + bytes(LARGE % 4096))
-        path = os.path.join(folder, "large")
-        self.ours(folder, "-Sm", "large", "-s", OPEN)
+        directory = self.directory(large=b"".join(number.to_bytes(4, "little") * 1024 for number in range(LARGE // 4096)) + bytes(LARGE % 4096))
+        path = os.path.join(directory, "large")
+        self.ours(directory, "-Sm", "large", "-s", OPEN)
         with open(path, "rb") as file:
             before = file.read()
         reader, writer = full_pipe()
-        process = subprocess.Popen([self.whole.ours, "-Vom", "large", "-p", PUBLIC], cwd=folder, stdin=subprocess.DEVNULL,
+        process = subprocess.Popen([self.whole.ours, "-Vom", "large", "-p", PUBLIC], cwd=directory, stdin=subprocess.DEVNULL,
                                    stdout=subprocess.PIPE, stderr=writer)
         os.close(writer)
         wait_for_rest(process)
@@ -269,8 +269,8 @@ class Safety:
     def tags_of_pieces(self):
         """The tags by which two readings of a piece are compared are those of the formula."""
         program = os.path.join(self.room, "tags")
-        sources = [os.path.join(HERE, "tags.c"), os.path.join(C_FOLDER, "tags.c")]
-        subprocess.run([needs.libsodium(), "-O2", f"-I{C_FOLDER}", "-o", program, *sources], check=True)
+        sources = [os.path.join(HERE, "tags.c"), os.path.join(C_DIRECTORY, "tags.c")]
+        subprocess.run([needs.libsodium(), "-O2", f"-I{C_DIRECTORY}", "-o", program, *sources], check=True)
         key = os.urandom(4096 + 512)
         for length in (0, 1, 8, 15, 16, 17, 4095, 4096, 4097, 70000, 131071, 131072):
             piece = os.urandom(length)
@@ -282,19 +282,19 @@ class Safety:
         """Data of many pieces is copied whole."""
         for length in (4096, 4097, 131071, 131072, 131073, 262144, 1048576, 1500001):
             data = os.urandom(length)
-            folder = self.folder(large=data)
-            self.ours(folder, "-Sm", "large", "-s", OPEN)
-            ran = self.ours(folder, "-Vom", "large", "-p", PUBLIC)
+            directory = self.directory(large=data)
+            self.ours(directory, "-Sm", "large", "-s", OPEN)
+            ran = self.ours(directory, "-Vom", "large", "-p", PUBLIC)
             if ran.status != 0 or ran.output != data:
                 raise Failure(f"{length} bytes: {ran.status}, {len(ran.output)} bytes")
 
     def full_output(self):
         """Where the output is full it does not end well."""
-        folder = self.folder()
-        self.ours(folder, "-Sm", "data", "-s", OPEN)
+        directory = self.directory()
+        self.ours(directory, "-Sm", "data", "-s", OPEN)
         for arguments in (("-Vm", "data", "-p", PUBLIC), ("-v",), ("-h",), ("-CW", "-s", OPEN)):
             with open("/dev/full", "wb") as full:
-                ran = subprocess.run([self.whole.ours, *arguments], cwd=folder, stdin=subprocess.DEVNULL, stdout=full,
+                ran = subprocess.run([self.whole.ours, *arguments], cwd=directory, stdin=subprocess.DEVNULL, stdout=full,
                                      stderr=subprocess.PIPE, timeout=SECONDS)
             if ran.returncode != 2:
                 raise Failure(f"{arguments}: it ended with {ran.returncode}")
@@ -305,9 +305,9 @@ class Safety:
         """A secret key whose public half is not its own makes no signature."""
         record = bytearray(record_of(self.keys[OPEN]))
         record[94:126] = record_of(self.keys[OTHER])[10:]
-        folder = self.folder(**{"mixed.key": text_of(bytes(record))})
-        ran = self.ours(folder, "-Sm", "data", "-s", "mixed.key")
-        if ran.status != 2 or os.path.exists(os.path.join(folder, "data.minisig")):
+        directory = self.directory(**{"mixed.key": text_of(bytes(record))})
+        ran = self.ours(directory, "-Sm", "data", "-s", "mixed.key")
+        if ran.status != 2 or os.path.exists(os.path.join(directory, "data.minisig")):
             raise Failure(f"{ran}")
 
 
@@ -325,10 +325,10 @@ def tag_of(key, piece):
     return nh(key[4096:], b"".join(nh(key, block).to_bytes(16, "little") for block in blocks))
 
 
-def with_memory(command, folder, typed):
+def with_memory(command, directory, typed):
     """Runs a command: its status, the most memory that it took in KiB, and what it said."""
     reader, writer = os.pipe()
-    process = subprocess.Popen(command, cwd=folder, stdin=subprocess.PIPE, stdout=writer, stderr=writer)
+    process = subprocess.Popen(command, cwd=directory, stdin=subprocess.PIPE, stdout=writer, stderr=writer)
     os.close(writer)
     process.stdin.write(typed)
     process.stdin.close()

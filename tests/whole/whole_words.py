@@ -33,9 +33,9 @@ START = b'Untrusted signature comment should start with "untrusted comment: "'
 ROWS_OF_FIRST_LINES = {b"Signature too long": (b"Trusted comment not present",), b"Untrusted signature comment too long": (START, NOT_UTF8),
                        START: (b"Error while reading the signature file", NOT_UTF8)}
 
-# A key of more than so much work, N times p of scrypt, is refused.
+# A key of more than so much work, N times p of scrypt, is rejected.
 MOST_WORK = 16 << 20
-# A refusal comes within so many seconds, where such work takes twenty and more.
+# A rejection comes within so many seconds, where such work takes twenty and more.
 AT_ONCE = 10
 
 # What a shell does with a program in the background of its terminal: looks whether it is stopped and whether the terminal shows what is
@@ -79,21 +79,21 @@ class Words(Safety):
     # ---- Texts of a wrong kind ----
 
     def signed(self, **files):
-        """A folder with a signature of the data."""
-        folder = self.folder(**files)
-        self.ours(folder, "-Sm", "data", "-s", OPEN)
-        return folder
+        """A directory with a signature of the data."""
+        directory = self.directory(**files)
+        self.ours(directory, "-Sm", "data", "-s", OPEN)
+        return directory
 
     def wrong_text(self, flag, text, words):
         """A text in place of a public key, of a signature or of a secret key: Minisign's own first line, and behind it one that
         names the file and says these words."""
-        folder = self.signed(wrong=text)
+        directory = self.signed(wrong=text)
         arguments = {"-p": ("-Vm", "data", "-p", "wrong"), "-x": ("-Vm", "data", "-p", PUBLIC, "-x", "wrong"),
                      "-s": ("-Sm", "data", "-s", "wrong", "-x", "made")}[flag]
-        ours = self.ours(folder, *arguments)
-        theirs = subprocess.run([self.whole.theirs, *arguments], cwd=folder, stdin=subprocess.DEVNULL, stderr=subprocess.PIPE, timeout=SECONDS)
+        ours = self.ours(directory, *arguments)
+        theirs = subprocess.run([self.whole.theirs, *arguments], cwd=directory, stdin=subprocess.DEVNULL, stderr=subprocess.PIPE, timeout=SECONDS)
         lines = ours.said.split(b"\n")
-        if ours.status != 2 or len(lines) != 3 or lines[1] != b"wrong: " + words or os.path.exists(os.path.join(folder, "made")):
+        if ours.status != 2 or len(lines) != 3 or lines[1] != b"wrong: " + words or os.path.exists(os.path.join(directory, "made")):
             raise Failure(f"{ours}")
         first = theirs.stderr.split(b"\n")[0]
         if theirs.returncode == 2 and first != lines[0] and lines[0] not in ROWS_OF_FIRST_LINES.get(first, (NOT_UTF8,)):
@@ -101,15 +101,15 @@ class Words(Safety):
 
     def cut_at_its_end(self):
         """A signature that ends in its last line, where the line is base64 still, is told as cut; whole ones of other data are not."""
-        folder = self.signed()
-        text = read_file(folder, "data.minisig")
+        directory = self.signed()
+        text = read_file(directory, "data.minisig")
         for end in (-41, -5):
-            with open(os.path.join(folder, "cut"), "wb") as file:
+            with open(os.path.join(directory, "cut"), "wb") as file:
                 file.write(text[:end])
-            ran = self.ours(folder, "-Vm", "data", "-p", PUBLIC, "-x", "cut")
+            ran = self.ours(directory, "-Vm", "data", "-p", PUBLIC, "-x", "cut")
             if ran.status not in (1, 2) or not ran.said.startswith((b"Comment signature", b"base64")) or b"\ncut: this signature is " not in ran.said:
                 raise Failure(f"{end}: {ran}")
-        ran = self.ours(folder, "-Vm", "more", "-p", PUBLIC, "-x", "data.minisig")
+        ran = self.ours(directory, "-Vm", "more", "-p", PUBLIC, "-x", "data.minisig")
         if (ran.status, ran.said) != (1, b"Signature verification failed\n"):
             raise Failure(f"{ran}")
 
@@ -118,11 +118,11 @@ class Words(Safety):
         record = bytearray(record_of(self.keys[OPEN]))
         record[94] ^= 1
         record[126:158] = bytes(32)
-        folder = self.folder(**{"broken.key": text_of(bytes(record))})
-        ran = self.ours(folder, "-Sm", "data", "-s", "broken.key")
+        directory = self.directory(**{"broken.key": text_of(bytes(record))})
+        ran = self.ours(directory, "-Sm", "data", "-s", "broken.key")
         if ran.status != 2 or b"\nbroken.key: this secret key is damaged: " not in ran.said:
             raise Failure(f"{ran}")
-        ran = self.ours(folder, "-Sm", "data", "-s", OPEN, "-p", OTHER)
+        ran = self.ours(directory, "-Sm", "data", "-s", OPEN, "-p", OTHER)
         if ran.status != 2 or not ran.said.endswith(f"\n{OTHER}: this is not the public key of {OPEN}\n".encode()):
             raise Failure(f"{ran}")
 
@@ -133,17 +133,17 @@ class Words(Safety):
             (b"caf\xe9", (), b"caf\\xe9: a name that is not UTF-8"), (b"end ", ("-l",), b"end : a name that ends with white space"),
             (b"end\xe3\x80\x80", ("-l",), b"a name that ends with white space"), (b"two\nlines", (), b"two\\u{a}lines: a name that has a line end"),
         ):
-            folder = self.folder(**{})
-            with open(os.path.join(os.fsencode(folder), name), "wb") as file:
+            directory = self.directory(**{})
+            with open(os.path.join(os.fsencode(directory), name), "wb") as file:
                 file.write(b"data")
-            ran = self.ours(folder, "-S", *flags, "-s", OPEN, "-m", name)
+            ran = self.ours(directory, "-S", *flags, "-s", OPEN, "-m", name)
             if ran.status != 2 or words not in ran.said or b"The comment" in ran.said:
                 raise Failure(f"{name}: {ran}")
-            ran = self.ours(folder, "-S", *flags, "-s", OPEN, "-m", name, "-t", "given")
+            ran = self.ours(directory, "-S", *flags, "-s", OPEN, "-m", name, "-t", "given")
             if ran.status != 0:
                 raise Failure(f"{name}, with a comment: {ran}")
-        folder = self.folder()
-        ran = self.ours(folder, "-Sm", "data", "-s", OPEN, "-t", b"\xff")
+        directory = self.directory()
+        ran = self.ours(directory, "-Sm", "data", "-s", OPEN, "-t", b"\xff")
         if ran.said != b"The comment is not UTF-8\n":
             raise Failure(f"a comment that is given: {ran}")
 
@@ -151,27 +151,27 @@ class Words(Safety):
 
     def cheap_key_opens(self):
         """A key of little work opens, though its p is 32."""
-        folder = self.folder(**{"cheap.key": sealed_for(self.keys[OPEN], PASSWORD, 32)})
-        ran = self.ours(folder, "-Sm", "data", "-s", "cheap.key", typed=PASSWORD + b"\n")
+        directory = self.directory(**{"cheap.key": sealed_for(self.keys[OPEN], PASSWORD, 32)})
+        ran = self.ours(directory, "-Sm", "data", "-s", "cheap.key", typed=PASSWORD + b"\n")
         if ran.status != 0:
             raise Failure(f"{ran}")
-        self.expect_accepted(folder, PUBLIC)
+        self.expect_accepted(directory, PUBLIC)
 
-    def dear_key_is_refused(self):
-        """A key of more than 16 times the work of a usual one is refused at once, whatever its p, and the words say what allows it."""
+    def dear_key_is_rejected(self):
+        """A key of more than 16 times the work of a usual one is rejected at once, whatever its p, and the words say what allows it."""
         for rows, times in ((FEW_ROWS, MOST_WORK // FEW_ROWS + 1), (1 << 20, 17), (1 << 15, 513)):
-            folder = self.folder(**{"dear.key": sealed_for(self.keys[OPEN], PASSWORD, times, rows)})
+            directory = self.directory(**{"dear.key": sealed_for(self.keys[OPEN], PASSWORD, times, rows)})
             start = time.monotonic()
-            ran = self.ours(folder, "-Sm", "data", "-s", "dear.key", typed=PASSWORD + b"\n")
+            ran = self.ours(directory, "-Sm", "data", "-s", "dear.key", typed=PASSWORD + b"\n")
             says = b"\ndear.key: opening this key takes 17 times" in ran.said and b"-K 17" in ran.said
             if ran.status != 2 or not says or time.monotonic() - start > AT_ONCE:
                 raise Failure(f"{rows} rows, {times} times: {ran}")
 
     def flag_allows_work(self):
         """What -K allows opens, and what it does not allow does not."""
-        folder = self.folder(**{"dear.key": sealed_for(self.keys[OPEN], PASSWORD, 1100)})
+        directory = self.directory(**{"dear.key": sealed_for(self.keys[OPEN], PASSWORD, 1100)})
         for flags, wanted in ((("-K", "1"), 2), (("-K", "2"), 0)):
-            ran = self.ours(folder, "-Sm", "data", "-s", "dear.key", *flags, typed=PASSWORD + b"\n")
+            ran = self.ours(directory, "-Sm", "data", "-s", "dear.key", *flags, typed=PASSWORD + b"\n")
             if ran.status != wanted:
                 raise Failure(f"{flags}: {ran}")
 
@@ -179,8 +179,8 @@ class Words(Safety):
 
     def in_background(self, *arguments):
         """In the background of a terminal it is stopped, and the terminal shows what is typed; in the foreground it asks."""
-        folder = self.folder()
-        at = AtTerminal(["python", "-c", BACKGROUND, self.whole.ours, *arguments], sys.executable, folder, {"HOME": HOME})
+        directory = self.directory()
+        at = AtTerminal(["python", "-c", BACKGROUND, self.whole.ours, *arguments], sys.executable, directory, {"HOME": HOME})
         if not at.read_until(rb"(?:stopped|not stopped) (?:shows|hides)") or b"not stopped" in at.shown or b"hides" in at.shown:
             at.process.kill()
             raise Failure(f"it showed {at.shown!r}")
@@ -196,17 +196,17 @@ class Words(Safety):
         """A timer that was set before it ends a derivation of a key, and nothing is written into a stream that is no terminal."""
         record = record_of(self.keys[CLOSED])
         costly = text_of(record[:38] + (33554432).to_bytes(8, "little") + (1 << 30).to_bytes(8, "little") + record[54:])
-        folder = self.folder(**{"costly.key": costly})
+        directory = self.directory(**{"costly.key": costly})
         command = ["python", "-c", ALARMED, self.whole.ours, "-Sm", "data", "-s", "costly.key", "-k", "64"]
         if at_terminal:
-            at = AtTerminal(command, sys.executable, folder, {"HOME": HOME})
+            at = AtTerminal(command, sys.executable, directory, {"HOME": HOME})
             at.read_until(QUESTION)
             at.wait_for_hiding()
             at.type(b"wrong\n")
             at.read_until(None)
             status, said = at.end(), b""
         else:
-            ran = subprocess.run(command, executable=sys.executable, cwd=folder, input=b"wrong\n", stdout=subprocess.PIPE,
+            ran = subprocess.run(command, executable=sys.executable, cwd=directory, input=b"wrong\n", stdout=subprocess.PIPE,
                                  stderr=subprocess.PIPE, timeout=SECONDS)
             status, said = ran.returncode, ran.stderr
         if status != -signal.SIGALRM or b"." in said:
@@ -216,15 +216,15 @@ class Words(Safety):
         """With -q and -Q neither dots nor how far it is are shown at a terminal."""
         record = record_of(self.keys[CLOSED])
         costly = text_of(record[:38] + (33554432).to_bytes(8, "little") + (1 << 30).to_bytes(8, "little") + record[54:])
-        folder = self.signed(**{"costly.key": costly})
-        at = self.asked(folder, "-Sm", "data", "-s", "costly.key", "-k", "2", flag)
+        directory = self.signed(**{"costly.key": costly})
+        at = self.asked(directory, "-Sm", "data", "-s", "costly.key", "-k", "2", flag)
         at.type(b"wrong\n")
         at.read_until(None)
         if at.end() != 2 or b"secret key... done" not in at.shown:
             raise Failure(f"it showed {at.shown!r}")
-        os.mkfifo(os.path.join(folder, "slow"))
-        writer = slow_writer(os.path.join(folder, "slow"))
-        at = AtTerminal(["minisign", "-Vm", "slow", "-x", "data.minisig", "-p", PUBLIC, flag], self.whole.ours, folder, {})
+        os.mkfifo(os.path.join(directory, "slow"))
+        writer = slow_writer(os.path.join(directory, "slow"))
+        at = AtTerminal(["minisign", "-Vm", "slow", "-x", "data.minisig", "-p", PUBLIC, flag], self.whole.ours, directory, {})
         at.read_until(None)
         writer.join(SECONDS)
         if at.end() != 0 or b"MB" in at.shown or b"\x1b" in at.shown:
@@ -243,28 +243,28 @@ class Words(Safety):
             (("-Vm", "data", "-x", odd, "-p", OTHER), {odd: None}), (("-GW", "-p", odd, "-s", odd), {}),
         ]
         for arguments, files in runs:
-            folder = self.signed(**{name: data for name, data in files.items() if data is not None})
+            directory = self.signed(**{name: data for name, data in files.items() if data is not None})
             if odd in files and files[odd] is None:
-                os.rename(os.path.join(folder, "data.minisig"), os.path.join(folder, odd))
+                os.rename(os.path.join(directory, "data.minisig"), os.path.join(directory, odd))
             for at_terminal in (False, True):
-                ran = self.ours(folder, *arguments, at_terminal=at_terminal)
+                ran = self.ours(directory, *arguments, at_terminal=at_terminal)
                 said = ran.output + ran.said
                 if shown not in said or odd.encode() in said or b"\x1b" in said or "\u202e".encode() in said:
                     raise Failure(f"{arguments}, at a terminal {at_terminal}: {ran}")
                 if at_terminal is False and "-GW" in arguments and ran.status == 0:
                     break
-        folder = self.folder()
-        ran = self.ours(folder, "-Sm", b"caf\xe9", "-s", OPEN)
+        directory = self.directory()
+        ran = self.ours(directory, "-Sm", b"caf\xe9", "-s", OPEN)
         if ran.said != b"caf\\xe9: No such file or directory\n":
             raise Failure(f"a name in Latin-1: {ran}")
 
     def name_while_reading(self):
         """So it is while a file is read."""
-        folder = self.signed()
+        directory = self.signed()
         odd = "s\x1blow"
-        os.mkfifo(os.path.join(folder, odd))
-        writer = slow_writer(os.path.join(folder, odd))
-        at = AtTerminal(["minisign", "-Vm", odd, "-x", "data.minisig", "-p", PUBLIC], self.whole.ours, folder, {})
+        os.mkfifo(os.path.join(directory, odd))
+        writer = slow_writer(os.path.join(directory, odd))
+        at = AtTerminal(["minisign", "-Vm", odd, "-x", "data.minisig", "-p", PUBLIC], self.whole.ours, directory, {})
         at.read_until(None)
         writer.join(SECONDS)
         if at.end() != 0 or rb"s\u{1b}low: 0 MB" not in at.shown:
@@ -326,7 +326,7 @@ def cases(words):
     yield "a key whose halves do not belong together", words.damaged_key
     yield "names that are no comments", words.names_of_comments
     yield "a key of little work", words.cheap_key_opens
-    yield "keys of much work", words.dear_key_is_refused
+    yield "keys of much work", words.dear_key_is_rejected
     yield "work that is allowed", words.flag_allows_work
     yield "in the background", lambda: words.in_background("-Sm", "data", "-s", CLOSED)
     for at_terminal in (False, True):
@@ -337,8 +337,8 @@ def cases(words):
     yield "a name with control characters while it is read", words.name_while_reading
 
 
-def read_file(folder, name):
-    with open(os.path.join(folder, name), "rb") as file:
+def read_file(directory, name):
+    with open(os.path.join(directory, name), "rb") as file:
         return file.read()
 
 

@@ -8,7 +8,7 @@ mod signing;
 pub use signing::{SecretKey, Signer, Work};
 use std::{fmt, fs, io, path::Path};
 
-/// Why something was refused, as `minisign.h` numbers it. It is shown in the words of `minisign_error_text`.
+/// Why something was rejected, as `minisign.h` numbers it. It is shown in the words of `minisign_error_text`.
 #[derive(Clone, Copy, Debug, Eq, PartialEq, Hash)]
 pub struct Reason(pub u32);
 
@@ -77,7 +77,7 @@ impl fmt::Display for Error {
 impl std::error::Error for Error {}
 
 /// An Ed25519, whose answers are taken as they are: one that accepts keys or signatures of small order accepts files
-/// that nobody signed, so it has to refuse them, as libsodium does. One that only verifies leaves the other calls as
+/// that nobody signed, so it has to reject them, as libsodium does. One that only verifies leaves the other calls as
 /// they stand here.
 pub trait Ed25519: Sync {
     /// Whether the signature is one of the message under the public key.
@@ -167,7 +167,7 @@ struct Asked {
     message: Vec<u8>,
 }
 
-/// Asks about the text of a signature. Where it is refused, its key ID is told with the reason, as far as it reads.
+/// Asks about the text of a signature. Where it is rejected, its key ID is told with the reason, as far as it reads.
 fn ask(key: &raw::PublicKey, text: &str, allow_legacy: bool) -> Result<Asked, (Reason, [u8; 8])> {
     let (mut state, mut questions, mut message) = (raw::init(), raw::Questions::ZEROS, vec![0; text.len()]);
     let asked = raw::ask(&mut state, key, text.as_bytes(), allow_legacy.into(), &mut questions, &mut message);
@@ -227,11 +227,11 @@ pub struct StreamVerifier<'a> {
 impl StreamVerifier<'_> {
     /// Takes in the next piece of the data, of any length.
     pub fn update(&mut self, piece: &[u8]) {
-        // (only once the verdict was asked for is it refused, and then so is another verdict)
+        // (only once the verdict was asked for is it rejected, and then so is another verdict)
         let _ = raw::update(&mut self.asked.state, piece);
     }
 
-    /// Whether the signature vouches for all of the pieces. It is asked once: after that each call refuses.
+    /// Whether the signature vouches for all of the pieces. It is asked once: after that each call rejects.
     pub fn finalize(&mut self) -> Result<(), Error> {
         self.end(&[])
     }

@@ -106,7 +106,7 @@ pub struct Signer<'a> {
 impl Signer<'_> {
     /// Takes in the next piece of the data, of any length.
     pub fn update(&mut self, piece: &[u8]) {
-        // (a state that was begun refuses nothing before its digest was told, which ends this)
+        // (a state that was begun rejects nothing before its digest was told, which ends this)
         let _ = raw::update(&mut self.state, piece);
     }
 

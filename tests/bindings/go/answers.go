@@ -74,23 +74,23 @@ func inPieces(length int) way {
 }
 
 // fromFile has files read: the key, the signature and the data.
-func fromFile(folder string) way {
+func fromFile(directory string) way {
 	return func(_ *minisign.PublicKey, data []byte, signature minisign.Signature) (bool, error) {
-		key, err := minisign.NewPublicKeyFromFile(filepath.Join(folder, "key"))
+		key, err := minisign.NewPublicKeyFromFile(filepath.Join(directory, "key"))
 		if err != nil {
 			return false, err
 		}
-		read, err := minisign.NewSignatureFromFile(filepath.Join(folder, "signature"))
+		read, err := minisign.NewSignatureFromFile(filepath.Join(directory, "signature"))
 		if err != nil || read != signature {
 			return false, fmt.Errorf("another signature: %w", err)
 		}
-		if err := os.WriteFile(filepath.Join(folder, "data"), data, 0o644); err != nil {
+		if err := os.WriteFile(filepath.Join(directory, "data"), data, 0o644); err != nil {
 			return false, err
 		}
 		// (the text is what is verified, and no field)
 		read.SignatureAlgorithm[1] ^= 'D' ^ 'd'
 		read.TrustedComment, read.Signature = "", [64]byte{}
-		return key.VerifyFromFile(filepath.Join(folder, "data"), read)
+		return key.VerifyFromFile(filepath.Join(directory, "data"), read)
 	}
 }
 
@@ -114,7 +114,7 @@ func answer(it line, how way) string {
 	comment, err := verify(it, how)
 	if err != nil {
 		number, _ := err.(minisign.Error)
-		return fmt.Sprintf("refused %d %q", number, err.Error())
+		return fmt.Sprintf("rejected %d %q", number, err.Error())
 	}
 	if comment == "" {
 		return "accepted -"

@@ -1,4 +1,4 @@
-// What the package answers, as a program of its user: it stands in a folder beside `node_modules`.
+// What the package answers, as a program of its user: it stands in a directory beside `node_modules`.
 //
 //     node answers.mjs cases [legacy]    the cases of standard input, one on each line, in an order that they answer
 //     node answers.mjs pieces [legacy]   the same, whose data comes in pieces in each way that there is
@@ -37,7 +37,7 @@ async function answerOf(data, signature, key, options) {
     if (!(why instanceof MinisignError) || ERRORS[why.code] !== why.number || !why.message) {
       throw why;
     }
-    return `refused ${why.code}`;
+    return `rejected ${why.code}`;
   }
 }
 

@@ -61,7 +61,7 @@ async function answers({verify, MinisignError}, [key, data, signature]) {
   const lines = [];
   for (const form of forms) {
     lines.push(await verify(form, signature, key).then(({trustedComment}) => `accepted ${trustedComment}`,
-                                                       why => why instanceof MinisignError ? `refused ${why.code}` : `failed ${why}`));
+                                                       why => why instanceof MinisignError ? `rejected ${why.code}` : `failed ${why}`));
   }
   return lines;
 }

@@ -10,7 +10,7 @@ async function answerOf(data, signature, key, options) {
   try {
     return `accepted ${hexOf((await verify(data, signature, key, options)).trustedComment)}`;
   } catch (why) {
-    return why instanceof MinisignError ? `refused ${why.code}` : String(why);
+    return why instanceof MinisignError ? `rejected ${why.code}` : String(why);
   }
 }
 

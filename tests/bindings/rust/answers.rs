@@ -49,7 +49,7 @@ fn verify_in_pieces(case: &[Vec<u8>], len: usize) -> Result<String, Error> {
 fn answer(verdict: Result<String, Error>) -> String {
     match verdict {
         Ok(comment) => format!("accepted {}", hex(comment.as_bytes())),
-        Err(error) => format!("refused {error:?}: {error}").replace('\n', " "),
+        Err(error) => format!("rejected {error:?}: {error}").replace('\n', " "),
     }
 }
 
@@ -100,14 +100,14 @@ fn is_same_in_threads(cases: &[Vec<Vec<u8>>]) -> bool {
     })
 }
 
-/// Makes a pair of keys in a folder; with a password it is sealed by little work.
-fn make(folder: &str, password: Option<&str>) -> Result<(), Error> {
+/// Makes a pair of keys in a directory; with a password it is sealed by little work.
+fn make(directory: &str, password: Option<&str>) -> Result<(), Error> {
     let key = SecretKey::generate(&Sodium)?;
     let work = Work { operations_limit: 32768, memory_limit: 1 << 20, ..Work::USUAL };
     let text = key.encode(&Sodium, password, &work)?;
     assert_eq!(password.is_some(), text != key.encode(&Sodium, password, &work)?, "of a sealed key each text has a salt of its own");
-    fs::write(format!("{folder}/secret"), text).unwrap();
-    fs::write(format!("{folder}/public"), key.public_key_text()?).unwrap();
+    fs::write(format!("{directory}/secret"), text).unwrap();
+    fs::write(format!("{directory}/public"), key.public_key_text()?).unwrap();
     Ok(())
 }
 
@@ -147,8 +147,8 @@ fn main() {
             let key = PublicKey::from_base64(base64);
             println!("{:?}", key.map(|key| key.untrusted_comment().map(String::from)));
         }
-        ["make", folder] => println!("{:?}", make(folder, None)),
-        ["make", folder, password] => println!("{:?}", make(folder, Some(password))),
+        ["make", directory] => println!("{:?}", make(directory, None)),
+        ["make", directory, password] => println!("{:?}", make(directory, Some(password))),
         ["sign", key, data, to, comment] => println!("{:?}", sign(key, data, to, comment, None)),
         ["sign", key, data, to, comment, password] => println!("{:?}", sign(key, data, to, comment, Some(password))),
         _ => panic!("no such words"),

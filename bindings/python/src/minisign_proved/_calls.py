@@ -35,8 +35,8 @@ SMALL_ORDER = (0, 1, PRIME - 1, 0x7a03ac9277fdc74ec6cc392cfa53202a0f67100d760b3c
                0x5fc536d880238b13933c6d305acdfd5f098eff289f4c345b027b2c28f95e826)
 
 
-def is_refused(point: bytes) -> bool:
-    """Whether libsodium refuses 32 bytes as a point: for their second coordinate, before the bit of the sign, or for their order."""
+def is_rejected(point: bytes) -> bool:
+    """Whether libsodium rejects 32 bytes as a point: for their second coordinate, before the bit of the sign, or for their order."""
     second = int.from_bytes(point, "little") % 2**255
     return second >= PRIME or second in SMALL_ORDER
 
@@ -72,7 +72,7 @@ class Cryptography:
 
     def accepts(self, signature: bytes, message: bytes, key: bytes) -> bool:
         from cryptography.exceptions import InvalidSignature
-        if is_refused(key) or is_refused(signature[:32]) or int.from_bytes(signature[32:], "little") >= ORDER:
+        if is_rejected(key) or is_rejected(signature[:32]) or int.from_bytes(signature[32:], "little") >= ORDER:
             return False
         try:
             self._of.Ed25519PublicKey.from_public_bytes(key).verify(signature, message)

@@ -116,7 +116,7 @@ class PublicKey:
 
 
 class Verifier:
-    """Verifies data that comes in pieces. Where the texts refuse already, it is not made: NotUtf8, the errors of the text of a
+    """Verifies data that comes in pieces. Where the texts reject already, it is not made: NotUtf8, the errors of the text of a
     signature, DifferentKeyIds, LegacyNotAccepted. Signatures over the data itself are taken where `allow_legacy` is true: the data
     is then kept in memory until the end. Threads may share one: their calls are made one after another."""
 

@@ -5,7 +5,7 @@ Made by tools/bindings.py from include/minisign.h.
 """
 
 class MinisignError(Exception):
-    """What the library refused, or could not do: its number in include/minisign.h."""
+    """What the library rejected, or could not do: its number in include/minisign.h."""
 
     number = 0
 

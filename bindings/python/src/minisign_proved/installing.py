@@ -38,9 +38,9 @@ class Installing(Structure):
 library.begin_installing.restype, library.make_call.restype = POINTER(Installing), c_bool
 
 
-def _received(data: IO[bytes], folder: str, most: int, progress: Optional[Progress]) -> IO[bytes]:
+def _received(data: IO[bytes], directory: str, most: int, progress: Optional[Progress]) -> IO[bytes]:
     """Data that may stand still, in a file without a name: so the place is locked no longer than the work takes."""
-    held = tempfile.TemporaryFile(dir=folder)
+    held = tempfile.TemporaryFile(dir=directory)
     for piece in pieces_of(data, progress):
         held.write(piece)
         if held.tell() > most:
@@ -76,14 +76,14 @@ def install(key: PublicKey, data: Union[Path, IO[bytes]], signature: Signature, 
         return h.ANSWER_YES if accepts(bytes(signature.contents), string_at(data, length), bytes(key.contents)) else h.ANSWER_NO
 
     field, longest = NUMBERINGS[numbering], LONGEST if most is None else max(0, min(most, LONGEST))
-    folder, last = os.path.split(os.fsdecode(place))
+    directory, last = os.path.split(os.fsdecode(place))
     if last in ("", ".", "..") or "\0" in last + (name or ""):
         raise ValueError(f"{place!r}: it does not end with the name of a file")
-    os.close(os.open(folder or ".", os.O_RDONLY | os.O_DIRECTORY))
+    os.close(os.open(directory or ".", os.O_RDONLY | os.O_DIRECTORY))
     # (what is open already may be anything, and is read as Python reads it)
     is_path = not hasattr(data, "read")
-    with open(cast(Path, data), "rb", buffering=0) if is_path else _received(cast("IO[bytes]", data), folder or ".", longest, progress) as file:
-        shown = os.fsencode(cast(Path, data) if is_path else folder)
+    with open(cast(Path, data), "rb", buffering=0) if is_path else _received(cast("IO[bytes]", data), directory or ".", longest, progress) as file:
+        shown = os.fsencode(cast(Path, data) if is_path else directory)
         wanted = Wanted(os.fsencode(place), os.fsencode(name or last), shown, file.fileno(), longest, first, again, field, mode is not None,
                         (mode or 0) & 0o777, pointer(key._read), 1, text, len(text), Answer(answer))
         begun = library.begin_installing(byref(wanted))
