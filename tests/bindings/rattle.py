@@ -1,6 +1,6 @@
 #!/usr/bin/env python3
-"""Builds the caller of examples/rattle in a copy, beside the crates that it stands on, and verifies files with keys of Minisign's own
-program: what was signed is accepted, and what was changed is rejected.
+"""Builds the caller of examples/rattle in a copy, over the libraries as they stand proved (tests/shared/proved.py), and verifies files
+with keys of Minisign's own program: what was signed is accepted, and what was changed is rejected.
 
     tests/bindings/rattle.py
 
@@ -22,45 +22,32 @@ HERE = os.path.dirname(os.path.realpath(__file__))
 sys.path.append(os.path.join(HERE, "..", "shared"))
 
 import needs
+import proved
 import shared_cases as shared
-import static_library
 
 NAME = "verify_with_sodium"
-SECONDS = 3600
-
-
-def needed_crates(lines, names):
-    """The crates of this repository that these stand on, and themselves."""
-    found = []
-    for name in names:
-        if name in lines and name not in found:
-            found += [it for it in needed_crates(lines, lines[name]) if it not in found] + [name]
-    return found
-
-
-def read_lines(path):
-    """The crates of a crates.txt, and what each stands on."""
-    rows = [line.split("#")[0].partition(":") for line in shared.read(path).decode().splitlines()]
-    return {name.split()[0]: rest.split() for name, colon, rest in rows if colon}
 
 
 def build(room, libsodium):
-    """The program, proved and built in a copy: its path, and what was said."""
+    """The program, proved in a copy over the libraries as they stand proved, and built: its path, and what the prover said."""
     example = os.path.join(shared.TOP, "examples", "rattle")
-    shutil.copytree(example, room, dirs_exist_ok=True, ignore=shutil.ignore_patterns("out", "*.a"))
+    shutil.copytree(example, room, ignore=shutil.ignore_patterns("out", "*.a"))
     for path in glob.glob(os.path.join(room, "**", "*.txt"), recursive=True):
         os.rename(path, path.removesuffix(".txt"))
-    ours, lines = read_lines(os.path.join(room, "crates.txt")), read_lines(os.path.join(shared.TOP, "crates.txt"))
-    crates = needed_crates(lines, ours[NAME])
-    for name in crates:
-        shutil.copytree(os.path.join(shared.TOP, "crates", name), os.path.join(room, "crates", name), ignore=shutil.ignore_patterns("out"))
-    with open(os.path.join(room, "crates.txt"), "a", encoding="ascii") as file:
-        file.writelines(f"{name}: {' '.join(lines[name])}\n" for name in crates)
-    shutil.copy(os.path.join(shared.TOP, "HANDLES"), room)
-    directory = os.path.join(room, "crates", NAME)
-    shutil.copy(libsodium, os.path.join(directory, "c"))
-    status, said, why = shared.run(["rt", "run"], directory=directory, environment={"RT_ALLOW_C": NAME}, seconds=SECONDS)
-    return os.path.join(directory, "out", NAME), said.decode(errors="replace") + why
+    lines = shared.read(os.path.join(room, "crates.txt")).decode().splitlines()
+    crate = proved.Crate(next(it for it in lines if it.startswith(f"{NAME}:")), proved.crates())
+    why = proved.supply(crate.below)
+    if why:
+        raise proved.NotBuilt(why)
+    directory, kit, target = os.path.join(room, "crates", NAME), proved.kit(), "x86_64-unknown-linux-gnu"
+    made = proved.rattle("build", NAME, directory, "--toolchain", f"{kit}/toolchain", "--backend", "llvm", "--links", f"{NAME}=c",
+                         "-o", f"{NAME}.o", crate=crate)
+    proved.hold(made, NAME)
+    proved.hold(proved.run([needs.c_compiler(), "-O2", "-fPIC", "-fno-lto", "-fstack-clash-protection", "-c", "c/sodium.c", "-o",
+                            "sodium.o"], directory), "sodium.c")
+    proved.hold(proved.run([f"{kit}/bin/rattle-link", "--target", target, "--toolchain", f"{kit}/toolchain", "-o", NAME, f"{NAME}.o",
+                            f"{kit}/c/libos_c.a", f"{kit}/c/liblibc_c.a", "sodium.o", libsodium], directory), NAME)
+    return os.path.join(directory, NAME), made.stdout
 
 
 def find_archive():
@@ -73,7 +60,7 @@ def check_files(checks, program, room):
     minisign = needs.minisign()
     for name in ("one", "two"):
         if shared.run([minisign, "-G", "-W", "-p", f"{name}.pub", "-s", f"{name}.key"], directory=room)[0] != 0:
-            raise static_library.NotBuilt("no key was made")
+            raise proved.NotBuilt("no key was made")
     shared.write(room, "data", os.urandom(300_000))
     shared.run([minisign, "-S", "-s", "one.key", "-m", "data", "-t", "version:1\tfile:data"], directory=room)
     text = shared.read(os.path.join(room, "data.minisig"))
@@ -114,7 +101,7 @@ def main():
             if os.path.exists(program):
                 check_files(checks, program, room)
                 check_every_file(checks, program, room)
-        except (needs.Missing, static_library.NotBuilt, OSError, ValueError, subprocess.SubprocessError) as why:
+        except (needs.Missing, proved.NotBuilt, OSError, ValueError, subprocess.SubprocessError) as why:
             checks.check(False, f"it did not go on: {why!r}")
     return checks.end()
 

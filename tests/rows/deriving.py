@@ -56,7 +56,9 @@ def rejections():
     for n_log2, r, p in ((53, 8, 1), (54, 7, 1), (63, 8, 1)):
         fault = "OutOfMemory" if 128 * r << n_log2 < 1 << 64 else "InvalidParameters"
         yield asked("no memory", (n_log2, r, p, 32), fault)
-    for n_log2, r, p in ((0, 8, 1), (1, 0, 1), (1, 1, 0), (16, 1, 1), (32, 2, 1), (1, 32768, 32768), (1, 8, 134217728)):
+    for n_log2, r, p in ((0, 8, 1), (1, 0, 1), (1, 1, 0), (16, 1, 1), (32, 2, 1), (1, 32768, 32768), (1, 8, 134217728),
+                         (1, 1 << 30, 1), (1, 1, 1 << 30), (54, 8, 1), (55, 4, 1), (63, 4, 1), (64, 8, 1), (255, 16, 1),
+                         (255, (1 << 32) - 1, 1), (1, (1 << 32) - 1, (1 << 32) - 1)):
         yield asked("no parameters", (n_log2, r, p, 32), "InvalidParameters")
 
 

@@ -1,15 +1,12 @@
-"""Data that fails at each of its reads in turn, goes on after it, changes or comes in pieces; random bytes that end
-early; sinks of limited room.
+"""Data that fails at each of its reads in turn, goes on after it, changes or comes in pieces; random bytes that end early.
+`made_pairs` has the devices of pairs.
 
 Data is read one byte a read where a row says nothing else, so that `abc` takes four reads.
 """
 
-import base64
-import hashlib
-
 import toy
-from asking import Row, ask, counting, data, gives, rejected, sink, typed
-from signing import DEFAULT_COMMENT, VERIFIED, secret, sign, signature
+from asking import Row, ask, data, gives, rejected
+from signing import DEFAULT_COMMENT, VERIFIED, sign, signature
 
 PREHASHED = toy.signature_text(b"abc")
 LEGACY = toy.signature_text(b"abc", toy.signature_record(b"abc", algorithm=b"Ed"))
@@ -86,90 +83,9 @@ def pieces():
                   gives(**signature(content, b"t", b"c"), drawn=128, reads=reads, pos=130))
 
 
-
-# The pair of random bytes that count up from 0: a seed of 32, an identifier of 8, and a salt of 32.
-SEED, KEYNUM, SALT = bytes(range(32)), bytes(range(32, 40)), bytes(range(40, 72))
-KEY = bytes(byte ^ 0x5A for byte in SEED)
-PUBLIC_TEXT = toy.public_text(KEYNUM, KEY)
-OPENED = KEYNUM + SEED + KEY + toy.checksum(KEYNUM, SEED + KEY)
-UNSEALED = b"Ed" + bytes(2) + b"B2" + bytes(48) + OPENED
-ASKED = (b"Please enter a password to protect the secret key.\nPassword: Password (one more time): "
-         b"Deriving a key from the password in order to encrypt the secret key... done\n")
-
-
-def sealed_record(password):
-    """The record of that pair's secret key, sealed under a password."""
-    stream = hashlib.scrypt(password, salt=SALT, n=1 << 15, r=8, p=1, dklen=104, maxmem=1 << 26)
-    limits = (1 << 20).to_bytes(8, "little") + (1 << 25).to_bytes(8, "little")
-    return b"EdScB2" + SALT + limits + bytes(a ^ b for a, b in zip(OPENED, stream))
-
-
-def failing_sinks(length_of_public, length_of_secret):
-    """Yields two sinks of which one fails, and how much each takes: the public one at its first byte, in the middle, at
-    the last one and at the flush, and then the secret one so. The public key is flushed before the secret one is
-    begun."""
-    for room in (0, 1, 20, length_of_public - 1):
-        yield sink(room), sink(), room, 0
-    yield sink(length_of_public, is_flushed=False), sink(), length_of_public, 0
-    for room in (0, 1, 100, length_of_secret - 1):
-        yield sink(length_of_public), sink(room), length_of_public, room
-    yield sink(length_of_public), sink(length_of_secret, is_flushed=False), length_of_public, length_of_secret
-    yield sink(0, is_flushed=False), sink(0, is_flushed=False), 0, 0
-
-
-def raw_sinks():
-    """The sinks of a pair that is not sealed fail, and hold a beginning of its records."""
-    public = b"Ed" + KEYNUM + KEY
-    for first, second, public_took, secret_took in failing_sinks(42, 158):
-        yield Row(f"raw pair: sinks {first} and {second}", ask("gen_write_plain", counting(0), first, second),
-                  rejected("WritingFailed", drawn=40, sink1=public[:public_took], sink2=UNSEALED[:secret_took]))
-    yield Row("raw pair: sinks with just enough room", ask("gen_write_plain", counting(0), sink(42), sink(158)),
-              gives(pk=public, sk=UNSEALED, encrypted=False, drawn=40, sink1=public, sink2=UNSEALED))
-
-
-def text_sinks():
-    """The sinks of a sealed pair fail, and hold a beginning of its texts; all is told by then."""
-    record = sealed_record(b"p")
-    text = toy.lines(b"untrusted comment: rsign encrypted secret key", base64.b64encode(record))
-    request = lambda first, second: ask("gen_write_sealed", counting(0), first, second, None, None, typed(b"p", b"p"))
-    for first, second, public_took, secret_took in failing_sinks(114, 259):
-        yield Row(f"sealed pair: sinks {first} and {second}", request(first, second),
-                  rejected("WritingFailed", stdout=ASKED, drawn=72, sink1=PUBLIC_TEXT[:public_took],
-                          sink2=text[:secret_took]))
-    yield Row("sealed pair: sinks with just enough room", request(sink(114), sink(259)),
-              gives(stdout=ASKED, pk=b"Ed" + KEYNUM + KEY, sk=record, encrypted=True, drawn=72, sink1=PUBLIC_TEXT,
-                    sink2=text))
-
-
-def pairs_undrawn():
-    """Random bytes that end early make no pair: nothing is asked, and no key is written. The two calls that write nothing
-    draw as those do that write."""
-    random, password = bytes(range(72)), (None, typed(b"p", b"p"))
-    unwritten = {"sink1": b"", "sink2": b""}
-    for length in range(40):
-        name, undrawn = f"raw pair: {length} random bytes", {"drawn": length // 32 * 32}
-        yield Row(name, ask("gen_write_plain", random[:length], None, None),
-                  rejected("RandomSourceFailed", **undrawn, **unwritten))
-        yield Row(f"{name}, not written", ask("gen_plain", random[:length]), rejected("RandomSourceFailed", **undrawn))
-    for length in range(72):
-        name = f"sealed pair: {length} random bytes"
-        undrawn = {"typed_left": 2, "drawn": 0 if length < 32 else 32 if length < 40 else 40}
-        yield Row(name, ask("gen_write_sealed", random[:length], None, None, None, *password),
-                  rejected("RandomSourceFailed", **undrawn, **unwritten))
-        yield Row(f"{name}, not written", ask("gen_sealed", random[:length], *password),
-                  rejected("RandomSourceFailed", **undrawn))
-    pair = {"pk": b"Ed" + KEYNUM + KEY, "sk": UNSEALED, "encrypted": False, "drawn": 40}
-    yield Row("raw pair: 40 random bytes", ask("gen_write_plain", random[:40], None, None),
-              gives(**pair, sink1=pair["pk"], sink2=UNSEALED))
-    yield Row("raw pair: 40 random bytes, not written", ask("gen_plain", random[:40]), gives(**pair))
-
-
 def rows(directory):
     yield from copied()
     yield from read_once()
     yield from changed()
     yield from signing()
     yield from pieces()
-    yield from raw_sinks()
-    yield from text_sinks()
-    yield from pairs_undrawn()

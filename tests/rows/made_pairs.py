@@ -57,23 +57,27 @@ def writing_raw(name, random, public, secret, answer):
                ask("gen_write_plain", random, public, secret), answer)
 
 
+def failing_sinks(public, secret):
+    """Yields two sinks of which one fails, and what each takes: the public one at its first byte, in the middle, at the last
+    one and at the flush, and then the secret one so. The public key is flushed before the secret one is begun."""
+    for room in (0, 1, 20, len(public) - 1):
+        yield (sink(room), sink()), (public[:room], b"")
+    yield (sink(len(public), False), sink()), (public, b"")
+    for room in (0, 1, 100, len(secret) - 1):
+        yield (sink(len(public)), sink(room)), (public, secret[:room])
+    yield (sink(len(public)), sink(len(secret), False)), (public, secret)
+    yield (sink(0, False), sink(0, False)), (b"", b"")
+
+
 def raw_pairs():
-    """The public sink gets 42 bytes and is flushed, and then the secret one gets 158. Too few random bytes leave both
-    alone."""
-    public, secret = KEY_A.public_record, KEY_A.record()
-    unwritten = lambda first, second: rejected(UNWRITTEN, drawn=DRAWN_RAW, sink1=first, sink2=second)
-    undrawn = lambda drawn: rejected(UNDRAWN, drawn=drawn, sink1=b"", sink2=b"")
-    whole = made(KEY_A, secret, False, drawn=DRAWN_RAW, sink1=public, sink2=secret)
-    for name, random, first, second, answer in (
-        ("both sinks take all", FOR_KEY_A, sink(42), sink(158), whole),
-        ("one random byte is missing", FOR_KEY_A[:39], sink(42), sink(158), undrawn(32)),
-        ("no random byte", b"", sink(42), sink(158), undrawn(0)),
-        ("the public sink lacks a byte", FOR_KEY_A, sink(41), sink(158), unwritten(public[:41], b"")),
-        ("the public sink is not flushed", FOR_KEY_A, sink(42, False), sink(158), unwritten(public, b"")),
-        ("the secret sink takes a byte", FOR_KEY_A, sink(42), sink(1), unwritten(public, secret[:1])),
-        ("the secret sink is not flushed", FOR_KEY_A, sink(42), sink(158, False), unwritten(public, secret)),
-    ):
-        yield writing_raw(name, random, first, second, answer)
+    """The public sink gets 42 bytes and is flushed, and then the secret one gets 158."""
+    for key, random in ((KEY_A, FOR_KEY_A), (PAIR, counting(0))):
+        public, secret = key.public_record, key.record()
+        for sinks, took in failing_sinks(public, secret):
+            yield writing_raw(f"sinks {sinks}", random, *sinks,
+                              rejected(UNWRITTEN, drawn=DRAWN_RAW, sink1=took[0], sink2=took[1]))
+        yield writing_raw("sinks with just the room", random, sink(42), sink(158),
+                          made(key, secret, False, drawn=DRAWN_RAW, sink1=public, sink2=secret))
 
 
 def writing_sealed(name, random, sinks, password, lines, answer, comment=None):
@@ -116,35 +120,31 @@ def sealed_pairs_under_given_passwords():
 
 
 def sinks_that_fail():
-    """The public text is written and flushed before the secret one is begun. The public sink fails at its first byte,
-    at the last one and at the flush, and the secret one at its second byte, at the last one and at the flush. All is
-    shown first."""
-    public, secret = PUBLIC_TEXT, text_of(sealed("p"))
-    whole = sink(114), sink(259)
-    for name, sinks, took in (
-        ("the public sink takes nothing", (sink(0), whole[1]), (b"", b"")),
-        ("the public sink lacks the last byte", (sink(113), whole[1]), (public[:113], b"")),
-        ("the public sink is not flushed", (sink(114, False), whole[1]), (public, b"")),
-        ("the secret sink takes one byte", (whole[0], sink(1)), (public, secret[:1])),
-        ("the secret sink lacks the last byte", (whole[0], sink(258)), (public, secret[:258])),
-        ("the secret sink is not flushed", (whole[0], sink(259, False)), (public, secret)),
-    ):
+    """The public text is written and flushed before the secret one is begun. All is shown first."""
+    for sinks, took in failing_sinks(PUBLIC_TEXT, text_of(sealed("p"))):
         answer = rejected(UNWRITTEN, drawn=DRAWN, sink1=took[0], sink2=took[1], stdout=SHOWN)
-        yield writing_sealed(name, COUNTED, sinks, None, typed("p", "p"), answer)
-    yield writing_sealed("both sinks have just the room", COUNTED, whole, None, typed("p", "p"),
+        yield writing_sealed(f"sinks {sinks}", COUNTED, sinks, None, typed("p", "p"), answer)
+    yield writing_sealed("sinks with just the room", COUNTED, (sink(114), sink(259)), None, typed("p", "p"),
                          made_sealed("p", stdout=SHOWN))
 
 
 def too_few_random_bytes():
-    """Random bytes end at each byte. Nothing is asked or written; a pair that is not sealed needs no salt."""
-    nothing = {"sink1": b"", "sink2": b""}
-    raw = made(PAIR, PAIR.record(), False, drawn=DRAWN_RAW, sink1=PAIR.public_record, sink2=PAIR.record())
+    """Random bytes end at each byte. Nothing is asked or written; a pair that is not sealed needs no salt. The two calls that
+    write nothing draw as those do that write."""
+    nothing, password = {"sink1": b"", "sink2": b""}, (None, typed("p", "p"))
     for count in range(DRAWN):
-        random = COUNTED[:count]
-        undrawn = rejected(UNDRAWN, drawn=drawn_of(count), typed_left=2, **nothing)
-        yield writing_sealed(f"{count} random bytes", random, (sink(), sink()), None, typed("p", "p"), undrawn)
-        fails = rejected(UNDRAWN, drawn=drawn_of(count), **nothing)
-        yield writing_raw(f"{count} random bytes", random, sink(), sink(), fails if count < DRAWN_RAW else raw)
+        random, drawn = COUNTED[:count], drawn_of(count)
+        fails = lambda drawn=drawn, **tail: rejected(UNDRAWN, drawn=drawn, **tail)
+        yield writing_sealed(f"{count} random bytes", random, (sink(), sink()), *password, fails(typed_left=2, **nothing))
+        yield Row(f"a sealed pair: {count} random bytes", ask("gen_sealed", random, *password), fails(typed_left=2))
+        if count < DRAWN_RAW:
+            yield writing_raw(f"{count} random bytes", random, sink(), sink(), fails(**nothing))
+            yield Row(f"a pair that is not sealed: {count} random bytes", ask("gen_plain", random), fails())
+    raw = COUNTED[:DRAWN_RAW]
+    yield writing_raw("40 random bytes", raw, sink(), sink(), made(PAIR, PAIR.record(), False, drawn=DRAWN_RAW,
+                                                                   sink1=PAIR.public_record, sink2=PAIR.record()))
+    yield Row("a pair that is not sealed: 40 random bytes", ask("gen_plain", raw),
+              made(PAIR, PAIR.record(), False, drawn=DRAWN_RAW))
 
 
 def toy_signature(first, message):

@@ -1,5 +1,5 @@
-//! What the tests share, and the program of the comparison: key A and texts of it, devices that
-//! fail, directories of files, and a scheme that shows signatures. It has no tests of its own.
+//! What the tests share, and the program of the comparison: key A and texts of it, devices that fail, and directories of
+//! files. It has no tests of its own.
 
 #![tactic(auto)]
 
@@ -9,4 +9,3 @@ pub mod keys;
 pub mod outcomes;
 pub mod prompts;
 pub mod texts;
-pub mod two_signatures;

@@ -1,6 +1,5 @@
 //! What comes of a call, and how bytes are shown and compared; beginnings of texts and bytes.
 
-use crate::keys::{IDENTIFIER, OTHER_IDENTIFIER};
 use minisign_base::errors::Result;
 use minisign_base::faults::NamedFault;
 use std::alloc::Global;
@@ -15,12 +14,6 @@ pub enum Outcome {
     /// The call returns this fault.
     Refused(NamedFault),
 }
-
-/// What comes of a signature with key A's identifier and a public key with the other one.
-pub const OTHER_KEY: Outcome = Outcome::Refused(NamedFault::DifferentKeyIds {
-    signature: IDENTIFIER,
-    key: OTHER_IDENTIFIER,
-});
 
 /// Whether the answer is a value where one is expected, and otherwise the very fault, with its
 /// identifiers. A fault with a kind and a text of its caller's own is none that can be expected.

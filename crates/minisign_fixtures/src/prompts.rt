@@ -2,7 +2,7 @@
 
 use crate::devices::sources::OneByOne;
 use minisign_base::devices::sinks::VecSink;
-use minisign_base::devices::sources::{SliceSource, Source};
+use minisign_base::devices::sources::Source;
 use minisign_base::errors::Result;
 use minisign_base::prompt::Prompt;
 use std::alloc::Global;
@@ -10,11 +10,6 @@ use std::alloc::Global;
 /// A prompt into which these bytes are typed, one byte a read.
 pub fn typed<'a>(alloc: Global, bytes: &'a [u8]) -> Prompt<OneByOne<'a>, VecSink> {
     Prompt::new(OneByOne::new(bytes), VecSink::new(alloc))
-}
-
-/// A prompt into which these bytes are typed at once.
-pub fn typed_at_once<'a>(alloc: Global, bytes: &'a [u8]) -> Prompt<SliceSource<'a>, VecSink> {
-    Prompt::new(SliceSource::new(bytes), VecSink::new(alloc))
 }
 
 /// The password that is passed in, if there is one.

@@ -1,9 +1,10 @@
 //! The calls for callers and the examples over them, run on the worked texts under the toy.
 
 use crate::passwords::sign_with_password;
+use crate::signatures::calls::key_a;
 use minisign::{
-    ErrorKind, Result, SecretKey, copy_verified, open_with_password, sign_bytes, verify_bytes,
-    verify_file, verify_in_place,
+    ErrorKind, PublicKey, Result, SecretKey, copy_verified, open_with_password, sign_bytes,
+    verify_bytes, verify_file, verify_in_place,
 };
 use minisign_base::devices::random_sources::FixedRandom;
 use minisign_base::devices::sinks::VecSink;
@@ -13,12 +14,14 @@ use minisign_base::faults::NamedFault::{
     WrongPassword,
 };
 use minisign_base::toy::ToyScheme;
+use minisign_examples::example::sign_and_verify;
 use minisign_examples::rotating::{NewKey, check_with_new_key};
 use minisign_examples::small_device::open_in_little_memory;
 use minisign_examples::updating::check_update;
 use minisign_fixtures::folders::{folder_path, make_empty, path_of, put};
+use minisign_fixtures::keys::{IDENTIFIER, PUBLIC_BYTES, public_record};
 use minisign_fixtures::outcomes::Outcome::{self, Accepted, Refused};
-use minisign_fixtures::outcomes::{comes_to, holds, is_so};
+use minisign_fixtures::outcomes::{comes_to, ends_in, gives_text, holds, is_so};
 use minisign_fixtures::texts::{KEY_TEXT, LEGACY_TEXT, SEALED, SECRET_TEXT, SIGNATURE_TEXT};
 use std::alloc::Global;
 use std::fs;
@@ -387,4 +390,32 @@ fn is_unsigned(alloc: Global) -> bool {
 fn what_a_sealed_key_signs_verifies(rt: HostRuntime) {
     assert!(rt; is_so(is_signed_to_verify(rt.alloc())));
     assert!(rt; is_unsigned(rt.alloc()));
+}
+
+// What the example of a caller returns for `abc` with key A and these bytes of a public key.
+fn example(alloc: Global, public_bytes: &[u8; 32]) -> Result<String> {
+    let sk = key_a()?;
+    let pk = PublicKey::from_bytes(&public_record(&IDENTIFIER, public_bytes))?;
+    let mut random = FixedRandom::new(&[0; 128]);
+    sign_and_verify(
+        alloc,
+        &ToyScheme::new(),
+        &sk,
+        &pk,
+        b"abc",
+        &mut random,
+        1555779966,
+    )
+}
+
+// The text that the example gives with its own public key.
+const EXAMPLE_TEXT: &str =
+    "untrusted comment: signature from rsign secret key\nRUQBAgMEBQYHCAAAAAAAAAAAAAAAAAAAAAAAAAAAAAAAAAAAAAAAAAAAnV06XOjtbnryLxgygHtgJg6o/+bp8Qy3qGtn2FWlYag=\ntrusted comment: timestamp:1555779966\nAAAAAAAAAAAAAAAAAAAAAAAAAAAAAAAAAAAAAAAAAACzbg1jwcNVTdhPc13vFA1LbcuTirOrVu3yMT2CD/878g==\n";
+
+// The example of a caller, with its own public key and with another one.
+#[test]
+fn the_example_signs_and_verifies(rt: HostRuntime) {
+    let alloc = rt.alloc();
+    assert!(rt; gives_text(example(alloc, &PUBLIC_BYTES), EXAMPLE_TEXT));
+    assert!(rt; ends_in(example(alloc, &[0x5b; 32]), REFUSED));
 }

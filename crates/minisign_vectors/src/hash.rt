@@ -3,10 +3,9 @@
 
 use minisign::minisign_hash::{
     BLAKE2B_BLOCKBYTES, BLAKE2B_KEYBYTES, BLAKE2B_OUTBYTES, BLAKE2B_PERSONALBYTES,
-    BLAKE2B_SALTBYTES, Blake2b, StoredBlake2b, WriteExt, copy_memory, fixed_time_eq, read_u64v_le,
-    write_u32_le, write_u64_le, write_u64v_le,
+    BLAKE2B_SALTBYTES, WriteExt, copy_memory, read_u64v_le, write_u32_le, write_u64_le,
+    write_u64v_le,
 };
-use minisign_fixtures::keys::DIGEST_OF_ABC;
 use std::io;
 use std::test::Fail;
 
@@ -82,24 +81,4 @@ fn full_writers_take_no_numbers(rt: HostRuntime) {
 fn sizes_of_blake2b(rt: HostRuntime) {
     assert!(rt; BLAKE2B_BLOCKBYTES == 128 && BLAKE2B_KEYBYTES == 64 && BLAKE2B_OUTBYTES == 64);
     assert!(rt; BLAKE2B_SALTBYTES == 16 && BLAKE2B_PERSONALBYTES == 16);
-}
-
-#[test]
-fn a_state_is_stored(rt: HostRuntime) {
-    let mut digest = [0u8; BLAKE2B_OUTBYTES];
-    Blake2b::blake2b(&mut digest, b"abc");
-    assert!(rt; fixed_time_eq(&digest, &DIGEST_OF_ABC));
-    assert!(rt; digest_by_a_stored_state() == DIGEST_OF_ABC);
-}
-
-// The digest of `abc` by a state that is stored behind `ab`.
-fn digest_by_a_stored_state() -> [u8; 64] {
-    let mut state = Blake2b::new(64);
-    state.update(b"ab");
-    let mut digest = [0; BLAKE2B_OUTBYTES];
-    if let Some(mut again) = StoredBlake2b::store(&state).restore() {
-        again.update(b"c");
-        again.finalize(&mut digest);
-    }
-    digest
 }

@@ -3,9 +3,8 @@
 
 use crate::shown::shows;
 use minisign_fixtures::outcomes::front;
-use minisign_kdf::{KdfError, Params, hmac_sha256, pbkdf2_once, scrypt};
+use minisign_kdf::{Params, hmac_sha256, pbkdf2_once};
 use std::alloc::Global;
-use std::test::Fail;
 
 // The code in each of the sections 4.2 to 4.8 of RFC 4231. Of that in 4.6 the first 16 bytes are
 // shown.
@@ -78,40 +77,6 @@ fn pbkdf2_of_rfc_7914(rt: HostRuntime) {
     assert!(rt; shows(rt.alloc(), &key, OF_PASSWD));
 }
 
-// The longest key of those of each length.
-const LONGEST: &str =
-    "6684ead4dd80dfc877c6579c6c4cb3680676852ea825b3d56881ca55f2f662ef1e9b520f2eec83747e52005d2833520178975bb073d6056f44514b4d82e9601eaf115c8629f2c5871d432122d21758b93d86e01f415d3b6089845d6182b3fa063cd33468";
-
-// A shorter key is the front of a longer one, whether its last block is whole or cut.
-#[test]
-fn pbkdf2_of_each_length(rt: HostRuntime) {
-    let mut longest = [0u8; 100];
-    pbkdf2_once(b"pw", b"na", &mut longest);
-    assert!(rt; shows(rt.alloc(), &longest, LONGEST));
-    for len in [0usize, 1, 31, 32, 33, 63, 64, 65, 99] {
-        assert!(rt; is_front_of(&longest, len), "{len} bytes");
-    }
-}
-
-// Whether the key of so many bytes is the front of the longest, and nothing is written behind it.
-fn is_front_of(longest: &[u8; 100], len: usize) -> bool {
-    let len = len.min(100);
-    let mut key = [0u8; 100];
-    pbkdf2_once(b"pw", b"na", &mut key[..len]);
-    key[..len] == longest[..len] && key[len..].iter().all(|b| *b == 0)
-}
-
-// Rows that no allocation can hold are a refused growth, and the output stays.
-#[test]
-fn scrypt_beyond_any_memory(rt: HostRuntime) -> Result<(), Fail> {
-    let params = Params::new(53, 8, 1)?;
-    let mut key = [7u8; 32];
-    let refused = scrypt(rt.alloc(), b"pw", b"salt", &params, &mut key);
-    assert!(rt; refused == Err(KdfError::OutOfMemory));
-    assert!(rt; key == [7; 32]);
-    Ok(())
-}
-
 // Whether the parameters are accepted and kept.
 fn is_accepted(n_log2: u8, r: u32, p: u32) -> bool {
     match Params::new(n_log2, r, p) {
@@ -136,29 +101,5 @@ fn accepted_parameters(rt: HostRuntime) {
         (1, 8, 134217727),
     ] {
         assert!(rt; is_accepted(n_log2, r, p), "at {n_log2}, {r}, {p}");
-    }
-}
-
-#[test]
-fn refused_parameters(rt: HostRuntime) {
-    for (n_log2, r, p) in [
-        (0u8, 8u32, 1u32),
-        (1, 0, 1),
-        (1, 1, 0),
-        (16, 1, 1),
-        (32, 2, 1),
-        (1, 32768, 32768),
-        (1, 1073741824, 1),
-        (1, 1, 1073741824),
-        (1, 8, 134217728),
-        (54, 8, 1),
-        (55, 4, 1),
-        (63, 4, 1),
-        (64, 8, 1),
-        (255, 16, 1),
-        (255, 4294967295, 1),
-        (1, 4294967295, 4294967295),
-    ] {
-        assert!(rt; Params::new(n_log2, r, p).is_err(), "at {n_log2}, {r}, {p}");
     }
 }

@@ -37,12 +37,13 @@ fn secret_text(alloc: Global, key: &SecretKey) -> Result<String> {
     Ok(sk_box.into_string())
 }
 
-// Whether a pair that is not sealed is made as it should be, and its secret key can be copied.
+// Whether a pair that is not sealed is made as it should be, and a copy has both its keys.
 fn made_raw(alloc: Global) -> Result<bool> {
     let scheme = ToyScheme::new();
     let pair = KeyPair::generate_unencrypted_keypair(&scheme, &mut FixedRandom::new(&counted()))?;
     let copy = pair.clone()?;
-    has_text(public_text(alloc, &copy.pk), COUNTED_PUBLIC_TEXT)
+    let copied = copy.sk == pair.sk;
+    Ok(copied && has_text(public_text(alloc, &copy.pk), COUNTED_PUBLIC_TEXT)?)
 }
 
 // The same, written to two buffers.

@@ -1,27 +1,19 @@
 //! Signing and verifying, called here for all tests: what is returned, and what the sinks took.
 
 use minisign::{
-    PublicKey, Result, SecretKey, SignatureBones, SignatureBox, VerifyOptions, sign, sign_texts,
-    verify, verify_texts,
+    PublicKey, Result, SecretKey, SignatureBox, VerifyOptions, sign, sign_texts, verify,
+    verify_texts,
 };
-use minisign_base::devices::random_sources::{FixedRandom, RandomSource};
+use minisign_base::devices::random_sources::RandomSource;
 use minisign_base::devices::sinks::Sink;
-use minisign_base::devices::sources::{Rereader, SliceSource, Source};
+use minisign_base::devices::sources::{Rereader, Source};
 use minisign_base::prompt::Prompt;
 use minisign_base::scheme::Scheme;
 use minisign_base::toy::ToyScheme;
 use minisign_fixtures::devices::sinks::LimitedSink;
-use minisign_fixtures::devices::sources::OneByOne;
 use minisign_fixtures::keys::{CHECKSUM, IDENTIFIER, PUBLIC_BYTES, public_record, secret_record};
 use minisign_fixtures::outcomes::{Outcome, ends_in};
 use std::alloc::Global;
-
-/// The status is said, nothing is copied, and legacy signatures are refused.
-pub const SAYING: VerifyOptions = VerifyOptions {
-    quiet: false,
-    output: false,
-    allow_legacy: false,
-};
 
 /// The status is said, the data is copied, and legacy signatures are accepted.
 pub const COPYING: VerifyOptions = VerifyOptions {
@@ -150,48 +142,6 @@ pub fn read_box_comes_out<R: Rereader>(
             box_comes_out(alloc, &toy, parts, data, options, sinks, wanted)
         }
         _ => false,
-    }
-}
-
-/// Whether verifying these bytes with a box comes out as wanted, at once and one byte a read.
-pub fn box_judges<S: Scheme>(
-    alloc: Global,
-    scheme: &S,
-    parts: (&PublicKey, &SignatureBox),
-    data: &[u8],
-    wanted: Wanted,
-) -> bool {
-    let mut whole = SliceSource::new(data);
-    let mut bytes = OneByOne::new(data);
-    let sinks = ample(alloc);
-    let at_once = box_comes_out(alloc, scheme, parts, &mut whole, SAYING, sinks, wanted);
-    let sinks = ample(alloc);
-    let by_bytes = box_comes_out(alloc, scheme, parts, &mut bytes, SAYING, sinks, wanted);
-    at_once && by_bytes
-}
-
-/// Whether verifying the data with the records of a key and of a signature comes out as wanted.
-pub fn records_come_out<R: Rereader>(
-    alloc: Global,
-    records: (&[u8], &[u8]),
-    data: &mut R,
-    options: VerifyOptions,
-    sinks: Sinks,
-    wanted: Wanted,
-) -> bool {
-    let (public_key, signature) = records;
-    match (
-        PublicKey::from_bytes(public_key),
-        SignatureBones::from_bytes(signature),
-    ) {
-        (Ok(pk), Ok(bones)) => {
-            let signature_box = SignatureBox::from_bones(bones);
-            let parts = (&pk, &signature_box);
-            let toy = ToyScheme::new();
-            box_comes_out(alloc, &toy, parts, data, options, sinks, wanted)
-        }
-        (Err(fault), _) => ends_in::<()>(Err(fault), wanted.outcome),
-        (_, Err(fault)) => ends_in::<()>(Err(fault), wanted.outcome),
     }
 }
 

@@ -1,6 +1,6 @@
 //! Sealed keys, opened with every k-th row kept.
 
-use crate::keys::sealed::calls::{Wanted, Way, comes_out, gives, has_outcome};
+use crate::keys::sealed::calls::{Wanted, Way, comes_out, gives};
 use minisign::SecretKeyBox;
 use minisign_base::faults::NamedFault::WrongPassword;
 use minisign_fixtures::outcomes::Outcome::{self, Accepted, Refused};
@@ -59,18 +59,6 @@ fn opens_with_a_typed_password(rt: HostRuntime) {
         };
         assert!(rt;
             comes_out(alloc, sk_box, None, bytes, Way::Keeping(k), wanted),
-            "k {k}"
-        );
-    }
-}
-
-#[test]
-fn stays_closed_to_another_password(rt: HostRuntime) {
-    let alloc = rt.alloc();
-    for k in [1u64, 7, 16] {
-        let sk_box = SecretKeyBox::from_string(alloc, MADE);
-        assert!(rt;
-            has_outcome(alloc, sk_box, "Password", Way::Keeping(k), WRONG),
             "k {k}"
         );
     }

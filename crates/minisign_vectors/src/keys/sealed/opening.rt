@@ -1,24 +1,20 @@
-//! Sealed secret keys, opened within a bound, in less memory, and over prompts that give no lines of
-//! UTF-8 or cannot be written to.
+//! Sealed secret keys, opened within a bound, in less memory, and over prompts that cannot be written to.
 
 use crate::keys::sealed::calls::{Wanted, Way, comes_out, gives, has_outcome, opened};
 use minisign::{Result, SecretKey, SecretKeyBox};
 use minisign_base::devices::sources::SliceSource;
 use minisign_base::faults::NamedFault::{
-    EndOfInput, InvalidParameters, NotUtf8, ParametersTooHigh, WorkTooHigh, WritingFailed,
-    WrongPassword,
+    EndOfInput, InvalidParameters, ParametersTooHigh, WorkTooHigh, WritingFailed, WrongPassword,
 };
 use minisign_base::prompt::Prompt;
 use minisign_fixtures::devices::sinks::LimitedSink;
 use minisign_fixtures::keys::{CHECKSUM, secret_record};
-use minisign_fixtures::outcomes::Outcome::{self, Accepted, Refused};
+use minisign_fixtures::outcomes::Outcome::{self, Refused};
 use minisign_fixtures::outcomes::{beginning, ends_in, is_so};
-use minisign_fixtures::texts::{SEALED, SEALED_AS_MINISIGN, SEALED_AS_USUAL};
+use minisign_fixtures::texts::{SEALED_AS_MINISIGN, SEALED_AS_USUAL};
 use std::alloc::Global;
 
-// What a prompt is told up to the password, up to the derivation, and in all.
-const ASKED: &str = "Password: ";
-
+// What a prompt is told up to the derivation, and in all.
 const DERIVING: &str =
     "Password: Deriving a key from the password and decrypting the secret key... ";
 
@@ -41,8 +37,6 @@ const INVALID: Outcome = Refused(InvalidParameters);
 const TOO_MUCH_WORK: Outcome = Refused(WorkTooHigh);
 
 const ENDED: Outcome = Refused(EndOfInput);
-
-const NO_UTF8: Outcome = Refused(NotUtf8);
 
 const UNWRITTEN: Outcome = Refused(WritingFailed);
 
@@ -95,26 +89,6 @@ fn a_key_of_the_c_program_opens_in_less_memory(rt: HostRuntime) {
     let sk_box = SecretKeyBox::from_string(alloc, SEALED_AS_MINISIGN);
     let way = Way::Keeping(16);
     assert!(rt; is_so(gives(alloc, sk_box, None, b"password\n", way, OPENED_AS_MINISIGN)));
-}
-
-// Whether opening with what is typed, of which nothing is left, comes out so.
-fn asks(alloc: Global, bytes: &[u8], outcome: Outcome, told: &str) -> bool {
-    let sk_box = SecretKeyBox::from_string(alloc, SEALED);
-    let wanted = Wanted {
-        outcome,
-        told,
-        unread: 0,
-    };
-    comes_out(alloc, sk_box, None, bytes, Way::AnyParts, wanted)
-}
-
-// The end of the input ends a line, of which a carriage return is then a part.
-#[test]
-fn what_is_typed_is_no_line_of_utf8(rt: HostRuntime) {
-    let alloc = rt.alloc();
-    assert!(rt; asks(alloc, b"password", Accepted, DONE));
-    assert!(rt; asks(alloc, b"password\r", WRONG, DONE));
-    assert!(rt; asks(alloc, b"\xff\n", NO_UTF8, ASKED));
 }
 
 // The limits and the bound are tested once the password is there, and before the derivation.

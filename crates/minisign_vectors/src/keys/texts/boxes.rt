@@ -2,7 +2,7 @@
 //! `tests/rows/public_keys.py` and `tests/rows/secret_keys.py`.
 
 use minisign::{PublicKeyBox, Result, SecretKeyBox};
-use minisign_fixtures::outcomes::{gives_record, gives_text, is_so};
+use minisign_fixtures::outcomes::{gives_record, gives_text};
 use minisign_fixtures::texts::{KEY_TEXT, SECRET_TEXT};
 use std::alloc::Global;
 use std::test::Fail;
