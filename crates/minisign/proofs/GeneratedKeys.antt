@@ -1,6 +1,6 @@
 -- What the keys that are generated are good for.
-use Rattle.std.proofs.Common.{◌≡◌, ◌⊎◌, ◌^◌, ◌<◌, ℕ, List, length, None, Ok, Err, IsOk, inl, inr, refl, sym, ap, subst, ◌∙◌, arith}
-use Rattle.minisign.proofs.Common.{Fault, Named, RandomCall, OutOfMemory, cost_log2, limits, numbers, sealing_limits}
+use Rattle.std.proofs.Common.{◌≡◌, ◌^◌, ◌<◌, ℕ, List, length, None, Ok, unwrap_or, refl, sym, ap, subst, ◌∙◌, arith}
+use Rattle.minisign.proofs.Common.{Named, RandomCall, OutOfMemory, result_err, cost_log2, limits, numbers, sealing_limits}
 use Rattle.minisign_base.specs.Scheme.{IsBytes}
 use Rattle.minisign.specs.Records.{PublicKeyRecord, SecretKeyRecord}
 use Rattle.minisign.specs.Sealing.{xored_key}
@@ -34,10 +34,8 @@ unfolding limits numbers cost_log2
 default_limits = refl
 
 -- so only memory can run out
-pub only_memory : (e : Fault) → ((e ≡ Named OutOfMemory) × IsOk (sealing_limits 33554432 1048576)) ⊎ (sealing_limits 33554432 1048576 ≡ Err e)
-    → e ≡ Named OutOfMemory
-only_memory e (inl memory) = memory.0
-only_memory e (inr refused) = let differ = sym refused ∙ default_limits in cc differ
+pub only_memory : unwrap_or (result_err (sealing_limits 33554432 1048576)) (Named OutOfMemory) ≡ Named OutOfMemory
+only_memory = ap (λ l. unwrap_or (result_err l) (Named OutOfMemory)) default_limits
 
 -- a sealed pair opens under its password
 pub sealed_pair : {Z : Type 0} (public_of : List ℕ → List ℕ) (password : List ℕ) (z : RandomCall Z) (pk : PublicKeyRecord) (sk : SecretKeyRecord)

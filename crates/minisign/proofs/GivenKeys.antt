@@ -1,11 +1,11 @@
 -- Which key a text gives for signing.
-use Rattle.std.proofs.Common.{◌≡◌, Bool, List, [], ℕ, Option, None, Some, Result, Ok, Err, IfSome, true, false, not, if◌then◌else◌, bytes_eq, inl, inr, refl, sym, ap, ◌∙◌, option_map}
+use Rattle.std.proofs.Common.{◌≡◌, Bool, List, [], ℕ, Option, None, Some, Result, Ok, Err, IfSome, ◌⊎◌, true, false, not, bytes_eq, inl, inr, refl, sym, ap, ◌∙◌, option_map}
 use Rattle.minisign.proofs.Common.{option_map_or, result_ok, Fault, PromptCall}
 use Rattle.minisign.specs.Records.{SecretKeyRecord}
 use Rattle.minisign.specs.SecretKeyText.{read_secret_key}
 use Rattle.minisign.specs.Sealing.{no_kdf, wants_password}
 use Rattle.minisign.specs.Opening.{IsOpening, is_sealed_text, key_with_password, open_key, read_unencrypted_key}
-use Rattle.minisign.specs.SigningTexts.{GivesKey, GivesKeyOf, IsKeyOf}
+use Rattle.minisign.specs.SigningTexts.{GivesKey, IsKeyOf}
 use Rattle.minisign.specs.Texts.{IsReadOrNoMemory}
 use Rattle.minisign.proofs.Openings.{unread_unencrypted}
 use Rattle.minisign.proofs.ReadTexts.{read_value}
@@ -19,46 +19,35 @@ is_sealed text r read = ap (λ x. option_map_or wants_password (result_ok x) fal
 module _ {R W : Type 0} (p : PromptCall R W) (given : Option (List ℕ)) (text : List ℕ) (r : Result SecretKeyRecord Fault) where
   -- one that is sealed: it is opened
   pub sealed_key : (k : SecretKeyRecord) → read_secret_key text ≡ Ok k → bytes_eq k.kdf no_kdf ≡ false → IsOpening p given text None r → GivesKey p given text r
-  sealed_key k read other h = let yes : is_sealed_text text ≡ true = is_sealed text (Ok k) read ∙ ap not other in rw yes h
+  sealed_key k read other h = inl (is_sealed text (Ok k) read ∙ ap not other, h)
 
   -- one that never was
   pub unsealed_key : (k : SecretKeyRecord) → read_secret_key text ≡ Ok k → bytes_eq k.kdf no_kdf ≡ true → p.new ≡ p.old
       → r ≡ read_unencrypted_key text → GivesKey p given text r
-  unsealed_key k read none same h = let no : is_sealed_text text ≡ false = is_sealed text (Ok k) read ∙ ap not none in rw no (same, h)
+  unsealed_key k read none same h = inr (is_sealed text (Ok k) read ∙ ap not none, same, h)
 
 -- a password that is handed in leaves the prompt as it was
 pub untouched : {P R W : Type 0} (p : PromptCall R W) (bytes : P → List ℕ) (given : Option P) (text : List ℕ) (r : Result SecretKeyRecord Fault)
     → GivesKey p (option_map bytes given) text r → IfSome given (λ _. p.new ≡ p.old)
 untouched p bytes None text r h = tt
-untouched p bytes (Some password) text r h = of (is_sealed_text text) h
-  where
-    of : (b : Bool) → GivesKeyOf b p (Some (bytes password)) text r → p.new ≡ p.old
-    of true h = h.0
-    of false h = h.0
+untouched p bytes (Some password) text r (inl (sealed, (same, h))) = same
+untouched p bytes (Some password) text r (inr (plain, same, h)) = same
 
 -- a text that reads as no key
 pub unread_key : {R W : Type 0} (p : PromptCall R W) (given : Option (List ℕ)) (text : List ℕ) (e : Fault) → p.new ≡ p.old
     → read_secret_key text ≡ Err e → GivesKey p given text (Err e)
-unread_key p given text e same read =
-    let no : is_sealed_text text ≡ false = is_sealed text (Err e) read in
-    rw no (same, sym (unread_unencrypted text e read))
+unread_key p given text e same read = inr (is_sealed text (Err e) read, same, sym (unread_unencrypted text e read))
 
 -- with a password it is what the text gives under it
-pub with_password : {R W : Type 0} (p : PromptCall R W) (password text : List ℕ) (r : Result SecretKeyRecord Fault) → GivesKey p (Some password) text r
-    → IsReadOrNoMemory r (key_with_password text password)
-with_password p password text r h = of (is_sealed_text text) h
-  where
-    of : (b : Bool) → GivesKeyOf b p (Some password) text r
-        → IsReadOrNoMemory r (if b then open_key text password None else read_unencrypted_key text)
-    of true h = h.1
-    of false h = inl h.1
+pub with_password : {Same : Type 0} (password text : List ℕ) (r : Result SecretKeyRecord Fault)
+    → ((is_sealed_text text ≡ true) × (Same × IsReadOrNoMemory r (open_key text password None)))
+    ⊎ ((is_sealed_text text ≡ false) × Same × (r ≡ read_unencrypted_key text)) → IsReadOrNoMemory r (key_with_password text password)
+with_password password text r (inl (sealed, (same, h))) = rw sealed h
+with_password password text r (inr (plain, same, h)) = rw plain (inl h)
 
 -- a key that was given with a prompt or a password is one of the text
 pub key_of_given : {R W : Type 0} (p : PromptCall R W) (given : Option (List ℕ)) (text : List ℕ) (key : SecretKeyRecord)
     → GivesKey p given text (Ok key) → IsKeyOf text key
-key_of_given p (Some password) text key h = (password, read_value key _ (with_password p password text (Ok key) h))
-key_of_given p None text key h = of (is_sealed_text text) refl h
-  where
-    of : (b : Bool) → is_sealed_text text ≡ b → GivesKeyOf b p None text (Ok key) → IsKeyOf text key
-    of true sealed (k, bytes, password, read, typed, opens, ended) = (password, rw sealed opens)
-    of false plain (same, h) = ([], rw plain (sym h))
+key_of_given p (Some password) text key h = (password, read_value key _ (with_password password text (Ok key) h))
+key_of_given p None text key (inl (sealed, (k, bytes, password, read, typed, opens, ended))) = (password, rw sealed opens)
+key_of_given p None text key (inr (plain, same, h)) = ([], rw plain (sym h))

@@ -1,6 +1,6 @@
 -- Keys that are made of their parts, and their texts.
-use Rattle.std.proofs.Common.{◌≡◌, ◌⊎◌, ℕ, ◌^◌, ◌<◌, ◌+◌, List, length, Option, None, Some, Result, Ok, Err, IsOk, IfOk, true, false, not, inl, inr, refl, sym, ap, subst, ◌∙◌, w64, true≢false, bytes_eq}
-use Rattle.minisign.proofs.Common.{bytes_eq-Decides, to_le_bytes, LacksByte, Fault, Named, OutOfMemory, WorkTooHigh, numbers, sealing_limits, Numbers}
+use Rattle.std.proofs.Common.{◌≡◌, ◌⊎◌, ℕ, ◌^◌, ◌<◌, ◌+◌, List, length, Option, None, Some, Result, Ok, Err, IsOk, IfOk, unwrap_or, true, false, not, inl, inr, refl, sym, ap, subst, ◌∙◌, w64, true≢false, bytes_eq}
+use Rattle.minisign.proofs.Common.{bytes_eq-Decides, to_le_bytes, LacksByte, Fault, Named, OutOfMemory, WorkTooHigh, numbers, result_err, sealing_limits, Numbers}
 use Rattle.std.proofs.lemmas.Nat.{from_le_bytes-to_le_bytes_8}
 use Rattle.minisign.specs.Generation.{key_to_seal, unsealed_key}
 use Rattle.minisign.specs.Making.{IsMadePublicText, IsMadeText, IsOfParts}
@@ -29,12 +29,16 @@ unbounded (Err e) = refl
 pub work_allowed : (k : SecretKeyRecord) (l : Result Numbers Fault) → key_limits k ≡ l → IsOk (allowed_work k None) → IsOk l
 work_allowed k l same h = subst IsOk (unbounded (key_limits k) ∙ same) h
 
+-- where the limits are allowed, it is another fault
+pub other_fault : (l : Result Numbers Fault) (e f : Fault) → IsOk l → e ≡ f → e ≡ unwrap_or (result_err l) f
+other_fault (Ok v) e f ok is = is
+other_fault (Err g) e f ok is = absurd (true≢false (sym ok))
+
 -- why no stream was applied
 pub stream_fault : (k : SecretKeyRecord) (l : Result Numbers Fault) (e : Fault) → key_limits k ≡ l
-    → ((e ≡ Named OutOfMemory) × IsOk (allowed_work k None)) ⊎ (allowed_work k None ≡ Err e)
-    → ((e ≡ Named OutOfMemory) × IsOk l) ⊎ (l ≡ Err e)
-stream_fault k l e same (inl (memory, allowed)) = inl (memory, work_allowed k l same allowed)
-stream_fault k l e same (inr refused) = inr (sym same ∙ sym (unbounded (key_limits k)) ∙ refused)
+    → ((e ≡ Named OutOfMemory) × IsOk (allowed_work k None)) ⊎ (allowed_work k None ≡ Err e) → e ≡ unwrap_or (result_err l) (Named OutOfMemory)
+stream_fault k l e same (inl (memory, allowed)) = other_fault l e _ (work_allowed k l same allowed) memory
+stream_fault k l e same (inr refused) = rw (← same, ← unbounded (key_limits k), refused) refl
 
 allowed_limits : (memory operations : ℕ) (r : Result Numbers Fault) → sealing_limits memory operations ≡ r → IsOk r → r ≡ Ok (numbers memory operations)
 allowed_limits memory operations (Ok v) same ok = ap (λ (w : Numbers). Ok w) (sym (sealing_numbers memory operations v same))

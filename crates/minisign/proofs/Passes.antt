@@ -5,7 +5,8 @@ use Rattle.minisign.proofs.Common.{and_parts, bytes_eq-Decides, ⊤, Appends, Is
 use Rattle.minisign_base.specs.Members.{SinkOf, SourceOf}
 use Rattle.minisign.specs.declared.signed_data.SignedData.{SignedData}
 use Rattle.minisign.specs.declared.signed_data.SignedData.TheVariants.{Digest, Kept, Unkept}
-use Rattle.minisign.specs.Reading.{IsAhead, IsReadFault, ReadingFails, ReadsWhole}
+use Rattle.minisign.specs.Common.{ReadingFailed}
+use Rattle.minisign.specs.Reading.{HasFailed, IsAhead, IsReadFault, ReadsWhole}
 use Rattle.minisign.specs.Records.{PublicKeyRecord, SignatureBoxRecord, is_prehashed, prehashed_algorithm}
 use Rattle.minisign.specs.Acceptance.{Verifier, Vouches, judge, signed_bytes, options_of, status_lines}
 use Rattle.minisign.specs.Stages.{HoldsSigned, held_copy_stages, held_bytes, Devices, StagesEnd, Flush, Judge, Put, Stage, StageEnds, copying_stages, second_copy_stages, is_reread, reading_stages, reporting_stages, Compare, Copy, Mark, Read, Report, Return}
@@ -588,7 +589,7 @@ pub record IsOther {R : Type 0} (reader : RereaderCall R) (message : List ℕ) :
 -- the status failed; or the copying did, for which the source failed, the output did, or the data is another one
 abbrev pub IsReason : {R W O : Type 0} → Verifier → PublicKeyRecord → SignatureBoxRecord → Bool → Bool → Bool → RereaderCall R → SinkCall W → SinkCall O → Fault → Type 0
 IsReason accepts pk x quiet output legacy reader status out e = (e ≡ Named OutOfMemory)
-    ⊎ ((output ≡ true) × SourceFails reader) ⊎ ReadingFails reader.source reader.old reader.new e
+    ⊎ ((output ≡ true) × SourceFails reader) ⊎ HasFailed ReadingFailed (reader.source.faults reader.old) (reader.source.faults reader.new) e
     ⊎ ((message : List ℕ) × IsAhead (reader.source.ahead reader.old) message × (judge accepts pk x message legacy ≡ Err e))
     ⊎ ((quiet ≡ false) × SinkFails status) ⊎ ((output ≡ true) × SinkFails out)
     ⊎ ((output ≡ true) × ((message : List ℕ) × IsAhead (reader.source.ahead reader.old) message × IsOther reader message))

@@ -5,12 +5,13 @@ use Rattle.minisign.proofs.Common.{⊤, blake2b_digest, RereaderCall, SinkCall, 
 use Rattle.minisign.specs.Records.{PublicKeyRecord, SignatureBoxRecord, is_prehashed, prehashed_algorithm}
 use Rattle.minisign.specs.Acceptance.{Verifier, Vouches, judge, options_of}
 use Rattle.minisign.specs.declared.options.VerifyOptions.{VerifyOptions}
-use Rattle.minisign.specs.Reading.{IsAhead, ReadingFails, ReadsWhole}
+use Rattle.minisign.specs.Common.{ReadingFailed}
+use Rattle.minisign.specs.Reading.{HasFailed, IsAhead, IsReadFromFile, ReadsWhole}
 use Rattle.minisign.specs.Verifying.{VerifyingFails, VerifyingSucceeds, VerifyingTextsFails, VerifyingTextsSucceeds, read_texts}
 use Rattle.minisign.specs.Headline.{CopyIsVouchedFor, WhereNothingFails, verdict}
 use Rattle.minisign.proofs.Passes.{IsReason, why_it_fails, fails_without_sinks, fails_without_status}
 use Rattle.minisign.proofs.Verdicts.{both_read, vouches_judged, judged_verdict, signed_comment, text_refused, trusted_of, vouched_verdict}
-use Rattle.minisign.specs.Calls.{CopyIsVouchedWith, IsFileVerdict, TextsVouchWith}
+use Rattle.minisign.specs.Calls.{CopyIsVouchedWith, TextsVouchWith}
 use Rattle.minisign.specs.SignatureText.{read_signature}
 use Rattle.minisign.specs.Texts.{map_ok}
 
@@ -105,7 +106,7 @@ ahead_vouched bytes accepts pk sig reader status out (Err e) ok said = tt
 -- where nothing is said or copied, three reasons are left
 ahead_reason : {R W O : Type 0} (accepts : Verifier) (pk sig : List ℕ) (reader : RereaderCall R) (status : SinkCall W) (out : SinkCall O)
     (key : PublicKeyRecord) (box : SignatureBoxRecord) (e : Fault) → read_texts pk sig ≡ Ok (key, box) → IsReason accepts key box true false false reader status out e
-    → (e ≡ Named OutOfMemory) ⊎ ReadingFails reader.source reader.old reader.new e
+    → (e ≡ Named OutOfMemory) ⊎ HasFailed ReadingFailed (reader.source.faults reader.old) (reader.source.faults reader.new) e
     ⊎ ((message : List ℕ) × IsAhead (reader.source.ahead reader.old) message × (verdict accepts pk sig message false ≡ Err e))
 ahead_reason accepts pk sig reader status out key box e read (inl memory) = inl memory
 ahead_reason accepts pk sig reader status out key box e read (inr (inl (wanted, rose))) = absurd (true≢false (sym wanted))
@@ -119,7 +120,7 @@ ahead_reason accepts pk sig reader status out key box e read (inr (inr (inr (inr
 -- why it is refused
 pub ahead_refused : {T R W O : Type 0} (accepts : Verifier) (pk sig : List ℕ) (reader : RereaderCall R) (status : SinkCall W) (out : SinkCall O) (r : Result T Fault)
     → IfErr r (VerifyingTextsFails accepts pk sig (options_of true false false) reader status out)
-    → IfErr r (λ e. (e ≡ Named OutOfMemory) ⊎ ReadingFails reader.source reader.old reader.new e
+    → IfErr r (λ e. (e ≡ Named OutOfMemory) ⊎ HasFailed ReadingFailed (reader.source.faults reader.old) (reader.source.faults reader.new) e
     ⊎ ((message : List ℕ) × IsAhead (reader.source.ahead reader.old) message × (verdict accepts pk sig message false ≡ Err e)))
 ahead_refused accepts pk sig reader status out (Ok t) err = tt
 ahead_refused accepts pk sig reader status out (Err e) (inl (why, unread, unsaid, uncopied)) =
@@ -140,9 +141,9 @@ reader_refused accepts pk sig reader status out (Err e) (inr (key, box, read, h)
 -- the verdict on a file's data
 pub file_verdict : {T R : Type 0} (bytes : T → List ℕ) (accepts : Verifier) (pk sig : List ℕ) (reader : RereaderCall R) (r : Result T Fault)
     → IfOk r (λ t. (message : List ℕ) × ReadsWhole reader.source reader.old reader.new message × TextsVouchWith accepts pk sig message false (bytes t))
-    → IfErr r (λ e. (e ≡ Named OutOfMemory) ⊎ ReadingFails reader.source reader.old reader.new e
+    → IfErr r (λ e. (e ≡ Named OutOfMemory) ⊎ HasFailed ReadingFailed (reader.source.faults reader.old) (reader.source.faults reader.new) e
     ⊎ ((message : List ℕ) × IsAhead (reader.source.ahead reader.old) message × (verdict accepts pk sig message false ≡ Err e)))
-    → IsFileVerdict accepts pk (map_ok bytes r)
+    → (message : List ℕ) × IsReadFromFile (λ sig. verdict accepts pk sig message false) (map_ok bytes r)
 file_verdict bytes accepts pk sig reader (Ok t) (message, given, vouched) refused =
     (message, inl (sig, sym (vouched_verdict accepts pk sig message false (bytes t) vouched)))
 file_verdict bytes accepts pk sig reader (Err e) vouched refused = ⊎_elim (λ memory. ([], inr (e, refl, inl memory)))

@@ -1,14 +1,14 @@
 -- What the calls for callers promise: data is vouched for and this is the comment that was signed with it, or the
 -- first reason why it is not; and why bytes are not signed, and no pair is made.
-use Rattle.std.specs.Prelude.{◌≡◌, ℕ, ◌<◌, ◌≤◌, Bool, true, false, ◌⊎◌, List, length, Some, IfSome, Result}
-use Rattle.minisign.specs.Common.{Fault, Named, EncryptedKeyRefused, OutOfMemory, PasswordTooLong, ReadingFailed, IsFlushed, IsSteady, RandomCall, RereaderCall, SinkCall, Takes}
+use Rattle.std.specs.Prelude.{◌≡◌, ℕ, ◌<◌, ◌≤◌, Bool, true, false, ◌⊎◌, List, length, Some, IfSome}
+use Rattle.minisign.specs.Common.{Fault, Named, EncryptedKeyRefused, OutOfMemory, PasswordTooLong, RandomSourceFailed, ReadingFailed, IsFlushed, IsSteady, RandomCall, RereaderCall, SinkCall, Takes}
 use Rattle.minisign.specs.Records.{CommentsRecord, SecretKeyRecord}
 use Rattle.minisign.specs.Acceptance.{Verifier}
 use Rattle.minisign.specs.Generation.{AllDrawn}
-use Rattle.minisign.specs.Headline.{TextsVouchFor, verdict}
+use Rattle.minisign.specs.Headline.{TextsVouchFor}
 use Rattle.minisign.specs.Sealing.{is_encrypted}
-use Rattle.minisign.specs.Signing.{DrawFails, RunsOutDrawing}
-use Rattle.minisign.specs.Reading.{IsReadFromFile}
+use Rattle.minisign.specs.Signing.{RandomHasNoNewFault}
+use Rattle.minisign.specs.Reading.{HasFailed}
 use Rattle.minisign.specs.Verifying.{ReadsTwice}
 
 -- the texts vouch for the message, and this is the comment that was signed with it
@@ -18,12 +18,6 @@ pub record TextsVouchWith (accepts : Verifier) (pk_text sig_text message : List 
   pub comments : CommentsRecord
   pub both : vouched.box.comments ≡ Some comments
   pub trusted : comments.trusted ≡ comment
-
--- the answer is the verdict on some signature text and some data, or a fault of reading files: no byte of std's files
--- is known, so that these are those of the named files is not said
-abbrev pub IsFileVerdict : Verifier → List ℕ → Result (List ℕ) Fault → Type 0
-IsFileVerdict accepts pk_text r =
-    (message : List ℕ) × IsReadFromFile (λ sig_text. verdict accepts pk_text sig_text message false) r
 
 -- what the output took and flushed is vouched for, and this is the comment that was signed with it; a second reading
 -- gave it, with the digest of the first; it is what was ahead, of a steady source, where that is known
@@ -37,11 +31,12 @@ pub record CopyIsVouchedWith {R O : Type 0} (accepts : Verifier) (pk_text sig_te
   pub read_twice : ReadsTwice reader out message copy
   pub same : IsSteady reader → IfSome (reader.source.ahead reader.old) (λ xs. copy ≡ xs)
 
--- signing bytes with a key fails: the key is sealed, with nothing drawn; or it is opened, and memory runs out or
+-- signing bytes with a key fails: the key is sealed, with nothing drawn; or it is opened, and an allocation fails or
 -- the random source fails
 abbrev pub BytesSigningFails : {Z : Type 0} → SecretKeyRecord → RandomCall Z → Fault → Type 0
 BytesSigningFails sk z e = ((e ≡ Named EncryptedKeyRefused) × (is_encrypted sk ≡ true) × (z.new ≡ z.old))
-    ⊎ ((is_encrypted sk ≡ false) × (RunsOutDrawing z e ⊎ DrawFails z e))
+    ⊎ ((is_encrypted sk ≡ false) × (((e ≡ Named OutOfMemory) × RandomHasNoNewFault z)
+    ⊎ HasFailed RandomSourceFailed (z.random.random_faults z.old) (z.random.random_faults z.new) e))
 
 -- signing the data of a file fails: as signing bytes does; or the key is opened, and the file could not be opened
 -- or read, with nothing drawn
@@ -50,7 +45,9 @@ PathSigningFails sk z e =
     BytesSigningFails sk z e ⊎ ((is_encrypted sk ≡ false) × (e ≡ Named ReadingFailed) × (z.new ≡ z.old))
 
 -- no pair is made under the password: it has more than 1024 bytes, with nothing drawn; or it does not, and the
--- random source failed, or all was drawn and memory ran out
+-- random source failed, or all was drawn and an allocation failed
 abbrev pub PasswordPairFails : {Z : Type 0} → List ℕ → RandomCall Z → Fault → Type 0
 PasswordPairFails password z e = ((e ≡ Named PasswordTooLong) × (1024 < length password) × (z.new ≡ z.old))
-    ⊎ ((length password ≤ 1024) × (DrawFails z e ⊎ (AllDrawn z × (e ≡ Named OutOfMemory))))
+    ⊎ ((length password ≤ 1024)
+    × (HasFailed RandomSourceFailed (z.random.random_faults z.old) (z.random.random_faults z.new) e
+    ⊎ (AllDrawn z × (e ≡ Named OutOfMemory))))

@@ -9,7 +9,7 @@ pub use Rattle.minisign_base.specs.Prompts.{Allocate, ConversationEnds, Say, Ste
 pub use Rattle.minisign_base.specs.Scheme.{AreRandomBytes, IsBytes}
 pub use Rattle.minisign_base.specs.Steps.{EndsWith, StepsEnd, without_value}
 pub use Rattle.minisign_base.specs.declared.faults.NamedFault.{NamedFault}
-pub use Rattle.minisign_base.specs.declared.faults.NamedFault.TheVariants.{CommentSignatureRefused, DataChanged, DifferentKeyIds, EncryptedKeyRefused, GoingBackFailed, LegacyNotAccepted, NotUtf8, OutOfMemory, PasswordTooLong, PasswordsDiffer, ReadingFailed, RecordTooShort, SignatureRefused, UnsupportedSignatureAlgorithm, WorkTooHigh, WritingFailed}
+pub use Rattle.minisign_base.specs.declared.faults.NamedFault.TheVariants.{CommentSignatureRefused, DataChanged, DifferentKeyIds, EncryptedKeyRefused, GoingBackFailed, LegacyNotAccepted, NotUtf8, OutOfMemory, PasswordTooLong, PasswordsDiffer, RandomSourceFailed, ReadingFailed, RecordTooShort, SignatureRefused, UnsupportedSignatureAlgorithm, WorkTooHigh, WritingFailed}
 pub use Rattle.minisign_hash.specs.Blake2b.{blake2b_digest}
 pub use Rattle.std.specs.Int.{from_le_bytes, to_le_bytes, w64}
 pub use Rattle.std.specs.Io.KnownBytes.{Consumes, IsAtEnd}

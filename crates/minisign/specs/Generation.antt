@@ -1,12 +1,13 @@
 -- The pairs of keys that generation makes, from which random bytes, and what the sinks of a pair take.
 use Rattle.std.specs.Prelude.{◌≡◌, ℕ, ◌⊎◌, List, ◌++◌, length, replicate, Option, None, Ok, Err, codes}
-use Rattle.minisign.specs.Common.{w64, to_le_bytes, blake2b_digest, FailsAtPart, PromptCall, RandomCall, SinkCall, TakesPart, Fault, Named, OutOfMemory, WritingFailed, IsBytes}
+use Rattle.minisign.specs.Common.{w64, to_le_bytes, blake2b_digest, FailsAtPart, PromptCall, RandomCall, SinkCall, TakesPart, Fault, Named, OutOfMemory, RandomSourceFailed, WritingFailed, IsBytes}
 use Rattle.minisign.specs.NewPassword.{IsSealing}
 use Rattle.minisign.specs.PublicKeyText.{public_key_text}
 use Rattle.minisign.specs.Records.{PublicKeyRecord, SecretKeyRecord, legacy_algorithm, public_key_bytes, secret_key_bytes}
 use Rattle.minisign.specs.Sealing.{no_kdf, open_sealed, scrypt_kdf, sealed_by_scrypt, xored_key}
 use Rattle.minisign.specs.SecretKeyText.{read_secret_key, secret_key_text}
-use Rattle.minisign.specs.Signing.{DrawFails, HasDrawn, IsGenuine, RandomHasNoNewFault}
+use Rattle.minisign.specs.Reading.{HasFailed}
+use Rattle.minisign.specs.Signing.{HasDrawn, IsGenuine, RandomHasNoNewFault}
 use Rattle.minisign.specs.Opening.{OpensTo}
 use Rattle.minisign.specs.Texts.{and_then}
 
@@ -99,8 +100,8 @@ pub record OpensToPair (public_of : List ℕ → List ℕ) (password : List ℕ)
 abbrev pub AreUnwritten : {P K : Type 0} → SinkCall P → SinkCall K → Type 0
 AreUnwritten pk_sink sk_sink = (pk_sink.new ≡ pk_sink.old) × (sk_sink.new ≡ sk_sink.old)
 
--- a pair's parts are not written: memory ran out, with both sinks as they were; or the public sink failed, with the
--- secret one as it was, or took and flushed its part, and the secret sink failed
+-- a pair's parts are not written: an allocation failed, with both sinks as they were; or the public sink failed, with
+-- the secret one as it was, or took and flushed its part, and the secret sink failed
 abbrev pub PartsFail : {P K : Type 0} → SinkCall P → SinkCall K → List ℕ → List ℕ → Fault → Type 0
 PartsFail pk_sink sk_sink public secret e = ((e ≡ Named OutOfMemory) × AreUnwritten pk_sink sk_sink)
     ⊎ ((e ≡ Named WritingFailed) × ((FailsAtPart pk_sink public × (sk_sink.new ≡ sk_sink.old))
@@ -109,7 +110,9 @@ PartsFail pk_sink sk_sink public secret e = ((e ≡ Named OutOfMemory) × AreUnw
 -- a pair that is not sealed is not written as raw bytes: the random source failed, with both sinks as they were, or a
 -- pair was made whose parts were not written
 abbrev pub RawPairFails : {Z P K : Type 0} → (List ℕ → List ℕ) → RandomCall Z → SinkCall P → SinkCall K → Fault → Type 0
-RawPairFails public_of z pk_sink sk_sink e = (DrawFails z e × AreUnwritten pk_sink sk_sink)
+RawPairFails public_of z pk_sink sk_sink e =
+    (HasFailed RandomSourceFailed (z.random.random_faults z.old) (z.random.random_faults z.new) e
+    × AreUnwritten pk_sink sk_sink)
     ⊎ ((pk : PublicKeyRecord) × (sk : SecretKeyRecord) × IsUnsealedPair public_of z pk sk × RandomHasNoNewFault z
     × PartsFail pk_sink sk_sink (public_key_bytes pk) (secret_key_bytes sk) e)
 
@@ -122,7 +125,9 @@ pub record AllDrawn {Z : Type 0} (z : RandomCall Z) : Type 0 where
 
 -- a sealed pair is not made: the random source failed, before anything was asked, or else no key was sealed
 abbrev pub SealedPairFails : {Z R W : Type 0} → RandomCall Z → PromptCall R W → Option (List ℕ) → Fault → Type 0
-SealedPairFails z p password e = (DrawFails z e × (p.new ≡ p.old)) ⊎ (AllDrawn z × IsSealing p password (Err e))
+SealedPairFails z p password e =
+    (HasFailed RandomSourceFailed (z.random.random_faults z.old) (z.random.random_faults z.new) e × (p.new ≡ p.old))
+    ⊎ (AllDrawn z × IsSealing p password (Err e))
 
 -- a sealed pair was made, under the password that was passed in or typed
 pub record HasSealed {Z R W : Type 0} (public_of : List ℕ → List ℕ) (z : RandomCall Z) (p : PromptCall R W)

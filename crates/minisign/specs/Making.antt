@@ -1,7 +1,7 @@
 -- Keys that are made of their parts, and the texts of both: 64 secret bytes, of a seed and of its public key,
 -- under a key ID.
-use Rattle.std.specs.Prelude.{◌≡◌, ◌⊎◌, ◌+◌, ℕ, List, length, false, Option, None, Some, IsOk, Ok, Err}
-use Rattle.minisign.specs.Common.{LacksByte, Fault, Named, OutOfMemory, numbers, sealing_limits}
+use Rattle.std.specs.Prelude.{◌≡◌, ◌+◌, ℕ, List, length, false, Option, None, Some, Ok, unwrap_or}
+use Rattle.minisign.specs.Common.{LacksByte, Fault, Named, OutOfMemory, numbers, result_err, sealing_limits}
 use Rattle.minisign.specs.Generation.{key_to_seal, unsealed_key}
 use Rattle.minisign.specs.PublicKeyText.{read_public_key, commented_public_key_text}
 use Rattle.minisign.specs.Records.{SecretKeyRecord, legacy_algorithm, own_public_key}
@@ -39,11 +39,11 @@ pub record IsMadeText (keynum secret : List ℕ) (password : Option (List ℕ)) 
   pub gives : LacksByte 10 comment → GivesParts text password keynum secret s
   pub size : length text ≡ length comment + 233
 
--- no secret key is made: with a password the limits are refused, or else memory ran out
-abbrev pub IsMakingFault : Option (List ℕ) → Sealing → Fault → Type 0
-IsMakingFault None s e = e ≡ Named OutOfMemory
-IsMakingFault (Some password) s e = ((e ≡ Named OutOfMemory) × IsOk (sealing_limits s.memory_limit s.operations_limit))
-    ⊎ (sealing_limits s.memory_limit s.operations_limit ≡ Err e)
+-- why no secret key is made: with a password the limits are rejected, or else an allocation failed
+abbrev pub making_fault : Option (List ℕ) → Sealing → Fault
+making_fault None s = Named OutOfMemory
+making_fault (Some password) s =
+    unwrap_or (result_err (sealing_limits s.memory_limit s.operations_limit)) (Named OutOfMemory)
 
 -- the text of the public key of these parts: it reads as the public key of the secret key that they make
 pub record IsMadePublicText (keynum secret comment text : List ℕ) : Type 0 where

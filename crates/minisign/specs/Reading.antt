@@ -1,35 +1,31 @@
 -- What comes of reading to the end, and of copying what was read; why a text is not read from a source or a file.
-use Rattle.std.specs.Prelude.{◌≡◌, ◌⊎◌, ⊤, ℕ, List, Option, IfSome, Result, IfErr, MatchResult, OnOk, OnErr, Err, IsUtf8}
-use Rattle.minisign.specs.Common.{IsAtEnd, Rose, IsUnflushed, IsWritingFault, RereaderCall, SinkCall, SinkHasNoNewFault, SourceGives, Takes, TakesFront, Fault, Named, OutOfMemory, ReadingFailed, NotUtf8, SourceOf}
+use Rattle.std.specs.Prelude.{◌≡◌, ◌⊎◌, ⊤, ℕ, List, Option, IfSome, Result, IfErr, OnOk, OnErr, Err, IsUtf8}
+use Rattle.minisign.specs.Common.{IsAtEnd, Rose, IsUnflushed, IsWritingFault, RereaderCall, SinkCall, SinkHasNoNewFault, SourceGives, Takes, TakesFront, Fault, Named, NamedFault, OutOfMemory, ReadingFailed, NotUtf8, SourceOf}
 
 -- these were the bytes ahead, or those that were given; where these are not known, nothing is said of them
 abbrev pub IsAhead : Option (List ℕ) → List ℕ → Type 0
 IsAhead ahead bytes = IfSome ahead (λ xs. xs ≡ bytes)
 
--- the source was read to its end without a fault, and gave this message; its mark stays
+-- the source was read to its end without an error, and gave this message; its mark stays
 pub record ReadsWhole {R : Type 0} (source : SourceOf R) (old new : R) (message : List ℕ) : Type 0 where
   pub given : IsAhead (source.ahead old) message
   pub end : IsAtEnd (source.ahead new)
   pub mark : source.behind new ≡ source.behind old
   pub no_new_fault : source.faults new ≡ source.faults old
 
--- the source failed: its count of faults rose
-pub record ReadingFails {R : Type 0} (source : SourceOf R) (old new : R) (e : Fault) : Type 0 where
-  pub fault : e ≡ Named ReadingFailed
-  pub rose : Rose (source.faults old) (source.faults new)
+-- a device failed, for which there is this error: its count of faults rose
+pub record HasFailed (error : NamedFault) (old new : ℕ) (e : Fault) : Type 0 where
+  pub fault : e ≡ Named error
+  pub rose : Rose old new
 
--- memory ran out, with no new fault of the source, or the source failed
+-- an allocation failed, with no new fault of the source, or the source failed
 abbrev pub IsReadFault : {R : Type 0} → SourceOf R → R → R → Fault → Type 0
 IsReadFault source old new e =
-    ((e ≡ Named OutOfMemory) × (source.faults new ≡ source.faults old)) ⊎ ReadingFails source old new e
+    ((e ≡ Named OutOfMemory) × (source.faults new ≡ source.faults old))
+    ⊎ HasFailed ReadingFailed (source.faults old) (source.faults new) e
 
--- the data is read to its end, and is this message; or memory runs out, or the source fails; a mark stays
-abbrev pub Reads : {R : Type 0} → RereaderCall R → List ℕ → Result ⊤ Fault → Type 0
-Reads r message answer = MatchResult answer (λ _. ReadsWhole r.source r.old r.new message)
-    (λ e. IsReadFault r.source r.old r.new e × SourceGives r) × (r.source.is_marked r.new ≡ r.source.is_marked r.old)
-
--- all that is ahead is read, and put to the output, which flushes nothing; or memory runs out before anything is read,
--- or one of the two fails, and the output holds a beginning of what was ahead, and of what the source gave; a mark
+-- all that is ahead is read, and put to the output, which flushes nothing; or an allocation fails before anything is
+-- read, or one of the two fails, and the output holds a prefix of what was ahead, and of what the source gave; a mark
 -- stays
 pub record Copies {R O : Type 0} (reader : RereaderCall R) (out : SinkCall O) (second : List ℕ)
     (answer : Result ⊤ Fault) : Type 0 where
@@ -39,7 +35,8 @@ pub record Copies {R O : Type 0} (reader : RereaderCall R) (out : SinkCall O) (s
   pub no_new_fault : OnOk answer (SinkHasNoNewFault out)
   pub failed : IfErr answer (λ e.
       ((e ≡ Named OutOfMemory) × (reader.new ≡ reader.old) × (out.new ≡ out.old))
-      ⊎ ReadingFails reader.source reader.old reader.new e ⊎ IsWritingFault out e)
+      ⊎ HasFailed ReadingFailed (reader.source.faults reader.old) (reader.source.faults reader.new) e
+      ⊎ IsWritingFault out e)
   pub ahead : OnErr answer (IsAhead (reader.source.ahead reader.old) second)
   pub left : OnErr answer (SourceGives reader)
   pub front : OnErr answer (TakesFront out second)
@@ -48,16 +45,17 @@ pub record Copies {R O : Type 0} (reader : RereaderCall R) (out : SinkCall O) (s
   pub marked : reader.source.is_marked reader.new ≡ reader.source.is_marked reader.old
   pub unflushed : IsUnflushed out
 
--- why a source gave no text: memory ran out, or it failed, or it was read to its end, and what it gave is not UTF-8
+-- why a source gave no text: an allocation failed, or it failed, or it was read to its end, and what it gave is not
+-- UTF-8
 abbrev pub IsTextFault : {R : Type 0} → SourceOf R → R → R → Fault → Type 0
 IsTextFault source old new e = IsReadFault source old new e
     ⊎ ((bytes : List ℕ) × ReadsWhole source old new bytes × ¬ (IsUtf8 bytes) × (e ≡ Named NotUtf8))
 
--- the faults of a file that gives no text: out of memory, reading failed, not UTF-8; when each comes is not said
+-- the errors of a file that gives no text: out of memory, reading failed, not UTF-8; when each comes is not said
 abbrev pub IsTextFileFault : Fault → Type 0
 IsTextFileFault e = (e ≡ Named OutOfMemory) ⊎ (e ≡ Named ReadingFailed) ⊎ (e ≡ Named NotUtf8)
 
--- what is answered where a file is read: what some text reads as, or a fault of the file; that it is the text of this
+-- what is answered where a file is read: what some text reads as, or an error of the file; that it is the text of this
 -- file is not said
 abbrev pub IsReadFromFile : {V : Type 0} → (List ℕ → Result V Fault) → Result V Fault → Type 0
 IsReadFromFile read r = ((text : List ℕ) × (r ≡ read text)) ⊎ ((e : Fault) × (r ≡ Err e) × IsTextFileFault e)

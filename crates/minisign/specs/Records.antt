@@ -49,11 +49,6 @@ prehashed_algorithm = codes "ED"
 abbrev pub IsKnownAlgorithm : List ℕ → Type 0
 IsKnownAlgorithm a = (a ≡ legacy_algorithm) ⊎ (a ≡ prehashed_algorithm)
 
--- a bare signature is refused: the bytes are too few, or else the algorithm is not known
-abbrev pub IsBonesFault : List ℕ → Fault → Type 0
-IsBonesFault bytes e = ((e ≡ Named RecordTooShort) × (length bytes < 74))
-    ⊎ ((e ≡ Named UnsupportedSignatureAlgorithm) × (74 ≤ length bytes) × ¬ (IsKnownAlgorithm (take 2 bytes)))
-
 -- the signature is over the digest of the data
 abbrev pub is_prehashed : SignatureRecord → Bool
 is_prehashed s = bytes_eq s.algorithm prehashed_algorithm

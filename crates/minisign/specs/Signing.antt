@@ -1,10 +1,10 @@
 -- The box that signing makes.
 use Rattle.std.specs.Prelude.{◌≡◌, ℕ, true, false, List, ◌++◌, length, Option, Some, ◌⊎◌, IsSomeAnd, codes, option_copied, unwrap_or, decimal}
-use Rattle.minisign.specs.Common.{Consumes, blake2b_digest, Rose, RandomCall, SourceCall, Fault, Named, SchemeOf, IsBytes, AreRandomBytes}
+use Rattle.minisign.specs.Common.{Consumes, blake2b_digest, RandomCall, SourceCall, Fault, Named, SchemeOf, IsBytes, AreRandomBytes}
 use denote.Ref.{Bor}
 use Rattle.minisign.specs.Records.{PublicKeyRecord, SecretKeyRecord, SignatureBoxRecord, prehashed_algorithm}
 use Rattle.minisign.specs.Acceptance.{Verifier, VouchesUnderEachKey, accepts_comments}
-use Rattle.minisign.specs.Reading.{ReadsWhole, ReadingFails}
+use Rattle.minisign.specs.Reading.{HasFailed, ReadsWhole}
 use Rattle.minisign.specs.Sealing.{is_encrypted}
 use Rattle.minisign.specs.SignatureText.{AreReadBack}
 use Rattle.minisign_base.specs.declared.faults.NamedFault.TheVariants as named
@@ -76,37 +76,27 @@ HasSignedBox s scheme sk message chosen z x = IsSigned (s.signature_of scheme) s
 abbrev pub AreChosenReadBack : ChosenComments → Type 0
 AreChosenReadBack chosen = AreReadBack chosen.untrusted chosen.trusted
 
--- the random source failed
-pub record DrawFails {Z : Type 0} (z : RandomCall Z) (e : Fault) : Type 0 where
-  pub fault : e ≡ Named named.RandomSourceFailed
-  pub rose : Rose (z.random.random_faults z.old) (z.random.random_faults z.new)
-
 -- the random source did not fail
 abbrev pub RandomHasNoNewFault : {Z : Type 0} → RandomCall Z → Type 0
 RandomHasNoNewFault z = z.random.random_faults z.new ≡ z.random.random_faults z.old
 
--- memory ran out, with no new fault of the random source
-abbrev pub RunsOutDrawing : {Z : Type 0} → RandomCall Z → Fault → Type 0
-RunsOutDrawing z e = (e ≡ Named named.OutOfMemory) × RandomHasNoNewFault z
-
--- signing with an opened key fails: memory runs out, with no new fault of either; the data fails, with nothing drawn;
--- or all of it was read, and the random source fails
+-- signing with an opened key fails: an allocation fails, with no new fault of either; the data fails, with nothing
+-- drawn; or all of it was read, and the random source fails
 abbrev pub OpenedSigningFails : {R Z : Type 0} → SourceCall R → RandomCall Z → Fault → Type 0
-OpenedSigningFails r z e = (RunsOutDrawing z e × (r.source.faults r.new ≡ r.source.faults r.old))
-    ⊎ (ReadingFails r.source r.old r.new e × (z.new ≡ z.old))
-    ⊎ ((message : List ℕ) × ReadsWhole r.source r.old r.new message × DrawFails z e)
+OpenedSigningFails r z e =
+    (((e ≡ Named named.OutOfMemory) × RandomHasNoNewFault z) × (r.source.faults r.new ≡ r.source.faults r.old))
+    ⊎ (HasFailed named.ReadingFailed (r.source.faults r.old) (r.source.faults r.new) e × (z.new ≡ z.old))
+    ⊎ ((message : List ℕ) × ReadsWhole r.source r.old r.new message
+    × HasFailed named.RandomSourceFailed (z.random.random_faults z.old) (z.random.random_faults z.new) e)
 
--- signing with a key fails: it is sealed, with nothing read or drawn; or it is opened, and signing with it fails
-abbrev pub KeySigningFails : {R Z : Type 0} → SecretKeyRecord → SourceCall R → RandomCall Z → Fault → Type 0
-KeySigningFails sk r z e =
-    ((e ≡ Named named.EncryptedKeyRefused) × (is_encrypted sk ≡ true) × (r.new ≡ r.old) × (z.new ≡ z.old))
-    ⊎ ((is_encrypted sk ≡ false) × OpenedSigningFails r z e)
-
--- signing fails: with the key; or all the data was read, and the public key that was given does not accept the comment
--- signature of the box that the opened key made of it
+-- signing fails: the key is sealed, with nothing read or drawn; or it is opened, and signing with it fails; or all the
+-- data was read, and the public key that was given does not accept the comment signature of the box that the opened key
+-- made of it
 abbrev pub SigningFails : {R Z : Type 0} → Verifier → Signer → Option PublicKeyRecord → SecretKeyRecord → ChosenComments
     → SourceCall R → RandomCall Z → Fault → Type 0
-SigningFails accepts sign pk sk chosen r z e = KeySigningFails sk r z e
+SigningFails accepts sign pk sk chosen r z e =
+    (((e ≡ Named named.EncryptedKeyRefused) × (is_encrypted sk ≡ true) × (r.new ≡ r.old) × (z.new ≡ z.old))
+    ⊎ ((is_encrypted sk ≡ false) × OpenedSigningFails r z e))
     ⊎ IsSomeAnd pk (λ p. (message : List ℕ) × (made : SignatureBoxRecord)
     × (e ≡ Named (named.RefusedByGivenKey p.keynum)) × (is_encrypted sk ≡ false)
     × ReadsWhole r.source r.old r.new message × IsSigned sign sk message chosen z made

@@ -1,5 +1,5 @@
 -- Signing with the text of a secret key: which key the text gives, and what is returned.
-use Rattle.std.specs.Prelude.{◌≡◌, ◌⊎◌, ℕ, Bool, true, false, List, Option, None, Some, Result, Ok, Err}
+use Rattle.std.specs.Prelude.{◌≡◌, ◌⊎◌, ℕ, true, false, List, Option, None, Some, Result, Ok, Err}
 use Rattle.minisign.specs.Common.{Fault, PromptCall, RandomCall, SourceCall, SchemeOf}
 use Rattle.minisign.specs.Headline.{SigningHeadline}
 use Rattle.minisign.specs.Reading.{ReadsWhole}
@@ -14,13 +14,9 @@ IsKeyOf text key = (password : List ℕ) × (key_with_password text password ≡
 
 -- what comes of a text that a key is wanted of. Where it reads as a key that names a key derivation, what comes of
 -- opening it; otherwise a key that was never sealed, or why there is none, with the prompt as it was
-abbrev pub GivesKeyOf : {R W : Type 0} → Bool → PromptCall R W → Option (List ℕ) → List ℕ
-    → Result SecretKeyRecord Fault → Type 0
-GivesKeyOf true p password text answer = IsOpening p password text None answer
-GivesKeyOf false p password text answer = (p.new ≡ p.old) × (answer ≡ read_unencrypted_key text)
-
 abbrev pub GivesKey : {R W : Type 0} → PromptCall R W → Option (List ℕ) → List ℕ → Result SecretKeyRecord Fault → Type 0
-GivesKey p password text answer = GivesKeyOf (is_sealed_text text) p password text answer
+GivesKey p password text answer = ((is_sealed_text text ≡ true) × IsOpening p password text None answer)
+    ⊎ ((is_sealed_text text ≡ false) × (p.new ≡ p.old) × (answer ≡ read_unencrypted_key text))
 
 -- the text of the box that the key signs the message with, with random bytes that were drawn
 pub record IsSignedText {Z : Type 0} (sign : Signer) (sk : SecretKeyRecord) (message : List ℕ)

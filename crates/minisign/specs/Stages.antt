@@ -1,18 +1,19 @@
 -- What verifying does stage by stage, and how each stage ends. The devices are the source of the data, the status, and
 -- the output.
-use Rattle.std.specs.Prelude.{◌≡◌, ◌≢◌, ◌⊎◌, ⊤, ℕ, Bool, true, false, ◌&&◌, List, [], ◌∷◌, ◌++◌, Result, Ok, Err, IsErrAnd}
-use Rattle.minisign.specs.Common.{blake2b_digest, Fault, Named, Flushes, GoesBack, Marks, Puts, RereaderCall, SinkCall, EndsWith, StepsEnd, DataChanged, GoingBackFailed, OutOfMemory, WritingFailed}
+use Rattle.std.specs.Prelude.{◌≡◌, ◌≢◌, ◌⊎◌, ⊤, ℕ, Bool, true, false, ◌&&◌, List, [], ◌∷◌, ◌++◌, Result, Ok, Err, MatchResult, IsErrAnd}
+use Rattle.minisign.specs.Common.{blake2b_digest, Fault, Named, Flushes, GoesBack, Marks, Puts, RereaderCall, SinkCall, SourceGives, EndsWith, StepsEnd, DataChanged, GoingBackFailed, OutOfMemory, WritingFailed}
 use Rattle.minisign.specs.Acceptance.{Verifier, judge, status_lines}
-use Rattle.minisign.specs.Reading.{Copies, Reads}
+use Rattle.minisign.specs.Reading.{Copies, IsReadFault, ReadsWhole}
 use Rattle.minisign.specs.Records.{PublicKeyRecord, SignatureBoxRecord, is_prehashed}
 use Rattle.minisign.specs.Texts.{IsReadOrNoMemory}
 use Rattle.minisign.specs.declared.options.VerifyOptions.{VerifyOptions}
 use Rattle.minisign.specs.declared.signed_data.SignedData.{SignedData}
 use Rattle.minisign.specs.declared.signed_data.SignedData.TheVariants.{Digest, Kept, Unkept}
 
--- a stage: the place is marked; the data is read to its end, which gives these bytes; the box is judged for this
--- message; the status gets a text; the mark is gone back to; the data is read to its end, and what that gives is put to
--- the output; the digest of what was copied is compared with this one; the output gets these bytes; it is flushed
+-- a stage: the place is marked; the data is read to its end, which gives these bytes, and a mark stays; the box is
+-- judged for this message; the status gets a text; the mark is gone back to; the data is read to its end, and what that
+-- gives is put to the output; the digest of what was copied is compared with this one; the output gets these bytes; it
+-- is flushed
 pub data Stage : Type 0 where
   Mark : Stage
   Read : List ℕ → Stage
@@ -35,7 +36,11 @@ module _ {R W O : Type 0} (reader : RereaderCall R) (status : SinkCall W) (out :
   abbrev pub StageEnds : Stage → Result ⊤ Fault → Type 0
   StageEnds Mark answer = EndsWith (Marks reader (Ok tt)) GoingBackFailed (Marks reader (Err tt)) answer
       × (status.new ≡ status.old) × (out.new ≡ out.old)
-  StageEnds (Read message) answer = Reads reader message answer × (status.new ≡ status.old) × (out.new ≡ out.old)
+  StageEnds (Read message) answer =
+      (MatchResult answer (λ _. ReadsWhole reader.source reader.old reader.new message)
+      (λ e. IsReadFault reader.source reader.old reader.new e × SourceGives reader)
+      × (reader.source.is_marked reader.new ≡ reader.source.is_marked reader.old))
+      × (status.new ≡ status.old) × (out.new ≡ out.old)
   StageEnds (Judge accepts pk x legacy message) answer = IsReadOrNoMemory answer (judge accepts pk x message legacy)
       × (reader.new ≡ reader.old) × (status.new ≡ status.old) × (out.new ≡ out.old)
   StageEnds (Report text) answer =

@@ -25,11 +25,11 @@ base64_bytes text = map (λ b. b % 256) (decoded_bytes_of standard text)
 unfoldable pub is_base64 : List ℕ → Bool
 is_base64 text = bytes_eq text (base64_of (base64_bytes text))
 
--- reading goes on where a test holds, and ends with the fault where it does not
+-- reading goes on where a test holds, and ends with the error where it does not
 abbrev pub require : {V : Type 0} → Bool → NamedFault → Result V Fault → Result V Fault
 require holds fault more = if holds then more else Err (Named fault)
 
--- reading goes on with what was read, and ends with the fault where there is one
+-- reading goes on with what was read, and ends with the error where there is one
 abbrev pub and_then : {V W : Type 0} → Result V Fault → (V → Result W Fault) → Result W Fault
 and_then (Ok v) more = more v
 and_then (Err e) more = Err e
@@ -44,11 +44,11 @@ abbrev pub IsReadOrNoMemory : {V : Type 0} → Result V Fault → Result V Fault
 IsReadOrNoMemory answer read = (answer ≡ read) ⊎ (answer ≡ Err (Named OutOfMemory))
 
 -- what is read is a value exactly where the text reads as this value, by the relation; it reads as one at most, and as
--- none where what is read is a fault
-pub record IsReading {V : Type 0} (reads : V → Type 0) (read : Result V Fault) : Type 0 where
+-- none where what is read is an error
+pub record IsReading {V E : Type 0} (reads : V → Type 0) (read : Result V E) : Type 0 where
   pub value : (v : V) → (read ≡ Ok v) ↔ reads v
   pub one_value : (v w : V) → reads v → reads w → v ≡ w
-  pub no_value : (e : Fault) → read ≡ Err e → (v : V) → ¬ (reads v)
+  pub no_value : (e : E) → read ≡ Err e → (v : V) → ¬ (reads v)
 
 -- how the first line of a written text begins
 unfoldable pub untrusted_comment_label : List ℕ

@@ -2,13 +2,13 @@
 
 ghost use Rattle.std.specs.Prelude.{◌≡◌, ◌≤◌, ◌⊎◌, ℕ, List, Ok, Err, true, false, length, string_bytes, IfOk, IfErr, OnOk};
 ghost use Rattle.minisign_base.specs.Fault.{Named};
-ghost use Rattle.minisign_base.specs.declared.faults.NamedFault.TheVariants.{OutOfMemory};
+ghost use Rattle.minisign_base.specs.declared.faults.NamedFault.TheVariants.{OutOfMemory, ReadingFailed};
 ghost use Rattle.minisign_base.specs.DeviceCalls.{rereader_call, sink_call, unused};
 ghost use Rattle.minisign_base.specs.Devices.{HasGiven};
-ghost use Rattle.minisign.specs.Calls.{CopyIsVouchedWith, IsFileVerdict, TextsVouchWith};
+ghost use Rattle.minisign.specs.Calls.{CopyIsVouchedWith, TextsVouchWith};
 ghost use Rattle.minisign.specs.Acceptance.{options_of};
 ghost use Rattle.minisign.specs.Headline.{WhereNothingFails, verdict};
-ghost use Rattle.minisign.specs.Reading.{IsAhead, ReadingFails, ReadsWhole};
+ghost use Rattle.minisign.specs.Reading.{HasFailed, IsAhead, IsReadFromFile, ReadsWhole};
 ghost use Rattle.minisign.specs.Texts.{IsReadOrNoMemory, map_ok};
 ghost use Rattle.minisign.specs.Records.{PublicKeyRecord, SignatureBoxRecord};
 ghost use Rattle.minisign.specs.SignatureText.{read_signature};
@@ -34,7 +34,7 @@ use std::rt::Files;
 /// `data_reader`, as `verify_texts` does, with options in place of three flags, and returns the
 /// trusted comment, which was signed with the data.
 ///
-/// What is refused, and in which order, is as `verify_texts` says. Until the comment is held in
+/// What is rejected, and in which order, is as `verify_texts` says. Until the comment is held in
 /// memory nothing is read from `data_reader`, and nothing is said or copied.
 pub fn verify_with<S: Scheme, R: Rereader, W: Sink, O: Sink>(
     alloc: Global,
@@ -46,8 +46,8 @@ pub fn verify_with<S: Scheme, R: Rereader, W: Sink, O: Sink>(
     status: &mut W,
     out: &mut O,
 ) -> Result<String>
-    // Over data that is known, where no device fails, and over a steady source where the data is copied: the answer is the
-    // verdict, a function of the two texts, the data and the flag, or out of memory.
+    // Over data that is known, where no device fails, and over a steady source where the data is copied: the answer is
+    // the verdict, a function of the two texts, the data and the flag, or out of memory.
     ensures headline { WhereNothingFails options.output (rereader_call R.Source R.steady data_reader.old data_reader.new)
         (sink_call W.Sink status.old status.new) (sink_call O.Sink out.old out.new) (map_ok string_bytes result)
         (λ bytes. verdict (S.accepts scheme.now) pk_text.now sig_text.now bytes options.allow_legacy) }
@@ -55,7 +55,7 @@ pub fn verify_with<S: Scheme, R: Rereader, W: Sink, O: Sink>(
     // What is returned is the comment that the signature text holds.
     ensures comment { IfOk result (λ t. map_ok (λ s. s.comments.trusted) (read_signature sig_text.now) ≡ Ok (string_bytes t)) }
 
-    // What is said of success and of a refusal is what the clauses `accepted` and `refused` of
+    // What is said of success and of a rejection is what the clauses `accepted` and `refused` of
     // `verify_texts` say.
     ensures accepted { OnOk result (VerifyingTextsSucceeds (S.accepts scheme.now) pk_text.now sig_text.now options
         (rereader_call R.Source R.steady data_reader.old data_reader.new)
@@ -105,9 +105,9 @@ fn read_with_comment(
 /// Verifies that the texts of a public key and of a signature vouch for the data in memory, and
 /// returns the trusted comment, which was signed with the data.
 ///
-/// Refused are the text of the public key, as `PublicKey::from_box` says, the text of the
-/// signature, as `SignatureBox::from_string` says, and then what `verify` refuses of the data; a
-/// signature over the data itself is never taken. It may run out of memory at any time; the data is
+/// Rejected are the text of the public key, as `PublicKey::from_box` says, the text of the
+/// signature, as `SignatureBox::from_string` says, and then what `verify` rejects of the data; a
+/// signature over the data itself is never taken. An allocation may fail at any time; the data is
 /// not copied.
 ///
 /// ```
@@ -130,13 +130,14 @@ pub fn verify_bytes<S: Scheme>(
 }
 
 /// Verifies that the texts of a public key and of a signature vouch for the data in memory, and returns the trusted
-/// comment, which was signed with the data, where it lies in the text of the signature. Takes no memory: `room` has as
-/// many bytes as the text of the signature at least, and holds afterwards what the comment signature is over, or what it
-/// held before.
+/// comment, which was signed with the data, where it lies in the text of the signature. Does not allocate: `room` has
+/// as many bytes as the text of the signature at least, and holds afterwards what the comment signature is over, or
+/// what it held before.
 ///
-/// These are refused, in this order: the text of the public key, as `read_public_key` says; the text of the signature, as
-/// `read_signature` says; key IDs that differ; a signature over the data itself, unless `allow_legacy`; a signature that
-/// the scheme does not accept; a comment signature that has fewer than 64 bytes, or that the scheme does not accept.
+/// These are rejected, in this order: the text of the public key, as `read_public_key` says; the text of the signature,
+/// as `read_signature` says; key IDs that differ; a signature over the data itself, unless `allow_legacy`; a signature
+/// that the scheme does not accept; a comment signature that has fewer than 64 bytes, or that the scheme does not
+/// accept.
 ///
 /// ```
 /// let comment = verify_in_place(&scheme, PUBLIC_KEY, signature, update, false, &mut room)?;
@@ -166,10 +167,10 @@ pub fn verify_in_place<'a, S: Scheme>(
 /// the data. The paths are taken as they stand. The data is read in pieces of 64 KiB, so that
 /// memory does not grow with it.
 ///
-/// Refused are, in this order: a signature file that cannot be opened or read, `ReadingFailed`;
+/// Rejected are, in this order: a signature file that cannot be opened or read, `ReadingFailed`;
 /// one that is not UTF-8, `NotUtf8`; a data file that cannot be opened, `ReadingFailed`; a text,
 /// as `verify_bytes` says; a data file that cannot be read, `ReadingFailed`; and what
-/// `verify_bytes` refuses of the data. It may run out of memory at any time.
+/// `verify_bytes` rejects of the data. An allocation may fail at any time.
 ///
 /// ```
 /// let comment = verify_file(&rt, rt.alloc(), &scheme, PUBLIC_KEY, "update.tar.minisig", "update.tar")?;
@@ -183,9 +184,10 @@ pub fn verify_file<F: Files, S: Scheme>(
     data_path: &str,
 ) -> Result<String>
     // Of files by name: the answer is the verdict on the text of the key, some signature text and some data; or out of
-    // memory, `reading failed` or the fault of a text that is not UTF-8, and no contract says when. That the named files
-    // are the ones that are read, the code and tests show.
-    ensures { IsFileVerdict (S.accepts scheme.now) pk_text.now (map_ok string_bytes result) }
+    // memory, `reading failed` or the error of a text that is not UTF-8, and no contract says when. That the named
+    // files are the ones that are read, the code and tests show.
+    ensures { (message : List ℕ) × IsReadFromFile (λ sig_text. verdict (S.accepts scheme.now) pk_text.now sig_text message false)
+        (map_ok string_bytes result) }
 {
     let sig_text = read_text_file(files, alloc, sig_path)?;
     match fs::open(files, data_path) {
@@ -204,9 +206,9 @@ pub fn verify_file<F: Files, S: Scheme>(
 /// `data_reader`, and returns the trusted comment, which was signed with the data. The data is read
 /// in pieces of 64 KiB, so that memory does not grow with it, and it is not copied.
 ///
-/// Refused are, in this order: a text, as `verify_bytes` says; data that cannot be read,
-/// `ReadingFailed`, which comes only where `data_reader` failed; and what `verify_bytes` refuses of
-/// the data. It may run out of memory at any time.
+/// Rejected are, in this order: a text, as `verify_bytes` says; data that cannot be read,
+/// `ReadingFailed`, which comes only where `data_reader` failed; and what `verify_bytes` rejects of
+/// the data. An allocation may fail at any time.
 ///
 /// ```
 /// let comment = verify_reader(alloc, &scheme, PUBLIC_KEY, signature, &mut ReaderSource::new(reader))?;
@@ -224,18 +226,19 @@ pub fn verify_reader<S: Scheme, R: Rereader>(
         (map_ok string_bytes result) (λ message. verdict (S.accepts scheme.now) pk_text.now sig_text.now message false) }
 
     // Whether its bytes are known or not: on success the texts vouch for what was ahead, with the
-    // comment that is returned; all of it was read to its end, without a fault.
+    // comment that is returned; all of it was read to its end, without an error.
     ensures vouched { IfOk result (λ t. (message : List ℕ) × ReadsWhole R.Source data_reader.old data_reader.new message
         × TextsVouchWith (S.accepts scheme.now) pk_text.now sig_text.now message false (string_bytes t)) }
 
-    // Otherwise out of memory; or `reading failed`, only if the reader's count of faults rose; or the verdict's refusal.
-    ensures refused { IfErr result (λ e. (e ≡ Named OutOfMemory) ⊎ ReadingFails R.Source data_reader.old data_reader.new e
+    // Otherwise out of memory; or `reading failed`, only if the reader's count of faults rose; or the verdict's
+    // rejection.
+    ensures refused { IfErr result (λ e. (e ≡ Named OutOfMemory) ⊎ HasFailed ReadingFailed (R.faults data_reader.old) (R.faults data_reader.new) e
         ⊎ ((message : List ℕ) × IsAhead (R.ahead data_reader.old) message
         × (verdict (S.accepts scheme.now) pk_text.now sig_text.now message false ≡ Err e))) }
 
-    // After a refusal a text was refused, or memory ran out for one, with the reader as it was; or
-    // it failed at one of the stages of `verify`: at the reading, where memory ran out or the reader
-    // failed, or at the judging, which comes once all was read to its end without a fault.
+    // After a rejection a text was rejected, or an allocation for one failed, with the reader as it was; or
+    // it failed at one of the stages of `verify`: at the reading, where an allocation failed or the reader
+    // failed, or at the judging, which comes once all was read to its end without an error.
     ensures failed { IfErr result (VerifyingTextsFails (S.accepts scheme.now) pk_text.now sig_text.now (options_of true false false)
         (rereader_call R.Source R.steady data_reader.old data_reader.new) unused unused) }
 
@@ -263,7 +266,8 @@ fn verify_opened_file<S: Scheme, R: Rereader>(
     sig_text: &str,
     data_reader: &mut R,
 ) -> Result<String>
-    ensures { IsFileVerdict (S.accepts scheme.now) pk_text.now (map_ok string_bytes result) }
+    ensures { (message : List ℕ) × IsReadFromFile (λ sig_text. verdict (S.accepts scheme.now) pk_text.now sig_text message false)
+        (map_ok string_bytes result) }
 {
     verify_reader(alloc, scheme, pk_text, sig_text, data_reader)
 }
@@ -272,12 +276,12 @@ fn verify_opened_file<S: Scheme, R: Rereader>(
 /// signature vouch for it, and returns the trusted comment, which was signed with the data.
 ///
 /// The data is read twice in pieces of 64 KiB, so that memory does not grow with it, and nothing is
-/// copied before it is vouched for. Refused are, in this order: a text; for a prehashed signature a
+/// copied before it is vouched for. Rejected are, in this order: a text; for a prehashed signature a
 /// place that cannot be marked, `GoingBackFailed`; a first reading that fails, `ReadingFailed`;
-/// what `verify_bytes` refuses of the data; all these with `out` untouched. Then a source that
+/// what `verify_bytes` rejects of the data; all these with `out` untouched. Then a source that
 /// cannot go back, `GoingBackFailed`; a second reading or an `out` that fails, whichever comes
 /// first; a second reading that has another digest, `DataChanged`; an `out` that fails at its
-/// flush. It may run out of memory until the second reading begins. After any refusal nobody may rely on what `out`
+/// flush. An allocation may fail until the second reading begins. After any rejection nobody may rely on what `out`
 /// holds. On success `out` is flushed.
 ///
 /// ```
@@ -303,7 +307,7 @@ pub fn copy_verified<S: Scheme, R: Rereader, O: Sink>(
     ensures copied { IfOk result (λ t. CopyIsVouchedWith (S.accepts scheme.now) pk_text.now sig_text.now
         (rereader_call R.Source R.steady data_reader.old data_reader.new) (sink_call O.Sink out.old out.new) (string_bytes t)) }
 
-    // After a refusal a text was refused, with nothing read or copied; or it failed at one of the
+    // After a rejection a text was rejected, with nothing read or copied; or it failed at one of the
     // stages of `verify`. So nothing was copied, or the texts vouch for what was read first, and
     // going back, memory, the second reading or the output failed, or the second reading had
     // another digest.

@@ -6,9 +6,9 @@ ghost use Rattle.minisign_hash.specs.Blake2b.{blake2b_digest};
 ghost use Rattle.minisign_hash.specs.Fed.{IsFed, has_finalized, output_length};
 ghost use Rattle.minisign_base.specs.Devices.{BeginsAnew};
 ghost use Rattle.minisign_base.specs.Fault.{Named};
-ghost use Rattle.minisign_base.specs.declared.faults.NamedFault.TheVariants.{GoingBackFailed, WritingFailed};
+ghost use Rattle.minisign_base.specs.declared.faults.NamedFault.TheVariants.{GoingBackFailed, ReadingFailed, WritingFailed};
 ghost use Rattle.minisign_base.specs.DeviceCalls.{Flushes, GoesBack, IsWritingFault, Puts, rereader_call, sink_call, unused};
-ghost use Rattle.minisign.specs.Reading.{Copies, ReadingFails};
+ghost use Rattle.minisign.specs.Reading.{Copies, HasFailed};
 ghost use Rattle.minisign.specs.Stages.{StagesEnd, second_copy_stages, held_copy_stages};
 
 use crate::reading::{finished, piece_buffer};
@@ -99,7 +99,7 @@ fn copy_pieces<R: Rereader, O: Sink>(
     ensures refused { IfErr result (λ e. (message : List ℕ)
         × Copies (rereader_call R.Source R.steady data_reader.old data_reader.new)
         (sink_call O.Sink out.old out.new) message (Err e)) }
-    ensures failed { IfErr result (λ e. ReadingFails R.Source data_reader.old data_reader.new e
+    ensures failed { IfErr result (λ e. HasFailed ReadingFailed (R.faults data_reader.old) (R.faults data_reader.new) e
         ⊎ IsWritingFault (sink_call O.Sink out.old out.new) e) }
     ensures length { output_length hasher.new ≡ output_length hasher.old }
 {

@@ -4,7 +4,9 @@ ghost use Rattle.std.specs.Prelude.{◌≡◌, ◌++◌, length, IfOk, IfErr, On
 ghost use Rattle.minisign_base.specs.Devices.{HasGiven};
 ghost use Rattle.minisign_base.specs.DeviceCalls.{random_call};
 ghost use Rattle.minisign_base.specs.Scheme.{IsBytes};
-ghost use Rattle.minisign.specs.Signing.{DrawFails, HasDrawn};
+ghost use Rattle.minisign_base.specs.declared.faults.NamedFault.TheVariants.{RandomSourceFailed};
+ghost use Rattle.minisign.specs.Reading.{HasFailed};
+ghost use Rattle.minisign.specs.Signing.{HasDrawn};
 
 use minisign_base::devices::random_sources::RandomSource;
 use minisign_base::{NamedFault, Result};
@@ -15,7 +17,7 @@ pub(crate) fn draw<const N: usize, Z: RandomSource>(random: &mut Z) -> Result<[u
         (λ z. HasDrawn (random_call Z.RandomSource random.old random.new) z) }
     ensures no_new_fault { OnOk result (Z.random_faults random.new ≡ Z.random_faults random.old) }
     ensures refused { IfErr result
-        (DrawFails (random_call Z.RandomSource random.old random.new)) }
+        (HasFailed RandomSourceFailed (Z.random_faults random.old) (Z.random_faults random.new)) }
     ensures given { HasGiven (Z.random_ahead random.old) (Z.random_ahead random.new) }
 {
     let mut bytes = [0u8; N];
@@ -36,7 +38,7 @@ pub(crate) fn draw_two<const N: usize, const M: usize, Z: RandomSource>(
     ensures second { IfOk result (λ z. IsBytes z.1 × (length z.1 ≡ M)) }
     ensures no_new_fault { OnOk result (Z.random_faults random.new ≡ Z.random_faults random.old) }
     ensures refused { IfErr result
-        (DrawFails (random_call Z.RandomSource random.old random.new)) }
+        (HasFailed RandomSourceFailed (Z.random_faults random.old) (Z.random_faults random.new)) }
     ensures given { HasGiven (Z.random_ahead random.old) (Z.random_ahead random.new) }
 {
     let first = draw(random)?;

@@ -12,7 +12,7 @@ ghost use Rattle.minisign.specs.Generation.{IsSealedPair, OpensToPair};
 ghost use Rattle.minisign.specs.Headline.{SigningHeadline};
 ghost use Rattle.minisign.specs.Reading.{ReadsWhole};
 ghost use Rattle.minisign.specs.Sealing.{is_encrypted};
-ghost use Rattle.minisign.specs.Signing.{KeySigningFails, given_comments};
+ghost use Rattle.minisign.specs.Signing.{SigningFails, given_comments};
 ghost use Rattle.minisign.specs.SigningTexts.{HasSignedText, IsSignedText};
 ghost use Rattle.minisign.specs.Opening.{key_with_password};
 ghost use Rattle.minisign.specs.Texts.{IsReadOrNoMemory};
@@ -34,9 +34,9 @@ use std::rt::Files;
 /// The secret key that a text gives: a key that was never sealed as it stands, and any other opened
 /// with the password. Nothing is asked for and nothing is said.
 ///
-/// Refused are, in this order: a text that reads as no key; of a key that was never sealed a
-/// checksum that does not match, `CorruptedKey`; of any other what `SecretKey::from_box` refuses
-/// with a password that is passed in, `WrongPassword` among it. It may run out of memory at any
+/// Rejected are, in this order: a text that reads as no key; of a key that was never sealed a
+/// checksum that does not match, `CorruptedKey`; of any other what `SecretKey::from_box` rejects
+/// with a password that is passed in, `WrongPassword` among it. An allocation may fail at any
 /// time: a sealed key takes 128 * 8 * N bytes, 32 MiB with the usual limits.
 ///
 /// ```
@@ -44,7 +44,7 @@ use std::rt::Files;
 /// ```
 pub fn open_with_password(alloc: Global, sk_text: &str, password: &str) -> Result<SecretKey>
     // What the text gives to who has its password: a key that was never sealed as it stands, where
-    // its checksum matches, and any other one opened; otherwise the first fault, or out of memory.
+    // its checksum matches, and any other one opened; otherwise the first error, or out of memory.
     ensures { IsReadOrNoMemory result (key_with_password sk_text.now password.now) }
 {
     let passed_in = Some(String::from_str(alloc, password)?);
@@ -56,7 +56,7 @@ impl KeyPair {
     /// does where one is passed in: of 32 random bytes of a seed, then 8 of a key ID, and then
     /// 32 of a salt. Nothing is asked for and nothing is said.
     ///
-    /// Refused are, in this order: a password of more than 1024 bytes, which could not be typed
+    /// Rejected are, in this order: a password of more than 1024 bytes, which could not be typed
     /// when the key is opened (`PasswordTooLong`), with nothing drawn; a failing `random`; memory
     /// for the derivation, some 32 MiB. An empty password is taken.
     ///
@@ -84,7 +84,7 @@ impl KeyPair {
         ensures typed { OnOk result (length password.now ≤ 1024) }
         ensures no_new_fault { OnOk result (Z.random_faults random.new ≡ Z.random_faults random.old) }
 
-        // The refusals: a password of more than 1024 bytes, with nothing drawn; and with any other
+        // The rejections: a password of more than 1024 bytes, with nothing drawn; and with any other
         // a failing random source, and out of memory once all was drawn.
         ensures refused { IfErr result
             (PasswordPairFails password.now (random_call Z.RandomSource random.old random.new)) }
@@ -104,8 +104,8 @@ impl KeyPair {
 /// gets `timestamp:` and the `moment`, in seconds since 1970; the untrusted one is
 /// `signature from rsign secret key`. Two draws of 64 random bytes are made.
 ///
-/// Refused are, in this order: a sealed key, `EncryptedKeyRefused`, with nothing drawn; a failing
-/// `random`. It may run out of memory at any time after the key was tested. A trusted comment with
+/// Rejected are, in this order: a sealed key, `EncryptedKeyRefused`, with nothing drawn; a failing
+/// `random`. An allocation may fail at any time after the key was tested. A trusted comment with
 /// a line feed, or with white space at its ends, is written as it stands: the text need not verify
 /// then, or may read with another comment.
 ///
@@ -138,7 +138,7 @@ pub fn sign_bytes<S: Scheme, Z: RandomSource>(
     // Whatever the result, the random source lost at most some bytes at its front.
     ensures drawn { HasGiven (Z.random_ahead random.old) (Z.random_ahead random.new) }
 
-    // The refusals: a sealed key, with nothing drawn; and with an opened one out of memory, with no
+    // The rejections: a sealed key, with nothing drawn; and with an opened one out of memory, with no
     // new fault of the random source, and a failing random source.
     ensures refused { IfErr result (BytesSigningFails sk.now (random_call Z.RandomSource random.old random.new)) }
 {
@@ -157,9 +157,9 @@ pub fn sign_bytes<S: Scheme, Z: RandomSource>(
 /// Signs all the data ahead of `data_reader`, as `sign_bytes` signs data in memory. The data is
 /// read in pieces of 64 KiB, so that memory does not grow with it.
 ///
-/// Refused are, in this order: a sealed key, `EncryptedKeyRefused`, with nothing read or drawn; a
+/// Rejected are, in this order: a sealed key, `EncryptedKeyRefused`, with nothing read or drawn; a
 /// failing `data_reader`, `ReadingFailed`, with nothing drawn; a failing `random`, once the data
-/// was read. It may run out of memory at any time after the key was tested. What `sign_bytes` says
+/// was read. An allocation may fail at any time after the key was tested. What `sign_bytes` says
 /// of the trusted comment holds here too.
 ///
 /// ```
@@ -186,10 +186,11 @@ pub fn sign_reader<S: Scheme, R: Source, Z: RandomSource>(
     // On success the random source did not fail.
     ensures random_no_new_fault { OnOk result (Z.random_faults random.new ≡ Z.random_faults random.old) }
 
-    // The refusals: a sealed key, with nothing read or drawn; and with an opened one out of memory,
+    // The rejections: a sealed key, with nothing read or drawn; and with an opened one out of memory,
     // with no new fault of either, a failing reader, with nothing drawn, and a failing random source,
     // once all was read.
-    ensures refused { IfErr result (KeySigningFails sk.now
+    ensures refused { IfErr result (SigningFails (S.accepts scheme.now) (S.signature_of scheme.now) None sk.now
+        (given_comments trusted_comment.entry None moment)
         (source_call R.Source data_reader.old data_reader.new)
         (random_call Z.RandomSource random.old random.new)) }
 
@@ -212,9 +213,9 @@ pub fn sign_reader<S: Scheme, R: Source, Z: RandomSource>(
 /// taken as it stands. The data is read in pieces of 64 KiB, so that memory does not grow with it.
 /// The text is returned, and no file is written.
 ///
-/// Refused are, in this order: a sealed key, `EncryptedKeyRefused`, with nothing opened, read or
+/// Rejected are, in this order: a sealed key, `EncryptedKeyRefused`, with nothing opened, read or
 /// drawn; a file that cannot be opened or read, `ReadingFailed`, with nothing drawn; a failing
-/// `random`, once the file was read. It may run out of memory at any time after the key was tested.
+/// `random`, once the file was read. An allocation may fail at any time after the key was tested.
 /// What `sign_bytes` says of the trusted comment holds here too.
 ///
 /// ```
@@ -243,7 +244,7 @@ pub fn sign_file<F: Files, S: Scheme, Z: RandomSource>(
     // On success the random source did not fail.
     ensures random_no_new_fault { OnOk result (Z.random_faults random.new ≡ Z.random_faults random.old) }
 
-    // The refusals: a sealed key, with nothing drawn; and with an opened one out of memory, with no
+    // The rejections: a sealed key, with nothing drawn; and with an opened one out of memory, with no
     // new fault of the random source, a file that is not opened or not read, with nothing drawn, and
     // a failing random source.
     ensures refused { IfErr result (PathSigningFails sk.now (random_call Z.RandomSource random.old random.new)) }

@@ -6,10 +6,11 @@ ghost use Rattle.std.specs.Str.Iter.{LacksByte};
 ghost use Rattle.minisign_base.specs.Devices.{HasGiven};
 ghost use Rattle.minisign_base.specs.DeviceCalls.{FailsAtPart, TakesPart, prompt_call, random_call, sink_call};
 ghost use Rattle.minisign_base.specs.Fault.{Named};
-ghost use Rattle.minisign_base.specs.declared.faults.NamedFault.TheVariants.{OutOfMemory, WritingFailed};
+ghost use Rattle.minisign_base.specs.declared.faults.NamedFault.TheVariants.{OutOfMemory, RandomSourceFailed, WritingFailed};
 ghost use Rattle.minisign.specs.Records.{public_key_bytes, secret_key_bytes};
 ghost use Rattle.minisign.specs.Sealing.{unencrypted_key, xored_key};
-ghost use Rattle.minisign.specs.Signing.{DrawFails, HasDrawn};
+ghost use Rattle.minisign.specs.Reading.{HasFailed};
+ghost use Rattle.minisign.specs.Signing.{HasDrawn};
 ghost use Rattle.minisign_base.specs.Prompts.{ConversationEnds};
 ghost use Rattle.minisign_base.specs.Passwords.{password_of};
 ghost use Rattle.minisign.specs.NewPassword.{IsSealing, choosing_steps, sealing_steps};
@@ -53,7 +54,7 @@ pub(crate) struct Drawn {
 impl KeyPair {
     /// Makes a pair that is not sealed, of 32 random bytes of a seed and then 8 of a key ID.
     ///
-    /// Takes no memory: it succeeds unless the random source failed.
+    /// Does not allocate: it succeeds unless the random source failed.
     #[tactic(auto, using(crate::proofs::GeneratedKeys::unsealed_pair, crate::proofs::GeneratedKeys::seed_and_keynum))]
     pub fn generate_unencrypted_keypair<S: Scheme, Z: RandomSource>(
         scheme: &S,
@@ -80,10 +81,10 @@ impl KeyPair {
         // On success the random source did not fail.
         ensures no_new_fault { OnOk result (Z.random_faults random.new ≡ Z.random_faults random.old) }
 
-        // An unsealed pair, which takes no memory, fails only if the random source's count of
+        // An unsealed pair, which does not allocate, fails only if the random source's count of
         // faults rose.
         ensures refused { IfErr result
-            (DrawFails (random_call Z.RandomSource random.old random.new)) }
+            (HasFailed RandomSourceFailed (Z.random_faults random.old) (Z.random_faults random.new)) }
 
         // Whatever the result, the random source lost at most some bytes at its front.
         ensures given { HasGiven (Z.random_ahead random.old) (Z.random_ahead random.new) }
@@ -95,10 +96,10 @@ impl KeyPair {
     /// Makes a pair that is not sealed, and writes the 42 bytes of its public key to `pk_sink` and
     /// the 158 of its secret key to `sk_sink`.
     ///
-    /// Refused are, in this order: a failing `random`; memory for the bytes of both keys, with
+    /// Rejected are, in this order: a failing `random`; memory for the bytes of both keys, with
     /// neither sink touched; a failing `pk_sink`; and a failing `sk_sink`. The public key is
     /// written and flushed before the secret one is begun, and the secret one is flushed at the
-    /// end. A sink that failed took a beginning of its key.
+    /// end. A sink that failed took a prefix of its key.
     pub fn generate_and_write_unencrypted_keypair<S: Scheme, Z: RandomSource, P: Sink, K: Sink>(
         alloc: Global,
         scheme: &S,
@@ -125,10 +126,10 @@ impl KeyPair {
         // On success the random source did not fail.
         ensures no_new_fault { OnOk result (Z.random_faults random.new ≡ Z.random_faults random.old) }
 
-        // If a pair is not made, or memory runs out for its bytes or texts, which comes only where
+        // If a pair is not made, or an allocation fails for its bytes or texts, which comes only where
         // the random source did not fail, neither sink is touched; otherwise a sink failed: the public
         // one with the secret one untouched, or the secret one after the public one took everything
-        // and flushed it; a sink that failed took a beginning.
+        // and flushed it; a sink that failed took a prefix.
         ensures refused { IfErr result
             (RawPairFails (S.public_of scheme.now)
             (random_call Z.RandomSource random.old random.new)
@@ -150,10 +151,10 @@ impl KeyPair {
     /// tells of the derivation, which takes some 32 MiB of memory; otherwise the prompt is left
     /// alone. The secret key is opened again by `SecretKey::from_box` with the same password.
     ///
-    /// Refused are, in this order: a failing `random`, with nothing asked; what `get_password`
-    /// refuses, at the first question and then at the second; two passwords that differ
+    /// Rejected are, in this order: a failing `random`, with nothing asked; what `get_password`
+    /// rejects, at the first question and then at the second; two passwords that differ
     /// (`PasswordsDiffer`); memory for the derivation. A prompt that cannot be written to is
-    /// refused at each text.
+    /// rejected at each text.
     pub fn generate_encrypted_keypair<S: Scheme, Z: RandomSource, R: Source, W: Sink>(
         alloc: Global,
         scheme: &S,
@@ -196,10 +197,10 @@ impl KeyPair {
     /// key to `pk_sink` and the one of its secret key, with the `comment` or the one by default, to
     /// `sk_sink`.
     ///
-    /// Refused are, in this order: what that call refuses, and memory for the two texts, with
+    /// Rejected are, in this order: what that call rejects, and memory for the two texts, with
     /// neither sink touched; a failing `pk_sink`; and a failing `sk_sink`. The public key is
     /// written and flushed before the secret one is begun, and the secret one is flushed at the
-    /// end. A sink that failed took a beginning of its text.
+    /// end. A sink that failed took a prefix of its text.
     pub fn generate_and_write_encrypted_keypair<
         S: Scheme,
         Z: RandomSource,
@@ -243,10 +244,10 @@ impl KeyPair {
         // On success the random source did not fail.
         ensures no_new_fault { OnOk result (Z.random_faults random.new ≡ Z.random_faults random.old) }
 
-        // If a pair is not made, or memory runs out for its bytes or texts, which comes only where
+        // If a pair is not made, or an allocation fails for its bytes or texts, which comes only where
         // the random source did not fail, neither sink is touched; otherwise a sink failed: the public
         // one with the secret one untouched, or the secret one after the public one took everything
-        // and flushed it; a sink that failed took a beginning.
+        // and flushed it; a sink that failed took a prefix.
         ensures refused { IfErr result
             (SealedTextsFail (S.public_of scheme.now)
             (random_call Z.RandomSource random.old random.new)
@@ -391,7 +392,7 @@ fn write_texts<P: Sink, K: Sink>(
     write_parts(pk_sink, sk_sink, public.as_bytes(), secret.as_bytes())
 }
 
-// Writes both parts: the public one is passed on before the secret one is begun.
+// Writes both parts: the public one is flushed before the secret one is begun.
 fn write_parts<P: Sink, K: Sink>(
     pk_sink: &mut P,
     sk_sink: &mut K,
@@ -451,7 +452,7 @@ pub(crate) fn draw_with_salt<Z: RandomSource>(random: &mut Z) -> Result<Drawn>
     ensures salt { IfOk result (λ z. length z.salt ≡ 32) }
     ensures no_new_fault { OnOk result (Z.random_faults random.new ≡ Z.random_faults random.old) }
     ensures refused { IfErr result
-        (DrawFails (random_call Z.RandomSource random.old random.new)) }
+        (HasFailed RandomSourceFailed (Z.random_faults random.old) (Z.random_faults random.new)) }
     ensures given { HasGiven (Z.random_ahead random.old) (Z.random_ahead random.new) }
 {
     let (seed, keynum) = draw_two(random)?;

@@ -1,13 +1,13 @@
 //! The texts of keys that are made of their parts: so a password is changed, and a public key is
 //! written again.
 
-ghost use Rattle.std.specs.Prelude.{◌≡◌, ◌≤◌, ◌⊎◌, List, ℕ, Some, IsOk, Err, IfOk, IfErr, OnOk};
+ghost use Rattle.std.specs.Prelude.{◌≡◌, ◌≤◌, List, ℕ, Some, IsOk, IfOk, IfErr, OnOk};
 ghost use Rattle.std.specs.Option.{option_map};
 ghost use Rattle.minisign_base.specs.Fault.{Named};
 ghost use Rattle.minisign_base.specs.declared.faults.NamedFault.TheVariants.{OutOfMemory};
 ghost use Rattle.minisign_base.specs.Limits.{sealing_limits};
 ghost use Rattle.minisign.specs.Generation.{key_to_seal, unsealed_key};
-ghost use Rattle.minisign.specs.Making.{IsMadePublicText, IsMadeText, IsMakingFault, made_key};
+ghost use Rattle.minisign.specs.Making.{IsMadePublicText, IsMadeText, making_fault, made_key};
 ghost use Rattle.minisign.specs.Sealing.{xored_key};
 
 use crate::constants::{CHK_ALG, KDF_NONE, SIGALG};
@@ -60,7 +60,7 @@ impl SecretKey {
     }
 
     // Seals a key that is not sealed, with every k-th row of scrypt kept. Limits that are not
-    // allowed are refused before anything is derived.
+    // allowed are rejected before anything is derived.
     pub(crate) fn seal_by(
         self,
         alloc: Global,
@@ -74,7 +74,7 @@ impl SecretKey {
         ensures opened { (keynum secret : List ℕ) → self ≡ unsealed_key keynum secret
             → IfOk result (λ sk. xored_key sk password.now ≡ key_to_seal keynum secret sealing.salt sealing.operations_limit sealing.memory_limit) }
         ensures allowed { OnOk result (IsOk (sealing_limits sealing.memory_limit sealing.operations_limit)) }
-        ensures refused { IfErr result (IsMakingFault (Some password.now) sealing) }
+        ensures refused { IfErr result (λ e. e ≡ making_fault (Some password.now) sealing) }
     {
         let mut sk = self.with_limits(sealing.salt, sealing.operations_limit, sealing.memory_limit);
         let derivation = Derivation { bound: None, k };
@@ -93,9 +93,9 @@ impl SecretKey {
 /// scrypt is kept, for k from 1 on, as `SecretKey::from_box_keeping` keeps them; the text is the
 /// same for every k.
 ///
-/// Refused are, with a password: a memory limit above 1073741824 bytes or a cost above 2^20,
+/// Rejected are, with a password: a memory limit above 1073741824 bytes or a cost above 2^20,
 /// `ParametersTooHigh`; limits that lead to parameters that scrypt does not take,
-/// `InvalidParameters`. These take no memory. Then it may run out of memory. A comment with a line
+/// `InvalidParameters`. These do not allocate. Then an allocation may fail. A comment with a line
 /// feed is written as it stands, and the text reads as no key then, or as another one.
 pub fn make_secret_key(
     alloc: Global,
@@ -116,9 +116,9 @@ pub fn make_secret_key(
     // every k.
     ensures text { IfOk result (IsMadeText key_id secret (option_map (λ p. p.now) password.entry) sealing.now comment.now) }
 
-    // It is refused exactly where a password is passed in and sealing does not allow the limits,
-    // with their fault, or else memory ran out.
-    ensures refused { IfErr result (IsMakingFault (option_map (λ p. p.now) password.entry) sealing.now) }
+    // It is rejected exactly where a password is passed in and sealing does not allow the limits,
+    // with their error, or else an allocation failed.
+    ensures refused { IfErr result (λ e. e ≡ making_fault (option_map (λ p. p.now) password.entry) sealing.now) }
 {
     let sk = SecretKey::from_parts(key_id, secret);
     match password {
@@ -139,7 +139,7 @@ fn make_sealed(
     requires { 1 ≤ k }
     ensures text { (keynum secret : List ℕ) → sk ≡ unsealed_key keynum secret
         → IfOk result (IsMadeText keynum secret (Some password.now) sealing comment.now) }
-    ensures refused { IfErr result (IsMakingFault (Some password.now) sealing) }
+    ensures refused { IfErr result (λ e. e ≡ making_fault (Some password.now) sealing) }
 {
     let sealed = sk.seal_by(alloc, password, sealing, k)?;
     sealed.to_box(alloc, Some(comment))
@@ -151,7 +151,7 @@ fn make_sealed(
 /// `minisign public key ` and the key ID, read little endian, in upper hexadecimal digits
 /// without leading zeros.
 ///
-/// Only running out of memory is refused. A comment with a line feed is written as it stands, and
+/// Fails only where an allocation does. A comment with a line feed is written as it stands, and
 /// the text reads as no key then, or as another one.
 pub fn make_public_key(
     alloc: Global,
@@ -161,7 +161,7 @@ pub fn make_public_key(
 ) -> Result<PublicKeyBox>
     // The text of a public key is the one by definition; if the comment has no line feed, it reads
     // as the public key of every secret key of these parts, so of the one that the other text
-    // gives; it has 77 bytes more than the comment; the only refusal is out of memory.
+    // gives; it has 77 bytes more than the comment; the only rejection is out of memory.
     ensures text { IfOk result (IsMadePublicText key_id secret comment.now) }
     ensures refused { IfErr result (λ e. e ≡ Named OutOfMemory) }
 {

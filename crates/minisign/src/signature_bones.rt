@@ -1,8 +1,8 @@
 //! A signature with no comments.
 
-ghost use Rattle.std.specs.Prelude.{◌≡◌, ◌<◌, vec_len, IfOk, IfErr};
+ghost use Rattle.std.specs.Prelude.{◌≡◌, ◌<◌, ◌≤◌, ◌⊎◌, length, take, vec_len, IfOk, IfErr};
 ghost use Rattle.minisign_base.specs.Fault.{Named};
-ghost use Rattle.minisign_base.specs.declared.faults.NamedFault.TheVariants.{OutOfMemory, UnsupportedSignatureAlgorithm};
+ghost use Rattle.minisign_base.specs.declared.faults.NamedFault.TheVariants.{OutOfMemory, RecordTooShort, UnsupportedSignatureAlgorithm};
 
 use crate::constants::{SIGALG, SIGALG_PREHASHED};
 use crate::signature::Signature;
@@ -28,7 +28,7 @@ impl Model for SignatureBones {
 }
 
 impl SignatureBones {
-    ghost use Rattle.minisign.specs.Records.{SignatureRecord, ReadsSignature, IsBonesFault, signature_bytes, is_prehashed, IsKnownAlgorithm};
+    ghost use Rattle.minisign.specs.Records.{SignatureRecord, ReadsSignature, signature_bytes, is_prehashed, IsKnownAlgorithm};
 
     /// The length of a stored signature in bytes.
     pub const BYTES: usize = Signature::BYTES;
@@ -40,14 +40,15 @@ impl SignatureBones {
         self.signature.sig_alg == SIGALG_PREHASHED
     }
 
-    /// Reads the 74 bytes at the front. Fewer bytes are refused, then an algorithm other than `Ed`
-    /// and `ED`; later bytes are ignored. Takes no memory.
+    /// Reads the 74 bytes at the front. Fewer bytes are rejected, then an algorithm other than `Ed`
+    /// and `ED`; later bytes are ignored. Does not allocate.
     pub fn from_bytes(bytes: &[u8]) -> Result<SignatureBones>
         // A bare signature is read as its record if its algorithm is `Ed` or `ED`; too few bytes
-        // are refused, and then every other algorithm.
+        // are rejected, and then every other algorithm.
         ensures read { IfOk result
             (λ s. ReadsSignature bytes.now s × IsKnownAlgorithm s.algorithm) }
-        ensures refused { IfErr result (IsBonesFault bytes.now) }
+        ensures refused { IfErr result (λ e. ((e ≡ Named RecordTooShort) × (length bytes.now < 74))
+            ⊎ ((e ≡ Named UnsupportedSignatureAlgorithm) × (74 ≤ length bytes.now) × ¬ (IsKnownAlgorithm (take 2 bytes.now)))) }
     {
         let signature = Signature::from_bytes(bytes)?;
         if signature.sig_alg != SIGALG && signature.sig_alg != SIGALG_PREHASHED {
@@ -57,10 +58,10 @@ impl SignatureBones {
     }
 
     /// The 74 bytes that `from_bytes` reads as this signature. Only running out of memory is
-    /// refused.
+    /// rejected.
     pub fn to_bytes(&self, alloc: Global) -> Result<Vec<u8>>
         // The bytes are those of the record, and are read as this record, and by the law `texts_are_decided` as no
-        // other; the only refusal is out of memory.
+        // other; the only rejection is out of memory.
         ensures bytes { IfOk result (λ v. v.items ≡ signature_bytes self.now) }
         ensures reads_back { IfOk result (λ v. ReadsSignature v.items self.now) }
         ensures len { IfOk result (λ v. vec_len v ≡ Self.BYTES) }
@@ -70,7 +71,7 @@ impl SignatureBones {
     }
 }
 
-/// The signature of a box, without its comments. Takes no memory.
+/// The signature of a box, without its comments. Does not allocate.
 impl From<SignatureBox> for SignatureBones {
     ghost from_gives = { λ signature_box bones. bones ≡ signature_box.signature };
 

@@ -6,11 +6,11 @@ ghost use Rattle.minisign_hash.specs.Blake2b.{blake2b_digest};
 ghost use Rattle.minisign_base.specs.Devices.{HasGiven};
 ghost use Rattle.minisign_base.specs.DeviceCalls.{random_call, source_call};
 ghost use Rattle.minisign_base.specs.Fault.{Named};
-ghost use Rattle.minisign_base.specs.declared.faults.NamedFault.TheVariants.{OutOfMemory, RefusedByGivenKey};
-ghost use Rattle.minisign.specs.Reading.{ReadsWhole};
+ghost use Rattle.minisign_base.specs.declared.faults.NamedFault.TheVariants.{OutOfMemory, RandomSourceFailed, RefusedByGivenKey};
+ghost use Rattle.minisign.specs.Reading.{HasFailed, ReadsWhole};
 ghost use Rattle.minisign.specs.Sealing.{is_encrypted};
 ghost use Rattle.minisign.specs.Acceptance.{accepts_comments};
-ghost use Rattle.minisign.specs.Signing.{AreChosenReadBack, DrawFails, HasSignedBox, OpenedSigningFails, RunsOutDrawing, SigningFails, default_trusted_comment, default_untrusted_comment, given_comments};
+ghost use Rattle.minisign.specs.Signing.{AreChosenReadBack, HasSignedBox, OpenedSigningFails, SigningFails, default_trusted_comment, default_untrusted_comment, given_comments};
 
 use crate::comment_signature::accepts_comments;
 use crate::constants::{DEFAULT_COMMENT, SIGALG_PREHASHED};
@@ -43,9 +43,9 @@ pub(crate) struct GivenComments<'a> {
 /// comment the box gets `timestamp:` and the `moment`, in seconds since 1970, and without an
 /// untrusted one `signature from rsign secret key`. Two draws of 64 random bytes are made.
 ///
-/// Refused are, in this order: a sealed key, with nothing read or drawn; a failing `data_reader`; a
+/// Rejected are, in this order: a sealed key, with nothing read or drawn; a failing `data_reader`; a
 /// failing `random`, once the data was read; and, where `pk` is given, a comment signature that its
-/// 32 key bytes do not accept. Identifiers are not compared. Memory may run out once the key was
+/// 32 key bytes do not accept. Identifiers are not compared. An allocation may fail once the key was
 /// tested: for the buffer of the reading, the two comments, and the comment signature and what it
 /// is over.
 pub fn sign<S: Scheme, R: Source, Z: RandomSource>(
@@ -79,11 +79,11 @@ pub fn sign<S: Scheme, R: Source, Z: RandomSource>(
     // On success the random source did not fail.
     ensures random_no_new_fault { OnOk result (Z.random_faults random.new ≡ Z.random_faults random.old) }
 
-    // A key is refused as sealed exactly when it is sealed, with nothing read or drawn
-    // (`KeySigningFails`). `reading failed` comes only if the source's count of faults rose, with
+    // A key is rejected as sealed exactly when it is sealed, with nothing read or drawn
+    // (`SigningFails`). `reading failed` comes only if the source's count of faults rose, with
     // nothing drawn; `random source failed` only if that source's count did, once all the data was
     // read; out of memory only if neither count rose (`OpenedSigningFails`); a given public key is
-    // refused exactly when its 32 bytes do not accept the comment signature (`SigningFails`).
+    // rejected exactly when its 32 bytes do not accept the comment signature (`SigningFails`).
     ensures refused { IfErr result
         (SigningFails (S.accepts scheme.now) (S.signature_of scheme.now)
         (option_copied pk.entry) sk.now
@@ -185,8 +185,8 @@ fn make_box<S: Scheme, Z: RandomSource>(
         (random_call Z.RandomSource random.old random.new) x) }
     ensures no_new_fault { OnOk result (Z.random_faults random.new ≡ Z.random_faults random.old) }
     ensures refused { IfErr result
-        (λ e. RunsOutDrawing (random_call Z.RandomSource random.old random.new) e
-        ⊎ DrawFails (random_call Z.RandomSource random.old random.new) e) }
+        (λ e. ((e ≡ Named OutOfMemory) × (Z.random_faults random.new ≡ Z.random_faults random.old))
+        ⊎ HasFailed RandomSourceFailed (Z.random_faults random.old) (Z.random_faults random.new) e) }
     ensures given { HasGiven (Z.random_ahead random.old) (Z.random_ahead random.new) }
 {
     let secret = sk.keynum_sk.sk;

@@ -4,7 +4,7 @@ use Rattle.std.specs.Str.{IsUtf8}
 use Rattle.std.specs.Str.Iter.{LacksByte}
 use Rattle.minisign_base.specs.Fault.{Named}
 use Rattle.minisign_base.specs.declared.faults.NamedFault.TheVariants.{OutOfMemory, NotUtf8}
-use Rattle.minisign.specs.Making.{GivesParts, IsMakingFault, IsOfParts, made_key}
+use Rattle.minisign.specs.Making.{GivesParts, IsOfParts, made_key, making_fault}
 use Rattle.minisign.specs.PublicKeyText.{read_public_key, commented_public_key_text}
 use Rattle.minisign.specs.Generation.{unsealed_key}
 use Rattle.minisign.specs.Records.{SecretKeyRecord, own_public_key}
@@ -64,7 +64,7 @@ AreUtf8KeyTexts comment password = IsUtf8 comment × IfSome password IsUtf8
 -- are refused, or out of memory
 abbrev pub IsMadeRefusal : Option (List ℕ) → Sealing → List ℕ → List ℕ → Refusal → Type 0
 IsMadeRefusal password s comment bytes (WrongUse m) = IsUnwritable comment 233 bytes m
-IsMadeRefusal password s comment bytes (Refused e) = IsWritable comment 233 bytes × IsMakingFault password s e
+IsMadeRefusal password s comment bytes (Refused e) = IsWritable comment 233 bytes × (e ≡ making_fault password s)
 
 -- the text of a secret key was not written: the key was not opened, a comment or a password is not UTF-8, or else as
 -- above

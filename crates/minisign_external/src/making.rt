@@ -5,7 +5,7 @@ ghost use Rattle.std.specs.Prelude.{◌≡◌, ◌⊎◌, ◌<◌, ◌≤◌, �
 ghost use Rattle.std.specs.Option.{option_map};
 ghost use Rattle.minisign_base.specs.Fault.{Named};
 ghost use Rattle.minisign_base.specs.declared.faults.NamedFault.TheVariants.{OutOfMemory};
-ghost use Rattle.minisign.specs.Making.{IsMakingFault};
+ghost use Rattle.minisign.specs.Making.{making_fault};
 ghost use Rattle.minisign_external.specs.Making.{HoldsPublicKey, HoldsSecretKey, IsMadeRefusal, IsMakingRefusal, IsPublicKeyRefusal, IsReadInKey, IsUnwritable, IsWritable};
 ghost use Rattle.minisign_external.specs.SecretKeys.{is_opened};
 

@@ -1,9 +1,9 @@
 -- What it means that `verify-raw` accepts, and why it ends otherwise.
-use Rattle.std.specs.Prelude.{◌≡◌, ℕ, ◌<◌, ◌⊎◌, false, List, length, None}
+use Rattle.std.specs.Prelude.{◌≡◌, ℕ, ◌<◌, ◌≤◌, ◌⊎◌, false, List, length, take, None}
 use Rattle.minisign.specs.Fault.{Fault, Named}
-use Rattle.minisign.specs.NamedFaults.{RecordTooShort}
+use Rattle.minisign.specs.NamedFaults.{RecordTooShort, UnsupportedSignatureAlgorithm}
 use Rattle.minisign.specs.DeviceCalls.{RereaderCall, SinkCall, SourceCall, TakesFront, unused}
-use Rattle.minisign.specs.Records.{PublicKeyRecord, SignatureRecord, SignatureBoxRecord, ReadsPublicKey, ReadsSignature, IsKnownAlgorithm, IsBonesFault}
+use Rattle.minisign.specs.Records.{PublicKeyRecord, SignatureRecord, SignatureBoxRecord, ReadsPublicKey, ReadsSignature, IsKnownAlgorithm}
 use Rattle.minisign.specs.Acceptance.{Verifier, Vouches, verified_text}
 use Rattle.minisign.specs.Texts.{line}
 use Rattle.minisign.specs.Reading.{IsReadFault, ReadsWhole}
@@ -22,7 +22,9 @@ pub record HoldsRaw (key_file signature_file : List ℕ) (key : PublicKeyRecord)
 abbrev pub IsFileFault : List ℕ → List ℕ → Fault → Type 0
 IsFileFault key_file signature_file e =
     ((e ≡ Named RecordTooShort) × (length key_file < 42))
-    ⊎ ((key : PublicKeyRecord) × ReadsPublicKey key_file key × IsBonesFault signature_file e)
+    ⊎ ((key : PublicKeyRecord) × ReadsPublicKey key_file key × (((e ≡ Named RecordTooShort) × (length signature_file < 74))
+    ⊎ ((e ≡ Named UnsupportedSignatureAlgorithm) × (74 ≤ length signature_file)
+    × ¬ (IsKnownAlgorithm (take 2 signature_file)))))
 
 -- the box of a bare signature
 abbrev pub bare_box : SignatureRecord → SignatureBoxRecord

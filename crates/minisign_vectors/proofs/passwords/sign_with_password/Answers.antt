@@ -6,22 +6,22 @@ use Rattle.minisign.specs.Headline.{SigningHeadline}
 use Rattle.minisign.specs.Opening.{is_sealed_text, key_with_password, open_key, read_unencrypted_key}
 use Rattle.minisign.specs.Reading.{IsAhead}
 use Rattle.minisign.specs.Records.{SecretKeyRecord}
-use Rattle.minisign.specs.SigningTexts.{GivesKey, GivesKeyOf}
+use Rattle.minisign.specs.SigningTexts.{GivesKey}
 use Rattle.minisign.specs.Texts.{IsReadOrNoMemory}
 use Rattle.minisign_vectors.proofs.passwords.sign_with_password.Goals as goal
 
 -- the key that signed is the one that the text gives under the password
 same_key : {R W : Type 0} (p : PromptCall R W) (text password : List ℕ) (sk key : SecretKeyRecord) → GivesKey p (Some password) text (Ok sk)
     → key_with_password text password ≡ Ok key → sk ≡ key
-same_key p text password sk key given opens = of (is_sealed_text text) given opens
+same_key p text password sk key given opens = of given
   where
     one : (r : IsReadOrNoMemory (Ok sk) (Ok key)) → sk ≡ key
     one (inl same) = cc same
     one (inr memory) = cc memory
 
-    of : (b : Bool) → GivesKeyOf b p (Some password) text (Ok sk) → (if b then open_key text password None else read_unencrypted_key text) ≡ Ok key → sk ≡ key
-    of true h e = one (subst (IsReadOrNoMemory (Ok sk)) e h.1)
-    of false h e = one (inl (h.1 ∙ e))
+    of : GivesKey p (Some password) text (Ok sk) → sk ≡ key
+    of (inl (sealed, (same, h))) = one (subst (IsReadOrNoMemory (Ok sk)) (rw sealed at opens) h)
+    of (inr (plain, same, h)) = one (inl (h ∙ rw plain at opens))
 
 pub returns : goal.returns
 returns g c = λ key opened.
