@@ -1,8 +1,8 @@
 -- An installation over a directory, from call to call: what stands fast between two of them, and what that says at the end.
-use Rattle.minisign_install.proofs.Common.{◌≡◌, inl, inr, ⊎_elim, ℕ, List, [], Option, Some, None, Bool, true, false, ap, sym, subst, ◌∙◌, refl, true≢false, Verifier, HasInstalled, InstallsOnlyUpdates, IsVouched, Terms, Rose, InstallFault, AreNamed, HasMade, IsNamed, Knows, MayCall, Names, setting, HasLocked, Run, DeviceFails, Explains, Host, Setting, drawn_bytes, has_ended, next, Due, Lock, Clear, ReadRecord, Create, Copy, ReadBack, Answer, TakePermissions, Sync, CreateRecord, WriteRecord, SyncRecord, RenameRecord, SyncRecordName, Rename, SyncName, RemoveRecord, Remove, Installed, Outcome, Done, More, Number, Failed, Counts, IsCause, IsCallFault, IsDataCause, IsLibraryFault, IsRefusal, OwnsNoMore, Stage, Work}
+use Rattle.minisign_install.proofs.Common.{◌≡◌, inl, inr, ⊎_elim, ℕ, List, [], Option, Some, None, Bool, true, false, ap, sym, subst, ◌∙◌, refl, true≢false, Verifier, HasInstalled, InstallsOnlyUpdates, IsVouched, Terms, Rose, InstallFault, AreNamed, HasMade, IsNamed, Knows, MayCall, Names, setting, HasLocked, Run, DeviceFails, Explains, Host, Setting, drawn_bytes, has_ended, next, Due, Lock, Clear, ReadRecord, Create, Copy, ReadBack, Answer, TakePermissions, Sync, CreateRecord, WriteRecord, SyncRecord, RenameRecord, SyncRecordName, Rename, SyncName, RemoveRecord, Remove, Installed, Outcome, Done, More, Number, Failed, Counts, IsCause, IsCallFault, IsLibraryFault, IsRefusal, OwnsNoMore, Stage, Work}
 use Rattle.minisign_install.specs.Order.{Refused}
 use Rattle.minisign_install.proofs.Driving.{Called}
-use Rattle.minisign_install.proofs.Orders.{Holds, from, refusing_own, still_staged}
+use Rattle.minisign_install.proofs.Orders.{Holds, from, refusing_own}
 use Rattle.minisign_install.proofs.Reasons.{Reason, why, Wants, wants}
 
 -- a call that is due can be made: the run is still known, and the lock is held
@@ -10,19 +10,11 @@ ready : (s : Setting) (a : Host) (due : Due InstallFault) (h : Host) → a.run.k
 ready s a Lock h known going (run, same) = (ap (λ r. r.known) run ∙ known, tt)
 ready s a Clear h known going (lock, mine, same) = (lock.stepped.known ∙ known, lock.held)
 ready s a ReadRecord h known going (l, lock, mine, clear, same) = (clear.0.known ∙ lock.stepped.known ∙ known, clear.0.locked lock.held)
-ready s a (Create kept) h known going (front, same) = (front.known, front.held)
-ready s a (TakePermissions n) h known going (kept, x, given, update) = (x.works.stage.known, x.works.stage.locked)
-ready s a (Sync n) h known going (kept, x, given, update, permissions) = (x.works.stage.known, x.works.stage.locked)
-ready s a (CreateRecord n) h known going x = (x.staging.works.stage.known, x.staging.works.stage.locked)
-ready s a (WriteRecord n) h known going (t, x, made) = (made.stepped.known ∙ x.staging.works.stage.known, made.stepped.locked x.staging.works.stage.locked)
-ready s a (SyncRecordName n) h known going (v, x, holds, on_disk, renamed) = (renamed.stepped.known ∙ x.works.stage.known, renamed.stepped.locked x.works.stage.locked)
-ready s a (Rename n) h known going x = ((still_staged s a h.run n x).stage.known, (still_staged s a h.run n x).stage.locked)
-ready s a (SyncName n) h known going (w, x, renamed) = (renamed.stepped.known ∙ (still_staged s a w n x).stage.known, renamed.stepped.locked (still_staged s a w n x).stage.locked)
-ready s a (RemoveRecord e) h known going x = (x.places.publishes.known ∙ x.front.known, x.places.publishes.locked x.front.held)
-ready s a (Remove e) h known going x = (x.places.publishes.known ∙ x.front.known, x.places.publishes.locked x.front.held)
+ready s a (RemoveRecord e) h known going x = (x.publishes.known ∙ x.base.lock.stepped.known ∙ known, x.publishes.locked x.base.lock.held)
+ready s a (Remove e) h known going x = (x.publishes.known ∙ x.base.lock.stepped.known ∙ known, x.publishes.locked x.base.lock.held)
 ready s a Installed h known going x = absurd (true≢false going)
 ready s a (Refused e) h known going x = absurd (true≢false going)
-ready s a due h known going x = (x.0.works.stage.known, x.0.works.stage.locked)
+ready s a due h known going x = (x.0.publishes.known ∙ x.0.base.lock.stepped.known ∙ known, x.0.publishes.locked x.0.base.lock.held)
 
 module _ (accepts : Verifier) (terms : Terms) (first : Bool) where
   -- What is so of any directory: no device failed so far, and from some point on the texts vouch for some data; or the run
@@ -37,31 +29,31 @@ module _ (accepts : Verifier) (terms : Terms) (first : Bool) where
   Counted before (Rename n) after = (after ≡ before) × IsVouched accepts terms
   Counted before (SyncName n) after = (after ≡ before) × IsVouched accepts terms
   Counted before Installed after = (after ≡ before) × IsVouched accepts terms
-  Counted before (RemoveRecord e) after = IsDataCause accepts terms before after e
-  Counted before (Remove e) after = IsDataCause accepts terms before after e
+  Counted before (RemoveRecord e) after = IsCause accepts terms first before after e
+  Counted before (Remove e) after = IsCause accepts terms first before after e
   Counted before (Refused e) after = IsCause accepts terms first before after e
   Counted before due after = after ≡ before
 
-  device : (before : Counts) (h h' : Host) (e : InstallFault) → h.faults ≡ before → DeviceFails e h h' → IsDataCause accepts terms before h'.faults e
-  device before h h' e same fails = inl (subst (λ f. IsLibraryFault (IsCallFault f h'.faults) e) same fails)
+  device : (before : Counts) (h h' : Host) (e : InstallFault) → h.faults ≡ before → DeviceFails e h h' → IsCause accepts terms first before h'.faults e
+  device before h h' e same fails = inr (inr (inl (subst (λ f. IsLibraryFault (IsCallFault f h'.faults) e) same fails)))
 
-  same_cause : (before : Counts) (h h' : Host) (e : InstallFault) → h'.faults ≡ h.faults → IsDataCause accepts terms before h.faults e → IsDataCause accepts terms before h'.faults e
-  same_cause before h h' e same cause = subst (λ c. IsDataCause accepts terms before c e) (sym same) cause
+  same_cause : (before : Counts) (h h' : Host) (e : InstallFault) → h'.faults ≡ h.faults → IsCause accepts terms first before h.faults e → IsCause accepts terms first before h'.faults e
+  same_cause before h h' e same cause = subst (λ c. IsCause accepts terms first before c e) (sym same) cause
 
   -- from each call that is due to the next one
   count : {H : Type 0} (before : Counts) (names : Names) (w : Work H) (due : Due InstallFault) (o : Outcome InstallFault) (h h' : Host) → has_ended due ≡ false
       → Explains (setting accepts terms first names) due o h h' → Knows accepts terms due w h.read → Counted before due h.faults → Counted before (next due o) h'.faults
-  count before names w Lock (Failed e) h h' going why knows same = ⊎_elim (λ busy. inl busy.0) (λ fails. inr (inr (device before h h' e same fails))) why
-  count before names w Clear (Failed e) h h' going why knows same = inr (inr (device before h h' e same why))
-  count before names w ReadRecord (Failed e) h h' going why knows same = ⊎_elim (λ refused. inr (inl refused.0)) (λ fails. inr (inr (device before h h' e same fails))) why
-  count before names w (Create kept) (Failed e) h h' going why knows same = inr (inr (device before h h' e same why))
+  count before names w Lock (Failed e) h h' going why knows same = ⊎_elim (λ busy. inl busy.0) (λ fails. device before h h' e same fails) why
+  count before names w Clear (Failed e) h h' going why knows same = device before h h' e same why
+  count before names w ReadRecord (Failed e) h h' going why knows same = ⊎_elim (λ refused. inr (inl refused.0)) (λ fails. device before h h' e same fails) why
+  count before names w (Create kept) (Failed e) h h' going why knows same = device before h h' e same why
   count before names w (Copy kept) (Failed e) h h' going why knows same = device before h h' e same why
   count before names w (ReadBack kept) (Failed e) h h' going why knows same = device before h h' e same why
-  count before names w (Answer kept) (Failed e) h h' going why knows same = ⊎_elim (λ refused. inr (inl (h.read, kept, refused))) (λ fails. device before h h' e same fails) why
+  count before names w (Answer kept) (Failed e) h h' going why knows same = ⊎_elim (λ refused. inr (inr (inr (inl (h.read, kept, refused))))) (λ fails. device before h h' e same fails) why
   count before names w (TakePermissions n) Done h h' going why knows same = (why ∙ same, knows)
   count before names w (TakePermissions n) (Failed e) h h' going why knows same = device before h h' e same why
-  count before names w (Rename n) (Failed e) h h' going (writing, rose) knows (same, vouched) = inl (_, writing, inr (inr (inl (refl, subst (λ f. Rose f.directory h'.faults.directory) same rose))))
-  count before names w (SyncName n) (Failed e) h h' going (directory, rose) knows (same, vouched) = inr (inr (directory, subst (λ f. Rose f.directory h'.faults.directory) same rose))
+  count before names w (Rename n) (Failed e) h h' going (writing, rose) knows (same, vouched) = inr (inr (inl (_, writing, inr (inr (inl (refl, subst (λ f. Rose f.directory h'.faults.directory) same rose))))))
+  count before names w (SyncName n) (Failed e) h h' going (directory, rose) knows (same, vouched) = inr (inr (inr (inr (directory, subst (λ f. Rose f.directory h'.faults.directory) same rose))))
   count before names w Lock o h h' going why knows same = why ∙ same
   count before names w Clear o h h' going why knows same = why ∙ same
   count before names w ReadRecord o h h' going why knows same = why ∙ same
@@ -72,8 +64,7 @@ module _ (accepts : Verifier) (terms : Terms) (first : Bool) where
   count before names w (TakePermissions n) o h h' going why knows same = why ∙ same
   count before names w (RemoveRecord f) Done h h' going why knows cause = same_cause before h h' f why cause
   count before names w (RemoveRecord f) o h h' going why knows cause = same_cause before h h' f why cause
-  count before names w (Remove f) Done h h' going why knows cause = inr (inr (same_cause before h h' f why cause))
-  count before names w (Remove f) (Failed e) h h' going why knows cause = inr (inr (same_cause before h h' f why cause))
+  count before names w (Remove f) Done h h' going why knows cause = same_cause before h h' f why cause
   count before names w (Remove f) o h h' going why knows cause = same_cause before h h' f why cause
   count before names w Installed o h h' going why knows same = absurd (true≢false going)
   count before names w (Refused f) o h h' going why knows same = absurd (true≢false going)
@@ -122,7 +113,7 @@ module _ (accepts : Verifier) (terms : Terms) (first : Bool) where
     )
 
     pub begin : (w : Work H) → HasMade {E = InstallFault} Lock w → Driven Lock w a
-    begin w made = (made, tt, refl, λ known names named. ((refl, (refl, refl)), refl, tt))
+    begin w made = (made, tt, refl, λ known names named. ((refl, refl), refl, tt))
 
     -- == At the end ==
 

@@ -1,6 +1,6 @@
 -- What the parts of an installation bring together.
 use Rattle.minisign_install.proofs.Common.{◌≡◌, ◌≤◌, ◌<◌, ◌^◌, inl, inr, ⊎_elim, ℕ, Bool, false, List, Option, Some, None, ap, sym, subst, ◌∙◌, true, arith, Verifier, TextsVouchWith, IsAhead, InstallsLocked, MayBePublished, IsInstalled, IsKeptNumber, MayBeInstalled, MayBeRecorded, IsUpdate, NeverFalls, RecordsFirst, PublishesInOrder, Terms, Says, Numbering, Clears, HasStepped, IsFound, RecordUnchanged, Moment, Finds, Run, RunStep, Name, Place, Record, IsNumberFor, record_of, PublishesNothing, PublishesOnly, IsNumberFrom, IsPublished, RecordHolds, permissions_of}
-use Rattle.minisign_install.proofs.Works.{lasting_keeps, PublishesBut, PublishesBeside, HasRecorded, IsKept, IsOnly, publishes_nothing, publishes_trans, publishes_weaken}
+use Rattle.minisign_install.proofs.Works.{lasting_keeps, HasRecorded, IsKept, IsOnly, publishes_nothing, publishes_trans, publishes_weaken}
 use Rattle.minisign_install.proofs.RecordTexts.{record_reads, same_number}
 
 no_record : Record ≡ Place → ⊥
@@ -25,33 +25,6 @@ module _ (accepts : Verifier) (terms : Terms) (kept : ℕ) where
   abbrev P : Name → List ℕ → Type 0
   P = MayBePublished accepts terms kept
 
-  pub update_brought : (update : List ℕ) (n : ℕ) (old new : Run) → IsUpdate accepts terms kept update n → PublishesOnly (IsOnly Place update) old new
-      → PublishesOnly (MayBePublished accepts terms kept) old new
-  update_brought update n old new is brings =
-      publishes_weaken (IsOnly Place update) (MayBePublished accepts terms kept) old new
-      (λ name b only. subst (λ x. MayBePublished accepts terms kept x b) (sym only.0) (n, subst (λ u. IsUpdate accepts terms kept u n) (sym only.1) is)) brings
-
-  pub placed : (name : List ℕ) (file : ℕ) (n : ℕ) (old staged mid new : Run) → PublishesOnly (MayBePublished accepts terms kept) old mid → IsUpdate accepts terms kept (staged.now.holds file) n
-      → IsKept staged mid name file → PublishesBut (IsOnly Place (mid.now.holds file)) name file mid new → PublishesOnly (MayBePublished accepts terms kept) old new
-  placed name file n old staged mid new so_far is same goes =
-      publishes_trans (MayBePublished accepts terms kept) old mid new so_far
-      (update_brought (mid.now.holds file) n mid new (subst (λ u. IsUpdate accepts terms kept u n) (sym same.holds) is) goes.publishes)
-
-  pub installed : (name : List ℕ) (file : ℕ) (n : ℕ) (ahead : Option (List ℕ)) (staged mid : Run) (steps : List RunStep) → IsAhead ahead (staged.now.holds file) → IsUpdate accepts terms kept (staged.now.holds file) n
-      → staged.now.permissions file ≡ true → IsKept staged mid name file → HasRecorded (record_of terms.numbering n) mid
-      → (p : IsPublished Place (mid.now.holds file) mid.steps steps) × (permissions_of p ≡ mid.now.permissions file) → IsInstalled accepts terms kept ahead steps
-  installed name file n ahead staged mid steps given is permissions same recorded (published, has) = record {
-    bytes = mid.now.holds file;
-    n = n;
-    read = subst (IsAhead ahead) (sym same.holds) given;
-    update = subst (λ u. IsUpdate accepts terms kept u n) (sym same.holds) is;
-    earlier = recorded.earlier;
-    recorded = mid.steps;
-    number_first = recorded.published;
-    published = published;
-    permissions = has ∙ same.permissions ∙ permissions;
-  }
-
   pub record_brought : (update : List ℕ) (n : ℕ) (old new : Run) → IsUpdate accepts terms kept update n → PublishesOnly (IsOnly Record (record_of terms.numbering n)) old new
       → PublishesOnly (MayBeRecorded accepts terms kept) old new
   record_brought update n old new is brings =
@@ -72,33 +45,18 @@ module _ (accepts : Verifier) (terms : Terms) (kept : ℕ) where
       let (number, lasts) = placed.numbers locked terms.numbering n (λ bytes no. absurd (no_record no.0)) there in
       record { n = n; point = point; recorded = recorded; locked = locked; there = there; placed = placed; number = number; lasts = lasts }
 
-  -- staged, the number kept, and then published
-  pub places_update : (name : List ℕ) (file : ℕ) (n : ℕ) (old staged mid new : Run) → old.locked ≡ true → PublishesNothing old staged → IsUpdate accepts terms kept (staged.now.holds file) n
-      → PublishesBeside (IsOnly Record (record_of terms.numbering n)) staged mid → HasRecorded (record_of terms.numbering n) mid → IsKept staged mid name file → PublishesBut (IsOnly Place (mid.now.holds file)) name file mid new
-      → PublishesInOrder accepts terms kept old new
-  places_update name file n old staged mid new locked before is recording recorded same goes =
-      let Q = MayBeRecorded accepts terms kept in
-      let to_record : PublishesOnly Q old mid = publishes_trans Q old staged mid (publishes_nothing Q old staged before) (record_brought (staged.now.holds file) n staged mid is recording.publishes) in
-      let there : IsUpdate accepts terms kept (mid.now.holds file) n = subst (λ u. IsUpdate accepts terms kept u n) (sym same.holds) is in
-      let placed = publishes_weaken (IsOnly Place (mid.now.holds file)) (MayBeInstalled accepts terms kept n) mid new
-      (λ name b only. (only.0, subst (λ u. IsUpdate accepts terms kept u n) (sym only.1) there)) goes.publishes in
+  -- the number was kept, and then the update was published
+  pub places_update : (n : ℕ) (bytes : List ℕ) (old mid new : Run) → mid.locked ≡ true → PublishesOnly (MayBeRecorded accepts terms kept) old mid → HasRecorded (record_of terms.numbering n) mid
+      → IsUpdate accepts terms kept bytes n → PublishesOnly (IsOnly Place bytes) mid new → PublishesInOrder accepts terms kept old new
+  places_update n bytes old mid new locked to_record recorded is publishes =
+      let placed = publishes_weaken (IsOnly Place bytes) (MayBeInstalled accepts terms kept n) mid new
+      (λ name b only. (only.0, subst (λ u. IsUpdate accepts terms kept u n) (sym only.1) is)) publishes in
       let keeps : RecordHolds terms.numbering n mid.now = lasting_keeps terms.numbering n mid.now (record_of terms.numbering n) recorded.lasts (number_from terms.numbering n n is.says.number.bound (omega arith)) in
       record {
-        publishes = publishes_trans P old mid new (publishes_weaken Q P old mid (λ name b q. subst (λ x. MayBePublished accepts terms kept x b) (sym q.0) q.1) to_record)
+        publishes = publishes_trans P old mid new (places_record old mid to_record).publishes
             (publishes_weaken (MayBeInstalled accepts terms kept n) P mid new (λ name b q. subst (λ x. MayBePublished accepts terms kept x b) (sym q.0) (n, q.1)) placed);
-        order = inr (places_behind n old mid new to_record (to_record.locked locked) keeps placed);
+        order = inr (places_behind n old mid new to_record locked keeps placed);
       }
-
-  pub places_after : (old mid new : Run) → PublishesNothing old mid → PublishesInOrder accepts terms kept mid new → PublishesInOrder accepts terms kept old new
-  places_after old mid new before places = record {
-    publishes = publishes_trans P old mid new (publishes_nothing P old mid before) places.publishes;
-    order = ⊎_elim
-        (λ recorded. inl (publishes_trans (MayBeRecorded accepts terms kept) old mid new (publishes_nothing (MayBeRecorded accepts terms kept) old mid before) recorded))
-        (λ behind. inr (places_behind behind.n old behind.point new
-        (publishes_trans (MayBeRecorded accepts terms kept) old mid behind.point (publishes_nothing (MayBeRecorded accepts terms kept) old mid before) behind.recorded)
-        behind.locked behind.there behind.placed))
-        places.order;
-  }
 
   pub places_more : (old mid new : Run) → PublishesNothing mid new → PublishesInOrder accepts terms kept old mid → PublishesInOrder accepts terms kept old new
   places_more old mid new more places = record {
@@ -151,21 +109,10 @@ never_falls_newer accepts terms first found kept old new locked there number bri
 pub nothing_locked : (accepts : Verifier) (terms : Terms) (first : Bool) (old new : Run) → old.locked ≡ true → PublishesNothing old new → InstallsLocked accepts terms first old new
 nothing_locked accepts terms first old new locked none = record { only = inl none; never_falls = never_falls_nothing terms.numbering old new locked none }
 
--- the record was read, and what is not older than its number was brought
-pub installs : (accepts : Verifier) (terms : Terms) (first : Bool) (found : Option (List ℕ)) (kept : ℕ) (old read new : Run) → old.locked ≡ true → PublishesNothing old read → IsFound old.now Record found
-    → IsKeptNumber terms.numbering first found kept → PublishesInOrder accepts terms kept read new → InstallsLocked accepts terms first old new
-installs accepts terms first found kept old read new locked before there number places =
-    let all = places_after accepts terms kept old read new before places in
-    record {
-      only = inr (record { found = found; kept = kept; there = there; number = number; places = all });
-      never_falls = never_falls_newer accepts terms first found kept old new locked there number all.publishes;
-    }
-
-pub is_update : (accepts : Verifier) (terms : Terms) (kept : ℕ) (bytes comment text : List ℕ) (n : ℕ) → TextsVouchWith accepts terms.pk_text terms.sig_text bytes false comment → text ≡ comment
-    → Says text terms.file terms.numbering terms.moment n → kept ≤ n → IsUpdate accepts terms kept bytes n
-is_update accepts terms kept bytes comment text n vouched same says newer = record {
-  comment = text;
-  vouched = subst (λ t. TextsVouchWith accepts terms.pk_text terms.sig_text bytes false t) (sym same) vouched;
-  says = says;
-  newer = newer;
+-- what is not older than the number that was found was brought
+pub installs : (accepts : Verifier) (terms : Terms) (first : Bool) (found : Option (List ℕ)) (kept : ℕ) (old new : Run) → old.locked ≡ true → IsFound old.now Record found
+    → IsKeptNumber terms.numbering first found kept → PublishesInOrder accepts terms kept old new → InstallsLocked accepts terms first old new
+installs accepts terms first found kept old new locked there number places = record {
+  only = inr (record { found = found; kept = kept; there = there; number = number; places = places });
+  never_falls = never_falls_newer accepts terms first found kept old new locked there number places.publishes;
 }

@@ -1,5 +1,5 @@
 -- A host that does what the header says makes a run of the law: each of its calls is one that was due.
-use Rattle.minisign_install.proofs.Common.{◌≡◌, ◌==◌, inl, inr, ◌∙◌, ◌++◌, ℕ, Bool, true, false, List, [], ◌∷◌, Some, ap, sym, subst, refl, append-nil, arith, length, if◌then◌else◌, ne_eqb, true≢false, IsFedState, State, install_number, IsAsking, IsDue, failure, numbering_of, read_outcome, wanted_by, HasBegun, HasObeyed, Obeys, TellsAnswers, TellsFailure, TellsOutcome, TellsRecord, TellsRefusal, Told, by_field, Event, HasRun, Host, Makes, Setting, IsKeptNumber, after_done, after_failed, next, Due, Lock, Clear, ReadRecord, Create, Copy, ReadBack, Answer, TakePermissions, Sync, CreateRecord, WriteRecord, SyncRecord, RenameRecord, SyncRecordName, Rename, SyncName, RemoveRecord, Remove, Installed, Outcome, Done, More, Number, Failed, Numbering, Timestamp, Version, Installation}
+use Rattle.minisign_install.proofs.Common.{◌≡◌, ◌==◌, inl, inr, ◌∙◌, ◌++◌, ℕ, Bool, true, false, List, [], ◌∷◌, Some, ap, sym, subst, refl, append-nil, arith, length, if◌then◌else◌, ne_eqb, true≢false, IsFedState, State, install_number, IsAsking, IsDue, failure, numbering_of, read_outcome, wanted_by, HasBegun, HasObeyed, Obeys, TellsAnswers, TellsFailure, TellsOutcome, TellsRecord, TellsRefusal, Told, by_field, Event, HasRun, Host, Makes, Setting, IsKeptNumber, next, Due, Lock, Clear, ReadRecord, Create, Copy, ReadBack, Answer, TakePermissions, Sync, CreateRecord, WriteRecord, SyncRecord, RenameRecord, SyncRecordName, Rename, SyncName, RemoveRecord, Remove, Installed, Outcome, Done, More, Number, Failed, Numbering, Timestamp, Version, Installation}
 use Rattle.minisign_install.specs.Order.{Refused}
 use Rattle.minisign_install.proofs.Judgements.{answers_texts}
 use Rattle.minisign_install.proofs.Orders.{reads_still}
@@ -40,16 +40,24 @@ same_field i i' e = ap (λ (n : ℕ). if n == 1 then Version else Timestamp) e
 
 -- == Calls that were done ==
 
-unread_before : (d : Due ℕ) → is_unread (after_done d) ≡ true → is_unread d ≡ true
+unread_before : (d : Due ℕ) → is_unread (next d Done) ≡ true → is_unread d ≡ true
 unread_before Lock e = refl
 unread_before d e = e
 
-unjudged_before : (d : Due ℕ) → is_unjudged (after_done d) ≡ true → is_unjudged d ≡ true
+unjudged_before : (d : Due ℕ) → is_unjudged (next d Done) ≡ true → is_unjudged d ≡ true
 unjudged_before Lock e = refl
 unjudged_before d e = e
 
+unread_more : (d : Due ℕ) → is_unread (next d More) ≡ true → is_unread d ≡ true
+unread_more Lock e = refl
+unread_more d e = e
+
+unjudged_more : (d : Due ℕ) → is_unjudged (next d More) ≡ true → is_unjudged d ≡ true
+unjudged_more Lock e = refl
+unjudged_more d e = e
+
 -- nothing is read back by a call that is none of reading back
-read_stays : (s : Setting) (i : Installation) (d : Due ℕ) (h h' : Host) → IsDue i d → ((k : ℕ) → ¬ (IsDue i (ReadBack k))) → Makes s d Done h h' → is_unjudged (after_done d) ≡ true → h'.read ≡ h.read
+read_stays : (s : Setting) (i : Installation) (d : Due ℕ) (h h' : Host) → IsDue i d → ((k : ℕ) → ¬ (IsDue i (ReadBack k))) → Makes s d Done h h' → is_unjudged (next d Done) ≡ true → h'.read ≡ h.read
 read_stays s i Lock h h' due other (call, ahead, read) e = read
 read_stays s i Clear h h' due other (call, ahead, read) e = read
 read_stays s i ReadRecord h h' due other never e = absurd never
@@ -66,11 +74,11 @@ more_stays s i d h h' due other never = absurd never
 
 -- == Calls that failed ==
 
-failed_read : (d : Due ℕ) (e : ℕ) → is_unread (after_failed d e) ≡ false
+failed_read : (d : Due ℕ) (e : ℕ) → is_unread (next d (Failed e)) ≡ false
 failed_read Lock e = refl
 failed_read d e = refl
 
-failed_judged : (d : Due ℕ) (e : ℕ) → is_unjudged (after_failed d e) ≡ false
+failed_judged : (d : Due ℕ) (e : ℕ) → is_unjudged (next d (Failed e)) ≡ false
 failed_judged Lock e = refl
 failed_judged d e = refl
 
@@ -103,7 +111,7 @@ module _ (s : Setting) (d : Due ℕ) (i i' : Installation) (h h' : Host) (x : Kn
       )
 
   -- what was refused or failed ends the run
-  fails : (e : ℕ) → Makes s d (Failed e) h h' → IsDue i' (after_failed d e) → numbering_of i' ≡ numbering_of i → MakesCall s d i' h h'
+  fails : (e : ℕ) → Makes s d (Failed e) h h' → IsDue i' (next d (Failed e)) → numbering_of i' ≡ numbering_of i → MakesCall s d i' h h'
   fails e made due field = (
     Failed e,
     made,
@@ -197,7 +205,7 @@ module _ (s : Setting) (i i' : Installation) (h h' : Host) where
 
   obeys : (d : Due ℕ) → KnownAt s d i h → Obeys s i i' h h' → MakesCall s d i' h h'
   obeys d x (inl done) = tells s d i i' h h' x Done done (unread_before d) (unjudged_before d) (λ made e. read_stays s i d h h' x.due done.other made e)
-  obeys d x (inr (inl more)) = tells s d i i' h h' x More more (λ e. e) (λ e. e) (λ made e. more_stays s i d h h' x.due more.other made)
+  obeys d x (inr (inl more)) = tells s d i i' h h' x More more (unread_more d) (unjudged_more d) (λ made e. more_stays s i d h h' x.due more.other made)
   obeys d x (inr (inr (inl t))) = tells_failure s d i i' h h' x t
   obeys d x (inr (inr (inr (inl t)))) = at_due d ReadRecord x t.read.0 (tells_record t)
   obeys d x (inr (inr (inr (inr (inl t))))) =

@@ -81,12 +81,10 @@ module _ (accepts : Verifier) (terms : Terms) (first : Bool) where
   locked_verdict ahead before after locked new e memory no_new_fault (inr (inl (cleared, none, (found, there, why)))) =
       let (message, given) = some_ahead ahead in
       (found, there, (message, given, record { reason = inl why; not_so = λ (kept, n, number, update). record_unfit terms.numbering first found kept e why number }))
-  locked_verdict ahead before after locked new e memory no_new_fault (inr (inr (cleared, (found, kept, there, number, (inl (none, device)))))) = memory_only before after e (Verdict ahead locked e) memory no_new_fault device
-  locked_verdict ahead before after locked new e memory no_new_fault (inr (inr (cleared, (found, kept, there, number, (inr (inl (none, (message, given, why)))))))) =
+  locked_verdict ahead before after locked new e memory no_new_fault (inr (inr (cleared, (found, kept, there, number, (inl (none, (message, given, why))))))) =
       (found, there, (message, given, record { reason = inr (kept, number, why); not_so = data_unfit found kept message e number why }))
-  locked_verdict ahead before after locked new e memory no_new_fault (inr (inr (cleared, (found, kept, there, number, (inr (inr (inl (brings, device)))))))) = memory_only before after e (Verdict ahead locked e) memory no_new_fault device
-  locked_verdict ahead before after locked new e memory no_new_fault (inr (inr (cleared, (found, kept, there, number, (inr (inr (inr (inl (brings, writing, rose))))))))) = absurd (no_new_fault (inr (inr rose)))
-  locked_verdict ahead before after locked new e memory no_new_fault (inr (inr (cleared, (found, kept, there, number, (inr (inr (inr (inr (brings, placed, directory, rose))))))))) = absurd (no_new_fault (inr (inr rose)))
+  locked_verdict ahead before after locked new e memory no_new_fault (inr (inr (cleared, (found, kept, there, number, (inr (inl (publishes, device))))))) = memory_only before after e (Verdict ahead locked e) memory no_new_fault device
+  locked_verdict ahead before after locked new e memory no_new_fault (inr (inr (cleared, (found, kept, there, number, (inr (inr (publishes, rose, why))))))) = absurd (no_new_fault (inr (inr rose)))
 
   pub refused_exactly : (A : Type 0) (ahead : Option (List ℕ)) (before after : Counts) (old new : Run) (e : InstallFault) → IsRefusal accepts terms first ahead before after old new e
       → InstallsExactly {T = A} accepts terms first ahead before after old new (Err e)

@@ -32,16 +32,6 @@ pub record WorksOn (name : List ℕ) (file : ℕ) (old new : Run) : Type 0 where
 abbrev pub OtherStagesUnchanged : List ℕ → ℕ → Run → Run → Type 0
 OtherStagesUnchanged name file old new = (s : List ℕ) (f : ℕ) → HasStage old s f → s ≢ name → f ≢ file → IsKept old new s f
 
--- Only what is as P says was brought to a lasting name, and every stage but this one is still there.
-pub record PublishesBut (P : Name → List ℕ → Type 0) (name : List ℕ) (file : ℕ) (old new : Run) : Type 0 where
-  pub publishes : PublishesOnly P old new
-  pub others : OtherStagesUnchanged name file old new
-
--- Only what is as P says was brought to a lasting name, and every stage is still there.
-pub record PublishesBeside (P : Name → List ℕ → Type 0) (old new : Run) : Type 0 where
-  pub publishes : PublishesOnly P old new
-  pub kept : StagesUnchanged old new
-
 -- no stage is the run's own that was not so before, nor this one
 pub record HasReleased (name : List ℕ) (old new : Run) : Type 0 where
   pub only : (s : List ℕ) → new.owns s ≡ true → (s ≢ name) × (old.owns s ≡ true)
@@ -417,48 +407,6 @@ perhaps call old new s =
 
 -- == Calls on one stage, and its name at last ==
 
-pub goes_trans : (P : Name → List ℕ → Type 0) (name : List ℕ) (g : ℕ) (old mid new : Run) → PublishesBut P name g old mid → PublishesBut P name g mid new → PublishesBut P name g old new
-goes_trans P name g old mid new a b = record {
-  publishes = publishes_trans P old mid new a.publishes b.publishes;
-  others = λ s f held name_differs file_differs.
-      let first = a.others s f held name_differs file_differs in
-      kept_trans old mid new s f first (b.others s f first.stage name_differs file_differs);
-}
-
-pub works_goes : (P : Name → List ℕ → Type 0) (name : List ℕ) (g : ℕ) (old new : Run) → WorksOn name g old new → PublishesBut P name g old new
-works_goes P name g old new works = record {
-  publishes = publishes_nothing P old new works.publishes;
-  others = λ s f held name_differs file_differs. works.kept s f held file_differs;
-}
-
-pub names_go : (P : Name → List ℕ → Type 0) (name : List ℕ) (g : ℕ) (old new : Run) → HasStepped old new MaySyncDirectory → OwnsTheSame old new → PublishesBut P name g old new
-names_go P name g old new s own = record {
-  publishes = names_bring P old new s;
-  others = λ t f held name_differs file_differs. names_keep old new s own t f held;
-}
-
-pub renamed_goes : (name : List ℕ) (to : Name) (g : ℕ) (old new : Run) → HasStage old name g → old.now.on_disk g ≡ true → HasStepped old new (Renames name to)
-    → ((t : List ℕ) → t ≢ name → new.owns t ≡ old.owns t) → PublishesBut (IsOnly to (old.now.holds g)) name g old new
-renamed_goes name to g old new stage on_disk s owns = record {
-  publishes = renamed_publishes name to g old new stage on_disk s;
-  others = renamed_keeps name to g old new stage s owns;
-}
-
-pub perhaps_renamed_goes : (name : List ℕ) (to : Name) (g : ℕ) (old new : Run) → HasStage old name g → old.now.on_disk g ≡ true → HasStepped old new (Perhaps (Renames name to)) → OwnsTheSame old new
-    → PublishesBut (IsOnly to (old.now.holds g)) name g old new
-perhaps_renamed_goes name to g old new stage on_disk s own =
-    ⊎_elim (λ still. names_go (IsOnly to (old.now.holds g)) name g old new (still_names old new still) own)
-    (λ done. renamed_goes name to g old new stage on_disk done (λ t differs. ap (λ o. o t) own.owns)) (perhaps (Renames name to) old new s)
-
--- a stage is made, worked on and published: the stages from before are still there
-pub created_goes : (P : Name → List ℕ → Type 0) (name : List ℕ) (g : ℕ) (old mid new : Run) → HasCreated name g old mid → PublishesBut P name g mid new → PublishesBeside P old new
-created_goes P name g old mid new made goes = record {
-  publishes = publishes_trans P old mid new (publishes_nothing P old mid (created_publishes name g old mid made)) goes.publishes;
-  kept = λ s f held.
-      let (name_differs, file_differs, first) = created_keeps name g old mid made s f held in
-      kept_trans old mid new s f first (goes.others s f first.stage name_differs file_differs);
-}
-
 pub publishes_weaken : (P Q : Name → List ℕ → Type 0) (old new : Run) → ((n : Name) (b : List ℕ) → P n b → Q n b) → PublishesOnly P old new → PublishesOnly Q old new
 publishes_weaken P Q old new more b = record {
   since = b.since;
@@ -481,7 +429,7 @@ cleared_then P old mid new s more = record {
   call = step s.before mid.now;
   earlier = [];
   noted = more.noted ∙ ap (λ l. more.since ++ l) s.noted;
-  clear = s.this.clear;
+  this = s.this.clear;
 }
 
 pub clearing : (old new : Run) → HasStepped old new Clears → PublishesNothing old new
@@ -539,12 +487,3 @@ less_let_go name old new own = record {
       let differs : s ≢ name = λ same. true≢false (sym e ∙ ap (λ t. new.owns t) same ∙ own.less) in
       (differs, sym (own.others s differs) ∙ e);
 }
-
-pub let_go_after : (name : List ℕ) (old mid new : Run) → OwnsNoMore old mid → HasReleased name mid new → HasReleased name old new
-let_go_after name old mid new a b = record { only = λ s e. ((b.only s e).0, a.only s (b.only s e).1) }
-
-pub let_go_more : (name : List ℕ) (old mid new : Run) → HasReleased name old mid → OwnsNoMore mid new → HasReleased name old new
-let_go_more name old mid new a b = record { only = λ s e. a.only s (b.only s e) }
-
-pub made_let_go : (name : List ℕ) (old mid new : Run) → OwnsMore name old mid → HasReleased name mid new → OwnsNoMore old new
-made_let_go name old mid new more go = record { only = λ s e. sym (more.others s (go.only s e).0) ∙ (go.only s e).1 }

@@ -55,18 +55,21 @@ WritesInPart file old new =
 abbrev pub CallsRemove : List ℕ → (Moment → Moment → Type 0) → Run → Run → Type 0
 CallsRemove name call old new = HasStepped old new call × OwnsLess name old new
 
+-- a call of the directory was done so, or failed so
+abbrev pub Goes : {E : Type 0} → (Run → Run → Type 0) → (Run → Run → Type 0) → Outcome E → Host → Host → Type 0
+Goes done failed Done h h' = OnDirectory done h h'
+Goes done failed (Failed e) h h' = OnDirectory failed h h'
+Goes done failed outcome h h' = ⊥
+
 -- The call that was due was made as it was told, and went so.
 abbrev pub Makes : {E : Type 0} → Setting → Due E → Outcome E → Host → Host → Type 0
-Makes s Lock Done h h' = OnDirectory (λ old new. HasLocked old new × OwnsTheSame old new) h h'
-Makes s Lock (Failed e) h h' = OnDirectory (Calls IsStill) h h'
-Makes s Clear Done h h' = OnDirectory (Calls ClearsAll) h h'
-Makes s Clear (Failed e) h h' = OnDirectory (Calls Clears) h h'
+Makes s Lock o h h' = Goes (λ old new. HasLocked old new × OwnsTheSame old new) (Calls IsStill) o h h'
+Makes s Clear o h h' = Goes (Calls ClearsAll) (Calls Clears) o h h'
 Makes s ReadRecord (Number kept) h h' =
     OnDirectory (λ old new. (found : Option (List ℕ)) × Calls (Finds Record found) old new
     × IsKeptNumber s.terms.numbering s.first found kept) h h'
 Makes s ReadRecord (Failed e) h h' = OnDirectory (Calls IsStill) h h'
-Makes s (Create kept) Done h h' = OnDirectory (HasCreated s.name s.file) h h'
-Makes s (Create kept) (Failed e) h h' = OnDirectory CallsNothing h h'
+Makes s (Create kept) o h h' = Goes (HasCreated s.name s.file) CallsNothing o h h'
 Makes s (Copy kept) More h h' =
     (pieces : List (List ℕ)) × Writes s.file pieces h.run h'.run × Consumes h.ahead h'.ahead (concat pieces)
     × (h'.read ≡ h.read)
@@ -79,32 +82,24 @@ Makes s (ReadBack kept) Done h h' = (h'.run ≡ h.run) × (h.run.now.holds s.fil
 Makes s (ReadBack kept) (Failed e) h h' = h'.run ≡ h.run
 Makes s (Answer kept) (Number n) h h' = (h'.run ≡ h.run) × IsUpdate s.accepts s.terms kept h.read n
 Makes s (Answer kept) (Failed e) h h' = h'.run ≡ h.run
-Makes s (TakePermissions n) Done h h' = OnDirectory (Calls (GivesPermissions s.file)) h h'
-Makes s (TakePermissions n) (Failed e) h h' = OnDirectory (Calls (Spoils s.file)) h h'
-Makes s (Sync n) Done h h' = OnDirectory (Calls (Syncs s.file)) h h'
-Makes s (Sync n) (Failed e) h h' = OnDirectory (Calls (Spoils s.file)) h h'
-Makes s (CreateRecord n) Done h h' = OnDirectory (HasCreated s.record_name s.record_file) h h'
-Makes s (CreateRecord n) (Failed e) h h' = OnDirectory CallsNothing h h'
-Makes s (WriteRecord n) Done h h' =
-    OnDirectory (λ old new. (pieces : List (List ℕ)) × Writes s.record_file pieces old new
-    × (concat pieces ≡ record_of s.terms.numbering n)) h h'
-Makes s (WriteRecord n) (Failed e) h h' = OnDirectory (WritesInPart s.record_file) h h'
-Makes s (SyncRecord n) Done h h' = OnDirectory (Calls (Syncs s.record_file)) h h'
-Makes s (SyncRecord n) (Failed e) h h' = OnDirectory (Calls (Spoils s.record_file)) h h'
-Makes s (RenameRecord n) Done h h' = OnDirectory (HasRenamed s.record_name Record) h h'
-Makes s (RenameRecord n) (Failed e) h h' = OnDirectory (Calls (Perhaps (Renames s.record_name Record))) h h'
-Makes s (SyncRecordName n) Done h h' = OnDirectory (Calls SyncsDirectory) h h'
-Makes s (SyncRecordName n) (Failed e) h h' = OnDirectory (Calls MaySyncDirectory) h h'
-Makes s (Rename n) Done h h' = OnDirectory (HasRenamed s.name Place) h h'
-Makes s (Rename n) (Failed e) h h' = OnDirectory (Calls (Perhaps (Renames s.name Place))) h h'
-Makes s (SyncName n) Done h h' = OnDirectory (Calls SyncsDirectory) h h'
-Makes s (SyncName n) (Failed e) h h' = OnDirectory (Calls MaySyncDirectory) h h'
-Makes s (RemoveRecord first) Done h h' = OnDirectory (CallsRemove s.record_name (Removes s.record_name)) h h'
-Makes s (RemoveRecord first) (Failed e) h h' =
-    OnDirectory (CallsRemove s.record_name (Perhaps (Removes s.record_name))) h h'
-Makes s (Remove first) Done h h' = OnDirectory (CallsRemove s.name (Removes s.name)) h h'
-Makes s (Remove first) (Failed e) h h' = OnDirectory (CallsRemove s.name (Perhaps (Removes s.name))) h h'
-Makes s due outcome h h' = ⊥
+Makes s (TakePermissions n) o h h' = Goes (Calls (GivesPermissions s.file)) (Calls (Spoils s.file)) o h h'
+Makes s (Sync n) o h h' = Goes (Calls (Syncs s.file)) (Calls (Spoils s.file)) o h h'
+Makes s (CreateRecord n) o h h' = Goes (HasCreated s.record_name s.record_file) CallsNothing o h h'
+Makes s (WriteRecord n) o h h' =
+    Goes (λ old new. (pieces : List (List ℕ)) × Writes s.record_file pieces old new
+    × (concat pieces ≡ record_of s.terms.numbering n)) (WritesInPart s.record_file) o h h'
+Makes s (SyncRecord n) o h h' = Goes (Calls (Syncs s.record_file)) (Calls (Spoils s.record_file)) o h h'
+Makes s (RenameRecord n) o h h' =
+    Goes (HasRenamed s.record_name Record) (Calls (Perhaps (Renames s.record_name Record))) o h h'
+Makes s (SyncRecordName n) o h h' = Goes (Calls SyncsDirectory) (Calls MaySyncDirectory) o h h'
+Makes s (Rename n) o h h' = Goes (HasRenamed s.name Place) (Calls (Perhaps (Renames s.name Place))) o h h'
+Makes s (SyncName n) o h h' = Goes (Calls SyncsDirectory) (Calls MaySyncDirectory) o h h'
+Makes s (RemoveRecord first) o h h' =
+    Goes (CallsRemove s.record_name (Removes s.record_name)) (CallsRemove s.record_name (Perhaps (Removes s.record_name))) o
+    h h'
+Makes s (Remove first) o h h' =
+    Goes (CallsRemove s.name (Removes s.name)) (CallsRemove s.name (Perhaps (Removes s.name))) o h h'
+Makes s due o h h' = ⊥
 
 -- what was said of a call, and the host after it
 pub record Event (E : Type 0) : Type 0 where

@@ -1,5 +1,5 @@
 -- Which call comes after which: the table of the machine that tells a host how to install an update.
-use Rattle.std.specs.Prelude.{ℕ, Bool, true, false, if◌then◌else◌}
+use Rattle.std.specs.Prelude.{ℕ, Bool, true, false}
 pub use Rattle.minisign_install.specs.declared.order.Due.{Due}
 pub use Rattle.minisign_install.specs.declared.order.Due.TheVariants.{Lock, Clear, ReadRecord, Create, Copy, ReadBack, Answer, TakePermissions, Sync, CreateRecord, WriteRecord, SyncRecord, RenameRecord, SyncRecordName, Rename, SyncName, RemoveRecord, Remove, Installed, Refused}
 pub use Rattle.minisign_install.specs.declared.order.Outcome.{Outcome}
@@ -28,68 +28,42 @@ due_number (Remove e) = 18
 due_number Installed = 19
 due_number (Refused e) = 20
 
--- what is due once the call was done
-abbrev pub after_done : {E : Type 0} → Due E → Due E
-after_done Lock = Clear
-after_done Clear = ReadRecord
-after_done (Create kept) = Copy kept
-after_done (Copy kept) = ReadBack kept
-after_done (ReadBack kept) = Answer kept
-after_done (TakePermissions n) = Sync n
-after_done (Sync n) = CreateRecord n
-after_done (CreateRecord n) = WriteRecord n
-after_done (WriteRecord n) = SyncRecord n
-after_done (SyncRecord n) = RenameRecord n
-after_done (RenameRecord n) = SyncRecordName n
-after_done (SyncRecordName n) = Rename n
-after_done (Rename n) = SyncName n
-after_done (SyncName n) = Installed
-after_done (RemoveRecord e) = Remove e
-after_done (Remove e) = Refused e
-after_done due = due
-
--- what is due once it gave a number: the one that the record holds, or that of the update that was vouched for
-abbrev pub after_number : {E : Type 0} → Due E → ℕ → Due E
-after_number ReadRecord n = Create n
-after_number (Answer kept) n = TakePermissions n
-after_number due n = due
-
--- What is due once it failed. Before there is a stage, nothing; then a removal of what was made: of the stage of the
--- record where that is still a stage, and of the other one. Whatever comes of a removal, the run is refused for what
--- came before it.
-abbrev pub after_failed : {E : Type 0} → Due E → E → Due E
-after_failed Lock e = Refused e
-after_failed Clear e = Refused e
-after_failed ReadRecord e = Refused e
-after_failed (Create kept) e = Refused e
-after_failed (WriteRecord n) e = RemoveRecord e
-after_failed (SyncRecord n) e = RemoveRecord e
-after_failed (RenameRecord n) e = RemoveRecord e
-after_failed (SyncRecordName n) e = RemoveRecord e
-after_failed (RemoveRecord first) e = Remove first
-after_failed (Remove first) e = Refused first
-after_failed Installed e = Installed
-after_failed (Refused first) e = Refused first
-after_failed due e = Remove e
-
--- what is due next; an outcome that does not fit changes nothing
+-- What is due next. Where a call fails before there is a stage, nothing is; then what was made is removed: the stage of
+-- the record where that is still a stage, and the other one. Whatever comes of a removal, the run is rejected for what
+-- came before it. An outcome that does not fit changes nothing.
 abbrev pub next : {E : Type 0} → Due E → Outcome E → Due E
-next due Done = after_done due
-next due More = due
-next due (Number n) = after_number due n
-next due (Failed e) = after_failed due e
-
--- pieces there may be more of are copied and read back
-abbrev is_in_pieces : {E : Type 0} → Due E → Bool
-is_in_pieces (Copy kept) = true
-is_in_pieces (ReadBack kept) = true
-is_in_pieces due = false
-
--- a number comes from the record, and from the answers of the signature scheme
-abbrev gives_number : {E : Type 0} → Due E → Bool
-gives_number ReadRecord = true
-gives_number (Answer kept) = true
-gives_number due = false
+next Lock Done = Clear
+next Clear Done = ReadRecord
+next ReadRecord (Number kept) = Create kept
+next (Create kept) Done = Copy kept
+next (Copy kept) Done = ReadBack kept
+next (ReadBack kept) Done = Answer kept
+next (Answer kept) (Number n) = TakePermissions n
+next (TakePermissions n) Done = Sync n
+next (Sync n) Done = CreateRecord n
+next (CreateRecord n) Done = WriteRecord n
+next (WriteRecord n) Done = SyncRecord n
+next (SyncRecord n) Done = RenameRecord n
+next (RenameRecord n) Done = SyncRecordName n
+next (SyncRecordName n) Done = Rename n
+next (Rename n) Done = SyncName n
+next (SyncName n) Done = Installed
+next (RemoveRecord first) Done = Remove first
+next (Remove first) Done = Refused first
+next Lock (Failed e) = Refused e
+next Clear (Failed e) = Refused e
+next ReadRecord (Failed e) = Refused e
+next (Create kept) (Failed e) = Refused e
+next (WriteRecord n) (Failed e) = RemoveRecord e
+next (SyncRecord n) (Failed e) = RemoveRecord e
+next (RenameRecord n) (Failed e) = RemoveRecord e
+next (SyncRecordName n) (Failed e) = RemoveRecord e
+next (RemoveRecord first) (Failed e) = Remove first
+next (Remove first) (Failed e) = Refused first
+next Installed (Failed e) = Installed
+next (Refused first) (Failed e) = Refused first
+next due (Failed e) = Remove e
+next due outcome = due
 
 -- the run has ended
 abbrev pub has_ended : {E : Type 0} → Due E → Bool
@@ -97,9 +71,18 @@ has_ended Installed = true
 has_ended (Refused e) = true
 has_ended due = false
 
--- the call that is due can go so
+-- The call that is due can go so: pieces there may be more of are copied and read back; a number comes from the record,
+-- and from the answers of the signature scheme.
 abbrev pub fits : {E : Type 0} → Due E → Outcome E → Bool
-fits due Done = if has_ended due then false else (if gives_number due then false else true)
-fits due More = is_in_pieces due
-fits due (Number n) = gives_number due
-fits due (Failed e) = if has_ended due then false else true
+fits Installed outcome = false
+fits (Refused e) outcome = false
+fits due (Failed e) = true
+fits ReadRecord (Number n) = true
+fits (Answer kept) (Number n) = true
+fits due (Number n) = false
+fits (Copy kept) More = true
+fits (ReadBack kept) More = true
+fits due More = false
+fits ReadRecord Done = false
+fits (Answer kept) Done = false
+fits due Done = true

@@ -1,13 +1,13 @@
 -- Why an installation is refused, in the order of its steps, and what its run has brought to the place and to the
 -- record by then.
-use Rattle.std.specs.Prelude.{◌≡◌, ◌≢◌, ◌⊎◌, ℕ, ◌<◌, Bool, false, List, ◌∷◌, ◌++◌, Option, Some, None, Err, IfErr, IsErrAnd, MatchResult, Result}
+use Rattle.std.specs.Prelude.{◌≡◌, ◌≢◌, ◌⊎◌, ℕ, ◌<◌, Bool, false, List, Option, Some, None, Err, IfErr, IsErrAnd, MatchResult, Result}
 use Rattle.minisign_install.specs.Faults.{Rose, Fault, Named, OutOfMemory, RandomSourceFailed, ReadingFailed, WritingFailed, InstallFault, Library, PlaceInUse, NoRecord, DamagedRecord, KeptByTimestamp, KeptByVersion, OtherFile, NoNumber, OlderUpdate, DirectoryNotSynced}
 use Rattle.minisign_install.specs.Installing.{Verifier, TextsVouchWith, IsAhead, MayBePublished, IsKeptNumber, MayBeRecorded, IsUpdate, Terms}
 use Rattle.minisign.specs.Headline.{verdict}
 use Rattle.minisign_install.specs.Comments.{HasNumber, IsExpiryRefused, Says, file_label, value_of, Numbering}
-use Rattle.minisign_install.specs.Directories.{Finds, Known, HasLocked, HasStepped, IsBusy, IsFound, IsStill, Run, HasOnDisk, RunStep, Name, Place, Record}
+use Rattle.minisign_install.specs.Directories.{Finds, Known, HasLocked, HasStepped, IsBusy, IsFound, IsStill, Run, HasOnDisk, Place, Record}
 use Rattle.minisign_install.specs.RecordTexts.{HasNoNumber, IsUnfit}
-use Rattle.minisign_install.specs.Runs.{PublishesNothing, PublishesOnly, HasCleared}
+use Rattle.minisign_install.specs.Runs.{PublishesNothing, PublishesOnly, HasCleared, HasReached}
 
 -- how many faults there were: of the random source, of the source of the data, and of the directory, whose removals of
 -- stages are not counted
@@ -24,16 +24,13 @@ abbrev pub HasFailed : Counts → Counts → Type 0
 HasFailed before after =
     Rose before.random after.random ⊎ Rose before.update after.update ⊎ Rose before.directory after.directory
 
--- the device failed that the fault speaks of
-abbrev pub IsDeviceFault : Counts → Counts → Fault → Type 0
-IsDeviceFault before after e =
-    ((e ≡ Named ReadingFailed) × (Rose before.update after.update ⊎ Rose before.directory after.directory))
-    ⊎ ((e ≡ Named WritingFailed) × Rose before.directory after.directory)
-    ⊎ ((e ≡ Named RandomSourceFailed) × Rose before.random after.random)
-
 -- why a call failed, or a run: memory ran out, and no device failed; or the device did that the fault speaks of
 abbrev pub IsCallFault : Counts → Counts → Fault → Type 0
-IsCallFault before after e = ((e ≡ Named OutOfMemory) × (after ≡ before)) ⊎ IsDeviceFault before after e
+IsCallFault before after e =
+    ((e ≡ Named OutOfMemory) × (after ≡ before))
+    ⊎ ((e ≡ Named ReadingFailed) × (Rose before.update after.update ⊎ Rose before.directory after.directory))
+    ⊎ ((e ≡ Named WritingFailed) × Rose before.directory after.directory)
+    ⊎ ((e ≡ Named RandomSourceFailed) × Rose before.random after.random)
 
 -- the device failed that a stage is read from; or memory ran out, and none failed
 abbrev pub IsReadingFault : ℕ → ℕ → Fault → Type 0
@@ -70,33 +67,23 @@ IsDataRefused accepts terms kept message e =
     ⊎ ((comment : List ℕ) × TextsVouchWith accepts terms.pk_text terms.sig_text message false comment
     × IsCommentRefused terms kept comment e)
 
--- with one of the run's calls since then the name led to a file of these bytes, on the disk
-pub record HasNamed (to : Name) (bytes : List ℕ) (old new : Run) : Type 0 where
-  pub later : List RunStep
-  pub call : RunStep
-  pub earlier : List RunStep
-  pub noted : new.steps ≡ later ++ (call ∷ (earlier ++ old.steps))
-  pub stands : HasOnDisk call.after to bytes
-
 -- with one of the run's calls since then an update got the place's name
 abbrev pub HasPublishedUpdate : Verifier → Terms → ℕ → Run → Run → Type 0
-HasPublishedUpdate accepts terms kept old new =
-    (bytes : List ℕ) × (n : ℕ) × IsUpdate accepts terms kept bytes n × HasNamed Place bytes old new
+HasPublishedUpdate accepts terms kept =
+    HasReached (λ m. (bytes : List ℕ) × (n : ℕ) × IsUpdate accepts terms kept bytes n × HasOnDisk m Place bytes)
 
--- Why the data ahead is not installed where the lock is held and the kept number is known, and what is brought then. A
--- device failed, or memory ran out, or the data is refused: nothing. The number could not be kept: at most the record.
--- The renaming failed: at most what a whole installation brings. The directory could not be brought to the disk: the
--- update stands at the place, and a crash may still bring back what stood there.
+-- Why the data ahead is not installed where the lock is held and the kept number is known, and what is brought then. The
+-- data is rejected: nothing. A device failed, or memory ran out: at most the record. The renaming failed, or the
+-- directory could not be synced: at most what a whole installation publishes. In the last case the update stands at the
+-- place, and a crash may still bring back what stood there.
 abbrev pub IsDataRefusal : Verifier → Terms → ℕ → Option (List ℕ) → Counts → Counts → Run → Run → InstallFault → Type 0
 IsDataRefusal accepts terms kept ahead before after old new e =
-    (PublishesNothing old new × IsLibraryFault (IsCallFault before after) e)
-    ⊎ (PublishesNothing old new × ((message : List ℕ) × IsAhead ahead message
+    (PublishesNothing old new × ((message : List ℕ) × IsAhead ahead message
     × IsDataRefused accepts terms kept message e))
     ⊎ (PublishesOnly (MayBeRecorded accepts terms kept) old new × IsLibraryFault (IsCallFault before after) e)
-    ⊎ (PublishesOnly (MayBePublished accepts terms kept) old new × (e ≡ Library (Named WritingFailed))
-    × Rose before.directory after.directory)
-    ⊎ (PublishesOnly (MayBePublished accepts terms kept) old new × HasPublishedUpdate accepts terms kept old new
-    × (e ≡ DirectoryNotSynced) × Rose before.directory after.directory)
+    ⊎ (PublishesOnly (MayBePublished accepts terms kept) old new × Rose before.directory after.directory
+    × ((e ≡ Library (Named WritingFailed))
+    ⊎ ((e ≡ DirectoryNotSynced) × HasPublishedUpdate accepts terms kept old new)))
 
 -- Why an installation is refused where the lock is held, and what it brings then. A device failed, or memory ran out:
 -- nothing. Otherwise what killed runs had left was removed, and the record is refused, as it was found when the lock
@@ -153,13 +140,6 @@ InstallsExactly accepts terms first ahead before after old new answer =
 
 -- == The causes alone, whether it is known what the directory holds or not ==
 
--- why some data is not installed
-abbrev pub IsDataCause : Verifier → Terms → Counts → Counts → InstallFault → Type 0
-IsDataCause accepts terms before after e =
-    IsLibraryFault (IsCallFault before after) e
-    ⊎ ((message : List ℕ) × (kept : ℕ) × IsDataRefused accepts terms kept message e)
-    ⊎ ((e ≡ DirectoryNotSynced) × Rose before.directory after.directory)
-
 -- the record is refused, which it never is at the first installation
 abbrev pub IsRecordFault : Bool → InstallFault → Type 0
 IsRecordFault first e =
@@ -171,7 +151,10 @@ IsReadRefusal numbering first old new e =
     IsRecordFault first e × Known old ((found : Option (List ℕ)) × HasStepped old new (Finds Record found)
     × IsRecordRefused numbering first found e)
 
--- why an installation is refused: the lock is held by another, or the record is refused, or some data is not installed
+-- why an installation is refused: the lock is held by another, or the record is refused, or a device failed, or memory
+-- ran out, or some data is refused, or the directory could not be synced
 abbrev pub IsCause : Verifier → Terms → Bool → Counts → Counts → InstallFault → Type 0
 IsCause accepts terms first before after e =
-    (e ≡ PlaceInUse) ⊎ IsRecordFault first e ⊎ IsDataCause accepts terms before after e
+    (e ≡ PlaceInUse) ⊎ IsRecordFault first e ⊎ IsLibraryFault (IsCallFault before after) e
+    ⊎ ((message : List ℕ) × (kept : ℕ) × IsDataRefused accepts terms kept message e)
+    ⊎ ((e ≡ DirectoryNotSynced) × Rose before.directory after.directory)

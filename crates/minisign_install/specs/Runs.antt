@@ -45,13 +45,17 @@ PublishesNothing = PublishesOnly (λ _ _. ⊥)
 pub record OwnsNoMore (old new : Run) : Type 0 where
   pub only : (s : List ℕ) → new.owns s ≡ true → old.owns s ≡ true
 
--- with one of the run's calls since then the directory was cleared: no stage was left that could be removed
-pub record HasCleared (old new : Run) : Type 0 where
+-- with one of the run's calls since then it came to this
+pub record HasReached (This : Moment → Type 0) (old new : Run) : Type 0 where
   pub later : List RunStep
   pub call : RunStep
   pub earlier : List RunStep
   pub noted : new.steps ≡ later ++ (call ∷ (earlier ++ old.steps))
-  pub clear : IsClear call.after
+  pub this : This call.after
+
+-- the directory was cleared: no stage was left that could be removed
+abbrev pub HasCleared : Run → Run → Type 0
+HasCleared = HasReached IsClear
 
 -- With the last but one call the name led to a file of these bytes, on the disk, and with the last one the names came
 -- to the disk too: unless others change it, the name leads there from then on, through any crash.

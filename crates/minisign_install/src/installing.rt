@@ -78,7 +78,7 @@ pub fn install_update<S: Scheme, Z: RandomSource, R: Source, F: Directory>(
     // A refusal is `another installation is at work` after one call that changed nothing, and found
     // the lock held by another run; or a device's fault, where its count of faults rose, or the
     // record's, with nothing brought: the record was absent, or held no number for the field, when
-    // the lock was got, and it is not the first installation (`IsLockedRefusal`, `IsDeviceFault`, `IsRecordRefused`).
+    // the lock was got, and it is not the first installation (`IsLockedRefusal`, `IsCallFault`, `IsRecordRefused`).
     // Or out of memory, where no count rose (`IsCallFault`). A removal of a stage that fails behind
     // a refusal is not counted.
     //

@@ -4,7 +4,7 @@
 ghost use Rattle.std.specs.Prelude.{◌≡◌, ◌⊎◌, List, true};
 ghost use Rattle.minisign_install.specs.Hosts.{Event, HasRun, Host, IsExplained, RunHasInstalled, RunIsRefused, RunsSafely, Setting};
 ghost use Rattle.minisign_install.specs.Faults.{InstallFault};
-ghost use Rattle.minisign_install.specs.Order.{after_done, after_failed, after_number, fits, next};
+ghost use Rattle.minisign_install.specs.Order.{fits, next};
 ghost use Rattle.minisign_install.specs.Runs.{OwnsNoMore};
 
 /// What is due: the call that the host makes next, or how the run has ended. The numbers are those
@@ -85,74 +85,34 @@ impl<E: Drop> Due<E> {
         // One table says which call comes after which outcome.
         ensures { result ≡ next self outcome }
     {
-        match outcome {
-            Outcome::Done => self.after_done(),
-            Outcome::More => self,
-            Outcome::Number(number) => self.after_number(number),
-            Outcome::Failed(fault) => self.after_failed(fault),
-        }
-    }
-
-    // What is due once it was done.
-    fn after_done(self) -> Due<E>
-        ensures { result ≡ after_done self }
-    {
         use Due::*;
-        match self {
-            Lock => Clear,
-            Clear => ReadRecord,
-            Create(kept) => Copy(kept),
-            Copy(kept) => ReadBack(kept),
-            ReadBack(kept) => Answer(kept),
-            TakePermissions(number) => Sync(number),
-            Sync(number) => CreateRecord(number),
-            CreateRecord(number) => WriteRecord(number),
-            WriteRecord(number) => SyncRecord(number),
-            SyncRecord(number) => RenameRecord(number),
-            RenameRecord(number) => SyncRecordName(number),
-            SyncRecordName(number) => Rename(number),
-            Rename(number) => SyncName(number),
-            SyncName(_) => Installed,
-            RemoveRecord(fault) => Remove(fault),
-            Remove(fault) => Refused(fault),
-            due => due,
-        }
-    }
-
-    // What is due once it gave a number.
-    fn after_number(self, number: u64) -> Due<E>
-        ensures { result ≡ after_number self number }
-    {
-        use Due::*;
-        match self {
-            ReadRecord => Create(number),
-            Answer(_) => TakePermissions(number),
-            due => due,
-        }
-    }
-
-    // What is due once it failed. Whatever comes of a removal, the run is refused for what came
-    // before it.
-    fn after_failed(self, fault: E) -> Due<E>
-        ensures { result ≡ after_failed self fault }
-    {
-        use Due::*;
-        match self {
-            Lock | Clear | ReadRecord | Create(_) => Refused(fault),
-            Copy(_)
-            | ReadBack(_)
-            | Answer(_)
-            | TakePermissions(_)
-            | Sync(_)
-            | CreateRecord(_)
-            | Rename(_)
-            | SyncName(_) => Remove(fault),
-            WriteRecord(_) | SyncRecord(_) | RenameRecord(_) | SyncRecordName(_) => {
-                RemoveRecord(fault)
-            }
-            RemoveRecord(first) => Remove(first),
-            Remove(first) => Refused(first),
-            due => due,
+        use Outcome::*;
+        match (self, outcome) {
+            (Lock, Done) => Clear,
+            (Clear, Done) => ReadRecord,
+            (ReadRecord, Number(kept)) => Create(kept),
+            (Create(kept), Done) => Copy(kept),
+            (Copy(kept), Done) => ReadBack(kept),
+            (ReadBack(kept), Done) => Answer(kept),
+            (Answer(_), Number(number)) => TakePermissions(number),
+            (TakePermissions(number), Done) => Sync(number),
+            (Sync(number), Done) => CreateRecord(number),
+            (CreateRecord(number), Done) => WriteRecord(number),
+            (WriteRecord(number), Done) => SyncRecord(number),
+            (SyncRecord(number), Done) => RenameRecord(number),
+            (RenameRecord(number), Done) => SyncRecordName(number),
+            (SyncRecordName(number), Done) => Rename(number),
+            (Rename(number), Done) => SyncName(number),
+            (SyncName(_), Done) => Installed,
+            // Whatever comes of a removal, the run is rejected for what came before it.
+            (RemoveRecord(first), Done | Failed(_)) => Remove(first),
+            (Remove(first), Done | Failed(_)) => Refused(first),
+            (Lock | Clear | ReadRecord | Create(_), Failed(fault)) => Refused(fault),
+            (WriteRecord(_) | SyncRecord(_) | RenameRecord(_) | SyncRecordName(_), Failed(fault)) =>
+                RemoveRecord(fault),
+            (due @ (Installed | Refused(_)), _) => due,
+            (_, Failed(fault)) => Remove(fault),
+            (due, _) => due,
         }
     }
 }

@@ -1,4 +1,4 @@
-use Rattle.minisign_install.proofs.Common.{rules, ◌∙◌, ◌∷◌, ◌≡◌, List, ℕ, [], ap, cond, sym, lit<, drop, length, values_of}
+use Rattle.minisign_install.proofs.Common.{rules, ◌∙◌, ◌∷◌, List, ℕ, [], ap, cond, sym, lit<, drop, length, values_of}
 use Rattle.minisign_install.proofs.Fields.{first_gives, first_gives_none, last_gives}
 use Rattle.minisign_install.proofs.comments.first_value.Goals as goal
 

@@ -1,4 +1,4 @@
-use Rattle.minisign_install.proofs.Common.{List, ap, first_of, sym, values_of}
+use Rattle.minisign_install.proofs.Common.{ap, first_of, sym, values_of}
 use Rattle.minisign_install.proofs.Fields.{first_is}
 use Rattle.minisign_install.proofs.comments.value.Goals as goal
 
