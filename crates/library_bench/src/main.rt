@@ -7,7 +7,7 @@
 //!     open SK PASSWORD         a sealed secret key
 //!     keys PK ROUNDS           reads a public key's text so many times
 //!     signatures SIG ROUNDS    reads a signature's text so many times
-//!     small PK SIG ROUNDS      verifies the files 0, 1, .. 999 of this folder so many times
+//!     small PK SIG ROUNDS      verifies the files 0, 1, .. 999 of this directory so many times
 //!     scrypt PASSWORD SALT N_LOG2 R P [K]
 //!                              derives a key with every K-th row kept, and times the call
 

@@ -37,7 +37,7 @@ held_no_new_fault p (Say text ∷ later) (between, (said, same), held) = held_no
 held_no_new_fault p (Hear bytes ∷ later) (between, (read, same), held) = held_no_new_fault (record p { old = between }) later held ∙ ap p.sink.sink_faults same
 held_no_new_fault p (Test refusal ∷ later) (between, (none, same), held) = held_no_new_fault (record p { old = between }) later held ∙ ap (λ d. p.sink.sink_faults d.writer) same
 
--- where it stopped, the writer holds a beginning of that
+-- where it stopped, the writer holds a prefix of that
 pub stopped_taken : {R W : Type 0} (p : PromptCall R W) (steps : List Step) (e : Fault) → ConversationEnds p steps (Err e)
     → AppendsFront (p.sink.taken p.old.writer) (p.sink.taken p.new.writer) (written steps)
 stopped_taken p [] e stopped = absurd stopped

@@ -34,7 +34,7 @@ pub limits_of_few_operations : limits (numbers 2147483648 0) 20 ≡ Ok (record {
 unfolding limits numbers cost_log2
 limits_of_few_operations = refl
 
--- that memory limit is refused where a key is opened
+-- that memory limit is rejected where a key is opened
 pub limits_above_sealing : sealing_limits 2147483648 0 ≡ Err (Named ParametersTooHigh)
 unfolding limits numbers cost_log2
 limits_above_sealing = refl

@@ -5,7 +5,7 @@ use Rattle.std.proofs.lemmas.Slice.{take-put_mid}
 use Rattle.std.proofs.Math.Seq.{take-append-add}
 use borrow.Rule.Slice.PartMut.{put_mid}
 
--- what was there before, and a beginning of the part
+-- what was there before, and a prefix of the part
 pub take-filled : (at n : ℕ) (xs ys : List ℕ) → at ≤ length xs → n ≤ length ys
     → take (at + n) (put_mid at (length xs - at) xs ys) ≡ take at xs ++ take n ys
 take-filled at n xs ys within short =

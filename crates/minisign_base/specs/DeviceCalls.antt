@@ -67,7 +67,7 @@ SinkHasNoNewFault out = out.sink.sink_faults out.new ≡ out.sink.sink_faults ou
 abbrev pub Takes : {W : Type 0} → SinkCall W → List ℕ → Type 0
 Takes out bytes = Appends (out.sink.taken out.old) (out.sink.taken out.new) bytes
 
--- the sink took a beginning of these bytes
+-- the sink took a prefix of these bytes
 abbrev pub TakesFront : {W : Type 0} → SinkCall W → List ℕ → Type 0
 TakesFront out bytes = AppendsFront (out.sink.taken out.old) (out.sink.taken out.new) bytes
 
@@ -81,7 +81,7 @@ pub record TakesPart {W : Type 0} (out : SinkCall W) (part : List ℕ) : Type 0 
   pub flushed : IsFlushed out
   pub no_new_fault : SinkHasNoNewFault out
 
--- the sink took a beginning of a text, and failed there or at its flush
+-- the sink took a prefix of a text, and failed there or at its flush
 pub record FailsAtPart {W : Type 0} (out : SinkCall W) (part : List ℕ) : Type 0 where
   pub front : TakesFront out part
   pub rose : SinkFails out
@@ -98,7 +98,7 @@ Flushes out answer = HasFlushed out.sink.taken out.sink.flushed out.sink.sink_fa
 abbrev pub IsWritingFault : {W : Type 0} → SinkCall W → Fault → Type 0
 IsWritingFault sink e = (e ≡ Named WritingFailed) × SinkFails sink
 
--- bytes are put to a sink, which flushes nothing: it takes all of them, or a beginning where it fails
+-- bytes are put to a sink, which flushes nothing: it takes all of them, or a prefix where it fails
 abbrev pub Puts : {W : Type 0} → SinkCall W → List ℕ → Result ⊤ Fault → Type 0
 Puts out bytes answer =
     MatchResult answer (λ _. Takes out bytes × SinkHasNoNewFault out) (λ e. IsWritingFault out e × TakesFront out bytes)

@@ -17,15 +17,15 @@ SameWhereKnown whole known = IfSome known (λ ys. whole ≡ Some ys)
 abbrev pub BeginsAnew : Option (List ℕ) → Type 0
 BeginsAnew new = IfSome new (λ ys. ys ≡ [])
 
--- what is still known lost some bytes at its front
+-- what is still known lost a prefix
 abbrev pub HasGiven : Option (List ℕ) → Option (List ℕ) → Type 0
 HasGiven old new = IfSome new (λ ys. IfSome old (λ xs. (front : List ℕ) × (xs ≡ front ++ ys)))
 
--- known bytes grew by a beginning of bs
+-- known bytes grew by a prefix of bs
 abbrev pub AppendsFront : Option (List ℕ) → Option (List ℕ) → List ℕ → Type 0
 AppendsFront old new bs = (n : ℕ) × IfSome old (λ xs. new ≡ Some (xs ++ take n bs))
 
--- a read moved the next n bytes to the front of the buffer, 0 only where there is no room or no byte is
+-- a read moved the next n bytes to the start of the buffer, 0 only where there is no room or no byte is
 -- left, or failed; a place that is marked stays marked
 pub record HasRead {S E : Type 0} (ahead_of behind_of since_of : S → Option (List ℕ))
     (is_marked_of : S → Bool) (left_of faults_of : S → ℕ)

@@ -28,7 +28,7 @@ pub record HasFailedInLine {R : Type 0} (r : SourceCall R) : Type 0 where
       (front : List ℕ) × (xs ≡ front ++ ys) × (length front < 1026)))
 
 -- a step of a conversation: memory is asked for; a text is said; a line of these bytes is heard; or something is
--- tested, which may be refused
+-- tested, which may be rejected
 pub data Step : Type 0 where
   Allocate : Step
   Say : List ℕ → Step

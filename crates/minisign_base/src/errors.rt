@@ -38,7 +38,7 @@ pub enum ErrorKind {
     Encoding,
     /// A sealed key where an opened one is needed.
     EncryptedKey,
-    /// A growth was refused.
+    /// An allocation failed.
     OutOfMemory,
 }
 
@@ -77,7 +77,7 @@ impl PError {
         }
     }
 
-    /// A fault with a text that stands in the program. Takes no memory.
+    /// A fault with a text that stands in the program. Does not allocate.
     pub fn fixed(kind: ErrorKind, text: &'static str) -> PError
         ensures { result ≡ Worded kind text.now }
     {
@@ -87,7 +87,7 @@ impl PError {
     }
 
     /// The named fault, if it is one: one with a kind and a text of its caller's is none, whatever
-    /// its text says. Takes no memory.
+    /// its text says. Does not allocate.
     pub fn named(&self) -> Option<NamedFault>
         ensures { result ≡ name_of self.now }
     {
@@ -145,7 +145,7 @@ impl From<NamedFault> for PError {
     }
 }
 
-/// A refused growth is `out of memory`.
+/// A failed allocation is `out of memory`.
 impl From<AllocError> for PError {
     ghost from_gives = { λ _ e. e ≡ Named OutOfMemory };
 
@@ -154,7 +154,7 @@ impl From<AllocError> for PError {
     }
 }
 
-/// A refused growth is `out of memory`.
+/// A failed allocation is `out of memory`.
 impl<T: Drop> From<AllocFailed<T>> for PError {
     ghost from_gives = { λ _ e. e ≡ Named OutOfMemory };
 

@@ -17,7 +17,7 @@ pub const TEXT_ROOM: usize = 96;
 /// A fault that a call of Minisign returns. `Display` writes its text.
 #[derive(Clone, Copy, Debug, PartialEq, Eq)]
 pub enum NamedFault {
-    /// A growth was refused, or a size that no allocation can have was asked for.
+    /// An allocation failed, or a size that no allocation can have was asked for.
     OutOfMemory,
     /// A source, a file or a prompt's reader failed at a read.
     ReadingFailed,

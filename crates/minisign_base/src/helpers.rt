@@ -24,7 +24,7 @@ use std::time::{Clock, SystemTime, UNIX_EPOCH};
 // The block size r of every derivation.
 const BLOCK_SIZE: u32 = 8;
 
-/// The eight bytes of a number, the least significant first. Takes no memory.
+/// The eight bytes of a number, the least significant first. Does not allocate.
 pub fn store_u64_le(x: u64) -> [u8; 8]
     ensures { result ≡ to_le_bytes w64 x }
 {
@@ -32,7 +32,7 @@ pub fn store_u64_le(x: u64) -> [u8; 8]
 }
 
 /// The number that the first eight of at least eight bytes spell, the least significant first.
-/// Takes no memory.
+/// Does not allocate.
 pub fn load_u64_le(bytes: &[u8]) -> u64
     requires { 8 ≤ length bytes.now }
     ensures { result ≡ from_le_bytes w64 (take 8 bytes.now) }
@@ -43,7 +43,7 @@ pub fn load_u64_le(bytes: &[u8]) -> u64
     u64::from_le_bytes(first)
 }
 
-/// Four pieces one behind another, put together at the front of `room`. Takes no memory.
+/// Four pieces one behind another, put together at the start of `room`. Does not allocate.
 pub fn joined<'a>(
     room: &'a mut [u8],
     first: &[u8],
@@ -120,7 +120,7 @@ fn line_buffer(alloc: Global) -> Result<Vec<u8>>
 }
 
 /// The seconds since 1970, rounded down. Where the clock can't be read or is set before 1970, that
-/// is `ClockIncorrect`. Takes no memory.
+/// is `ClockIncorrect`. Does not allocate.
 pub fn unix_timestamp(clock: &impl Clock) -> Result<u64>
     // The only fault of the clock is `system clock is incorrect`. The number of seconds is in no
     // contract.
@@ -149,7 +149,7 @@ fn seconds_since_1970(now: SystemTime) -> Result<u64>
 ///
 /// `ParametersTooHigh` is returned exactly where N would be above 2^`n_log2_max`, and otherwise
 /// `InvalidParameters` exactly where scrypt does not take the parameters (RFC 7914, section 2).
-/// Takes no memory.
+/// Does not allocate.
 #[tactic(auto, unfolding(crate::specs::Limits::numbers))]
 pub fn raw_scrypt_params(memlimit: u64, opslimit: u64, n_log2_max: u8) -> Result<Params>
     // Limits become parameters exactly by their definition, and each fault comes exactly in its

@@ -12,7 +12,7 @@ use std::fmt;
 pub struct Identifier(pub [u8; 8]);
 
 impl Identifier {
-    /// What `Display` writes. Takes no memory.
+    /// What `Display` writes. Does not allocate.
     pub fn digits(&self) -> [u8; 16]
         ensures { result ≡ identifier_text self.now.0 }
     {

@@ -5,7 +5,7 @@ ghost use Rattle.std.specs.Option.{option_map};
 ghost use Rattle.minisign_base.specs.Scheme.{IsBytes, AreRandomBytes};
 
 /// A lawful signature scheme. A secret key has 64 bytes, the 32 of its seed and then the 32 of its
-/// public key, and a signature has 64. No call refuses or takes memory.
+/// public key, and a signature has 64. No call fails or allocates.
 pub trait Scheme {
     // The public key of a seed.
     ghost public_of: { Self → List ℕ → List ℕ };

@@ -138,24 +138,24 @@ pub extern "C" fn minisign_ask(
     message: &mut [u8],
 ) -> u32
     // What is answered is one number, a function of the state, the key, the text, the flag and the room: first an
-    // `allow_legacy` above 1 is refused, and then comes what `State::ask` refuses, in its order.
+    // `allow_legacy` above 1 is rejected, and then comes what `State::ask` rejects, in its order.
     ensures number { result ≡ asking_number state.old key.now sig_text.now allow_legacy (length message.old) }
 
     // The questions are those of the key and of what the text reads as, with zeros for the digest, and the message of
-    // the second stands at the front of the buffer. They are then asked, and what was fed stays.
+    // the second stands at the start of the buffer. They are then asked, and what was fed stays.
     ensures asked { result ≡ 0 → (t : SignatureTextRecord) × (read_under key.now (allow_legacy == 1) sig_text.now ≡ Ok t)
         × (questions.new ≡ questions_of key.now t) × HoldsMessage t.signature t.comments.trusted message.new questions.new.message_len }
     ensures asking { result ≡ 0 → HasAsked state.new key.now sig_text.now (allow_legacy == 1) }
     ensures fed { (m : List ℕ) → IsFedState state.old m → IsFedState state.new m }
 
-    // After a refusal state and message buffer are as they were; with an `allow_legacy` of 0 or 1, of a state that may
-    // be asked and a text that reads, both key IDs are told.
+    // After a rejection state and message buffer are as they were; with an `allow_legacy` of 0 or 1, of a state that
+    // may be asked and a text that reads, both key IDs are told.
     ensures kept { 0 < result → (state.new ≡ state.old) × (message.new ≡ message.old) }
     ensures key_ids { allow_legacy < 2 → IsMarkedFed state.old → is_asked state.old ≡ false
         → (t : SignatureTextRecord) → read_utf8 read_signature sig_text.now ≡ Ok t
         → (questions.new.public_key_id ≡ key.now.key_id) × (questions.new.signature_key_id ≡ t.signature.keynum) }
 
-    // After a refused flag, and of a state that may not be asked, the questions stay.
+    // After a rejected flag, and of a state that may not be asked, the questions stay.
     ensures unasked { (questions.new ≡ questions.old) ⊎ ((allow_legacy < 2) × IsMarkedFed state.old × (is_asked state.old ≡ false)) }
 {
     if allow_legacy > 1 {
@@ -260,9 +260,9 @@ pub extern "C" fn minisign_open_secret_key(
     ensures number { result ≡ 0 → with_password < 2 }
     ensures flag { 1 < with_password → result ≡ misuse_number BadPasswordFlag }
 
-    // What is refused comes in this order: a number that is neither 0 nor 1; a key that was not read; a password that is
-    // not UTF-8; and the first reason for which the key gives none within the greatest work; only with a password may
-    // memory run out. The key is then as it was.
+    // What is rejected comes in this order: a number that is neither 0 nor 1; a key that was not read; a password that
+    // is not UTF-8; and the first reason for which the key gives none within the greatest work; only with a password
+    // may memory run out. The key is then as it was.
     ensures refused { 0 < result → IsOpeningNumber unopened.now (passed_in with_password password.now) with_password greatest_work result }
     ensures kept { 0 < result → key.new ≡ key.old }
 {
@@ -301,7 +301,7 @@ pub extern "C" fn minisign_public_key_of(
     key: &SecretKeyValue,
     public_key: &mut PublicKeyValue,
 ) -> u32
-    // The last 32 bytes and the key ID of a key that was opened; another is refused, and nothing is written.
+    // The last 32 bytes and the key ID of a key that was opened; another is rejected, and nothing is written.
     ensures { (result, public_key.new) ≡ told_public_key (public_value_of key.now) public_key.old }
 {
     match key.public_key() {
@@ -337,12 +337,12 @@ pub extern "C" fn minisign_secret_key_text(
     text: &mut [u8],
     text_len: &mut usize,
 ) -> u32
-    // The text of the secret key stands at the front of the buffer, as `write_secret_key` says.
+    // The text of the secret key stands at the start of the buffer, as `write_secret_key` says.
     ensures text { result ≡ 0 → HoldsSecretKey key.now.key_id key.now.secret (passed_in with_password password.now) sealing.now comment.now text.new text_len.new }
     ensures number { result ≡ 0 → (with_password < 2) × (is_opened key.now ≡ true) }
     ensures flag { 1 < with_password → result ≡ misuse_number BadPasswordFlag }
 
-    // What is refused comes in this order: a number that is neither 0 nor 1; a key that was not opened; a comment or a
+    // What is rejected comes in this order: a number that is neither 0 nor 1; a key that was not opened; a comment or a
     // password that is not UTF-8; a comment of two lines; one that Minisign does not read whole; too short a buffer;
     // limits that sealing does not allow; out of memory. Buffer and length are then as they were.
     ensures refused { 0 < result → IsMakingNumber key.now (passed_in with_password password.now) with_password sealing.now comment.now text.old result }
@@ -377,11 +377,11 @@ pub extern "C" fn minisign_public_key_text(
     text: &mut [u8],
     text_len: &mut usize,
 ) -> u32
-    // The text of the public key stands at the front of the buffer, as `write_public_key` says.
+    // The text of the public key stands at the start of the buffer, as `write_public_key` says.
     ensures opened { result ≡ 0 → is_opened key.now ≡ true }
     ensures text { result ≡ 0 → HoldsPublicKey key.now.key_id key.now.secret comment.now text.new text_len.new }
 
-    // What is refused comes in the same order, less what concerns a password. Buffer and length are then as they were.
+    // What is rejected comes in the same order, less what concerns a password. Buffer and length are then as they were.
     ensures refused { 0 < result → IsPublicKeyNumber key.now comment.now text.old result }
     ensures kept { 0 < result → (text.new ≡ text.old) × (text_len.new ≡ text_len.old) }
 {
@@ -457,7 +457,7 @@ pub extern "C" fn minisign_install_init(
     numbering: u32,
 ) -> u32
     // The lock is due, nothing was read back, and whether this is the first installation and which field has the number
-    // are kept. Of each a number that is neither 0 nor 1 is refused, that of the former first, and nothing is written.
+    // are kept. Of each a number that is neither 0 nor 1 is rejected, that of the former first, and nothing is written.
     ensures due { result ≡ 0 → IsDue installation.new Lock × IsFedState installation.new.state [] }
     ensures first { result ≡ 0 → (is_first < 2) × ((installation.new.is_first == 1) ≡ (is_first == 1)) }
     ensures numbering { result ≡ 0 → numbering ≡ numbering_number (numbering_of installation.new) }
@@ -528,8 +528,8 @@ pub extern "C" fn minisign_install_failed(installation: &mut Installation, why: 
 /// The record holds these bytes.
 #[unsafe(no_mangle)]
 pub extern "C" fn minisign_install_record(installation: &mut Installation, bytes: &[u8]) -> u32
-    // The number that the record holds for the field is kept, or the run is refused where it holds none and this is not
-    // the first installation. Where the record is not to be read, nothing changes.
+    // The number that the record holds for the field is kept, or the run is rejected where it holds none and this is
+    // not the first installation. Where the record is not to be read, nothing changes.
     ensures read { result ≡ 0 → HasReadRecord (Some bytes.now) installation.old installation.new }
     ensures refused { 0 < result → (result ≡ misuse_number NotDue) × (installation.new ≡ installation.old) × ¬ (IsDue installation.old ReadRecord) }
 {
@@ -612,16 +612,17 @@ pub extern "C" fn minisign_install_answer(
     first: u32,
     second: u32,
 ) -> u32
-    // **For every relation that answers the two questions so, and every message: 0, and the rights are due, for the
-    // number n, exactly where the texts vouch for the message, not by a signature over the data itself, and the comment
-    // that was signed with it names the file, has not expired at the moment of asking, and has the number n, which is
-    // not below the kept one. Otherwise the stage is to be removed, for the first reason, whose number is answered.**
+    // **For every relation that answers the two questions so, and every message: 0, and the permissions are due, for
+    // the number n, exactly where the texts vouch for the message, not by a signature over the data itself, and the
+    // comment that was signed with it names the file, has not expired at the moment of asking, and has the number n,
+    // which is not below the kept one. Otherwise the stage is to be removed, for the first reason, whose number is
+    // answered.**
     ensures answer { (terms : Terms) (kept : ℕ) (message : List ℕ) (accepts : Verifier)
         → IsAsking installation.old terms kept → AnswersTextsBy accepts terms.pk_text terms.sig_text message first second
         → GivesUpdateNumber accepts terms kept message installation.new result }
 
-    // An answer is 7955827 for yes or 28271 for no, and no other number is taken; the rights are due only where the
-    // answers were, and a wrong use has its number and changes nothing.
+    // An answer is 7955827 for yes or 28271 for no, and no other number is taken; the permissions are due only where
+    // the answers were, and a wrong use has its number and changes nothing.
     ensures due { result ≡ 0 → ((kept : ℕ) × IsDue installation.old (Answer kept)) × ((n : ℕ) × IsDue installation.new (TakePermissions n))
         × HasEnded installation.old.state installation.new.state × IsAnswer first × IsAnswer second }
     ensures refused { 0 < result → IsAnswerNumber installation.old installation.new first second result }
@@ -645,7 +646,7 @@ pub extern "C" fn minisign_install_number_text(
     installation: &Installation,
     text: &mut [u8],
 ) -> usize
-    // The label of the field and the digits of the number stand at the front of the buffer where they are to be written
+    // The label of the field and the digits of the number stand at the start of the buffer where they are to be written
     // and have room, and otherwise nothing is written.
     ensures written { 0 < result → (n : ℕ) × IsDue installation.now (WriteRecord n) × (result ≤ length text.new)
         × (take result text.new ≡ record_of (numbering_of installation.now) n) }
@@ -655,10 +656,10 @@ pub extern "C" fn minisign_install_number_text(
     installation.write_number(text)
 }
 
-/// The number of the fault that the run was refused for.
+/// The number of the fault that the run was rejected for.
 #[unsafe(no_mangle)]
 pub extern "C" fn minisign_install_error(installation: &Installation) -> u32
-    // The number is that of the fault that the run was refused for, and otherwise 0.
+    // The number is that of the fault that the run was rejected for, and otherwise 0.
     ensures refused { (e : ℕ) → IsDue installation.now (ended.Refused e) → result ≡ e }
     ensures none { ((e : ℕ) → ¬ (IsDue installation.now (ended.Refused e))) → result ≡ 0 }
 {

@@ -19,7 +19,7 @@ pub answered : {R W : Type 0} (source : SourceOf R) (sink : SinkOf W) (more : �
 answered source sink zero old new text answer opening other = opening
 answered source sink (suc more) old new text answer opening other = inl (opening, other)
 
--- a wrong password is no want of memory
+-- a wrong password is not out of memory
 no_memory : (A B : Type 0) (r : Result SecretKeyRecord Fault) → r ≡ Err (Named WrongPassword) → A ⊎ ((r ≡ Err (Named OutOfMemory)) × B) → A
 no_memory A B r wrong (inl asked) = asked
 no_memory A B r wrong (inr (memory, same)) = let both = sym wrong ∙ memory in cc both

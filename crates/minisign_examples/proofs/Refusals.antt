@@ -10,7 +10,7 @@ pub passed_up : {T E : Type 0} (r : Result T E) (e : E) (P : E → Type 0) → I
 passed_up (Ok x) e P is p = tt
 passed_up (Err y) e P is p = subst P (sym is) p
 
--- a refusal is that of the function, or memory ran out
+-- a rejection is that of the function, or memory ran out
 pub function_refused : {V : Type 0} (e : Fault) (value : Result V Fault) → IsReadOrNoMemory (Err e) value → (e ≡ Named OutOfMemory) ⊎ (value ≡ Err e)
 function_refused e value (inl is) = inr (sym is)
 function_refused e value (inr memory) = inl (cc memory)

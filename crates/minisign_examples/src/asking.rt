@@ -29,7 +29,7 @@ pub fn open_asking<R: Source, W: Sink>(
     open_asking(alloc, sk_text, prompt, more - 1)
 }
 
-// Whether a key was refused for its password, and for nothing else.
+// Whether a key was rejected for its password, and for nothing else.
 fn is_password_wrong(opened: &Result<SecretKey>) -> bool
     ensures wrong { result ≡ true → opened.now ≡ Err (Named WrongPassword) }
     ensures other { result ≡ false → opened.now ≢ Err (Named WrongPassword) }

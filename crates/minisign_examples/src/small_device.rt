@@ -11,7 +11,7 @@ use std::alloc::Global;
 const KEPT_EVERY: u64 = 8;
 
 /// Opens the sealed secret key of a text with the password in an eighth of the memory that it takes
-/// otherwise: 4 MiB with the usual limits. What is opened and what is refused is the same.
+/// otherwise: 4 MiB with the usual limits. What is opened and what is rejected is the same.
 pub fn open_in_little_memory(alloc: Global, sk_text: &str, password: &str) -> Result<SecretKey>
     // A key opens in an eighth of the memory exactly when it opens.
     ensures { IsReadOrNoMemory result (open_key sk_text.now password.now None) }

@@ -201,7 +201,7 @@ decided accepts v sig_text message legacy t whole first second opens is answers 
     (ap (λ (x : Bool). and_then (judge_answers x (accepts_comments accepts (key_of v) (box_of t))) (λ _. Ok t.comments.trusted)) (answers.to_first t read)
     ∙ ap (λ (x : Bool). and_then (judge_answers first x) (λ _. Ok t.comments.trusted)) (comment_answer accepts v t whole second is (answers.to_second t read)))
 
--- == What asking refuses ==
+-- == What asking rejects ==
 
 abbrev fits : Bool → Result Unit Refusal
 fits b = if b then Ok tt else Err (WrongUse NoRoom)

@@ -1,4 +1,4 @@
--- Texts of keys that are made of their parts, at the front of a buffer.
+-- Texts of keys that are made of their parts, at the start of a buffer.
 use Rattle.std.specs.Prelude.{◌≡◌, ◌⊎◌, ◌<◌, ◌≤◌, ◌+◌, ℕ, true, false, List, length, take, Option, Some, Ok, IfSome}
 use Rattle.std.specs.Str.{IsUtf8}
 use Rattle.std.specs.Str.Iter.{LacksByte}
@@ -28,7 +28,7 @@ pub record IsReadInKey (comment : List ℕ) : Type 0 where
 abbrev pub IsKeyComment : List ℕ → Type 0
 IsKeyComment comment = LacksByte 10 comment × IsReadInKey comment
 
--- the text of the secret key of these parts stands at the front of a buffer, in so many bytes: it gives back the key
+-- the text of the secret key of these parts stands at the start of a buffer, in so many bytes: it gives back the key
 pub record HoldsSecretKey (keynum secret : List ℕ) (password : Option (List ℕ)) (s : Sealing) (comment bytes : List ℕ)
     (len : ℕ) : Type 0 where
   pub fits : len ≤ length bytes
@@ -52,7 +52,7 @@ IsUnwritable comment more bytes m =
     ⊎ ((m ≡ UnreadableComment) × LacksByte 10 comment × ¬ (IsReadInKey comment))
     ⊎ ((m ≡ NoRoom) × IsKeyComment comment × (length bytes < length comment + more))
 
--- nothing of this refuses the text
+-- nothing of this rejects the text
 abbrev pub IsWritable : List ℕ → ℕ → List ℕ → Type 0
 IsWritable comment more bytes = IsKeyComment comment × (length comment + more ≤ length bytes)
 
@@ -61,7 +61,7 @@ abbrev pub AreUtf8KeyTexts : List ℕ → Option (List ℕ) → Type 0
 AreUtf8KeyTexts comment password = IsUtf8 comment × IfSome password IsUtf8
 
 -- the text of a secret key, of a comment and a password that are texts, was not written: a wrong use; then limits that
--- are refused, or out of memory
+-- are rejected, or out of memory
 abbrev pub IsMadeRefusal : Option (List ℕ) → Sealing → List ℕ → List ℕ → Refusal → Type 0
 IsMadeRefusal password s comment bytes (WrongUse m) = IsUnwritable comment 233 bytes m
 IsMadeRefusal password s comment bytes (Refused e) = IsWritable comment 233 bytes × (e ≡ making_fault password s)
@@ -84,7 +84,7 @@ IsPublicKeyRefusal v comment bytes (Refused e) =
     × (((e ≡ Named NotUtf8) × ¬ (IsUtf8 comment))
     ⊎ (IsUtf8 comment × IsWritable comment 77 bytes × (e ≡ Named OutOfMemory)))
 
--- the numbers of these refusals
+-- the numbers of these rejections
 abbrev pub IsMakingNumber : SecretKeyValue → Option (List ℕ) → ℕ → Sealing → List ℕ → List ℕ → ℕ → Type 0
 IsMakingNumber v password with_password s comment bytes n =
     ((n ≡ misuse_number BadPasswordFlag) × (1 < with_password))

@@ -1,4 +1,4 @@
--- The numbers by which a program in another language knows refusals, and what they mean. The numbers of named faults
+-- The numbers by which a program in another language knows rejections, and what they mean. The numbers of named faults
 -- stand in their table.
 use Rattle.std.specs.Prelude.{◌≡◌, ◌⊎◌, ℕ, ◌<◌, ◌-◌, ◌+◌, List, [], ◌∷◌, ◌++◌, codes, length, take, min}
 use Rattle.minisign_base.specs.Fault.{Fault, Named, Worded}

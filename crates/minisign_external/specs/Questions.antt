@@ -13,7 +13,7 @@ use Rattle.minisign_external.specs.declared.public_keys.PublicKeyValue.{PublicKe
 
 -- == What a key and the text of a signature decide ==
 
--- what the bytes of a signature's text read as under a key, where nothing is refused that needs no scheme; otherwise
+-- what the bytes of a signature's text read as under a key, where nothing is rejected that needs no scheme; otherwise
 -- the first case that fails
 abbrev pub read_under : PublicKeyValue → Bool → List ℕ → Result SignatureTextRecord Fault
 read_under v legacy sig_text =

@@ -88,13 +88,13 @@ IsOpeningFault k password greatest_work e =
     × IsOk (and_then (sealed_by_scrypt k) (λ s. allowed_work s (Some greatest_work))))
     ⊎ (open_read_key k password greatest_work ≡ Err e)))
 
--- opening was refused: the key was not read, or else as above
+-- opening was rejected: the key was not read, or else as above
 abbrev pub IsOpeningRefusal : UnopenedKeyValue → Option (List ℕ) → ℕ → Refusal → Type 0
 IsOpeningRefusal v password greatest_work (WrongUse m) = (m ≡ KeyNotRead) × (is_read v ≡ false)
 IsOpeningRefusal v password greatest_work (Refused e) =
     (is_read v ≡ true) × IsOpeningFault (unopened_record v) password greatest_work e
 
--- the number of such a refusal: a number that is no flag, with nothing looked at, and only then the other reasons
+-- the number of such a rejection: a number that is no flag, with nothing looked at, and only then the other reasons
 abbrev pub IsOpeningNumber : UnopenedKeyValue → Option (List ℕ) → ℕ → ℕ → ℕ → Type 0
 IsOpeningNumber v password with_password greatest_work n =
     ((n ≡ misuse_number BadPasswordFlag) × (1 < with_password))

@@ -74,8 +74,8 @@ pub record AreReadByMinisign (chosen : ChosenComments) : Type 0 where
   pub untrusted_return : LacksByte 13 chosen.untrusted
   pub trusted_return : LacksByte 13 chosen.trusted
 
--- the comments are refused, and this is the first reason: one would not be read back as it is, or not by Minisign's own
--- program
+-- the comments are rejected, and this is the first reason: one would not be read back as it is, or not by Minisign's
+-- own program
 abbrev pub IsCommentMisuse : ChosenComments → Misuse → Type 0
 IsCommentMisuse chosen m =
     ((m ≡ BadComment) × ¬ (AreChosenReadBack chosen))
@@ -85,7 +85,7 @@ IsCommentMisuse chosen m =
 abbrev pub AreUtf8 : ChosenComments → Type 0
 AreUtf8 chosen = IsUtf8 chosen.trusted × IsUtf8 chosen.untrusted
 
--- a text of answers stands at the front of a buffer, in so many bytes
+-- a text of answers stands at the start of a buffer, in so many bytes
 pub record HoldsText (key_id : List ℕ) (chosen : ChosenComments) (first second bytes : List ℕ) (len : ℕ) : Type 0 where
   pub fits : len ≤ length bytes
   pub text : IsAnsweredText key_id chosen first second (take len bytes)
@@ -96,7 +96,7 @@ HasNoRoom key_id chosen first second bytes =
     length bytes < length (signature_text (answered_signature key_id first) (answered_comments chosen second))
 
 -- the text was not written, and this is the first reason: the key was not opened, a comment is not UTF-8, a comment is
--- refused, or the text has no room; or memory ran out, of comments that are not refused
+-- rejected, or the text has no room; or memory ran out, of comments that are not rejected
 abbrev pub IsWritingRefusal : SecretKeyValue → ChosenComments → List ℕ → List ℕ → List ℕ → Refusal → Type 0
 IsWritingRefusal v chosen first second bytes (WrongUse m) =
     ((m ≡ KeyNotOpened) × (is_opened v ≡ false))
@@ -108,7 +108,7 @@ IsWritingRefusal v chosen first second bytes (Refused e) =
     × (((e ≡ Named OutOfMemory) × AreUtf8 chosen × AreChosenReadBack chosen × AreReadByMinisign chosen)
     ⊎ ((e ≡ Named NotUtf8) × ¬ (AreUtf8 chosen)))
 
--- the number of a refusal of writing a text
+-- the number of a rejection of writing a text
 abbrev pub IsWritingNumber : SecretKeyValue → ChosenComments → List ℕ → List ℕ → List ℕ → ℕ → Type 0
 IsWritingNumber v chosen first second bytes n =
     (r : Refusal) × (n ≡ refusal_number r) × IsWritingRefusal v chosen first second bytes r

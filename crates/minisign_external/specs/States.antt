@@ -119,7 +119,7 @@ abbrev pub AreAsked : Questions → List ℕ → PublicKeyValue → SignatureTex
 AreAsked q bytes v t = (q ≡ questions_of v t) × HoldsMessage t.signature t.comments.trusted bytes q.message_len
 
 -- what asking answers, with room for so many bytes of the message: a state that is not being fed or was asked before is
--- refused first, then what the text of the signature is refused for under the key, and then too little room
+-- rejected first, then what the text of the signature is rejected for under the key, and then too little room
 abbrev pub room_for : SignatureTextRecord → ℕ → Result Unit Refusal
 room_for t room = if nat_le (64 + length t.comments.trusted) room then Ok tt else Err (WrongUse NoRoom)
 
@@ -140,13 +140,13 @@ asking_result s v sig_text legacy room =
 abbrev pub verdict_misuse : State → Misuse
 verdict_misuse s = if is_begun s then NotAsked else NotBegun
 
--- the refusal is a fault of the library, of this kind
+-- the rejection is a fault of the library, of this kind
 abbrev pub IsFaultOf : (Fault → Type 0) → Refusal → Type 0
 IsFaultOf holds (WrongUse m) = ⊥
 IsFaultOf holds (Refused e) = holds e
 
--- asking about all that a state was fed was refused: it is not being fed; or else the text of the signature or the room
--- is refused as above
+-- asking about all that a state was fed was rejected: it is not being fed; or else the text of the signature or the
+-- room is rejected as above
 abbrev pub IsNotFedRefusal : State → Refusal → Type 0
 IsNotFedRefusal s (WrongUse m) = IsNotFed s m
 IsNotFedRefusal s (Refused e) = ⊥
@@ -155,7 +155,7 @@ abbrev pub IsAskFedRefusal : State → PublicKeyValue → List ℕ → Bool → 
 IsAskFedRefusal s v sig_text legacy room r =
     IsNotFedRefusal s r ⊎ (IsMarkedFed s × (asked_of (read_under v legacy sig_text) room ≡ Err r))
 
--- where it is a fault, every text that reads as the key and the text of the signature, which is UTF-8 then, refuse for
+-- where it is a fault, every text that reads as the key and the text of the signature, which is UTF-8 then, reject for
 -- it, whatever the scheme and the message; or the text of the signature is not UTF-8
 abbrev pub IsTextRefusal : PublicKeyValue → List ℕ → Bool → Refusal → Type 0
 IsTextRefusal v sig_text legacy (WrongUse m) = ⊤
@@ -198,7 +198,7 @@ pub record HasEnded (old new : State) : Type 0 where
   pub ended : new.mark ≡ 0
 
 -- what the second answer is worth is not told, or is nothing: the state has not asked or was ended; or it has asked,
--- and the comment signature is refused
+-- and the comment signature is rejected
 abbrev pub IsCommentRefusal : State → Refusal → Type 0
 IsCommentRefusal s (WrongUse m) = (m ≡ verdict_misuse s) × ((is_asked s && is_begun s) ≡ false)
 IsCommentRefusal s (Refused e) = (e ≡ Named CommentSignatureRefused) × (is_asked s ≡ true) × (is_begun s ≡ true)
@@ -231,7 +231,7 @@ IsCommentVerdictNumber s second n =
     ((n ≡ misuse_number BadAnswer) × ¬ (IsAnswer second))
     ⊎ (IsAnswer second × (r : Refusal) × (n ≡ refusal_number r) × IsCommentRefusal s r)
 
--- a number that is no flag is refused, and only then the other reasons come
+-- a number that is no flag is rejected, and only then the other reasons come
 abbrev pub asking_number : State → PublicKeyValue → List ℕ → ℕ → ℕ → ℕ
 asking_number s v sig_text legacy room =
     if nat_le 2 legacy then misuse_number BadLegacyFlag else result_number
@@ -243,7 +243,7 @@ verdict_number (Ok trusted) = 0
 verdict_number (Err e) = fault_number e
 
 -- the number of a verdict that is no success: an answer is none, and the state stays as it was; or both are, and the
--- number is that of the refusal
+-- number is that of the rejection
 abbrev pub IsVerdictNumber : State → State → ℕ → ℕ → ℕ → Type 0
 IsVerdictNumber old new first second n =
     ((n ≡ misuse_number BadAnswer) × (¬ (IsAnswer first) ⊎ ¬ (IsAnswer second)) × (new ≡ old))

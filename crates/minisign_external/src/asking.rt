@@ -20,10 +20,10 @@ use minisign::SignatureView;
 
 impl State {
     /// Asks, mostly before any data: what a scheme has to answer before it is known whether the key and the text of the
-    /// signature vouch for what the state is fed. The message of the second question is written to the front of
+    /// signature vouch for what the state is fed. The message of the second question is written to the start of
     /// `message`; as many bytes as `sig_text` has are always room enough.
     ///
-    /// What is refused, and in which order, its clause `value` says. After a refusal the two key IDs are written to
+    /// What is rejected, and in which order, its clause `value` says. After a rejection the two key IDs are written to
     /// `questions` where the state may be asked and the text of the signature reads. Does not allocate.
     pub fn ask(
         &mut self,
@@ -33,14 +33,14 @@ impl State {
         questions: &mut Questions,
         message: &mut [u8],
     ) -> Result<(), Refusal>
-        // What is answered is a function of the state, the key, the text, the flag and the room. The refusals come in
+        // What is answered is a function of the state, the key, the text, the flag and the room. The rejections come in
         // one order: a state that was asked before, has told its digest or was never begun; a text that is not UTF-8;
-        // what is refused of the text; a key ID that differs, and a signature over the data itself where that will not
+        // what is rejected of the text; a key ID that differs, and a signature over the data itself where that will not
         // do; and too short a buffer.
         ensures value { result ≡ asking_result self.old key.now sig_text.now allow_legacy (length message.old) }
 
         // The questions are those of the key and of what the text reads as, with zeros for the digest; the message of
-        // the second stands at the front of the buffer. They are then asked; what was fed stays.
+        // the second stands at the start of the buffer. They are then asked; what was fed stays.
         ensures asked { OnOk result ((t : SignatureTextRecord) × (read_under key.now allow_legacy sig_text.now ≡ Ok t)
             × AreAsked questions.new message.new key.now t) }
         ensures asking { OnOk result (HasAsked self.new key.now sig_text.now allow_legacy) }
@@ -49,11 +49,11 @@ impl State {
         // As many bytes as the text has are room enough.
         ensures room { length sig_text.now ≤ length message.old → IfErr result (λ r. ¬ (r ≡ WrongUse NoRoom)) }
 
-        // The texts refuse what is refused of them: of every text that reads as the key, under every scheme and for
+        // The texts reject what is rejected of them: of every text that reads as the key, under every scheme and for
         // every message.
         ensures texts { IfErr result (IsTextRefusal key.now sig_text.now allow_legacy) }
 
-        // After a refusal the state and the message buffer are as they were; of a state that may be asked, and a text
+        // After a rejection the state and the message buffer are as they were; of a state that may be asked, and a text
         // that reads, both key IDs are told.
         ensures kept { OnErr result ((self.new ≡ self.old) × (message.new ≡ message.old)) }
         ensures key_ids { (self.old.mark ≡ fed_mark) → is_asked self.old ≡ false → (t : SignatureTextRecord) → read_utf8 read_signature sig_text.now ≡ Ok t
@@ -89,7 +89,7 @@ impl State {
         ensures digest { OnOk result ((m : List ℕ) → IsFedState self.old m → (questions.new.digest ≡ blake2b_digest 64 m) × HasToldDigest self.new m) }
         ensures asking { OnOk result (HasAsked self.new key.now sig_text.now allow_legacy × IsMarkedTold self.new) }
 
-        // A state that is not being fed is refused first, and then what `ask` refuses of the texts and the room. State
+        // A state that is not being fed is rejected first, and then what `ask` rejects of the texts and the room. State
         // and message buffer are then as they were.
         ensures refused { IfErr result (IsAskFedRefusal self.old key.now sig_text.now allow_legacy (length message.old)) }
         ensures room { length sig_text.now ≤ length message.old → IfErr result (λ r. ¬ (r ≡ WrongUse NoRoom)) }
@@ -140,7 +140,7 @@ impl State {
     }
 
     /// What the answer to the second question is worth by itself: success where the comment signature has its 64 bytes
-    /// and the scheme accepts it. Nothing is said of any data. A state that has not asked, or was ended, is refused.
+    /// and the scheme accepts it. Nothing is said of any data. A state that has not asked, or was ended, is rejected.
     /// Does not allocate.
     pub fn comment_verdict(&self, second: bool) -> Result<(), Refusal>
         // For every relation that answers the second question so: success exactly when the trusted comment was signed,
@@ -165,7 +165,7 @@ impl State {
     /// The verdict from the answers of the scheme, once the digest was told; it ends the state.
     ///
     /// Success exactly where the key and the text vouch for what the state was fed under the scheme that
-    /// answered so, else the first condition that fails. A state that has not asked or not told its digest is refused,
+    /// answered so, else the first condition that fails. A state that has not asked or not told its digest is rejected,
     /// and stays as it was. Does not allocate.
     pub fn verdict(&mut self, first: bool, second: bool) -> Result<(), Refusal>
         // For every relation that answers the two questions as the caller says, and every message: the verdict on the
@@ -238,7 +238,8 @@ fn write_questions(
     Ok(whole)
 }
 
-// The questions of a key and of what a text reads as, of which the second has this signature and a message of this length.
+// The questions of a key and of what a text reads as, of which the second has this signature and a message of this
+// length.
 fn questions_of(
     key: &PublicKeyValue,
     signature: &SignatureView<'_>,

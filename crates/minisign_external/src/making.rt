@@ -24,14 +24,14 @@ const SECRET_KEY_BYTES: usize = 233;
 
 const PUBLIC_KEY_BYTES: usize = 77;
 
-/// Writes the text of a secret key to the front of `to`, and returns its length, which
+/// Writes the text of a secret key to the start of `to`, and returns its length, which
 /// is 233 bytes more than that of the comment. With a password the key is sealed under it, with the salt and the limits
 /// of `sealing`; without one it is not sealed, and `sealing` is not looked at.
 ///
 /// `keep_every` is k, where every k-th of scrypt's rows is kept, 1 KiB each, of at most 2^20; 0 and
 /// 1 keep them all. The text is the same for every k.
 ///
-/// What is refused, and in which order, its clause `refused` says.
+/// What is rejected, and in which order, its clause `refused` says.
 pub fn write_secret_key(
     alloc: Global,
     key: &SecretKeyValue,
@@ -41,13 +41,13 @@ pub fn write_secret_key(
     comment: &[u8],
     to: &mut [u8],
 ) -> std::result::Result<usize, Refusal>
-    // The text of a secret key stands at the front of the buffer, in 233 bytes more than the comment has, and is the
+    // The text of a secret key stands at the start of the buffer, in 233 bytes more than the comment has, and is the
     // one by definition: it opens under the password, within each bound that its p is within, or reads without one, to
     // the key with exactly this key ID and these 64 secret bytes, and to no other.
     ensures opened { OnOk result (is_opened key.now ≡ true) }
     ensures text { IfOk result (HoldsSecretKey key.now.key_id key.now.secret (option_map (λ p. p.now) password.entry) sealing.now comment.now to.new) }
 
-    // What is refused comes in this order: a key that was not opened; a comment or a password that is not UTF-8; a
+    // What is rejected comes in this order: a key that was not opened; a comment or a password that is not UTF-8; a
     // comment with a line feed; one with a carriage return or a zero byte, or of more than 1003 bytes, which Minisign
     // does not read whole; too short a buffer; with a password limits that sealing does not allow; out of memory. The
     // buffer is then as it was.
@@ -104,7 +104,7 @@ fn write_made(
     }
 }
 
-/// Writes the text of the public key of a secret key to the front of `to`, and returns its length,
+/// Writes the text of the public key of a secret key to the start of `to`, and returns its length,
 /// which is 77 bytes more than that of the comment: the key is the last 32 of the secret bytes,
 /// under the key ID.
 pub fn write_public_key(
@@ -113,13 +113,13 @@ pub fn write_public_key(
     comment: &[u8],
     to: &mut [u8],
 ) -> std::result::Result<usize, Refusal>
-    // The text of a public key stands at the front of the buffer, in 77 bytes more than the comment has, and reads as
+    // The text of a public key stands at the start of the buffer, in 77 bytes more than the comment has, and reads as
     // the public key of every secret key of these parts.
     ensures opened { OnOk result (is_opened key.now ≡ true) }
     ensures text { IfOk result (HoldsPublicKey key.now.key_id key.now.secret comment.now to.new) }
 
-    // What is refused comes in the order of `write_secret_key`, less what concerns a password. The buffer is then as it
-    // was.
+    // What is rejected comes in the order of `write_secret_key`, less what concerns a password. The buffer is then as
+    // it was.
     ensures refused { IfErr result (IsPublicKeyRefusal key.now comment.now to.old) }
     ensures kept { OnErr result (to.new ≡ to.old) }
 {

@@ -1,4 +1,4 @@
-//! The numbers by which a program in another language knows refusals, and what they mean. None of it takes memory.
+//! The numbers by which a program in another language knows rejections, and what they mean. None of it allocates.
 
 ghost use Rattle.std.specs.Prelude.{◌≡◌, ◌==◌, ◌<◌, List, ℕ, true, false, find, length};
 ghost use Rattle.minisign_base.specs.Faults.{fault_row};
@@ -26,10 +26,10 @@ pub fn is_answer(number: u32) -> bool
 const UNNAMED: u32 = 255;
 
 impl Refusal {
-    /// The number of the refusal: that of the wrong use, or that of the fault.
+    /// The number of the rejection: that of the wrong use, or that of the fault.
     pub fn number(&self) -> u32
-        // The number of a refusal is that of its wrong use or of its fault, by a table: 7 is out of memory and nothing
-        // else.
+        // The number of a rejection is that of its wrong use or of its fault, by a table: 7 is out of memory and
+        // nothing else.
         ensures { result ≡ refusal_number self.now }
     {
         match self {
@@ -122,7 +122,7 @@ impl Misuse {
     }
 }
 
-/// Writes what a number means, in English, to the front of `to`, ended by a 0 and cut where there
+/// Writes what a number means, in English, to the start of `to`, ended by a 0 and cut where there
 /// is no room for more: returns the length of the whole text, which is at most 127 bytes. Where
 /// `to` has no byte nothing is written.
 pub fn write_error_text(number: u32, to: &mut [u8]) -> usize
@@ -136,7 +136,7 @@ pub fn write_error_text(number: u32, to: &mut [u8]) -> usize
 
 /// Writes a text, cut where there is no room for more, and a 0. Returns the length of the text.
 pub fn write_cut(text: &str, to: &mut [u8]) -> usize
-    // The text stands at the front of the buffer, cut where there is no room for more, and a 0 behind it.
+    // The text stands at the start of the buffer, cut where there is no room for more, and a 0 behind it.
     ensures length { result ≡ length text.now }
     ensures cut { WritesCut text.now to.old to.new }
 {

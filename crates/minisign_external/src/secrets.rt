@@ -42,9 +42,9 @@ impl SecretKeyValue {
     }
 
     /// The public key of the key: the last 32 bytes of the secret, under its key ID. A key that was not opened is
-    /// refused.
+    /// rejected.
     pub fn public_key(&self) -> Result<PublicKeyValue, Misuse>
-        // The last 32 bytes and the key ID of a key that was opened; another is refused.
+        // The last 32 bytes and the key ID of a key that was opened; another is rejected.
         ensures { result ≡ public_value_of self.now }
     {
         if !self.is_opened() {

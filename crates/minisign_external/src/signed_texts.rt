@@ -34,10 +34,10 @@ pub fn signed_text(
     // part holds of it.
     ensures text { IfOk result (λ t. IsAnsweredText key_id.now (comments_of trusted.now untrusted.now) first.now second.now (string_bytes t)) }
 
-    // Refused are comments that would not be read back as they are: one with a line feed, an untrusted one with a
+    // Rejected are comments that would not be read back as they are: one with a line feed, an untrusted one with a
     // carriage return at its end, a trusted one with white space at either end. Then those that Minisign 0.11 would not
     // read back: an untrusted one of 1,004 bytes or more, a trusted one of 8,174 or more, one with a zero byte or a
-    // carriage return. For all others there is a text, unless memory runs out: no comment that is refused is said to
+    // carriage return. For all others there is a text, unless memory runs out: no comment that is rejected is said to
     // have wanted memory.
     ensures refused { IfErr result (λ r. ((r ≡ Refused (Named OutOfMemory)) × AreChosenReadBack (comments_of trusted.now untrusted.now) × AreReadByMinisign (comments_of trusted.now untrusted.now))
         ⊎ ((m : Misuse) × (r ≡ WrongUse m) × IsCommentMisuse (comments_of trusted.now untrusted.now) m)) }
@@ -47,7 +47,7 @@ pub fn signed_text(
     Ok(written(alloc, key_id, first, second, trusted, untrusted)?)
 }
 
-/// Writes that text, under the key ID of a key that was opened, to the front of `to`, and returns its length.
+/// Writes that text, under the key ID of a key that was opened, to the start of `to`, and returns its length.
 pub fn write_signed_text(
     alloc: Global,
     key: &SecretKeyValue,
@@ -57,13 +57,13 @@ pub fn write_signed_text(
     untrusted: &[u8],
     to: &mut [u8],
 ) -> std::result::Result<usize, Refusal>
-    // The text is that of `signed_text`, under the key ID of the key, which was opened, at the front of the buffer.
+    // The text is that of `signed_text`, under the key ID of the key, which was opened, at the start of the buffer.
     ensures text { IfOk result (λ len. (is_opened key.now ≡ true)
         × HoldsText key.now.key_id (comments_of trusted.now untrusted.now) first.now second.now to.new len) }
     ensures readable { OnOk result (AreReadByMinisign (comments_of trusted.now untrusted.now)) }
 
-    // Refused are, in this order: a key that was not opened, comments that are not UTF-8, what `signed_text`
-    // refuses, and too short a buffer, which is then as it was.
+    // Rejected are, in this order: a key that was not opened, comments that are not UTF-8, what `signed_text`
+    // rejects, and too short a buffer, which is then as it was.
     ensures refused { IfErr result (IsWritingRefusal key.now (comments_of trusted.now untrusted.now) first.now second.now to.old) }
     ensures kept { OnErr result (to.new ≡ to.old) }
 {
@@ -83,7 +83,7 @@ pub fn write_signed_text(
     }
 }
 
-// Writes the bytes to the front of `to`, and returns how many.
+// Writes the bytes to the start of `to`, and returns how many.
 pub(crate) fn write_front(bytes: &[u8], to: &mut [u8]) -> Option<usize>
     ensures written { MatchOption result (length to.old < length bytes.now)
         (λ n. (n ≤ length to.new) × (take n to.new ≡ bytes.now)) }
@@ -98,7 +98,7 @@ pub(crate) fn write_front(bytes: &[u8], to: &mut [u8]) -> Option<usize>
     Some(bytes.len())
 }
 
-/// Writes the message of the second question to the front of `message`, and returns its length: the first signature
+/// Writes the message of the second question to the start of `message`, and returns its length: the first signature
 /// followed by the trusted comment, which is 64 bytes longer than the comment. Where there is no room nothing is
 /// written.
 pub fn write_comment_message(

@@ -100,7 +100,7 @@ pub enum Refusal {
     Refused(PError),
 }
 
-/// The refusal that this fault is.
+/// The rejection that this fault is.
 impl From<PError> for Refusal {
     ghost from_gives = { λ e r. r ≡ Refused e };
 
@@ -109,7 +109,7 @@ impl From<PError> for Refusal {
     }
 }
 
-/// The refusal that this wrong use is.
+/// The rejection that this wrong use is.
 impl From<Misuse> for Refusal {
     ghost from_gives = { λ m r. r ≡ WrongUse m };
 
@@ -154,7 +154,7 @@ impl State {
         }
     }
 
-    /// Feeds the next bytes of the data. Does not allocate. A state that was never begun is refused,
+    /// Feeds the next bytes of the data. Does not allocate. A state that was never begun is rejected,
     /// and one that has told its digest; then it stays as it was.
     pub fn update(&mut self, piece: &[u8]) -> Result<(), Misuse>
         // Each update appends to what the state was fed, and what was asked stays. A state that is not being fed takes
@@ -171,7 +171,7 @@ impl State {
     }
 
     /// Tells the digest of what the state was fed, 64 bytes; the state then takes no more data.
-    /// Refused as `update`; then the state and the digest stay as they were.
+    /// Rejected as `update`; then the state and the digest stay as they were.
     pub fn digest(&mut self, digest: &mut [u8; 64]) -> Result<(), Misuse>
         // The digest of everything the state was fed, which it has then told; what was asked stays. A state that is not
         // being fed tells none, and stays as it was.

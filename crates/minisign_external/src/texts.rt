@@ -1,4 +1,4 @@
-//! The text of a signature under a public key, read where it lies: what is refused before a scheme is asked, and what
+//! The text of a signature under a public key, read where it lies: what is rejected before a scheme is asked, and what
 //! it has to be asked. None of it allocates.
 
 ghost use Rattle.std.specs.Prelude.{◌≡◌, if◌then◌else◌, ◌≤◌, ◌+◌, ℕ, List, Ok, Err, length, IfOk, IfErr};
@@ -14,8 +14,8 @@ use minisign_base::NamedFault;
 
 /// Reads the bytes of the text of a signature, which have to be UTF-8, as `read_signature` does.
 pub fn read_bytes(sig_text: &[u8]) -> Result<SignatureView<'_>>
-    // The text is read as a view of what it reads as, or refused for the first case that fails; the trusted comment and
-    // 64 bytes have no more bytes than the text.
+    // The text is read as a view of what it reads as, or rejected for the first case that fails; the trusted comment
+    // and 64 bytes have no more bytes than the text.
     ensures read { IfOk result (λ v. (t : SignatureTextRecord) × (read_utf8 read_signature sig_text.now ≡ Ok t) × (v ≡ view_of t)) }
     ensures size { IfOk result (λ v. 64 + length v.trusted ≤ length sig_text.now) }
     ensures refused { IfErr result (λ e. read_utf8 read_signature sig_text.now ≡ Err e) }
@@ -26,8 +26,8 @@ pub fn read_bytes(sig_text: &[u8]) -> Result<SignatureView<'_>>
     }
 }
 
-/// Tests what needs no scheme. Refused are, in this order: key IDs that differ, a signature over the data itself unless
-/// `allow_legacy`.
+/// Tests what needs no scheme. Rejected are, in this order: key IDs that differ, a signature over the data itself
+/// unless `allow_legacy`.
 pub fn test(key: &PublicKeyValue, signature: &SignatureView<'_>, allow_legacy: bool) -> Result<()>
     ensures { result ≡ judge_key (key_of key.now) signature.now.signature allow_legacy }
 {

@@ -36,10 +36,10 @@ pub struct UnopenedKeyValue {
     pub bytes: [u8; 158],
     /// 1 where the key wants a password, otherwise 0.
     pub is_sealed: u8,
-    /// How many rows of 1 KiB opening takes, as a logarithm to base 2, at most 20; 0 where it is not sealed, or its limits
-    /// are refused.
+    /// How many rows of 1 KiB opening takes, as a logarithm to base 2, at most 20; 0 where it is not sealed, or its
+    /// limits are rejected.
     pub log2_rows: u8,
-    /// How often all rows are made; 0 where the key is not sealed, or its limits are refused.
+    /// How often all rows are made; 0 where the key is not sealed, or its limits are rejected.
     pub work: u32,
     /// Nothing yet.
     pub reserved: u32,
@@ -102,8 +102,8 @@ fn told_by(key: &SecretKey) -> (u8, u8, u32)
 
 /// Reads the text of a secret key into a value, which is opened then.
 ///
-/// Refused are, in this order: a text that is not UTF-8; what `minisign::read_secret_key` refuses. Then the value stays
-/// as it was. Does not allocate.
+/// Rejected are, in this order: a text that is not UTF-8; what `minisign::read_secret_key` rejects. Then the value
+/// stays as it was. Does not allocate.
 pub fn read_unopened_key(sk_text: &[u8], value: &mut UnopenedKeyValue) -> Result<()>
     // Whether a text is read is a function of the bytes, which have to be UTF-8: otherwise the first case that fails is
     // told, and the value stays.
@@ -142,7 +142,7 @@ fn read(sk_text: &[u8]) -> Result<[u8; 158]>
 /// `greatest_work` is the greatest parallelization that is allowed: the number of times that
 /// all rows are made.
 ///
-/// What is refused, and in which order, its clause `refused` says. Without a password it does not allocate.
+/// What is rejected, and in which order, its clause `refused` says. Without a password it does not allocate.
 pub fn open_secret_key(
     alloc: Global,
     unopened: &UnopenedKeyValue,
@@ -151,17 +151,17 @@ pub fn open_secret_key(
     greatest_work: u32,
     value: &mut SecretKeyValue,
 ) -> std::result::Result<(), Refusal>
-    // The secret and the key ID are those of the key that the one which was read gives, whatever number of rows is kept,
-    // and the value has the mark of one that was opened.
+    // The secret and the key ID are those of the key that the one which was read gives, whatever number of rows is
+    // kept, and the value has the mark of one that was opened.
     ensures opened { OnOk result ((is_read unopened.now ≡ true) × ((key : SecretKeyRecord)
         × (open_read_key (unopened_record unopened.now) (option_map (λ p. p.now) password.entry) greatest_work ≡ Ok key)
         × HoldsKey value.new key)) }
 
-    // What is refused comes in this order: a key that was not read; a password that is not UTF-8; and the first reason for
-    // which the key that was read gives none within the greatest work, as `SecretKey::from_unencrypted_box` says without
-    // a password, but for a key without a checksum, and `SecretKey::from_box_keeping_within` with one. Memory runs out
-    // only with a password, for a key that is sealed by scrypt, whose limits are allowed and within the work. The value
-    // is then as it was.
+    // What is rejected comes in this order: a key that was not read; a password that is not UTF-8; and the first reason
+    // for which the key that was read gives none within the greatest work, as `SecretKey::from_unencrypted_box` says
+    // without a password, but for a key without a checksum, and `SecretKey::from_box_keeping_within` with one. Memory
+    // runs out only with a password, for a key that is sealed by scrypt, whose limits are allowed and within the work.
+    // The value is then as it was.
     ensures refused { IfErr result (IsOpeningRefusal unopened.now (option_map (λ p. p.now) password.entry) greatest_work) }
     ensures kept { OnErr result (value.new ≡ value.old) }
 {

@@ -107,7 +107,7 @@ fn read_word(input: &[u8], i: usize) -> u64
     ])
 }
 
-/// Copies `src` to the front of `dst`, which is at least as long. The rest of `dst` stays.
+/// Copies `src` to the start of `dst`, which is at least as long. The rest of `dst` stays.
 #[inline(always)]
 pub fn copy_memory(src: &[u8], dst: &mut [u8])
     requires { length src.now ≤ length dst.old }

@@ -11,7 +11,7 @@
 //! hasher.finalize(&mut digest);
 //! ```
 //!
-//! No call takes memory, and none fails but those of `WriteExt`, where the writer does.
+//! No call allocates, and none fails but those of `WriteExt`, where the writer does.
 
 #![tactic(auto)]
 

@@ -1,4 +1,4 @@
-//! What key derivation refuses, and which of its faults a refusal further down becomes.
+//! What key derivation rejects, and which of its faults a rejection further down becomes.
 
 ghost use Rattle.std.specs.Prelude.{◌≡◌, Some, codes};
 
@@ -34,7 +34,7 @@ impl fmt::Display for InvalidOutputLen {
 /// Why no key was derived.
 #[derive(Clone, Copy, Debug, PartialEq)]
 pub enum KdfError {
-    /// A growth was refused.
+    /// An allocation failed.
     OutOfMemory,
     /// The output is empty or longer than 137438953440 bytes.
     InvalidOutputLen,
@@ -54,7 +54,7 @@ impl fmt::Display for KdfError {
     }
 }
 
-/// A refused growth is out of memory.
+/// A failed allocation is out of memory.
 impl From<AllocError> for KdfError {
     ghost use Rattle.minisign_kdf.specs.declared.errors.KdfError.TheVariants.{OutOfMemory};
 

@@ -10,7 +10,7 @@ use sha2::{Digest, Sha256};
 const BLOCK_LEN: usize = 64;
 
 /// HMAC with SHA-256 (RFC 2104, section 2) under `key` of the joined `parts`. A key of any length
-/// will do; one longer than 64 bytes counts as its digest. Takes no memory.
+/// will do; one longer than 64 bytes counts as its digest. Does not allocate.
 pub fn hmac_sha256(key: &[u8], parts: &[&[u8]]) -> [u8; 32]
     ensures { result ≡ hmac key.now (flat_map (λ part. part.now) parts.now) }
 {

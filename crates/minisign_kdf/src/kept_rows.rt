@@ -41,7 +41,7 @@ impl Rows {
     /// scryptBlockMix. `n_log2` lies from 1 to 63, and k is at least 1. Nothing is mixed further
     /// than to the last kept row.
     ///
-    /// `OutOfMemory` is returned where a growth was refused: 128 * r bytes for each of the N / k
+    /// `OutOfMemory` is returned where an allocation failed: 128 * r bytes for each of the N / k
     /// rows, rounded up, in one request, and then 256 * r bytes, before any mixing.
     pub fn fill(alloc: Global, block: &[u8], n_log2: u8, k: u64) -> Result<Rows, KdfError>
         requires some { 0 < length block.now }
@@ -54,7 +54,7 @@ impl Rows {
         ensures rows { let r = length block.now / 128 in
             IfOk result (λ v. v ≡ record { r = r; n = 2 ^ n_log2; k = k; rows = kept_rows r (2 ^ n_log2) k block.now }) }
 
-        // The only refusal is out of memory.
+        // The only error is out of memory.
         ensures refused { IfErr result (λ e. e ≡ KdfError.OutOfMemory) }
     {
         let r = block.len() / 128;
@@ -69,7 +69,7 @@ impl Rows {
         })
     }
 
-    /// How many rows are kept: N divided by k, rounded up. Takes no memory.
+    /// How many rows are kept: N divided by k, rounded up. Does not allocate.
     pub fn len(&self) -> u64
         // There are N / k kept rows, rounded up.
         ensures count { result ≡ div_ceil self.now.n self.now.k }
@@ -79,7 +79,7 @@ impl Rows {
     }
 
     /// The words of the kept rows, 32 * r of each, read low byte first. Those of each block of
-    /// sixteen stand in diagonal order: place q holds word 5 * q mod 16. Takes no memory.
+    /// sixteen stand in diagonal order: place q holds word 5 * q mod 16. Does not allocate.
     pub fn words(&self) -> &[u32]
         // The words are those of the kept rows, each block in diagonal order.
         ensures rows { rows_of self.now.r (div_ceil self.now.n self.now.k) result.now

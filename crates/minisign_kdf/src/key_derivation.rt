@@ -49,9 +49,9 @@ impl Buffers {
 /// `scrypt_keeping` with every row kept, which is the fastest.
 ///
 /// `InvalidOutputLen` is returned exactly where `out` is empty or longer than 137438953440 bytes,
-/// before any memory is asked for; `OutOfMemory` where a growth was refused: 128 * r * N bytes for
+/// before anything is allocated; `OutOfMemory` where an allocation failed: 128 * r * N bytes for
 /// the rows, in one request, then 128 * r * (p + 3) bytes, all before any mixing. All rows stand in
-/// memory at once, so on success they have fewer than 2^63 bytes. A refusal leaves `out` as it was.
+/// memory at once, so on success they have fewer than 2^63 bytes. An error leaves `out` as it was.
 ///
 /// ```
 /// let params = Params::new(15, 8, 1)?;
@@ -75,7 +75,7 @@ pub fn scrypt(
     // which with every second row kept would not follow.
     ensures room { OnOk result (128 * params.now.r * 2 ^ params.now.n_log2 < 2 ^ 63) }
 
-    // A refusal is that of the output's length exactly where the length is outside of this range,
+    // An error is that of the output's length exactly where the length is outside of this range,
     // and otherwise out of memory; `out` is then as it was.
     ensures refused { IfErr result (λ e. e ≡ (if is_key_length (length out.old)
         then KdfError.OutOfMemory else KdfError.InvalidOutputLen)) }
@@ -90,8 +90,8 @@ pub fn scrypt(
 /// rounded up, counted in the memory that holds them, which has fewer than 2^63 bytes.
 ///
 /// `InvalidOutputLen` is returned exactly where `out` is empty or longer than 137438953440 bytes,
-/// before any memory is asked for; `OutOfMemory` where a growth was refused: 128 * r bytes for each
-/// kept row, in one request, then 128 * r * (p + 3) bytes, all before any mixing. A refusal leaves
+/// before anything is allocated; `OutOfMemory` where an allocation failed: 128 * r bytes for each
+/// kept row, in one request, then 128 * r * (p + 3) bytes, all before any mixing. An error leaves
 /// `out` as it was.
 ///
 /// For each of the p parts scryptBlockMix is called 2 * N times, as with every row kept, and
@@ -127,7 +127,7 @@ pub fn scrypt_keeping(
     ensures room { OnOk result
         (128 * params.now.r * div_ceil (2 ^ params.now.n_log2) k < 2 ^ 63) }
 
-    // A refusal is that of the output's length exactly where the length is outside of this range,
+    // An error is that of the output's length exactly where the length is outside of this range,
     // and otherwise out of memory; `out` is then as it was.
     ensures refused { IfErr result (λ e. e ≡ (if is_key_length (length out.old)
         then KdfError.OutOfMemory else KdfError.InvalidOutputLen)) }
@@ -145,7 +145,7 @@ pub fn scrypt_keeping(
     Ok(rows_in(&rows, params.r() as usize))
 }
 
-// Refuses a length that no derived key has.
+// Rejects a length that no derived key has.
 fn check_len(len: usize) -> Result<(), InvalidOutputLen>
     ensures { is_ok result ≡ is_key_length len }
 {

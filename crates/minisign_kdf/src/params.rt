@@ -28,7 +28,7 @@ impl Model for Params {
 impl Params {
     /// The parameters N = 2^`n_log2`, `r` and `p`. All three are at least 1, `n_log2` is below 16 *
     /// r, r * p is below 2^30, and the 128 * r * N bytes of a part's rows are below 2^64; anything
-    /// else is refused (RFC 7914, section 2). Takes no memory.
+    /// else is rejected (RFC 7914, section 2). Does not allocate.
     pub fn new(n_log2: u8, r: u32, p: u32) -> Result<Params, InvalidParams>
         ensures accepted { IsOk result ↔ IsAccepted (record { n_log2 = n_log2; r = r; p = p }) }
         ensures test { is_ok result ≡ is_accepted (record { n_log2 = n_log2; r = r; p = p }) }

@@ -12,7 +12,7 @@ use crate::hmac::hmac_sha256;
 const BLOCK_LEN: usize = 32;
 
 /// Derives a key that fills `out`, by PBKDF2 (RFC 8018, section 5.2) with one iteration of HMAC
-/// with SHA-256. `out` has at most 137438953440 bytes, 2^32 - 1 blocks. Takes no memory.
+/// with SHA-256. `out` has at most 137438953440 bytes, 2^32 - 1 blocks. Does not allocate.
 pub fn pbkdf2_once(password: &[u8], salt: &[u8], out: &mut [u8])
     requires { length out.old ≤ longest_key }
     ensures { out.new ≡ pbkdf2 password.now salt.now (length out.old) }

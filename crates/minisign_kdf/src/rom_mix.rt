@@ -22,7 +22,7 @@ use std::simd::u32x4;
 ///
 /// `out` has the length of a row, 128 * r bytes for some r from 1 on, `work` has at least 96 * r
 /// words, which is three rows, `n_log2` lies from 1 to 63, and k is at least 1. What `out` and
-/// `work` held is not read, and what `work` is left with is open. Takes no memory.
+/// `work` held is not read, and what `work` is left with is open. Does not allocate.
 pub fn mix_kept(rows: &[u32], n_log2: u8, k: u64, out: &mut [u8], work: &mut [u32])
     requires even { 1 ≤ n_log2 }
     requires cost { n_log2 < 64 }

@@ -1,4 +1,4 @@
--- What `cat` refuses before it reads anything.
+-- What `cat` rejects before it reads anything.
 use Rattle.std.specs.Prelude.{codes}
 use Rattle.minisign.specs.Fault.{Fault, Worded}
 use Rattle.minisign.specs.ErrorKinds.{Io}

@@ -11,7 +11,7 @@ use Rattle.minisign_tool.specs.VerifyRaw.{VouchesRaw}
 use Rattle.minisign_tool.specs.declared.commands.Command.{Command}
 use Rattle.minisign_tool.specs.declared.commands.Command.TheVariants.{Cat, Keygen, Sign, Usage, Verify, VerifyRaw}
 
--- there are two texts and data for which they vouch, legacy signatures being refused
+-- there are two texts and data for which they vouch, legacy signatures being rejected
 abbrev pub SomeTextsVouch : Verifier → Type 0
 SomeTextsVouch accepts = (pk_text sig_text message : List ℕ) × TextsVouchFor accepts pk_text sig_text message false
 

@@ -20,7 +20,7 @@ usage_line =
 abbrev pub fault_line : Fault → List ℕ
 fault_line e = codes "error: " ++ line (text_of e)
 
--- a sink took the text whole, or it failed and took a beginning of it
+-- a sink took the text whole, or it failed and took a prefix of it
 abbrev pub TakesOrFails : {S : Type 0} → SinkOf S → S → S → List ℕ → Type 0
 TakesOrFails sink old new text =
     (Appends (sink.taken old) (sink.taken new) text × (sink.sink_faults new ≡ sink.sink_faults old))

@@ -69,7 +69,7 @@ pub record MakesVouched {K R Z A B : Type 0} (accepts : Verifier) (public_of : L
   pub given : IsKeyOf sk_text key
   pub vouched : ReadsBackWhereGenuine accepts public_of key message text
 
--- the text of a signature could not be written: a beginning of it was
+-- the text of a signature could not be written: a prefix of it was
 pub record WriteFails {G : Type 0} (g : SinkCall G) (text : List ℕ) (e : Fault) : Type 0 where
   pub fault : e ≡ Named WritingFailed
   pub failed : FailsAtPart g text

@@ -12,11 +12,11 @@ use Rattle.minisign.specs.Verifying.{HasCopy, VerifyingTextsFails, read_texts}
 use Rattle.minisign_tool.specs.TextFiles.{EitherFails, ReadsBoth}
 use Rattle.minisign_tool.specs.declared.verify.VerifyingDevices.{VerifyingDevices}
 
--- the status is said, nothing is copied, and legacy signatures are refused
+-- the status is said, nothing is copied, and legacy signatures are rejected
 abbrev pub says_only : VerifyOptions
 says_only = options_of false false false
 
--- the status is said, the data is copied, and legacy signatures are refused
+-- the status is said, the data is copied, and legacy signatures are rejected
 abbrev pub says_and_copies : VerifyOptions
 says_and_copies = options_of false true false
 
@@ -35,7 +35,7 @@ verifying_call pk_file sig_file data_reader steady old new = record {
   data_reader = rereader_call data_reader steady old.data_reader new.data_reader;
 }
 
--- nothing was said, or a beginning of the status lines of the box that the texts read as
+-- nothing was said, or a prefix of the status lines of the box that the texts read as
 abbrev pub SaysFront : {W : Type 0} → SinkCall W → List ℕ → List ℕ → Type 0
 SaysFront status pk_text sig_text =
     (status.new ≡ status.old) ⊎ ((key : PublicKeyRecord) × (box : SignatureBoxRecord)

@@ -45,7 +45,7 @@ VerifyRawFails accepts key_file signature_file reader status e =
     ⊎ ((key : PublicKeyRecord) × (signature : SignatureRecord) × HoldsRaw key_file signature_file key signature
     × VerifyingFails accepts key (bare_box signature) says_only reader status unused e)
 
--- nothing was said, or a beginning of the status line
+-- nothing was said, or a prefix of the status line
 abbrev pub SaysLineFront : {W : Type 0} → SinkCall W → Type 0
 SaysLineFront status = (status.new ≡ status.old) ⊎ TakesFront status (line verified_text)
 

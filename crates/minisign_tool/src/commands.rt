@@ -40,7 +40,7 @@ pub enum Command<'a> {
 }
 
 /// The command that the words behind the program's path ask for. Words that are none of the five
-/// forms, as those with a word too few or too many, ask for the usage. Takes no memory.
+/// forms, as those with a word too few or too many, ask for the usage. Does not allocate.
 pub fn command_of<'a>(words: &[&'a str]) -> Command<'a>
     // Words ask for a command as the table of the program in docs/FORMATS.md says: each of its five
     // forms for that command with its paths, in their order, and all other words for the usage.

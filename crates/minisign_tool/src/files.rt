@@ -218,7 +218,7 @@ pub fn verify_raw_files<S: Scheme, W: Sink>(
 }
 
 /// Opens the public key, the data, which goes back by seeking, and the signature, and runs `cat`
-/// over them and standard output. Data from the file that standard output leads into is refused,
+/// over them and standard output. Data from the file that standard output leads into is rejected,
 /// with nothing read: the copy would be read as data again.
 pub fn cat_files<S: Scheme, W: Sink>(
     rt: &HostRuntime,

@@ -13,20 +13,20 @@ use minisign::base::faults::TEXT_ROOM;
 use minisign::base::helpers::joined;
 use minisign::base::{PError, Result};
 
-/// Warns of the toy scheme. This line is always the first. Takes no memory.
+/// Warns of the toy scheme. This line is always the first. Does not allocate.
 #[tactic(auto, unfolding(crate::specs::Report::warning_line))]
 pub fn warn<W: Sink>(errors: &mut W)
-    // The warning is written whole, or the error stream failed and took a beginning.
+    // The warning is written whole, or the error stream failed and took a prefix.
     ensures { TakesOrFails W.Sink errors.old errors.new warning_line }
 {
     let _ = write_all(errors, b"warning: insecure toy scheme, for tests only\n");
 }
 
 /// Shows the arguments that there are, and returns the exit status of arguments that are none of
-/// them. Takes no memory.
+/// them. Does not allocate.
 #[tactic(auto, unfolding(crate::specs::Report::usage_line))]
 pub fn usage<W: Sink>(errors: &mut W) -> u8
-    // The usage is written whole, or the error stream failed and took a beginning; its exit status
+    // The usage is written whole, or the error stream failed and took a prefix; its exit status
     // is 2.
     ensures status { result ≡ 2 }
     ensures said { TakesOrFails W.Sink errors.old errors.new usage_line }
@@ -38,10 +38,10 @@ pub fn usage<W: Sink>(errors: &mut W) -> u8
     2
 }
 
-/// Shows a fault, and returns the exit status of one. Takes no memory.
+/// Shows a fault, and returns the exit status of one. Does not allocate.
 pub fn report<W: Sink>(errors: &mut W, fault: &PError) -> u8
     // The line of a fault is `error: ` and the text of the very fault that ended the run, for each
-    // fault that there is; it is written whole, or the error stream failed and took a beginning.
+    // fault that there is; it is written whole, or the error stream failed and took a prefix.
     // Its exit status is 1.
     ensures status { result ≡ 1 }
     ensures said { ShowsFault W.Sink errors.old errors.new fault.now }

@@ -78,7 +78,7 @@ pub fn run_sign<
         (signing_call K.Source R.Source Z.RandomSource A.Source B.Sink devices.old devices.new)
         (sink_call G.Sink signature.old signature.new) moment) }
 
-    // Whatever the result, the source and the random source lost at most some bytes at their front.
+    // Whatever the result, the source and the random source lost at most a prefix.
     ensures given { HasGiven (R.ahead devices.old.data_reader) (R.ahead devices.new.data_reader) }
     ensures drawn { HasGiven (Z.random_ahead devices.old.random) (Z.random_ahead devices.new.random) }
 {

@@ -12,9 +12,9 @@ pub struct HeldStreams {
     _errors: Option<File>,
 }
 
-/// Opens a folder in place of each standard stream that is closed. The system gives the first files
+/// Opens a directory in place of each standard stream that is closed. The system gives the first files
 /// that are opened the numbers of closed streams, so that a password would be read from a key's
-/// file, or a line written into a signature's. A folder can be neither read nor written, so a
+/// file, or a line written into a signature's. A directory can be neither read nor written, so a
 /// closed stream stays as good as closed.
 pub fn hold_closed_streams(rt: &HostRuntime) -> io::Result<HeldStreams> {
     Ok(HeldStreams {
@@ -24,7 +24,7 @@ pub fn hold_closed_streams(rt: &HostRuntime) -> io::Result<HeldStreams> {
     })
 }
 
-// A folder, which gets the lowest number that is free, in place of a closed stream.
+// A directory, which gets the lowest number that is free, in place of a closed stream.
 fn hold(rt: &HostRuntime, is_closed: bool) -> io::Result<Option<File>> {
     if !is_closed {
         return Ok(None);

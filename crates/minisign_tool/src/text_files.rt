@@ -10,7 +10,7 @@ use minisign::reading::read_text;
 use std::alloc::Global;
 
 /// The texts of two files, of which the first is read whole, and has to be UTF-8, before the second
-/// is read. Refused is the first of them that does not give a text, as `read_text` says.
+/// is read. Rejected is the first of them that does not give a text, as `read_text` says.
 pub fn read_both_texts<P: Source, Q: Source>(
     alloc: Global,
     first: &mut P,
@@ -20,7 +20,7 @@ pub fn read_both_texts<P: Source, Q: Source>(
     ensures texts { IfOk result (λ both. ReadsBoth (source_call P.Source first.old first.new)
         (source_call Q.Source second.old second.new) (string_bytes both.0) (string_bytes both.1)) }
 
-    // Refused is the first file that does not give a text, as `read_text` says; the second is then
+    // Rejected is the first file that does not give a text, as `read_text` says; the second is then
     // left alone if the first gives none.
     ensures refused { IfErr result (EitherFails (source_call P.Source first.old first.new)
         (source_call Q.Source second.old second.new)) }

@@ -27,7 +27,7 @@ pub struct VerifyingDevices<P, Q, R> {
 }
 
 /// Verifies the data of `devices` with the texts of their public key and their signature; legacy
-/// signatures are refused. Both files are read whole, the key first, and have to be UTF-8, before
+/// signatures are rejected. Both files are read whole, the key first, and have to be UTF-8, before
 /// the data is read. The warning, and then the status lines or the line of a fault, go to `errors`.
 /// Returns the exit status: 0 where the texts vouch for the data, otherwise 1.
 pub fn run_verify<S: Scheme, P: Source, Q: Source, R: Rereader, W: Sink>(

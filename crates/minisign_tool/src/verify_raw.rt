@@ -36,7 +36,7 @@ pub fn run_verify_raw<S: Scheme, P: Source, Q: Source, R: Rereader, W: Sink>(
     ensures status { result ≤ 1 }
 
     // The exit status is 0 only if the two files and the data were read whole, without a fault, and
-    // what the files held vouches for the data, with the warning written, or the beginning that the
+    // what the files held vouches for the data, with the warning written, or the prefix that the
     // error stream took, and then the status line, and nothing else.
     ensures accepted { result ≡ 0 → RawFilesVouch (S.accepts scheme.now)
         (source_call P.Source pk_file.old pk_file.new)
@@ -47,7 +47,7 @@ pub fn run_verify_raw<S: Scheme, P: Source, Q: Source, R: Rereader, W: Sink>(
     // The exit status is 1 only if the key file was not read whole (memory ran out, or it failed),
     // with the signature file left alone, or the signature file was not, after the key file was,
     // both with no data read; or because verifying with the bytes of both fails, as `verify_raw`
-    // says. Between the warning and the line of that fault at most a beginning of the status line
+    // says. Between the warning and the line of that fault at most a prefix of the status line
     // was written.
     ensures refused { result ≡ 1 → EndsWithFault W.Sink errors.old errors.new
         (RawFilesFail (S.accepts scheme.now)
@@ -92,9 +92,9 @@ fn verify_with_files<S: Scheme, P: Source, Q: Source, R: Rereader, W: Sink>(
 
 /// Verifies the data ahead of `data_reader` with the public key that `key` begins with, 42 bytes,
 /// and the bare signature that `signature` begins with, 74 bytes; later bytes of the two are
-/// ignored. A key and then a signature that are too short or of an unknown algorithm are refused
+/// ignored. A key and then a signature that are too short or of an unknown algorithm are rejected
 /// before any data is read. On success `errors` gets the status line; after a failing `errors` it
-/// may have a beginning of that line, and after any other refusal it is as it was.
+/// may have a prefix of that line, and after any other rejection it is as it was.
 pub fn verify_raw<S: Scheme, R: Rereader, W: Sink>(
     alloc: Global,
     scheme: &S,
@@ -105,7 +105,7 @@ pub fn verify_raw<S: Scheme, R: Rereader, W: Sink>(
 ) -> Result<()>
     // The bytes of two files that were read vouch for the data: they begin with a public key and a
     // bare signature of a known algorithm, which vouches for the message by its digest; legacy ones
-    // are refused.
+    // are rejected.
     ensures accepted { OnOk result ((message : List ℕ)
         × ReadsWhole R.Source data_reader.old data_reader.new message
         × VouchesRaw (S.accepts scheme.now) key.now signature.now message) }
@@ -116,7 +116,7 @@ pub fn verify_raw<S: Scheme, R: Rereader, W: Sink>(
 
     // Otherwise the key file is too short, or the signature file holds no bare signature, and no
     // data was read; or verifying fails for the key and the signature that they hold, as above,
-    // with at most a beginning of that line written.
+    // with at most a prefix of that line written.
     ensures refused { IfErr result (VerifyRawFails (S.accepts scheme.now) key.now signature.now
         (rereader_call R.Source R.steady data_reader.old data_reader.new)
         (sink_call W.Sink errors.old errors.new)) }

@@ -24,10 +24,10 @@ pub trait Sink {
     // How many faults there were.
     ghost sink_faults: { Self → ℕ };
 
-    /// Takes a beginning of `bytes` and returns how long it is: of something at least one byte.
+    /// Takes a prefix of `bytes` and returns how long it is: of something at least one byte.
     /// After a fault nothing was taken. It flushes nothing.
     fn write(&mut self, bytes: &[u8]) -> Result<usize, DeviceFault>
-        // It takes a beginning of what it is given, at least a byte if there is one; or it is a
+        // It takes a prefix of what it is given, at least a byte if there is one; or it is a
         // fault that raises the count, with nothing taken.
         //
         // What was flushed may be known: a write flushes nothing (`unflushed`). Of the sinks of the
@@ -41,7 +41,7 @@ pub trait Sink {
         ensures { HasFlushed taken flushed sink_faults self.old self.new result };
 }
 
-/// A buffer that grows. It fails only where a growth is refused.
+/// A buffer that grows. It fails only where an allocation fails.
 #[derive(Drop)]
 pub struct VecSink {
     bytes: Vec<u8>,
@@ -81,7 +81,7 @@ impl Sink for VecSink {
 
     ghost sink_faults = { λ s. s.faults.0 };
 
-    // All of the bytes, or a fault where the growth is refused.
+    // All of the bytes, or a fault where that allocation fails.
     fn write(&mut self, bytes: &[u8]) -> Result<usize, DeviceFault>
         ensures takes { IfOk result (λ n. n ≡ length bytes.now) }
         ensures bytes { OnOk result (Appends (⟦<VecSink as Sink>⟧.taken self.old) (⟦<VecSink as Sink>⟧.taken self.new) bytes.now) }
@@ -166,7 +166,7 @@ impl<W: Write> Sink for WriterSink<W> {
 /// by side do not mix their lines: a sink that takes all that it is given gets one write.
 ///
 /// Memory is wanted for the line. Where it runs out, that is `OutOfMemory`, and the sink is as it
-/// was. Where the sink fails, that is `WritingFailed`, and the sink took a beginning of the line.
+/// was. Where the sink fails, that is `WritingFailed`, and the sink took a prefix of the line.
 pub fn put_line<S: Sink>(
     alloc: Global,
     sink: &mut S,
@@ -174,7 +174,7 @@ pub fn put_line<S: Sink>(
     text: &[u8],
 ) -> errors::Result<()>
     // The whole of a line is written, put together first; or memory runs out for it, with the sink
-    // as it was; or the sink fails, and took a beginning.
+    // as it was; or the sink fails, and took a prefix.
     ensures bytes { OnOk result (Appends (S.taken sink.old) (S.taken sink.new) (label.now ++ text.now ++ 10 ∷ [])) }
     ensures no_new_fault { OnOk result (S.sink_faults sink.new ≡ S.sink_faults sink.old) }
     ensures refused { IfErr result (λ e. ((e ≡ Named OutOfMemory) × (sink.new ≡ sink.old))
@@ -191,15 +191,15 @@ pub fn put_line<S: Sink>(
     }
 }
 
-/// Writes all of `bytes` and passes them on. After a fault the sink took a beginning of them.
+/// Writes all of `bytes` and passes them on. After a fault the sink took a prefix of them.
 pub fn put_and_flush<S: Sink>(sink: &mut S, bytes: &[u8]) -> Result<(), DeviceFault>
-    // The whole of a text is written; or a beginning of it, with a fault of the sink.
+    // The whole of a text is written; or a prefix of it, with a fault of the sink.
     ensures bytes { OnOk result (Appends (S.taken sink.old) (S.taken sink.new) bytes.now) }
 
     // On success all that the sink took is flushed.
     ensures flushed { OnOk result (SameWhereKnown (S.taken sink.new) (S.flushed sink.new)) }
 
-    // The count of faults rose exactly where it is refused, and then a beginning was written.
+    // The count of faults rose exactly where that fails, and then a prefix was written.
     ensures no_new_fault { OnOk result (S.sink_faults sink.new ≡ S.sink_faults sink.old) }
     ensures refused { OnErr result (Rose (S.sink_faults sink.old) (S.sink_faults sink.new)) }
     ensures front { OnErr result (AppendsFront (S.taken sink.old) (S.taken sink.new) bytes.now) }
@@ -211,12 +211,12 @@ pub fn put_and_flush<S: Sink>(sink: &mut S, bytes: &[u8]) -> Result<(), DeviceFa
     }
 }
 
-/// Writes all of `bytes`, and flushes nothing. After a fault the sink took a beginning of them.
+/// Writes all of `bytes`, and flushes nothing. After a fault the sink took a prefix of them.
 pub fn write_all<S: Sink>(sink: &mut S, bytes: &[u8]) -> Result<(), DeviceFault>
-    // The whole of a text is written; or a beginning of it, with a fault of the sink.
+    // The whole of a text is written; or a prefix of it, with a fault of the sink.
     ensures bytes { OnOk result (Appends (S.taken sink.old) (S.taken sink.new) bytes.now) }
 
-    // The count of faults rose exactly where it is refused, and then a beginning was written.
+    // The count of faults rose exactly where that fails, and then a prefix was written.
     ensures no_new_fault { OnOk result (S.sink_faults sink.new ≡ S.sink_faults sink.old) }
     ensures refused { OnErr result (Rose (S.sink_faults sink.old) (S.sink_faults sink.new)) }
     ensures front { OnErr result (AppendsFront (S.taken sink.old) (S.taken sink.new) bytes.now) }

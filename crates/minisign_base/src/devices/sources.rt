@@ -28,7 +28,7 @@ pub trait Source {
     // How many faults there were.
     ghost faults: { Self → ℕ };
 
-    /// Moves the next bytes to the front of `buf`, as many as it likes up to all of it, and returns
+    /// Moves the next bytes to the start of `buf`, as many as it likes up to all of it, and returns
     /// how many. The result is 0 only where `buf` is empty or no byte is left. After a fault the
     /// bytes ahead are those before the call, or are known no more.
     fn read(&mut self, buf: &mut [u8]) -> Result<usize, DeviceFault>

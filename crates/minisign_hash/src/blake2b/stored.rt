@@ -7,7 +7,7 @@ ghost use Rattle.minisign_hash.specs.Stored.{WasFed};
 use crate::blake2b::{BUFFER_BYTES, Blake2b};
 
 /// What a state for a digest of 64 bytes holds, in 344 bytes with the layout of C. Whoever holds it
-/// may have changed it: `restore` refuses what no state holds, and cannot tell other changes.
+/// may have changed it: `restore` rejects what no state holds, and cannot tell other changes.
 #[repr(C)]
 #[derive(Clone, Copy)]
 pub struct StoredBlake2b {
