@@ -1,5 +1,5 @@
 """A disk that crashes: a file system in a file, which is copied as it is on the disk at some moment of a run. The copy is what
-a machine that loses its power then finds, with all that the system had not yet brought to the disk lost.
+a machine that loses its power then finds, with all that the system had not yet synced lost.
 
 Needs Python 3.9 or later, and a run as root to mount.
 """

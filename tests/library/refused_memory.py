@@ -30,7 +30,7 @@ WORD = "refused_allocations"
 
 # Tests, by the names of their functions, that pass within so many MiB for all of the program, and that fail within so
 # many: a key with the usual limits opens with all its rows of 32 MiB, and those once, one with the limits of
-# Minisign's own program with every 16th of its rows of 1 GiB, and what the limits refuse takes no memory for rows.
+# Minisign's own program with every 16th of its rows of 1 GiB, and what the limits reject allocates no rows.
 WITHIN = [
     ("a_key_with_the_usual_limits_opens_within_one_part", 40, 32),
     ("a_key_of_the_c_program_opens_in_less_memory", 80, 64),

@@ -126,9 +126,9 @@ class WrongBody:
         name = HEADER.match(copy).end()
         return [(end, end, f"\n\n{copy[:name]}{self.suffix}{copy[name:]}")]
 
-    def copy_proof(self, folder):
-        """Copies the written proof of its function, where it has one and is copied, in a crate's folder."""
-        proof, copy = (f"{folder}/proofs/{it.replace('::', '/')}" for it in (self.function, self.checked()))
+    def copy_proof(self, directory):
+        """Copies the written proof of its function, where it has one and is copied, in a crate's directory."""
+        proof, copy = (f"{directory}/proofs/{it.replace('::', '/')}" for it in (self.function, self.checked()))
         if not self.copied or not os.path.isdir(proof):
             return
         shutil.copytree(proof, copy)
@@ -155,9 +155,9 @@ class Verdict:
 
 def bodies_of(crate):
     """Returns the wrong bodies of a crate."""
-    folder = f"crates/{crate}/wrong-bodies"
-    files = sorted(os.listdir(folder)) if os.path.isdir(folder) else []
-    return [WrongBody(crate, f"{folder}/{it}", number) for number, it in enumerate(files)]
+    directory = f"crates/{crate}/wrong-bodies"
+    files = sorted(os.listdir(directory)) if os.path.isdir(directory) else []
+    return [WrongBody(crate, f"{directory}/{it}", number) for number, it in enumerate(files)]
 
 
 def listed():
@@ -173,14 +173,14 @@ def free_memory():
     return 1024 * int(found[1]) if found else 0
 
 
-def assume(folder, crate, functions):
-    """Puts a hole in place of the proof of each of these functions of a crate, whose files are in this folder."""
+def assume(directory, crate, functions):
+    """Puts a hole in place of the proof of each of these functions of a crate, whose files are in this directory."""
     for it in functions:
         *_, name = path = it.split("::")
         if "fn" in path or "++" in it:
             # (a closure goes with the body that it stands in, and what ends a value is no function of the crate's)
             continue
-        proof = f"{folder}/proofs/{'/'.join(path)}"
+        proof = f"{directory}/proofs/{'/'.join(path)}"
         os.makedirs(proof, exist_ok=True)
         for file in [it for it in os.listdir(proof) if it.endswith(".antt")]:
             os.remove(f"{proof}/{file}")
@@ -287,12 +287,12 @@ class Trial:
                 said = proved.rattle("check", self.crate, room, "--allow-holes", before=("nice", "-n", "19")).stdout
         return re.findall(rf"(?m)^fn {self.crate}::(\S+): ", said)
 
-    def copy_into(self, folder, group):
-        """Copies the crate into a folder, with the changes of a group in place, and loops in place of all other bodies."""
+    def copy_into(self, directory, group):
+        """Copies the crate into a directory, with the changes of a group in place, and loops in place of all other bodies."""
         for part in [it for it in PARTS if os.path.isdir(f"crates/{self.crate}/{it}")]:
-            shutil.copytree(f"crates/{self.crate}/{part}", f"{folder}/{part}")
+            shutil.copytree(f"crates/{self.crate}/{part}", f"{directory}/{part}")
         for path, text in self.changed(group).items():
-            with open(f"{folder}/{path}", "w", encoding="utf-8") as it:
+            with open(f"{directory}/{path}", "w", encoding="utf-8") as it:
                 it.write(text)
 
     def try_group(self, group):
@@ -312,11 +312,11 @@ class Trial:
             said = self.check(room, checked)
         return [self.judged(it, said) for it in group]
 
-    def check(self, folder, functions):
-        """Checks these functions of the crate, whose files are in this folder, and returns what is said."""
+    def check(self, directory, functions):
+        """Checks these functions of the crate, whose files are in this directory, and returns what is said."""
         words = [word for it in sorted(functions) for word in ("--only", it)]
         with self.places.place():
-            return proved.rattle("check", self.crate, folder, "--allow-holes", *words, before=("nice", "-n", "19")).stdout
+            return proved.rattle("check", self.crate, directory, "--allow-holes", *words, before=("nice", "-n", "19")).stdout
 
     def changed(self, group):
         """Returns the texts of the crate's sources with the changes of a group in place, and loops in place of all other
