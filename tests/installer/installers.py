@@ -39,8 +39,8 @@ class Updater:
     permissions = (COMMON,)
     # By which call it reads what stands at the place, and the how-manieth of these is the first that does.
     looking, looked_at = "pread", 1
-    # What it leaves of the mode 751.
-    kept_mode = 0o711
+    # What it leaves of the mode 751, and which one a first installation gives.
+    kept_mode, first_mode = 0o711, 0o755
     # The calls of an installation by root over a file of another owner, in the order of docs/INSTALLING.md, as
     # `trace_calls.c` tells them; repeated ones stand once. S is the stage of the update, N that of its number.
     calls = f"""make {LOCK} new 600
@@ -98,7 +98,7 @@ class RealInstaller:
     # (before it reads two texts, each to its end, and the record)
     looking, looked_at = "read", 7
     permissions = (COMMON, WITH_LISTS, ASKED, ASKED_WITH_LISTS)
-    kept_mode = 0o751
+    kept_mode, first_mode = 0o751, 0o600
     # The calls that are due, in the order of the machine: it is told of each. Before them the record is looked at.
     calls = f"""open .
 make {LOCK} new 600

@@ -231,6 +231,8 @@ class Installing:
             os.remove(os.path.join(path, PLACE))
             self.check(directory, "new", 0)
             directory.expect(NEW, b"6")
+            if directory.mode() != 0o600:
+                raise Failure(f"the place has the mode {directory.mode():o}")
 
     def asks_with_the_lock(self):
         """While another run holds the lock, nothing is said of what stands there."""
@@ -371,7 +373,7 @@ class Installing:
             directory.expect(None, None)
             self.check(directory, "new", 0, "--first")
             directory.expect(NEW, b"6")
-            if directory.mode() != 0o600:
+            if directory.mode() != self.kind.first_mode:
                 raise Failure(f"the place has the mode {directory.mode():o}")
             directory.put(RECORD, b"six")
             self.check(directory, "new", UNRECORDED, said=b"error: place: what is kept beside the place is no number (`--first` installs all the same)\n")

@@ -3,7 +3,7 @@
 use std::test::Fail;
 use std::{env, fs, process};
 
-// The path of a folder of this name in the system's one for passing files.
+// The path of a directory of this name in the system's one for passing files.
 pub fn folder_path(rt: &HostRuntime, name: &str) -> std::result::Result<String, Fail> {
     let id = process::id(rt.process());
     let parent = env::temp_dir(rt)?;
@@ -11,7 +11,7 @@ pub fn folder_path(rt: &HostRuntime, name: &str) -> std::result::Result<String, 
     Ok(folder)
 }
 
-// Makes a folder that is empty.
+// Makes a directory that is empty.
 pub fn make_empty(rt: &HostRuntime, folder: &str) -> std::result::Result<(), Fail> {
     if fs::exists(rt, folder)? {
         fs::remove_dir_all(rt, folder)?;
@@ -20,12 +20,12 @@ pub fn make_empty(rt: &HostRuntime, folder: &str) -> std::result::Result<(), Fai
     Ok(())
 }
 
-// The path of a file of the folder.
+// The path of a file of the directory.
 pub fn path_of(rt: &HostRuntime, folder: &str, name: &str) -> std::result::Result<String, Fail> {
     Ok(format!(in rt.alloc(); "{folder}/{name}")?)
 }
 
-// Makes a file of the folder.
+// Makes a file of the directory.
 pub fn put(
     rt: &HostRuntime,
     folder: &str,

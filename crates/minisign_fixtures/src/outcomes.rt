@@ -11,12 +11,12 @@ use std::fmt::Write;
 pub enum Outcome {
     /// The call gives its value.
     Accepted,
-    /// The call returns this fault.
+    /// The call returns this error.
     Refused(NamedFault),
 }
 
-/// Whether the answer is a value where one is expected, and otherwise the very fault, with its
-/// identifiers. A fault with a kind and a text of its caller's own is none that can be expected.
+/// Whether the answer is a value where one is expected, and otherwise the very error, with its
+/// identifiers. An error with a kind and a text of its caller's own is none that can be expected.
 pub fn comes_to<T>(answer: &Result<T>, expected: Outcome) -> bool {
     match answer {
         Ok(_) => expected == Outcome::Accepted,

@@ -42,7 +42,9 @@ fn main(rt: HostRuntime) -> ExitCode {
     let [pk, data, sig, place] = paths else {
         return ExitCode::FAILURE;
     };
-    let Some(mut directory) = FileDirectory::of_place(&rt, place, None) else {
+    // At a first installation all may run what is installed.
+    let mode = if is_first { Some(0o755) } else { None };
+    let Some(mut directory) = FileDirectory::of_place(&rt, place, mode) else {
         return ExitCode::FAILURE;
     };
     match update(

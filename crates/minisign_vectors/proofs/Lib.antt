@@ -1,1 +1,4 @@
+mod Bounds
 mod Facts
+mod InMemory
+mod Pasts

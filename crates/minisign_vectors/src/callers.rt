@@ -38,7 +38,7 @@ fn verified(alloc: Global, texts: (&str, &str), message: &[u8]) -> Result<String
     verify_bytes(alloc, &ToyScheme::new(), pk_text, sig_text, message)
 }
 
-// Whether this comes of verifying: the comment `t`, or a refusal.
+// Whether this comes of verifying: the comment `t`, or a rejection.
 fn tells(answer: &Result<String>, expected: Outcome) -> bool {
     match answer {
         Ok(comment) => expected == Accepted && comment.as_str() == "t",
@@ -128,7 +128,7 @@ fn file_verified(rt: &HostRuntime, sig_path: &str, data_path: &str) -> Result<St
     )
 }
 
-// Whether this comes of verifying a file of the folder.
+// Whether this comes of verifying a file of the directory.
 fn is_file_told(
     rt: &HostRuntime,
     folder: &str,
@@ -141,7 +141,7 @@ fn is_file_told(
     Ok(tells(&answer, expected))
 }
 
-// Makes a folder with a signature and the data.
+// Makes a directory with a signature and the data.
 fn make_signed(rt: &HostRuntime, folder: &str) -> std::result::Result<(), Fail> {
     make_empty(rt, folder)?;
     put(rt, folder, "abc.sig", SIGNATURE_TEXT.as_bytes())?;
@@ -190,7 +190,7 @@ fn what_is_vouched_for_is_copied(rt: HostRuntime) {
     assert!(rt; is_copied(rt.alloc(), b"abd", REFUSED, b""));
 }
 
-// Whether the data of a source that cannot go back is refused.
+// Whether the data of a source that cannot go back is rejected.
 fn is_read_once(alloc: Global, out: &mut VecSink) -> bool {
     let answer = copied(
         alloc,
@@ -263,7 +263,7 @@ fn opened_keys_sign_bytes(rt: HostRuntime) {
     assert!(rt; holds(&signs(rt.alloc(), SEALED)));
 }
 
-// Whether another password is refused, and in little memory by the same fault.
+// Whether another password is rejected, and in little memory by the same error.
 fn is_refused_alike(alloc: Global) -> bool {
     let whole = opened(alloc, SEALED, "passwore");
     let little = opened_in_little(alloc, "passwore");
@@ -306,7 +306,7 @@ fn is_taken(alloc: Global, update: &[u8], name: &str, expected: Outcome) -> bool
     comes_to(&answer, expected)
 }
 
-// Whether the update is refused for its name, by a fault that has no name of the library's.
+// Whether the update is rejected for its name, by an error that has no name of the library's.
 fn is_refused_for_its_name(alloc: Global, name: &str) -> bool {
     let answer = checked(alloc, WORKED, b"abc", name);
     match &answer {

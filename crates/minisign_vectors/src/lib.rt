@@ -1,6 +1,7 @@
-//! Tests of the library where no request to `minisign_compare` says it: calls that no request makes, devices that fail in
-//! ways that none describes, memory that is refused, and callers. All else is rows of `tests/rows/`, and what stands over a
-//! scheme outside is called from C in `tests/c`.
+//! Tests where no request to `minisign_compare` says it: calls that no request makes, devices that fail in ways that none
+//! describes, failed allocations, callers, and installing over a directory in memory. All else of the library is rows of
+//! `tests/rows/`, and what stands over a scheme outside is called from C in `tests/c`; over real files `tests/installer`
+//! installs.
 //!
 //! Each expected value comes from outside: from a standard, from Python's hashlib, from the upstream tool, or worked out by
 //! hand from a definition. None is what a crate of this repository answered.
@@ -14,9 +15,12 @@ mod callers;
 #[cfg(test)]
 mod hash;
 #[cfg(test)]
+mod installing;
+#[cfg(test)]
 mod kdf;
 #[cfg(test)]
 mod keys;
+pub mod memory;
 #[cfg(test)]
 mod names;
 pub mod passwords;

@@ -60,7 +60,7 @@ fn signs_file(rt: &HostRuntime, sk_text: &str, path: &str) -> Result<bool> {
     Ok(is_worked_out(text.as_str()))
 }
 
-// Whether signing the file with so many random bytes is refused so.
+// Whether signing the file with so many random bytes is rejected so.
 fn is_file_refused(
     rt: &HostRuntime,
     sk: &SecretKey,
@@ -79,7 +79,7 @@ fn pair_under(alloc: Global, password: &str) -> Result<KeyPair> {
     KeyPair::generate_with_password(alloc, &ToyScheme::new(), &mut random, password)
 }
 
-// Whether the refusals of signing a file come so, and in this order: a sealed key, a file that is
+// Whether the rejections of signing a file come so, and in this order: a sealed key, a file that is
 // not there, random bytes that do not come.
 fn refuses_files(rt: &HostRuntime, there: &str, missing: &str) -> Result<bool> {
     let opened = key_of(rt.alloc(), SECRET_TEXT)?;
@@ -95,7 +95,7 @@ fn refuses_files(rt: &HostRuntime, there: &str, missing: &str) -> Result<bool> {
     )
 }
 
-// Whether the file is signed by both keys, the refusals come, and no signature stands beside it.
+// Whether the file is signed by both keys, the rejections come, and no signature stands beside it.
 fn is_signed(rt: &HostRuntime, folder: &str) -> std::result::Result<bool, Fail> {
     let there = path_of(rt, folder, "abc")?;
     let missing = path_of(rt, folder, "missing")?;
@@ -104,7 +104,7 @@ fn is_signed(rt: &HostRuntime, folder: &str) -> std::result::Result<bool, Fail> 
     Ok(!fs::exists(rt, beside.as_str())? && right)
 }
 
-// Whether the file is signed by both keys, and the refusals come.
+// Whether the file is signed by both keys, and the rejections come.
 fn is_signed_alone(rt: &HostRuntime, there: &str, missing: &str) -> bool {
     let unsealed = signs_file(rt, SECRET_TEXT, there);
     let sealed = signs_file(rt, SEALED, there);

@@ -98,7 +98,7 @@ impl Sink for LimitedSink {
 }
 
 /// A buffer in front of another: what is taken waits, and a flush passes it on, as a buffered file
-/// does. It fails only where a growth is refused.
+/// does. It fails only where an allocation does.
 #[derive(Drop)]
 pub struct BufferedSink {
     passed_on: Vec<u8>,

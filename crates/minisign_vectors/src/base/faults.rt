@@ -74,7 +74,7 @@ fn named_errors_are_shown(rt: HostRuntime) {
     }
 }
 
-// Whether the fault is this one.
+// Whether the error is this one.
 fn is(fault: PError, named: NamedFault) -> bool {
     fault.named() == Some(named)
 }
@@ -88,7 +88,7 @@ fn faults_of_std_become_named_ones(rt: HostRuntime) {
     assert!(rt; is(PError::from(fmt::Error), FormattingFailed));
 }
 
-// Whether 0xff is no text, which is such a fault.
+// Whether 0xff is no text, which is such an error.
 fn is_no_text(alloc: Global) -> Result<bool, Fail> {
     let bytes = vec![in alloc; 0xffu8]?;
     match String::from_utf8(bytes) {
@@ -123,7 +123,7 @@ fn faults_of_base64_become_named_ones(rt: HostRuntime) {
     assert!(rt; is(PError::from(DecodeAllocError::OutOfMemory), OutOfMemory));
 }
 
-// Whether the fault says what reading says where it fails, and is not the named one.
+// Whether the error says what reading says where it fails, and is not the named one.
 fn is_only_worded(alloc: Global, fault: PError) -> bool {
     let worded = says(alloc, &fault, "reading failed") && *fault.kind() == Io;
     let unnamed = fault.named() == None;
@@ -131,7 +131,7 @@ fn is_only_worded(alloc: Global, fault: PError) -> bool {
     worded && unnamed && !comes_to(&answer, Refused(ReadingFailed))
 }
 
-// The words of a named fault make none.
+// The words of a named error make none.
 #[test]
 fn callers_make_faults_without_a_name(rt: HostRuntime) -> Result<(), Fail> {
     let text = String::from_str(rt.alloc(), "reading failed")?;

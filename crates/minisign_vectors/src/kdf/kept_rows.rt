@@ -195,7 +195,7 @@ fn one_row_is_the_block(rt: HostRuntime) {
     assert!(rt; keeps_the_block(rt.alloc(), 1, 3));
 }
 
-// Rows that no memory can hold are refused before any mixing, and where one is kept, none is mixed.
+// Rows that no memory can hold are rejected before any mixing, and where one is kept, none is mixed.
 #[test]
 fn rows_of_the_greatest_cost(rt: HostRuntime) {
     let refused = filled(rt.alloc(), 63, 1);
@@ -204,7 +204,7 @@ fn rows_of_the_greatest_cost(rt: HostRuntime) {
     assert!(rt; keeps_the_block(rt.alloc(), 63, 18446744073709551615));
 }
 
-// An output that no key can have is refused whatever is kept, and a refusal leaves it.
+// An output that no key can have is rejected whatever is kept, and a rejection leaves it.
 #[test]
 fn refusals_do_not_depend_on_the_number(rt: HostRuntime) -> Result<(), Fail> {
     let params = Params::new(53, 8, 1)?;
@@ -217,7 +217,7 @@ fn refusals_do_not_depend_on_the_number(rt: HostRuntime) -> Result<(), Fail> {
     Ok(())
 }
 
-// Whether an output of no bytes is refused.
+// Whether an output of no bytes is rejected.
 fn is_no_output(alloc: Global, params: &Params, k: u64) -> bool {
     let refused = scrypt_keeping(alloc, b"pw", b"salt", params, k.max(1), &mut []);
     refused == Err(KdfError::InvalidOutputLen)

@@ -1,6 +1,6 @@
-//! Key derivation whose result is right or is out of memory, whichever growth is refused: with
+//! Key derivation whose result is right or is out of memory, whichever allocation fails: with
 //! ample memory each test sees its call succeed, and `tests/library/refused_memory.py` runs it with each of
-//! its requests refused in turn, and counts them.
+//! its requests failing in turn, and counts them.
 //!
 //! The keys are those of RFC 7914, section 12.
 

@@ -1,6 +1,6 @@
-//! Calls on keys whose result is right or is out of memory, whichever growth is refused: with ample
+//! Calls on keys whose result is right or is out of memory, whichever allocation fails: with ample
 //! memory each test sees its call succeed, and `tests/library/refused_memory.py` runs it with each of its
-//! requests refused in turn. A buffer that cannot grow is a sink that fails, so that a call with
+//! requests failing in turn. A buffer that cannot grow is a sink that fails, so that a call with
 //! one may fail to write too.
 
 use crate::keys::sealed::in_parts::sealed_in_parts;

@@ -215,7 +215,7 @@ pub fn read_box(alloc: Global, text: &str) -> Result<SignatureBox> {
     SignatureBox::from_string(alloc, text)
 }
 
-/// Whether this is the text that a call returned, or its fault.
+/// Whether this is the text that a call returned, or its error.
 pub fn has_text(returned: Result<String>, text: &str) -> Result<bool> {
     let returned = returned?;
     Ok(returned.as_str() == text)

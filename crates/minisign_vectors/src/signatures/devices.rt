@@ -1,4 +1,4 @@
-//! Devices that fail, and memory that is refused.
+//! Devices that fail, and failed allocations.
 
 mod failing;
 mod refused_allocations;

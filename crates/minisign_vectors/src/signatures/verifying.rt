@@ -1,4 +1,4 @@
-//! Two texts verified over data that cannot be read again, and over outputs that have a buffer; and what a refused text leaves
+//! Two texts verified over data that cannot be read again, and over outputs that have a buffer; and what a rejected text leaves
 //! of the data.
 
 use crate::signatures::calls::{COPYING, Wanted, ample, texts_come_out, verified_texts};
@@ -89,7 +89,7 @@ const UNMARKED: Wanted<'static> = Wanted {
     copied: b"",
 };
 
-// What cannot be read again is refused at the mark, before a byte is read, and only where it would
+// What cannot be read again is rejected at the mark, before a byte is read, and only where it would
 // be read again.
 #[test]
 fn data_that_cannot_be_read_again(rt: HostRuntime) {
@@ -106,7 +106,7 @@ fn data_that_cannot_be_read_again(rt: HostRuntime) {
     assert!(rt; is_read_once(alloc, legacy, false, ACCEPTED, b""));
 }
 
-// A text that is refused, the key's before the signature's, leaves all of the data.
+// A text that is rejected, the key's before the signature's, leaves all of the data.
 #[test]
 fn a_refused_text_leaves_the_data(rt: HostRuntime) {
     let alloc = rt.alloc();

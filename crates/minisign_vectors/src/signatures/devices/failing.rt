@@ -1,6 +1,6 @@
 //! Devices that fail at one of their calls and go on after it, where no request of
 //! `minisign_compare` can say it: each call of the library with each of its devices failing at each
-//! of its calls in turn, until a run meets no fault. Data that fails at a read, for `sign`,
+//! of its calls in turn, until a run meets no error. Data that fails at a read, for `sign`,
 //! `verify` and `verify_texts`, is in `tests/rows/failing_devices.py`.
 
 use crate::signatures::calls::{
@@ -280,7 +280,7 @@ fn the_data_and_the_random_bytes_of_signing_fail(rt: HostRuntime) {
     }
 }
 
-// Whether signing with a raw key is refused where random bytes fail behind so many draws.
+// Whether signing with a raw key is rejected where random bytes fail behind so many draws.
 fn is_undrawn(alloc: Global, draws: usize) -> Result<bool> {
     let secret = key_a()?;
     let mut data = SliceSource::new(b"abc");

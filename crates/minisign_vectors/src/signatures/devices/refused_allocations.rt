@@ -1,6 +1,6 @@
-//! Calls whose result is right or is out of memory, whichever growth is refused: with ample memory
+//! Calls whose result is right or is out of memory, whichever allocation fails: with ample memory
 //! each test sees its call succeed, and `tests/library/refused_memory.py` runs it with each of its requests
-//! refused in turn. A buffer that cannot grow is a sink that fails, so that a call with one may
+//! failing in turn. A buffer that cannot grow is a sink that fails, so that a call with one may
 //! fail to write too.
 
 use crate::signatures::calls::{
