@@ -1,7 +1,6 @@
 -- An installation over a directory, from call to call: what stands fast between two of them, and what that says at the end.
-use Rattle.minisign_install.proofs.Common.{◌≡◌, inl, inr, ⊎_elim, ℕ, List, [], Option, Some, None, Bool, true, false, ap, sym, subst, ◌∙◌, refl, true≢false, Verifier, HasInstalled, InstallsOnlyUpdates, IsVouched, Terms, Rose, InstallFault, AreNamed, HasMade, IsNamed, Knows, MayCall, Names, setting, HasLocked, Run, DeviceFails, Explains, Host, Setting, drawn_bytes, has_ended, next, Due, Lock, Clear, ReadRecord, Create, Copy, ReadBack, Answer, TakePermissions, Sync, CreateRecord, WriteRecord, SyncRecord, RenameRecord, SyncRecordName, Rename, SyncName, RemoveRecord, Remove, Installed, Outcome, Done, More, Number, Failed, Counts, IsCause, IsCallFault, IsLibraryFault, IsRefusal, OwnsNoMore, Stage, Work}
+use Rattle.minisign_install.proofs.Common.{◌≡◌, inl, inr, ⊎_elim, ℕ, List, [], Option, Some, None, Bool, true, false, ap, sym, subst, ◌∙◌, refl, true≢false, Verifier, HasInstalled, InstallsOnlyUpdates, Terms, Rose, InstallFault, AreNamed, HasMade, IsNamed, Knows, MayCall, Names, setting, HasLocked, Run, DeviceFails, Explains, Host, Setting, drawn_bytes, has_ended, next, Due, Lock, Clear, ReadRecord, Answer, Rename, SyncName, RemoveRecord, Remove, Installed, Outcome, Done, Failed, Counts, IsCause, IsCallFault, IsLibraryFault, IsRefusal, OwnsNoMore, Stage, Work, Went}
 use Rattle.minisign_install.specs.Order.{Refused}
-use Rattle.minisign_install.proofs.Driving.{Called}
 use Rattle.minisign_install.proofs.Orders.{Holds, from, refusing_own}
 use Rattle.minisign_install.proofs.Reasons.{Reason, why, Wants, wants}
 
@@ -17,18 +16,8 @@ ready s a (Refused e) h known going x = absurd (true≢false going)
 ready s a due h known going x = (x.0.publishes.known ∙ x.0.base.lock.stepped.known ∙ known, x.0.publishes.locked x.0.base.lock.held)
 
 module _ (accepts : Verifier) (terms : Terms) (first : Bool) where
-  -- What is so of any directory: no device failed so far, and from some point on the texts vouch for some data; or the run
-  -- will be refused for this fault, and why that may be.
+  -- What is so of any directory: no device failed so far; or the run will be refused for this fault, and why that may be.
   abbrev pub Counted : Counts → Due InstallFault → Counts → Type 0
-  Counted before (Sync n) after = (after ≡ before) × IsVouched accepts terms
-  Counted before (CreateRecord n) after = (after ≡ before) × IsVouched accepts terms
-  Counted before (WriteRecord n) after = (after ≡ before) × IsVouched accepts terms
-  Counted before (SyncRecord n) after = (after ≡ before) × IsVouched accepts terms
-  Counted before (RenameRecord n) after = (after ≡ before) × IsVouched accepts terms
-  Counted before (SyncRecordName n) after = (after ≡ before) × IsVouched accepts terms
-  Counted before (Rename n) after = (after ≡ before) × IsVouched accepts terms
-  Counted before (SyncName n) after = (after ≡ before) × IsVouched accepts terms
-  Counted before Installed after = (after ≡ before) × IsVouched accepts terms
   Counted before (RemoveRecord e) after = IsCause accepts terms first before after e
   Counted before (Remove e) after = IsCause accepts terms first before after e
   Counted before (Refused e) after = IsCause accepts terms first before after e
@@ -41,35 +30,21 @@ module _ (accepts : Verifier) (terms : Terms) (first : Bool) where
   same_cause before h h' e same cause = subst (λ c. IsCause accepts terms first before c e) (sym same) cause
 
   -- from each call that is due to the next one
-  count : {H : Type 0} (before : Counts) (names : Names) (w : Work H) (due : Due InstallFault) (o : Outcome InstallFault) (h h' : Host) → has_ended due ≡ false
-      → Explains (setting accepts terms first names) due o h h' → Knows accepts terms due w h.read → Counted before due h.faults → Counted before (next due o) h'.faults
-  count before names w Lock (Failed e) h h' going why knows same = ⊎_elim (λ busy. inl busy.0) (λ fails. device before h h' e same fails) why
-  count before names w Clear (Failed e) h h' going why knows same = device before h h' e same why
-  count before names w ReadRecord (Failed e) h h' going why knows same = ⊎_elim (λ refused. inr (inl refused.0)) (λ fails. device before h h' e same fails) why
-  count before names w (Create kept) (Failed e) h h' going why knows same = device before h h' e same why
-  count before names w (Copy kept) (Failed e) h h' going why knows same = device before h h' e same why
-  count before names w (ReadBack kept) (Failed e) h h' going why knows same = device before h h' e same why
-  count before names w (Answer kept) (Failed e) h h' going why knows same = ⊎_elim (λ refused. inr (inr (inr (inl (h.read, kept, refused))))) (λ fails. device before h h' e same fails) why
-  count before names w (TakePermissions n) Done h h' going why knows same = (why ∙ same, knows)
-  count before names w (TakePermissions n) (Failed e) h h' going why knows same = device before h h' e same why
-  count before names w (Rename n) (Failed e) h h' going (writing, rose) knows (same, vouched) = inr (inr (inl (_, writing, inr (inr (inl (refl, subst (λ f. Rose f.directory h'.faults.directory) same rose))))))
-  count before names w (SyncName n) (Failed e) h h' going (directory, rose) knows (same, vouched) = inr (inr (inr (inr (directory, subst (λ f. Rose f.directory h'.faults.directory) same rose))))
-  count before names w Lock o h h' going why knows same = why ∙ same
-  count before names w Clear o h h' going why knows same = why ∙ same
-  count before names w ReadRecord o h h' going why knows same = why ∙ same
-  count before names w (Create kept) o h h' going why knows same = why ∙ same
-  count before names w (Copy kept) o h h' going why knows same = why ∙ same
-  count before names w (ReadBack kept) o h h' going why knows same = why ∙ same
-  count before names w (Answer kept) o h h' going why knows same = why ∙ same
-  count before names w (TakePermissions n) o h h' going why knows same = why ∙ same
-  count before names w (RemoveRecord f) Done h h' going why knows cause = same_cause before h h' f why cause
-  count before names w (RemoveRecord f) o h h' going why knows cause = same_cause before h h' f why cause
-  count before names w (Remove f) Done h h' going why knows cause = same_cause before h h' f why cause
-  count before names w (Remove f) o h h' going why knows cause = same_cause before h h' f why cause
-  count before names w Installed o h h' going why knows same = absurd (true≢false going)
-  count before names w (Refused f) o h h' going why knows same = absurd (true≢false going)
-  count before names w due (Failed e) h h' going why knows (same, vouched) = device before h h' e same why
-  count before names w due o h h' going why knows (same, vouched) = (why ∙ same, vouched)
+  count : (before : Counts) (names : Names) (due : Due InstallFault) (o : Outcome InstallFault) (h h' : Host) → has_ended due ≡ false → Explains (setting accepts terms first names) due o h h'
+      → Counted before due h.faults → Counted before (next due o) h'.faults
+  count before names Lock (Failed e) h h' going why same = ⊎_elim (λ busy. inl busy.0) (λ fails. device before h h' e same fails) why
+  count before names ReadRecord (Failed e) h h' going why same = ⊎_elim (λ refused. inr (inl refused.0)) (λ fails. device before h h' e same fails) why
+  count before names (Answer kept) (Failed e) h h' going why same = ⊎_elim (λ refused. inr (inr (inr (inl (h.read, kept, refused))))) (λ fails. device before h h' e same fails) why
+  count before names (Rename n) (Failed e) h h' going (writing, rose) same = inr (inr (inl (_, writing, inr (inr (inl (refl, subst (λ f. Rose f.directory h'.faults.directory) same rose))))))
+  count before names (SyncName n) (Failed e) h h' going (directory, rose) same = inr (inr (inr (inr (directory, subst (λ f. Rose f.directory h'.faults.directory) same rose))))
+  count before names (RemoveRecord f) Done h h' going why cause = same_cause before h h' f why cause
+  count before names (RemoveRecord f) o h h' going why cause = same_cause before h h' f why cause
+  count before names (Remove f) Done h h' going why cause = same_cause before h h' f why cause
+  count before names (Remove f) o h h' going why cause = same_cause before h h' f why cause
+  count before names Installed o h h' going why same = absurd (true≢false going)
+  count before names (Refused f) o h h' going why same = absurd (true≢false going)
+  count before names due (Failed e) h h' going why same = device before h h' e same why
+  count before names due o h h' going why same = why ∙ same
 
   module _ {H : Type 0} (file_of : H → ℕ) (a : Host) where
     -- between two calls
@@ -97,12 +72,18 @@ module _ (accepts : Verifier) (terms : Terms) (first : Bool) where
     are_named : (w : Work H) → AreNamed file_of w (names_of w)
     are_named w = (so_named w.stage, so_named w.record_stage)
 
-    pub drive : (due : Due InstallFault) (o : Outcome InstallFault) (old new : Work H) (h h' : Host) → has_ended due ≡ false → Called accepts terms first file_of due o old new h h' → Driven due old h
+    -- the call that was due went, with what is held before and after it
+    abbrev Called : Due InstallFault → Outcome InstallFault → Work H → Work H → Host → Host → Type 0
+    Called due o old new h h' =
+        HasMade (next due o) new × Knows accepts terms (next due o) new h'.read
+        × ((names : Names) → AreNamed file_of new names → AreNamed file_of old names × Went (setting accepts terms first names) due o h h')
+
+    pub drive : (due : Due InstallFault) (o : Outcome InstallFault) (old new : Work H) (h h' : Host) → has_ended due ≡ false → Called due o old new h h' → Driven due old h
         → Driven (next due o) new h'
     drive due o old new h h' going (made, knows, went) (has, vouched, counted, holds) = (
       made,
       knows,
-      count a.faults (names_of new) old due o h h' going (went (names_of new) (are_named new)).1.explained vouched counted,
+      count a.faults (names_of new) due o h h' going (went (names_of new) (are_named new)).1.explained counted,
       λ known names named.
           let s = setting accepts terms first names in
           let (before, so) = went names named in

@@ -1,13 +1,11 @@
 -- What the parts of an installation bring together.
-use Rattle.minisign_install.proofs.Common.{◌≡◌, ◌≤◌, ◌<◌, ◌^◌, inl, inr, ⊎_elim, ℕ, Bool, false, List, Option, Some, None, ap, sym, subst, ◌∙◌, true, arith, Verifier, TextsVouchWith, IsAhead, InstallsLocked, MayBePublished, IsInstalled, IsKeptNumber, MayBeInstalled, MayBeRecorded, IsUpdate, NeverFalls, RecordsFirst, PublishesInOrder, Terms, Says, Numbering, Clears, HasStepped, IsFound, RecordUnchanged, Moment, Finds, Run, RunStep, Name, Place, Record, IsNumberFor, record_of, PublishesNothing, PublishesOnly, IsNumberFrom, IsPublished, RecordHolds, permissions_of}
+use Rattle.minisign_install.proofs.Common.{◌≡◌, ◌≤◌, ◌<◌, ◌^◌, inl, inr, ⊎_elim, ℕ, Bool, List, Option, Some, None, ap, sym, subst, ◌∙◌, true, arith, Verifier, InstallsLocked, MayBePublished, IsKeptNumber, MayBeInstalled, MayBeRecorded, IsUpdate, NeverFalls, RecordsFirst, PublishesInOrder, Terms, Numbering, Clears, HasStepped, IsFound, RecordUnchanged, Moment, Finds, Run, Name, Place, Record, IsNumberFor, record_of, PublishesNothing, PublishesOnly, IsNumberFrom, RecordHolds}
 use Rattle.minisign_install.proofs.Works.{lasting_keeps, HasRecorded, IsKept, IsOnly, publishes_nothing, publishes_trans, publishes_weaken}
 use Rattle.minisign_install.proofs.RecordTexts.{record_reads, same_number}
+use Rattle.std.proofs.lemmas.Option.{none-some}
 
 no_record : Record ≡ Place → ⊥
 no_record e = cc
-
-none_found : (f : ℕ) → None ≡ Some f → ⊥
-none_found f e = cc
 
 -- what is written of a number is at least any number that is not above it
 number_from : (numbering : Numbering) (k n : ℕ) → n < 2 ^ 64 → k ≤ n → IsNumberFrom numbering k (record_of numbering n)
@@ -88,7 +86,7 @@ found_first found old cleared read locked clear s =
 
 -- a number that was in the record is not above the one that was found there
 kept_least : (numbering : Numbering) (first : Bool) (found : Option (List ℕ)) (kept k : ℕ) (m : Moment) → IsFound m Record found → IsKeptNumber numbering first found kept → RecordHolds numbering k m → k ≤ kept
-kept_least numbering first None kept k m there number keeps = absurd (none_found keeps.file (sym there ∙ keeps.leads))
+kept_least numbering first None kept k m there number keeps = absurd (none-some keeps.file (sym there ∙ keeps.leads))
 kept_least numbering first (Some bytes) kept k m (f, leads, holds) number keeps =
     let (n, is, least) = keeps.numbers bytes (record { file = f; lead = inl leads; holds = λ kept. sym holds }) in
     number_least numbering first bytes kept k n is least number

@@ -1,9 +1,9 @@
 -- Whatever outcomes come, a run that makes each call as it is due installs only updates: what stands fast at each call
 -- that is due, and that each outcome leads from there to what stands fast at the next one.
-use Rattle.minisign_install.proofs.Common.{◌≡◌, ◌≢◌, ◌⊎◌, inl, inr, ⊎_elim, ℕ, List, [], ◌∷◌, ◌++◌, true, Option, ap, sym, subst, ◌∙◌, refl, append_assoc, append-nil, Consumes-nil, Consumes-trans, Consumes-whole, Consumes, concat, IsAhead, HasInstalled, InstallsLocked, MayBePublished, IsKeptNumber, MayBeRecorded, IsUpdate, PublishesInOrder, ClearsAll, HasCreated, HasLocked, HasRenamed, HasStepped, IsFound, IsStill, OwnsTheSame, OwnsLess, Perhaps, Finds, Moment, Removes, Renames, Run, Name, Place, Record, Calls, CallsNothing, CallsRemove, Event, HasRun, Host, Makes, RunHasInstalled, RunsSafely, Setting, Writes, WritesInPart, next, Due, Lock, Clear, ReadRecord, Create, Copy, ReadBack, Answer, TakePermissions, Sync, CreateRecord, WriteRecord, SyncRecord, RenameRecord, SyncRecordName, Rename, SyncName, RemoveRecord, Remove, Installed, Outcome, Done, More, Number, Failed, record_of, PublishesNothing, PublishesOnly, HasCleared, HasReached, OwnsNoMore, ⊤}
+use Rattle.minisign_install.proofs.Common.{◌≡◌, ◌≢◌, ◌⊎◌, inl, inr, ⊎_elim, ℕ, List, [], ◌∷◌, ◌++◌, true, Option, ap, sym, subst, ◌∙◌, refl, append_assoc, append-nil, Consumes-nil, Consumes-trans, Consumes-whole, Consumes, concat, IsAhead, HasInstalled, InstallsLocked, MayBePublished, IsKeptNumber, MayBeRecorded, IsUpdate, PublishesInOrder, ClearsAll, HasLocked, HasRenamed, HasStepped, IsFound, IsStill, OwnsTheSame, OwnsLess, Perhaps, Finds, Moment, Removes, Renames, Run, Name, Place, Record, Calls, CallsNothing, Event, HasRun, Host, Makes, RunHasInstalled, RunsSafely, Setting, Writes, WritesInPart, next, Due, Lock, Clear, ReadRecord, Create, Copy, ReadBack, Answer, TakePermissions, Sync, CreateRecord, WriteRecord, SyncRecord, RenameRecord, SyncRecordName, Rename, SyncName, RemoveRecord, Remove, Installed, Outcome, Done, More, Number, Failed, record_of, PublishesNothing, PublishesOnly, HasCleared, HasReached, OwnsNoMore, ⊤}
 use Rattle.minisign_install.specs.Order.{Refused}
 use Rattle.minisign_install.proofs.Installs.{found_first, installs, nothing_locked, places_more, places_nothing, places_record, places_update, record_brought}
-use Rattle.minisign_install.proofs.Works.{HasRecorded, HasStage, IsKept, IsOnly, WorksOn, appending, publishes_none, publishes_nothing, publishes_trans, cleared_step, cleared_then, clearing, created_publishes, created_keeps, created_stage, giving, kept_no_more, lasting, less_let_go, names_bring, names_keep, directory_synced, no_more_trans, own_none, perhaps, published, removed_publishes, renamed_publishes, renamed_keeps, resting_publishes, syncing, spoiling, works_none, works_trans}
+use Rattle.minisign_install.proofs.Works.{HasRecorded, HasStage, IsKept, IsOnly, WorksOn, appending, publishes_none, publishes_nothing, publishes_trans, cleared_step, cleared_then, clearing, created_publishes, created_keeps, created_stage, giving, kept_no_more, lasting, less_let_go, names_publish, names_keep, directory_synced, no_more_trans, own_none, perhaps, published, removed_publishes, renamed_publishes, renamed_keeps, resting_publishes, syncing, spoiling, works_none, works_trans}
 
 -- == What stands fast ==
 
@@ -237,11 +237,11 @@ module _ (s : Setting) (a : Host) where
   fails (RenameRecord n) e h h' (x, staged, stage, on_disk) ((step, own), ahead', read') =
       ⊎_elim (λ still. stay x (resting_publishes h.run h'.run still, kept_no_more h.run h'.run own))
       (λ done. numbered h.run h'.run n x staged stage on_disk done (λ q e of. (of, sym (ap (λ o. o q) own.owns) ∙ e))) (perhaps (Renames s.record_name Record) h.run h'.run step)
-  fails (SyncRecordName n) e h h' x ((step, own), ahead', read') = (names_bring N h.run h'.run step, kept_no_more h.run h'.run own)
+  fails (SyncRecordName n) e h h' x ((step, own), ahead', read') = (names_publish N h.run h'.run step, kept_no_more h.run h'.run own)
   fails (Rename n) e h h' (x, staged, recorded) ((step, own), ahead', read') =
       ⊎_elim (λ still. at_most (stay x (resting_publishes h.run h'.run still, kept_no_more h.run h'.run own)))
       (λ done. placed h.run h'.run n x staged recorded done (λ q e of. (of, sym (ap (λ o. o q) own.owns) ∙ e))) (perhaps (Renames s.name Place) h.run h'.run step)
-  fails (SyncName n) e h h' x ((step, own), ahead', read') = (names_bring N h.run h'.run step, kept_no_more h.run h'.run own)
+  fails (SyncName n) e h h' x ((step, own), ahead', read') = (names_publish N h.run h'.run step, kept_no_more h.run h'.run own)
   fails (RemoveRecord f) e h h' x ((step, less), ahead', read') = (removal_publishes s.record_name h.run h'.run step, record { only = λ q owned. ((less_let_go s.record_name h.run h'.run less).only q owned).1 })
   fails (Remove f) e h h' x ((step, less), ahead', read') = (removal_publishes s.name h.run h'.run step, record { only = λ q owned. ((less_let_go s.name h.run h'.run less).only q owned).1 })
   fails due e h h' x never = absurd never
@@ -340,7 +340,7 @@ module _ (s : Setting) (a : Host) where
     )
     from (SyncRecordName n) Done h h' (x, staged, (before, stage, on_disk, renamed)) ((step, own), ahead', read') =
         let names = directory_synced h.run h'.run step in (
-          go_on x (names_bring N h.run h'.run names)
+          go_on x (names_publish N h.run h'.run names)
               (λ q e differs. let mine = sym (ap (λ o. o q) own.owns) ∙ e in ((differs, ((less_let_go s.record_name before h.run renamed.own).only q mine).0), mine)),
           staged_more staged (names_keep h.run h'.run names own s.name s.file staged.judged.stage),
           subst (λ b. HasRecorded b h'.run) stage.holds (record {
@@ -358,7 +358,7 @@ module _ (s : Setting) (a : Host) where
         let staged = landed.staged in
         let (published_so, permissions) = published s.name Place w h.run h'.run landed.renamed.stepped step s.file staged.judged.stage staged.on_disk in
         let y : SoFar s a All Any h'.run =
-        go_on x (names_bring N h.run h'.run (directory_synced h.run h'.run step))
+        go_on x (names_publish N h.run h'.run (directory_synced h.run h'.run step))
         (λ q e any. let mine = sym (ap (λ o. o q) own.owns) ∙ e in (((less_let_go s.name w h.run landed.renamed.own).only q mine).0, mine)) in (
           y.base.locked,
           y.base.lock,

@@ -1,13 +1,11 @@
 -- Pieces that are written into a file, or read, one after another.
-use Rattle.minisign_install.proofs.Common.{◌≡◌, ◌+◌, ℕ, List, [], ◌∷◌, ◌++◌, true, take, drop, ap, sym, subst, ◌∙◌, refl, append_assoc, append-nil, take-append-drop, drop-drop, concat, Appends, Run, Calls, Writes, WritesInPart}
+use Rattle.minisign_install.proofs.Common.{◌≡◌, ◌+◌, ℕ, List, [], ◌∷◌, ◌++◌, true, take, drop, ap, sym, subst, ◌∙◌, append_assoc, append-nil, take-append-drop, drop-drop, concat, Run, Writes, WritesInPart}
+use Rattle.std.proofs.lemmas.List.Folds.{concat-append}
 
 module _ (file : ℕ) where
   pub writes_both : (a b : List (List ℕ)) (old mid new : Run) → Writes file a old mid → Writes file b mid new → Writes file (a ++ b) old new
   writes_both [] b old mid new same more = subst (λ r. Writes file b r new) same more
   writes_both (piece ∷ a) b old mid new (next, call, rest) more = (next, call, writes_both a b next mid new rest more)
-
-  pub writes_one : (piece : List ℕ) (old new : Run) → Calls (Appends file piece) old new → Writes file (piece ∷ []) old new
-  writes_one piece old new call = (new, call, refl)
 
   pub writes_told : (pieces : List (List ℕ)) (old new : Run) → old.known ≡ true → Writes file pieces old new → new.known ≡ true
   writes_told [] old new known same = ap (λ r. r.known) same ∙ known
@@ -16,17 +14,9 @@ module _ (file : ℕ) where
   pub part_after : (pieces : List (List ℕ)) (old mid new : Run) → Writes file pieces old mid → WritesInPart file mid new → WritesInPart file old new
   part_after pieces old mid new writes (more, then, rest, last) = (pieces ++ more, then, writes_both pieces more old mid then writes rest, last)
 
-pub concat_both : (a b : List (List ℕ)) → concat (a ++ b) ≡ concat a ++ concat b
-concat_both [] b = refl
-concat_both (piece ∷ a) b = ap (λ l. piece ++ l) (concat_both a b) ∙ sym (append_assoc piece (concat a) (concat b))
-
 pub concat_one : (a : List (List ℕ)) (piece : List ℕ) → concat (a ++ piece ∷ []) ≡ concat a ++ piece
-concat_one a piece = concat_both a (piece ∷ []) ∙ ap (λ l. concat a ++ l) (append-nil piece)
-
-read_next : (at n : ℕ) (xs front : List ℕ) → front ≡ take n (drop at xs) → drop at xs ≡ front ++ drop (at + n) xs
-read_next at n xs front same =
-    sym (take-append-drop n (drop at xs)) ∙ ap (λ l. l ++ drop n (drop at xs)) (sym same) ∙ ap (λ l. front ++ l) (drop-drop n at xs)
+concat_one a piece = concat-append a (piece ∷ []) ∙ ap (λ l. concat a ++ l) (append-nil piece)
 
 pub read_more : (at n : ℕ) (xs done front : List ℕ) → xs ≡ done ++ drop at xs → front ≡ take n (drop at xs) → xs ≡ (done ++ front) ++ drop (at + n) xs
 read_more at n xs done front so_far is =
-    so_far ∙ ap (λ l. done ++ l) (read_next at n xs front is) ∙ sym (append_assoc done front (drop (at + n) xs))
+    so_far ∙ ap (λ l. done ++ l) (sym (take-append-drop n (drop at xs)) ∙ ap (λ l. l ++ drop n (drop at xs)) (sym is) ∙ ap (λ l. front ++ l) (drop-drop n at xs)) ∙ sym (append_assoc done front (drop (at + n) xs))

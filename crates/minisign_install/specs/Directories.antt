@@ -236,11 +236,11 @@ pub record OwnsLess (name : List ℕ) (old new : Run) : Type 0 where
   pub less : new.owns name ≡ false
   pub others : (s : List ℕ) → s ≢ name → new.owns s ≡ old.owns s
 
--- the call did this, or failed and perhaps did it; nothing became or ceased to be the run's own
-abbrev pub HasTried : {A E : Type 0} → (Moment → Moment → Type 0) → (Moment → Moment → Type 0) → Run → Run → Result A E
-    → Type 0
+-- the call did this, or failed and perhaps did that; nothing became or ceased to be the run's own
+abbrev pub HasTried : {A E : Type 0} → (A → Moment → Moment → Type 0) → (Moment → Moment → Type 0) → Run → Run
+    → Result A E → Type 0
 HasTried done failed old new answer =
-    MatchResult answer (λ _. HasStepped old new done × OwnsTheSame old new)
+    MatchResult answer (λ a. HasStepped old new (done a) × OwnsTheSame old new)
     (λ _. HasStepped old new failed × OwnsTheSame old new)
 
 -- the lock was asked for, which changed nothing, and got, since no other run held it

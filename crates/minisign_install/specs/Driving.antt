@@ -63,10 +63,19 @@ HasMade (Refused e) work = ⊤ × ⊤
 HasMade due work = IsSome work.stage × IsNone work.record_stage
 
 -- What is known there of any directory: where the answers are due, the state was fed what was read back; and from there
--- on it is an update.
+-- on it is an update, as long as no call fails.
 abbrev pub Knows : {E H : Type 0} → Verifier → Terms → Due E → Work H → List ℕ → Type 0
 Knows accepts terms (Answer kept) work read = IsFedState work.state read
 Knows accepts terms (TakePermissions n) work read = IsVouched accepts terms
+Knows accepts terms (Sync n) work read = IsVouched accepts terms
+Knows accepts terms (CreateRecord n) work read = IsVouched accepts terms
+Knows accepts terms (WriteRecord n) work read = IsVouched accepts terms
+Knows accepts terms (SyncRecord n) work read = IsVouched accepts terms
+Knows accepts terms (RenameRecord n) work read = IsVouched accepts terms
+Knows accepts terms (SyncRecordName n) work read = IsVouched accepts terms
+Knows accepts terms (Rename n) work read = IsVouched accepts terms
+Knows accepts terms (SyncName n) work read = IsVouched accepts terms
+Knows accepts terms Installed work read = IsVouched accepts terms
 Knows accepts terms due work read = ⊤
 
 -- the lock is held, but for the call that locks

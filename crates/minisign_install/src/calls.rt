@@ -4,7 +4,7 @@ ghost use Rattle.std.specs.Prelude.{◌≡◌, ◌⊎◌, ◌<◌, ℕ, List, So
 ghost use Rattle.std.specs.List.{concat};
 ghost use Rattle.minisign_install.specs.Driving.{HasCalled, HasMade, calls_left, done_or, host, made_or, number_or};
 ghost use Rattle.minisign_install.specs.Faults.{Library, Named, PlaceInUse, RandomSourceFailed, ReadingFailed, Rose, WritingFailed};
-ghost use Rattle.minisign_install.specs.Directories.{HasCounted, HasCreated, HasLocked, HasStepped, Held, IsBusy, IsStill, OwnsTheSame, Known};
+ghost use Rattle.minisign_install.specs.Directories.{Clears, ClearsAll, GivesPermissions, HasCounted, HasCreated, HasLocked, HasRemoved, HasStepped, HasTried, Held, IsBusy, IsStill, OwnsTheSame, Known, Spoils};
 ghost use Rattle.minisign_install.specs.Hosts.{Calls, CallsNothing, Writes, WritesInPart};
 ghost use Rattle.minisign_install.specs.Installing.{terms_of};
 ghost use Rattle.minisign_install.specs.Names.{drawn_bytes};
@@ -85,7 +85,7 @@ pub(crate) fn make<S: Scheme, Z: RandomSource, R: Source, F: Directory>(
 {
     match due {
         Due::Lock => done_or(lock(directory)),
-        Due::Clear => writing_or(directory.clear()),
+        Due::Clear => writing_or(clear(directory)),
         Due::ReadRecord => number_or(read_number(alloc, directory, wanted.numbering, is_first)),
         Due::Create(_) => done_or(create(random, directory, &mut work.stage)),
         Due::Copy(_) => done_or(fill(alloc, directory, &made(&work.stage).handle, update)),
@@ -94,9 +94,7 @@ pub(crate) fn make<S: Scheme, Z: RandomSource, R: Source, F: Directory>(
             done_or(read_back(alloc, directory, &stage.handle, &mut work.state))
         }
         Due::Answer(kept) => number_or(judge(alloc, scheme, wanted, *kept, &mut work.state)),
-        Due::TakePermissions(_) => writing_or(directory.take_permissions(
-            &made(&work.stage).handle,
-        )),
+        Due::TakePermissions(_) => writing_or(take_permissions(directory, made(&work.stage))),
         Due::Sync(_) => writing_or(directory.sync(&made(&work.stage).handle)),
         Due::CreateRecord(_) => done_or(create(random, directory, &mut work.record_stage)),
         Due::WriteRecord(number) => writing_or(write_number(
@@ -113,9 +111,8 @@ pub(crate) fn make<S: Scheme, Z: RandomSource, R: Source, F: Directory>(
         Due::SyncRecordName(_) => writing_or(directory.sync_directory()),
         Due::Rename(_) => writing_or(directory.rename(&made(&work.stage).name, Name::Place)),
         Due::SyncName(_) => made_or(directory.sync_directory(), InstallFault::DirectoryNotSynced),
-        // Where a stage cannot be removed, it is left to a later run.
-        Due::RemoveRecord(_) => writing_or(directory.remove(&made(&work.record_stage).name)),
-        Due::Remove(_) => writing_or(directory.remove(&made(&work.stage).name)),
+        Due::RemoveRecord(_) => writing_or(remove(directory, made(&work.record_stage))),
+        Due::Remove(_) => writing_or(remove(directory, made(&work.stage))),
         Due::Installed | Due::Refused(_) => Outcome::Done,
     }
 }
@@ -182,6 +179,33 @@ pub(crate) fn lock<F: Directory>(directory: &mut F) -> Result<(), InstallFault>
         Ok(false) => Err(InstallFault::PlaceInUse),
         Err(_) => Err(NamedFault::ReadingFailed.into()),
     }
+}
+
+// Removes the stages that killed runs have left.
+fn clear<F: Directory>(directory: &mut F) -> Result<(), DeviceFault>
+    ensures cleared { Held (F.run directory.old) (HasTried (λ _. ClearsAll) Clears (F.run directory.old) (F.run directory.new) result) }
+    ensures counted { HasCounted (F.directory_faults directory.old) (F.directory_faults directory.new) result }
+{
+    directory.clear()
+}
+
+// Gives the stage the permissions of the file at the place.
+fn take_permissions<F: Directory>(
+    directory: &mut F,
+    stage: &Stage<F::Handle>,
+) -> Result<(), DeviceFault>
+    ensures given { Known (F.run directory.old) (HasTried (λ _. GivesPermissions (F.Handle.file stage.now.handle)) (Spoils (F.Handle.file stage.now.handle)) (F.run directory.old) (F.run directory.new) result) }
+    ensures counted { HasCounted (F.directory_faults directory.old) (F.directory_faults directory.new) result }
+{
+    directory.take_permissions(&stage.handle)
+}
+
+// Removes the stage's name. Where that fails, it is left to a later run.
+fn remove<F: Directory>(directory: &mut F, stage: &Stage<F::Handle>) -> Result<(), DeviceFault>
+    ensures removed { Held (F.run directory.old) (HasRemoved (drawn_bytes stage.now.name) (F.run directory.old) (F.run directory.new) result) }
+    ensures uncounted { F.directory_faults directory.new ≡ F.directory_faults directory.old }
+{
+    directory.remove(&stage.name)
 }
 
 // Draws a name, and makes the stage under it.

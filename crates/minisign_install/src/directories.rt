@@ -45,9 +45,7 @@ pub trait Directory {
     /// Locks the place against other runs, for as long as this lives: `true` where it is locked
     /// now, also by an earlier call, and `false` where another run holds the lock.
     fn lock(&mut self) -> Result<bool, DeviceFault>
-        ensures asked { Known (run self.old) (MatchResult result
-            (λ is. HasStepped (run self.old) (run self.new) (IsAsked is) × OwnsTheSame (run self.old) (run self.new))
-            (λ _. HasStepped (run self.old) (run self.new) IsStill × OwnsTheSame (run self.old) (run self.new))) }
+        ensures asked { Known (run self.old) (HasTried IsAsked IsStill (run self.old) (run self.new) result) }
         ensures held { Known (run self.old) (IfOk result (λ is. is ≡ true → (run self.new).locked ≡ true)) }
         ensures held_already { Known (run self.old) ((run self.old).locked ≡ true → IfOk result (λ is. is ≡ true)) }
         ensures counted { HasCounted (directory_faults self.old) (directory_faults self.new) result };
@@ -55,7 +53,7 @@ pub trait Directory {
     /// Removes the stages that killed runs on this place have left, as far as they can be removed.
     /// Only who holds the lock may.
     fn clear(&mut self) -> Result<(), DeviceFault>
-        ensures cleared { Held (run self.old) (HasTried ClearsAll Clears (run self.old) (run self.new) result) }
+        ensures cleared { Held (run self.old) (HasTried (λ _. ClearsAll) Clears (run self.old) (run self.new) result) }
         ensures counted { HasCounted (directory_faults self.old) (directory_faults self.new) result };
 
     /// Makes an empty file under the name, which only this user may read and write. It fails where
@@ -71,9 +69,7 @@ pub trait Directory {
     fn write(&mut self, handle: &Self::Handle, bytes: &[u8]) -> Result<usize, DeviceFault>
         ensures bound { IfOk result (λ n. n ≤ length bytes.now) }
         ensures some { IfOk result (λ n. 0 < length bytes.now → 0 < n) }
-        ensures written { Known (run self.old) (MatchResult result
-            (λ n. HasStepped (run self.old) (run self.new) (Appends (Self.Handle.file handle.now) (take n bytes.now)) × OwnsTheSame (run self.old) (run self.new))
-            (λ _. HasStepped (run self.old) (run self.new) (Spoils (Self.Handle.file handle.now)) × OwnsTheSame (run self.old) (run self.new))) }
+        ensures written { Known (run self.old) (HasTried (λ n. Appends (Self.Handle.file handle.now) (take n bytes.now)) (Spoils (Self.Handle.file handle.now)) (run self.old) (run self.new) result) }
         ensures counted { HasCounted (directory_faults self.old) (directory_faults self.new) result };
 
     /// Reads what the file holds from an offset on, up to all of `buf`, and returns how much. The
@@ -93,12 +89,12 @@ pub trait Directory {
     /// Gives the stage the permissions, and where it may the owner and the group, of the file at the
     /// place, where there is one.
     fn take_permissions(&mut self, handle: &Self::Handle) -> Result<(), DeviceFault>
-        ensures given { Known (run self.old) (HasTried (GivesPermissions (Self.Handle.file handle.now)) (Spoils (Self.Handle.file handle.now)) (run self.old) (run self.new) result) }
+        ensures given { Known (run self.old) (HasTried (λ _. GivesPermissions (Self.Handle.file handle.now)) (Spoils (Self.Handle.file handle.now)) (run self.old) (run self.new) result) }
         ensures counted { HasCounted (directory_faults self.old) (directory_faults self.new) result };
 
     /// Brings to the disk what the stage holds.
     fn sync(&mut self, handle: &Self::Handle) -> Result<(), DeviceFault>
-        ensures synced { Known (run self.old) (HasTried (Syncs (Self.Handle.file handle.now)) (Spoils (Self.Handle.file handle.now)) (run self.old) (run self.new) result) }
+        ensures synced { Known (run self.old) (HasTried (λ _. Syncs (Self.Handle.file handle.now)) (Spoils (Self.Handle.file handle.now)) (run self.old) (run self.new) result) }
         ensures counted { HasCounted (directory_faults self.old) (directory_faults self.new) result };
 
     /// Gives the file of the stage's name the lasting one, in one step. Only who holds the lock may.
@@ -110,7 +106,7 @@ pub trait Directory {
 
     /// Brings the names to the disk.
     fn sync_directory(&mut self) -> Result<(), DeviceFault>
-        ensures synced { Known (run self.old) (HasTried SyncsDirectory MaySyncDirectory (run self.old) (run self.new) result) }
+        ensures synced { Known (run self.old) (HasTried (λ _. SyncsDirectory) MaySyncDirectory (run self.old) (run self.new) result) }
         ensures counted { HasCounted (directory_faults self.old) (directory_faults self.new) result };
 
     /// Removes a stage's name. Only who holds the lock may. Where that fails, the name is left to
@@ -121,15 +117,11 @@ pub trait Directory {
 
     /// What the record holds, where there is one.
     fn read_record(&mut self, alloc: Global) -> Result<Option<Vec<u8>>, DeviceFault>
-        ensures read { Known (run self.old) (MatchResult result
-            (λ found. HasStepped (run self.old) (run self.new) (Finds Name.Record (option_map (λ v. v.items) found)) × OwnsTheSame (run self.old) (run self.new))
-            (λ _. HasStepped (run self.old) (run self.new) IsStill × OwnsTheSame (run self.old) (run self.new))) }
+        ensures read { Known (run self.old) (HasTried (λ found. Finds Name.Record (option_map (λ v. v.items) found)) IsStill (run self.old) (run self.new) result) }
         ensures counted { HasCounted (directory_faults self.old) (directory_faults self.new) result };
 
     /// Opens the file at the place, to be read by `read_at` alone; none where no file stands there.
     fn open_place(&mut self) -> Result<Option<Self::Handle>, DeviceFault>
-        ensures opened { Known (run self.old) (MatchResult result
-            (λ found. HasStepped (run self.old) (run self.new) (Leads Name.Place (option_map Self.Handle.file found)) × OwnsTheSame (run self.old) (run self.new))
-            (λ _. HasStepped (run self.old) (run self.new) IsStill × OwnsTheSame (run self.old) (run self.new))) }
+        ensures opened { Known (run self.old) (HasTried (λ found. Leads Name.Place (option_map Self.Handle.file found)) IsStill (run self.old) (run self.new) result) }
         ensures counted { HasCounted (directory_faults self.old) (directory_faults self.new) result };
 }

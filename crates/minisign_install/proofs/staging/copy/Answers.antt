@@ -1,5 +1,6 @@
 use Rattle.minisign_install.proofs.Common.{◌∙◌, sym, subst, refl, ap, [], ◌++◌, Consumes-nil, Consumes-trans, Consumes, concat}
-use Rattle.minisign_install.proofs.Pieces.{concat_both, part_after, writes_both, writes_told}
+use Rattle.std.proofs.lemmas.List.Folds.{concat-append}
+use Rattle.minisign_install.proofs.Pieces.{part_after, writes_both, writes_told}
 use Rattle.minisign_install.proofs.staging.copy.Goals as goal
 
 pub pieces-init : goal.pieces-init
@@ -16,7 +17,7 @@ pieces-preserved g c =
           let (more, written, all) = c.in-Ok-write_all.ensures.written (writes_told file pieces _ _ known writes) in (
             pieces ++ more,
             writes_both file pieces more _ _ _ writes written,
-            subst (Consumes _ _) (sym (concat_both pieces more ∙ ap (λ l. concat pieces ++ l) all)) (Consumes-trans _ _ _ _ _ given c.in-Ok.ensures.bytes),
+            subst (Consumes _ _) (sym (concat-append pieces more ∙ ap (λ l. concat pieces ++ l) all)) (Consumes-trans _ _ _ _ _ given c.in-Ok.ensures.bytes),
           ),
     )
 

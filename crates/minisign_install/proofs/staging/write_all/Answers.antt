@@ -1,5 +1,5 @@
 use Rattle.minisign_install.proofs.Common.{arith, length-drop, take-add, take, drop, refl, ap, inr, [], ◌++◌, ◌∷◌, ◌∙◌, take_rest}
-use Rattle.minisign_install.proofs.Pieces.{concat_one, part_after, writes_both, writes_one, writes_told}
+use Rattle.minisign_install.proofs.Pieces.{concat_one, part_after, writes_both, writes_told}
 use Rattle.minisign_install.proofs.staging.write_all.Goals as goal
 
 pub rest-init : goal.rest-init
@@ -20,7 +20,7 @@ rest-preserved g c =
           let written = rw take_rest at (c.in-Ok.ensures.written (writes_told file pieces _ _ known writes)) in
           let piece = take n (drop at xs) in (
             pieces ++ piece ∷ [],
-            writes_both file pieces (piece ∷ []) _ _ _ writes (writes_one file piece _ _ written),
+            writes_both file pieces (piece ∷ []) _ _ _ writes (_, written, refl),
             rw (take-add at n xs) (concat_one pieces piece ∙ ap (λ l. l ++ piece) all),
           ),
     )
