@@ -26,12 +26,12 @@ pub use Rattle.minisign_install.specs.Directories.{Appends, Clears, ClearsAll, C
 pub use Rattle.minisign_install.specs.HostNumbers.{install_number}
 pub use Rattle.minisign_install.specs.Hosted.{GivesUpdate, IsAsking, IsDue, IsJudged, failure, numbering_of, read_outcome, wanted_by}
 pub use Rattle.minisign_install.specs.Hosting.{HasBegun, HasObeyed, Obeys, TellsAnswers, TellsFailure, TellsOutcome, TellsRecord, TellsRefusal, Told, by_field}
-pub use Rattle.minisign_install.specs.Hosts.{Blames, Calls, CallsNothing, DeviceFails, Event, Explains, HasRun, Host, IsExplained, CallsRemove, Makes, RunHasInstalled, RunIsRefused, RunsSafely, Setting, Writes, WritesInPart}
-pub use Rattle.minisign_install.specs.Installing.{HasInstalled, InstallsLocked, InstallsOnlyUpdates, IsAhead, MayBePublished, IsInstalled, IsKeptNumber, MayBeInstalled, MayBeRecorded, IsUpdate, IsVouched, NeverFalls, RecordsFirst, PublishesInOrder, Terms, TextsVouchWith, Verifier, terms_of}
+pub use Rattle.minisign_install.specs.Hosts.{Blames, Calls, CallsNothing, DeviceFails, Event, Explains, HasRun, Host, IsExplained, CallsRemove, Makes, Setting, Writes, WritesInPart}
+pub use Rattle.minisign_install.specs.Installing.{HasInstalled, InstallsLocked, InstallsOnlyUpdates, IsAhead, MayBePublished, IsKeptNumber, MayBeInstalled, MayBeRecorded, IsUpdate, IsVouched, NeverFalls, RecordsFirst, PublishesInOrder, Terms, TextsVouchWith, Verifier, terms_of}
 pub use Rattle.minisign_install.specs.Names.{drawn_bytes}
 pub use Rattle.minisign_install.specs.Order.{Answer, Clear, Copy, Create, CreateRecord, Done, Due, Failed, Installed, Lock, More, Number, Outcome, ReadBack, ReadRecord, Remove, RemoveRecord, Rename, RenameRecord, Sync, SyncName, SyncRecord, SyncRecordName, TakePermissions, WriteRecord, has_ended, next}
 pub use Rattle.minisign_install.specs.RecordTexts.{HasNoNumber, IsFieldText, IsNumberFor, record_of, record_text}
-pub use Rattle.minisign_install.specs.Refusals.{CanBeInstalled, CannotBeInstalled, Counts, HasFailed, InstallsExactly, IsCallFault, IsCause, IsCommentRefused, IsDataRefusal, IsDataRefused, IsLibraryFault, IsLockedRefusal, IsReadingFault, IsRecordFault, IsRecordRefused, IsRefusal, OnlyLocked, counts}
+pub use Rattle.minisign_install.specs.Refusals.{CanBeInstalled, CannotBeInstalled, Counts, HasFailed, HasPublishedUpdate, InstallsExactly, IsCallFault, IsCause, IsCommentRefused, IsDataRefusal, IsDataRefused, IsLibraryFault, IsLockedRefusal, IsReadingFault, IsRecordFault, IsRecordRefused, IsRefusal, OnlyLocked, counts}
 pub use Rattle.minisign_install.specs.Runs.{Publishes, PublishesNothing, PublishesOnly, HasCleared, HasReached, IsNumberFrom, IsPublished, RecordHolds, RecordHoldsAt, OwnsNoMore, permissions_of}
 pub use Rattle.minisign_install.specs.declared.calls.Stage.{Stage}
 pub use Rattle.minisign_install.specs.declared.calls.Work.{Work}

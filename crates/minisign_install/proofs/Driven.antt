@@ -1,8 +1,8 @@
 -- An installation over a directory, from call to call: what stands fast between two of them, and what that says at the end.
-use Rattle.minisign_install.proofs.Common.{◌≡◌, inl, inr, ⊎_elim, ℕ, List, [], Option, Some, None, Bool, true, false, ap, sym, subst, ◌∙◌, refl, true≢false, Verifier, HasInstalled, InstallsOnlyUpdates, Terms, Rose, InstallFault, AreNamed, HasMade, IsNamed, Knows, MayCall, Names, setting, HasLocked, Run, DeviceFails, Explains, Host, Setting, drawn_bytes, has_ended, next, Due, Lock, Clear, ReadRecord, Answer, Rename, SyncName, RemoveRecord, Remove, Installed, Outcome, Done, Failed, Counts, IsCause, IsCallFault, IsLibraryFault, IsRefusal, OwnsNoMore, Stage, Work, Went}
+use Rattle.minisign_install.proofs.Common.{◌≡◌, inl, inr, ⊎_elim, ℕ, List, [], Option, Some, None, Bool, true, false, ap, sym, subst, ◌∙◌, refl, true≢false, Verifier, HasInstalled, InstallsOnlyUpdates, Terms, Rose, InstallFault, AreNamed, HasMade, IsNamed, Knows, MayCall, Names, setting, HasLocked, Run, DeviceFails, Explains, Host, Setting, drawn_bytes, has_ended, next, Due, Lock, Clear, ReadRecord, Answer, Rename, SyncName, RemoveRecord, Remove, Installed, Outcome, Done, Failed, Counts, IsCause, IsCallFault, IsLibraryFault, IsRefusal, OwnsNoMore, Stage, Work, Went, Library, Named, OutOfMemory, OnlyLocked, ⊤}
 use Rattle.minisign_install.specs.Order.{Refused}
 use Rattle.minisign_install.proofs.Orders.{Holds, from, refusing_own}
-use Rattle.minisign_install.proofs.Reasons.{Reason, why, Wants, wants}
+use Rattle.minisign_install.proofs.Reasons.{Reason, why}
 
 -- a call that is due can be made: the run is still known, and the lock is held
 ready : (s : Setting) (a : Host) (due : Due InstallFault) (h : Host) → a.run.known ≡ true → has_ended due ≡ false → Holds s a due h → (h.run.known ≡ true) × MayCall due h.run
@@ -51,7 +51,7 @@ module _ (accepts : Verifier) (terms : Terms) (first : Bool) where
     abbrev pub Driven : Due InstallFault → Work H → Host → Type 0
     Driven due w h =
         HasMade due w × Knows accepts terms due w h.read × Counted a.faults due h.faults
-        × (a.run.known ≡ true → (names : Names) → AreNamed file_of w names → Holds (setting accepts terms first names) a due h × Reason (setting accepts terms first names) a due h × Wants a due h)
+        × (a.run.known ≡ true → (names : Names) → AreNamed file_of w names → Holds (setting accepts terms first names) a due h × Reason ⊤ (setting accepts terms first names) a due h)
 
     name_of : Option (Stage H) → List ℕ
     name_of None = []
@@ -87,14 +87,14 @@ module _ (accepts : Verifier) (terms : Terms) (first : Bool) where
       λ known names named.
           let s = setting accepts terms first names in
           let (before, so) = went names named in
-          let (held, reason, wanted) = holds known names before in
+          let (held, reason) = holds known names before in
           let (is_known, may) = ready s a due h known going held in
           let makes = so.made is_known may in
-          (from s a known due o h h' held makes, why s a known due o h h' held makes so.explained reason, wants s a due o h h' held makes so.memory wanted),
+          (from s a known due o h h' held makes, why ⊤ s a known due o h h' held makes so.explained (λ _. so.memory) reason),
     )
 
     pub begin : (w : Work H) → HasMade {E = InstallFault} Lock w → Driven Lock w a
-    begin w made = (made, tt, refl, λ known names named. ((refl, refl), refl, tt))
+    begin w made = (made, tt, refl, λ known names named. ((refl, refl), refl))
 
     -- == At the end ==
 
@@ -105,10 +105,10 @@ module _ (accepts : Verifier) (terms : Terms) (first : Bool) where
         (inr (locked, lock, so), (locked, lock, installs), own)
 
     pub refused_runs : (e : InstallFault) (w : Work H) (h : Host) → Driven (Refused e) w h → a.run.known ≡ true
-        → InstallsOnlyUpdates accepts terms first a.run h.run × IsRefusal accepts terms first a.ahead a.faults h.faults a.run h.run e × OwnsNoMore a.run h.run × Wants a (Refused e) h
+        → InstallsOnlyUpdates accepts terms first a.run h.run × IsRefusal accepts terms first a.ahead a.faults h.faults a.run h.run e × OwnsNoMore a.run h.run × (e ≡ Library (Named OutOfMemory) → OnlyLocked a.run h.run)
     refused_runs e w h (has, knows, counted, holds) known =
-        let (refusing, reason, wanted) = holds known (names_of w) (are_named w) in
-        (⊎_elim (λ still. inl still.0) (λ locked. inr (locked.0, locked.1, locked.2)) refusing, reason, refusing_own (setting accepts terms first (names_of w)) a h refusing, wanted)
+        let (refusing, (reason, spares)) = holds known (names_of w) (are_named w) in
+        (⊎_elim (λ still. inl still.0) (λ locked. inr (locked.0, locked.1, locked.2)) refusing, reason, refusing_own (setting accepts terms first (names_of w)) a h refusing, spares tt)
 
 -- what is due where the run has not ended
 pub goes_on : (due : Due InstallFault) → ¬ (due ≡ Installed) → ((e : InstallFault) → ¬ (due ≡ Refused e)) → has_ended due ≡ false

@@ -48,14 +48,6 @@ unjudged_before : (d : Due ℕ) → is_unjudged (next d Done) ≡ true → is_un
 unjudged_before Lock e = refl
 unjudged_before d e = e
 
-unread_more : (d : Due ℕ) → is_unread (next d More) ≡ true → is_unread d ≡ true
-unread_more Lock e = refl
-unread_more d e = e
-
-unjudged_more : (d : Due ℕ) → is_unjudged (next d More) ≡ true → is_unjudged d ≡ true
-unjudged_more Lock e = refl
-unjudged_more d e = e
-
 -- nothing is read back by a call that is none of reading back
 read_stays : (s : Setting) (i : Installation) (d : Due ℕ) (h h' : Host) → IsDue i d → ((k : ℕ) → ¬ (IsDue i (ReadBack k))) → Makes s d Done h h' → is_unjudged (next d Done) ≡ true → h'.read ≡ h.read
 read_stays s i Lock h h' due other (call, ahead, read) e = read
@@ -205,7 +197,7 @@ module _ (s : Setting) (i i' : Installation) (h h' : Host) where
 
   obeys : (d : Due ℕ) → KnownAt s d i h → Obeys s i i' h h' → MakesCall s d i' h h'
   obeys d x (inl done) = tells s d i i' h h' x Done done (unread_before d) (unjudged_before d) (λ made e. read_stays s i d h h' x.due done.other made e)
-  obeys d x (inr (inl more)) = tells s d i i' h h' x More more (unread_more d) (unjudged_more d) (λ made e. more_stays s i d h h' x.due more.other made)
+  obeys d x (inr (inl more)) = tells s d i i' h h' x More more (λ e. e) (λ e. e) (λ made e. more_stays s i d h h' x.due more.other made)
   obeys d x (inr (inr (inl t))) = tells_failure s d i i' h h' x t
   obeys d x (inr (inr (inr (inl t)))) = at_due d ReadRecord x t.read.0 (tells_record t)
   obeys d x (inr (inr (inr (inr (inl t))))) =

@@ -1,6 +1,6 @@
 -- Whatever outcomes come, a run that makes each call as it is due installs only updates: what stands fast at each call
 -- that is due, and that each outcome leads from there to what stands fast at the next one.
-use Rattle.minisign_install.proofs.Common.{◌≡◌, ◌≢◌, ◌⊎◌, inl, inr, ⊎_elim, ℕ, List, [], ◌∷◌, ◌++◌, true, Option, ap, sym, subst, ◌∙◌, refl, append_assoc, append-nil, Consumes-nil, Consumes-trans, Consumes-whole, Consumes, concat, IsAhead, HasInstalled, InstallsLocked, MayBePublished, IsKeptNumber, MayBeRecorded, IsUpdate, PublishesInOrder, ClearsAll, HasLocked, HasRenamed, HasStepped, IsFound, IsStill, OwnsTheSame, OwnsLess, Perhaps, Finds, Moment, Removes, Renames, Run, Name, Place, Record, Calls, CallsNothing, Event, HasRun, Host, Makes, RunHasInstalled, RunsSafely, Setting, Writes, WritesInPart, next, Due, Lock, Clear, ReadRecord, Create, Copy, ReadBack, Answer, TakePermissions, Sync, CreateRecord, WriteRecord, SyncRecord, RenameRecord, SyncRecordName, Rename, SyncName, RemoveRecord, Remove, Installed, Outcome, Done, More, Number, Failed, record_of, PublishesNothing, PublishesOnly, HasCleared, HasReached, OwnsNoMore, ⊤}
+use Rattle.minisign_install.proofs.Common.{◌≡◌, ◌≢◌, ◌⊎◌, inl, inr, ⊎_elim, ℕ, List, [], ◌∷◌, ◌++◌, true, Option, ap, sym, subst, ◌∙◌, refl, append_assoc, append-nil, Consumes-nil, Consumes-trans, Consumes-whole, Consumes, concat, IsAhead, HasInstalled, InstallsLocked, MayBePublished, IsKeptNumber, MayBeRecorded, IsUpdate, PublishesInOrder, ClearsAll, HasLocked, HasRenamed, HasStepped, IsFound, IsStill, OwnsTheSame, OwnsLess, Perhaps, Finds, Moment, Removes, Renames, Run, Name, Place, Record, Calls, CallsNothing, Event, HasRun, Host, Makes, Setting, Writes, WritesInPart, next, Due, Lock, Clear, ReadRecord, Create, Copy, ReadBack, Answer, TakePermissions, Sync, CreateRecord, WriteRecord, SyncRecord, RenameRecord, SyncRecordName, Rename, SyncName, RemoveRecord, Remove, Installed, Outcome, Done, More, Number, Failed, record_of, PublishesNothing, PublishesOnly, HasCleared, HasReached, OwnsNoMore, ⊤, InstallsOnlyUpdates}
 use Rattle.minisign_install.specs.Order.{Refused}
 use Rattle.minisign_install.proofs.Installs.{found_first, installs, nothing_locked, places_more, places_nothing, places_record, places_update, record_brought}
 use Rattle.minisign_install.proofs.Works.{HasRecorded, HasStage, IsKept, IsOnly, WorksOn, appending, publishes_none, publishes_nothing, publishes_trans, cleared_step, cleared_then, clearing, created_publishes, created_keeps, created_stage, giving, kept_no_more, lasting, less_let_go, names_publish, names_keep, directory_synced, no_more_trans, own_none, perhaps, published, removed_publishes, renamed_publishes, renamed_keeps, resting_publishes, syncing, spoiling, works_none, works_trans}
@@ -160,14 +160,14 @@ module _ (s : Setting) (a : Host) where
   abbrev pub Keeps : (List ℕ → Type 0) → (List ℕ → Type 0) → Run → Run → Type 0
   Keeps Of Then now then = (q : List ℕ) → then.owns q ≡ true → Then q → Of q × (now.owns q ≡ true)
 
+  abbrev pub extend : {P P' : ℕ → Name → List ℕ → Type 0} {Of Then : List ℕ → Type 0} {R : Name → List ℕ → Type 0} {now then : Run} → (x : SoFar s a P Of now) → PublishesOnly R now then
+      → PublishesOnly (P' x.base.kept) x.base.locked then → PublishesInOrder s.accepts s.terms x.base.kept x.base.locked then → Keeps Of Then now then → SoFar s a P' Then then
+  extend x more publishes places own =
+      record { base = x.base; cleared = reached_more x.cleared more; publishes = publishes; places = places; own = λ q e of. let (before, mine) = own q e of in x.own q mine before }
+
   abbrev pub go_on : {P : ℕ → Name → List ℕ → Type 0} {Of Then : List ℕ → Type 0} {now then : Run} → SoFar s a P Of now → PublishesNothing now then → Keeps Of Then now then → SoFar s a P Then then
-  go_on {P = P} {now = now} {then = then} x none own = record {
-    base = x.base;
-    cleared = reached_more x.cleared none;
-    publishes = publishes_trans (P x.base.kept) x.base.locked now then x.publishes (publishes_nothing (P x.base.kept) now then none);
-    places = places_more s.accepts s.terms x.base.kept x.base.locked now then none x.places;
-    own = λ q e of. let (before, mine) = own q e of in x.own q mine before;
-  }
+  go_on {P = P} {now = now} {then = then} x none own =
+      extend x none (publishes_trans (P x.base.kept) x.base.locked now then x.publishes (publishes_nothing (P x.base.kept) now then none)) (places_more s.accepts s.terms x.base.kept x.base.locked now then none x.places) own
 
   abbrev pub stay : {P : ℕ → Name → List ℕ → Type 0} {Of : List ℕ → Type 0} {now then : Run} → SoFar s a P Of now → IsQuiet now then → SoFar s a P Of then
   stay x (none, own) = go_on x none (λ q e of. (of, own.only q e))
@@ -186,13 +186,7 @@ module _ (s : Setting) (a : Host) where
       record_brought s.accepts s.terms x.base.kept (now.now.holds s.file) n now then staged.judged.update
       (subst (λ b. PublishesOnly (IsOnly Record b) now then) stage.holds (renamed_publishes s.record_name Record s.record_file now then stage.stage on_disk renamed)) in
       let all = publishes_trans (Q x.base.kept) x.base.locked now then x.publishes brought in
-      record {
-        base = x.base;
-        cleared = reached_more x.cleared brought;
-        publishes = all;
-        places = places_record s.accepts s.terms x.base.kept x.base.locked then all;
-        own = λ q e of. let (before, mine) = own q e of in x.own q mine before;
-      }
+      extend x brought all (places_record s.accepts s.terms x.base.kept x.base.locked then all) own
 
   -- the stage gets the place's name
   abbrev pub placed : {Of Then : List ℕ → Type 0} (now then : Run) (n : ℕ) → (x : SoFar s a Q Of now) → Staged s a now x.base.kept n → HasRecorded (record_of s.terms.numbering n) now → HasStepped now then (Renames s.name Place)
@@ -201,7 +195,7 @@ module _ (s : Setting) (a : Host) where
       let stage = staged.judged.stage in
       let brought = renamed_publishes s.name Place s.file now then stage staged.on_disk renamed in
       let places = places_update s.accepts s.terms x.base.kept n (now.now.holds s.file) x.base.locked now then stage.locked x.publishes recorded staged.judged.update brought in
-      record { base = x.base; cleared = reached_more x.cleared brought; publishes = places.publishes; places = places; own = λ q e of. let (before, mine) = own q e of in x.own q mine before }
+      extend x brought places.publishes places own
 
   judged_more : {now then : Run} {kept n : ℕ} → Judged s a now kept n → HasStage then s.name s.file → then.now.holds s.file ≡ now.now.holds s.file → Judged s a then kept n
   judged_more {kept = kept} {n = n} x stage holds = record { stage = stage; given = subst (IsAhead a.ahead) (sym holds) x.given; update = subst (λ b. IsUpdate s.accepts s.terms kept b n) (sym holds) x.update }
@@ -214,6 +208,10 @@ module _ (s : Setting) (a : Host) where
 
   stopped : {P : ℕ → Name → List ℕ → Type 0} (h : Host) → SoFar s a P Any h.run → Refusing s a h
   stopped h x = inr (x.base.locked, x.base.lock, locked_so x, record { only = λ q e. x.own q e tt })
+
+  -- nothing was published since the lock was got
+  unread : (l now : Run) → HasLocked a.run l → PublishesNothing l now → InstallsLocked s.accepts s.terms s.first l now
+  unread l now lock none = nothing_locked s.accepts s.terms s.first l now lock.held none
 
   -- A call that fails publishes nothing; or it may have given a stage its lasting name.
   abbrev pub Fails : {E : Type 0} → Due E → Run → Run → Type 0
@@ -252,7 +250,7 @@ module _ (s : Setting) (a : Host) where
   removed : (h h' : Host) → SoFar s a All (But s) h.run → PublishesNothing h.run h'.run → OwnsLess s.name h.run h'.run → Refusing s a h'
   removed h h' x none less = stopped h' (go_on {Then = Any} x none (λ q e any. (less_let_go s.name h.run h'.run less).only q e))
 
-  so_safe : {P : ℕ → Name → List ℕ → Type 0} {Of : List ℕ → Type 0} {now : Run} → SoFar s a P Of now → RunsSafely s a.run now
+  so_safe : {P : ℕ → Name → List ℕ → Type 0} {Of : List ℕ → Type 0} {now : Run} → SoFar s a P Of now → (now ≡ a.run) ⊎ InstallsOnlyUpdates s.accepts s.terms s.first a.run now
   so_safe x = inr (inr (x.base.locked, x.base.lock, locked_so x))
 
   -- == From each call that is due to the next one ==
@@ -264,7 +262,7 @@ module _ (s : Setting) (a : Host) where
     from Clear Done h h' (lock, mine, ahead) (clear, ahead', rest) = (h.run, lock, mine, clear, ahead' ∙ ahead)
     from Clear (Failed e) h h' (lock, mine, ahead) made =
         let (none, own) = fails Clear e h h' (lock, mine, ahead) made in
-        inr (h.run, lock, nothing_locked s.accepts s.terms s.first h.run h'.run lock.held none, no_more_trans a.run h.run h'.run (kept_no_more a.run h.run mine) own)
+        inr (h.run, lock, unread h.run h'.run lock none, no_more_trans a.run h.run h'.run (kept_no_more a.run h.run mine) own)
     from ReadRecord (Number n) h h' (l, lock, mine, clear, ahead) ((found, (reads, own), number), ahead', rest) =
         let still = resting_publishes h.run h'.run (reads_still found h.run h'.run reads) in
         let none = publishes_trans N l h.run h'.run (clearing l h.run (cleared_step l h.run clear.0)) still in (
@@ -283,7 +281,7 @@ module _ (s : Setting) (a : Host) where
         inr (
           l,
           lock,
-          nothing_locked s.accepts s.terms s.first l h'.run lock.held (publishes_trans N l h.run h'.run (clearing l h.run (cleared_step l h.run clear.0)) none),
+          unread l h'.run lock (publishes_trans N l h.run h'.run (clearing l h.run (cleared_step l h.run clear.0)) none),
           no_more_trans a.run l h'.run (kept_no_more a.run l mine) (no_more_trans l h.run h'.run (kept_no_more l h.run clear.1) own),
         )
     from (Create kept) Done h h' (x, is, ahead) (made, ahead', rest) = (
@@ -369,17 +367,15 @@ module _ (s : Setting) (a : Host) where
             there = y.base.there;
             number = y.base.number;
             cleared = y.cleared;
-            installed = record {
-              bytes = w.now.holds s.file;
-              n = n;
-              read = staged.judged.given;
-              update = staged.judged.update;
-              earlier = landed.recorded.earlier;
-              recorded = w.steps;
-              number_first = landed.recorded.published;
-              published = published_so;
-              permissions = permissions ∙ staged.permissions;
-            };
+            bytes = w.now.holds s.file;
+            n = n;
+            read = staged.judged.given;
+            update = staged.judged.update;
+            earlier = landed.recorded.earlier;
+            recorded = w.steps;
+            number_first = landed.recorded.published;
+            published = published_so;
+            permissions = permissions ∙ staged.permissions;
           },
           record { only = λ q e. y.own q e tt },
         )
@@ -400,10 +396,10 @@ module _ (s : Setting) (a : Host) where
 
     -- == What that says of a run that is cut off there ==
 
-    pub safe : (due : Due E) (h : Host) → Holds s a due h → RunsSafely s a.run h.run
+    pub safe : (due : Due E) (h : Host) → Holds s a due h → (h.run ≡ a.run) ⊎ InstallsOnlyUpdates s.accepts s.terms s.first a.run h.run
     safe Lock h (run, ahead) = inl run
-    safe Clear h (lock, mine, ahead) = inr (inr (h.run, lock, nothing_locked s.accepts s.terms s.first h.run h.run lock.held (publishes_none N h.run)))
-    safe ReadRecord h (l, lock, mine, clear, ahead) = inr (inr (l, lock, nothing_locked s.accepts s.terms s.first l h.run lock.held (clearing l h.run (cleared_step l h.run clear.0))))
+    safe Clear h (lock, mine, ahead) = inr (inr (h.run, lock, unread h.run h.run lock (publishes_none N h.run)))
+    safe ReadRecord h (l, lock, mine, clear, ahead) = inr (inr (l, lock, unread l h.run lock (clearing l h.run (cleared_step l h.run clear.0))))
     safe (RemoveRecord e) h x = so_safe x
     safe (Remove e) h x = so_safe x
     safe Installed h (locked, lock, so, has, own) = inr (inr (locked, lock, so))
@@ -411,23 +407,12 @@ module _ (s : Setting) (a : Host) where
     safe (Refused e) h (inr (locked, lock, so, own)) = inr (inr (locked, lock, so))
     safe due h x = so_safe x.0
 
--- == The laws ==
-
-pub runs_safely : {E : Type 0} (s : Setting) (h h' : Host) (events : List (Event E)) (due : Due E) → h.run.known ≡ true → HasRun s Lock h events due h' → RunsSafely s h.run h'.run
-runs_safely s h h' events due known run = safe s h known due h' (runs s h known Lock h events due h' (refl, refl) run)
-
-pub installed_at_last : {E : Type 0} (s : Setting) (h h' : Host) (events : List (Event E)) → h.run.known ≡ true → HasRun s Lock h events Installed h' → RunHasInstalled s h.ahead h.run h'.run
-installed_at_last s h h' events known run =
-    let (locked, lock, so, has, own) = runs s h known Lock h events Installed h' (refl, refl) run in
-    (locked, lock, has)
+-- == At the end ==
 
 pub refusing_own : (s : Setting) (a h : Host) → Refusing s a h → OwnsNoMore a.run h.run
 refusing_own s a h (inl (still, own)) = kept_no_more a.run h.run own
 refusing_own s a h (inr (locked, lock, so, own)) = own
 
-pub nothing_left : {E : Type 0} (s : Setting) (h h' : Host) (events : List (Event E)) (due : Due E) → h.run.known ≡ true → HasRun s Lock h events due h'
-    → (due ≡ Installed) ⊎ ((e : E) × (due ≡ Refused e)) → OwnsNoMore h.run h'.run
-nothing_left s h h' events due known run (inl is) =
-    let (locked, lock, so, has, own) = subst (λ d. Holds s h d h') is (runs s h known Lock h events due h' (refl, refl) run) in own
-nothing_left s h h' events due known run (inr (e, is)) =
-    refusing_own s h h' (subst (λ d. Holds s h d h') is (runs s h known Lock h events due h' (refl, refl) run))
+pub ended_own : {E : Type 0} (s : Setting) (a h : Host) (due : Due E) → Holds s a due h → (due ≡ Installed) ⊎ ((e : E) × (due ≡ Refused e)) → OwnsNoMore a.run h.run
+ended_own s a h due x (inl is) = let (locked, lock, so, has, own) = subst (λ d. Holds s a d h) is x in own
+ended_own s a h due x (inr (e, is)) = refusing_own s a h (subst (λ d. Holds s a d h) is x)

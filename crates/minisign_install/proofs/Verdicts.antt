@@ -98,5 +98,5 @@ module _ (accepts : Verifier) (terms : Terms) (first : Bool) where
       → IfErr r (λ e. old.known ≡ true → IsRefusal accepts terms first ahead before after old new e) → old.known ≡ true → InstallsExactly accepts terms first ahead before after old new r
   exactly ahead before after old new A (Ok a) installed refused = λ known memory no_new_fault.
       let (locked, got, is) = installed known in
-      inr (locked, got, (is.found, is.there, (is.installed.bytes, is.installed.read, (is.kept, is.installed.n, is.number, is.installed.update))))
+      inr (locked, got, (is.found, is.there, (is.bytes, is.read, (is.kept, is.n, is.number, is.update))))
   exactly ahead before after old new A (Err e) installed refused = λ known. refused_exactly A ahead before after old new e (refused known)

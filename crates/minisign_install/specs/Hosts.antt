@@ -4,10 +4,10 @@ use Rattle.std.specs.Prelude.{◌≡◌, ◌⊎◌, ℕ, List, [], ◌∷◌, �
 use Rattle.std.specs.Io.KnownBytes.{Consumes, IsAtEnd}
 use Rattle.std.specs.List.{concat}
 use Rattle.minisign_install.specs.Faults.{Rose, Named, WritingFailed, InstallFault, DirectoryNotSynced, Library, PlaceInUse}
-use Rattle.minisign_install.specs.Installing.{Verifier, HasInstalled, InstallsOnlyUpdates, IsKeptNumber, IsUpdate, Terms}
+use Rattle.minisign_install.specs.Installing.{Verifier, IsKeptNumber, IsUpdate, Terms}
 use Rattle.minisign_install.specs.Directories.{Appends, Clears, ClearsAll, GivesPermissions, HasCreated, HasLocked, HasRenamed, HasStepped, IsBusy, IsStill, MaySyncDirectory, OwnsTheSame, Moment, OwnsLess, Perhaps, Finds, Removes, Renames, Run, Syncs, SyncsDirectory, Spoils, Known, Place, Record}
 use Rattle.minisign_install.specs.Order.{next, Due, Lock, Clear, ReadRecord, Create, Copy, ReadBack, Answer, TakePermissions, Sync, CreateRecord, WriteRecord, SyncRecord, RenameRecord, SyncRecordName, Rename, SyncName, RemoveRecord, Remove, Outcome, Done, More, Number, Failed}
-use Rattle.minisign_install.specs.Refusals.{Counts, IsDataRefused, IsCallFault, IsLibraryFault, IsReadRefusal, IsRefusal}
+use Rattle.minisign_install.specs.Refusals.{Counts, IsDataRefused, IsCallFault, IsLibraryFault, IsReadRefusal}
 use Rattle.minisign_install.specs.RecordTexts.{record_of}
 
 -- what a run is about: what the signature scheme accepts, which update is wanted, whether it is the first one, and the
@@ -140,18 +140,3 @@ abbrev pub IsExplained : Setting → Due InstallFault → Host → List (Event I
 IsExplained s due h [] = ⊤
 IsExplained s due h (event ∷ more) =
     Explains s due event.outcome h event.host × IsExplained s (next due event.outcome) event.host more
-
--- == What a run comes to ==
-
--- no call was made yet, or only updates are installed
-abbrev pub RunsSafely : Setting → Run → Run → Type 0
-RunsSafely s old new = (new ≡ old) ⊎ InstallsOnlyUpdates s.accepts s.terms s.first old new
-
--- the update that was ahead is installed, on the disk and for good, and its number with it
-abbrev pub RunHasInstalled : Setting → Option (List ℕ) → Run → Run → Type 0
-RunHasInstalled s ahead old new =
-    (locked : Run) × HasLocked old locked × HasInstalled s.accepts s.terms s.first ahead locked new
-
--- the update was refused for this fault, which is the first reason
-abbrev pub RunIsRefused : Setting → Host → Host → InstallFault → Type 0
-RunIsRefused s h h' e = IsRefusal s.accepts s.terms s.first h.ahead h.faults h'.faults h.run h'.run e

@@ -103,23 +103,10 @@ abbrev pub InstallsOnlyUpdates : Verifier → Terms → Bool → Run → Run →
 InstallsOnlyUpdates accepts terms first old new =
     HasStepped old new IsStill ⊎ ((locked : Run) × HasLocked old locked × InstallsLocked accepts terms first locked new)
 
--- An update stands at the place, through any crash: the data that was ahead, in a file that was given the permissions
--- of the one before. Its number was brought to the record, to stay there through any crash, before the update got its
+-- An update stands at the place, through any crash: the data that was ahead, in a file that was given the permissions of
+-- the one before. It is not older than the number that the record held when this run got the lock, and what killed runs
+-- had left was removed. Its number was brought to the record, to stay there through any crash, before the update got its
 -- name.
-pub record IsInstalled (accepts : Verifier) (terms : Terms) (kept : ℕ) (ahead : Option (List ℕ))
-    (steps : List RunStep) : Type 0 where
-  pub bytes : List ℕ
-  pub n : ℕ
-  pub read : IsAhead ahead bytes
-  pub update : IsUpdate accepts terms kept bytes n
-  pub earlier : List RunStep
-  pub recorded : List RunStep
-  pub number_first : IsPublished Record (record_of terms.numbering n) earlier recorded
-  pub published : IsPublished Place bytes recorded steps
-  pub permissions : permissions_of published ≡ true
-
--- it is not older than the number that the record held when this run got the lock, and what killed runs had left was
--- removed
 pub record HasInstalled (accepts : Verifier) (terms : Terms) (first : Bool) (ahead : Option (List ℕ))
     (old new : Run) : Type 0 where
   pub found : Option (List ℕ)
@@ -127,7 +114,15 @@ pub record HasInstalled (accepts : Verifier) (terms : Terms) (first : Bool) (ahe
   pub there : IsFound old.now Record found
   pub number : IsKeptNumber terms.numbering first found kept
   pub cleared : HasCleared old new
-  pub installed : IsInstalled accepts terms kept ahead new.steps
+  pub bytes : List ℕ
+  pub n : ℕ
+  pub read : IsAhead ahead bytes
+  pub update : IsUpdate accepts terms kept bytes n
+  pub earlier : List RunStep
+  pub recorded : List RunStep
+  pub number_first : IsPublished Record (record_of terms.numbering n) earlier recorded
+  pub published : IsPublished Place bytes recorded new.steps
+  pub permissions : permissions_of published ≡ true
 
 -- the texts vouch for some data, and the comment that was signed with it names the file, has not expired, and has a
 -- number

@@ -32,6 +32,7 @@ due_number (Refused e) = 20
 -- the record where that is still a stage, and the other one. Whatever comes of a removal, the run is rejected for what
 -- came before it. An outcome that does not fit changes nothing.
 abbrev pub next : {E : Type 0} → Due E → Outcome E → Due E
+next due More = due
 next Lock Done = Clear
 next Clear Done = ReadRecord
 next ReadRecord (Number kept) = Create kept

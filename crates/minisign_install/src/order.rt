@@ -2,9 +2,12 @@
 //! call that is due, says how it went, and is told the next one. What a fault is, is the host's.
 
 ghost use Rattle.std.specs.Prelude.{◌≡◌, ◌⊎◌, List, true};
-ghost use Rattle.minisign_install.specs.Hosts.{Event, HasRun, Host, IsExplained, RunHasInstalled, RunIsRefused, RunsSafely, Setting};
+ghost use Rattle.minisign_install.specs.Directories.{HasLocked, Run};
+ghost use Rattle.minisign_install.specs.Hosts.{Event, HasRun, Host, IsExplained, Setting};
+ghost use Rattle.minisign_install.specs.Installing.{HasInstalled, InstallsOnlyUpdates};
 ghost use Rattle.minisign_install.specs.Faults.{InstallFault};
 ghost use Rattle.minisign_install.specs.Order.{fits, next};
+ghost use Rattle.minisign_install.specs.Refusals.{IsRefusal};
 ghost use Rattle.minisign_install.specs.Runs.{OwnsNoMore};
 
 /// What is due: the call that the host makes next, or how the run has ended. The numbers are those
@@ -123,17 +126,18 @@ pub fn any_run_installs_only_updates<E: Drop>()
     // Wherever the run is cut off: it has made no call yet, or what the headline of
     // `install_update` says holds of it.
     ensures safe { (s : Setting) (h h' : Host) (events : List (Event E)) (due : Due E)
-        → h.run.known ≡ true → HasRun s Due.Lock h events due h' → RunsSafely s h.run h'.run }
+        → h.run.known ≡ true → HasRun s Due.Lock h events due h' → (h'.run ≡ h.run) ⊎ InstallsOnlyUpdates s.accepts s.terms s.first h.run h'.run }
 
     // Where it has ended well, the data that was ahead is installed, on the disk and for good.
     ensures installed { (s : Setting) (h h' : Host) (events : List (Event E))
-        → h.run.known ≡ true → HasRun s Due.Lock h events Due.Installed h' → RunHasInstalled s h.ahead h.run h'.run }
+        → h.run.known ≡ true → HasRun s Due.Lock h events Due.Installed h'
+        → (locked : Run) × HasLocked h.run locked × HasInstalled s.accepts s.terms s.first h.ahead locked h'.run }
 
     // Where it has ended otherwise, and each failing call says why it failed, the fault is the first
     // reason, and what the run has brought by then is as `refused` of `install_update` says.
     ensures refused { (s : Setting) (h h' : Host) (events : List (Event InstallFault)) (e : InstallFault)
         → h.run.known ≡ true → HasRun s Due.Lock h events (Due.Refused e) h' → IsExplained s Due.Lock h events
-        → RunIsRefused s h h' e }
+        → IsRefusal s.accepts s.terms s.first h.ahead h.faults h'.faults h.run h'.run e }
 
     // However it has ended, no stage is the run's own that was not so before.
     ensures lets_go { (s : Setting) (h h' : Host) (events : List (Event E)) (due : Due E)
