@@ -1,6 +1,6 @@
 -- What an output holds of data that was copied in part.
-use Rattle.std.proofs.Common.{◌≡◌, ◌≢◌, ℕ, List, [], ◌++◌, Option, None, Some, true, false, not, bytes_eq, arith, append-nil, ap, refl, sym, subst, ◌∙◌, true≢false}
-use Rattle.minisign.proofs.Common.{bytes_eq-Decides, append_known, Appends, Consumes, Keeps, AppendsFront, SameWhereKnown, AppendsFront-after, AppendsFront-keeps, AppendsFront-more}
+use Rattle.std.proofs.Common.{◌≡◌, ℕ, List, [], ◌++◌, Option, None, Some, append-nil, ap, refl, sym, subst, ◌∙◌}
+use Rattle.minisign.proofs.Common.{append_known, Appends, Consumes, Keeps, AppendsFront, SameWhereKnown, AppendsFront-after, AppendsFront-keeps, AppendsFront-more}
 use Rattle.minisign.specs.Reading.{IsAhead}
 
 -- all of a text is a beginning of it
@@ -33,10 +33,6 @@ all_kept (Some x) None c bs all kept = absurd all
 all_kept (Some x) (Some y) None bs all kept = absurd kept
 all_kept (Some x) (Some y) (Some z) bs all kept = kept ∙ all
 
--- lists that do not differ by the test are equal
-pub not_different : (a b : List ℕ) → false ≡ not (bytes_eq a b) → a ≡ b
-not_different a b same = let equal : bytes_eq a b ≡ true = grind arith in (bytes_eq-Decides a b).0 equal
-
 -- what was given so far, and then more
 pub given_more : (old new : Option (List ℕ)) (a b : List ℕ) → IsAhead old a → new ≡ append_known old b → IsAhead new (a ++ b)
 given_more None new a b given more = subst (λ known. IsAhead known (a ++ b)) (sym more) tt
@@ -46,7 +42,3 @@ given_more (Some xs) new a b given more = subst (λ known. IsAhead known (a ++ b
 pub given_still : (old new : Option (List ℕ)) (a : List ℕ) → IsAhead old a → SameWhereKnown old new → IsAhead new a
 given_still old None a given kept = tt
 given_still old (Some ys) a given kept = subst (λ known. IsAhead known a) kept given
-
--- lists that differ by the test are not equal
-pub different : (a b : List ℕ) → true ≡ not (bytes_eq a b) → a ≢ b
-different a b unlike same = let equal : bytes_eq a b ≡ true = (bytes_eq-Decides a b).1 same in true≢false (unlike ∙ ap not equal)

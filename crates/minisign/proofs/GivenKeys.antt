@@ -1,5 +1,5 @@
 -- Which key a text gives for signing.
-use Rattle.std.proofs.Common.{◌≡◌, Bool, List, [], ℕ, Option, None, Some, Result, Ok, Err, IfSome, ◌⊎◌, true, false, not, bytes_eq, inl, inr, refl, sym, ap, ◌∙◌, option_map}
+use Rattle.std.proofs.Common.{◌≡◌, List, [], ℕ, Option, None, Some, Result, Ok, Err, IfSome, ◌⊎◌, true, false, not, bytes_eq, inl, inr, sym, ap, ◌∙◌, option_map}
 use Rattle.minisign.proofs.Common.{option_map_or, result_ok, Fault, PromptCall}
 use Rattle.minisign.specs.Records.{SecretKeyRecord}
 use Rattle.minisign.specs.SecretKeyText.{read_secret_key}

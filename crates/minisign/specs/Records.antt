@@ -1,6 +1,5 @@
 -- The records that keys and signatures are stored as: fields of fixed lengths, joined in their order.
-use Rattle.std.specs.Prelude.{◌≡◌, ℕ, Bool, ◌<◌, ◌≤◌, List, ◌++◌, length, take, drop, Option, ◌⊎◌, codes, bytes_eq, false, flat_map}
-use Rattle.minisign.specs.Common.{Fault, Named, RecordTooShort, UnsupportedSignatureAlgorithm}
+use Rattle.std.specs.Prelude.{◌≡◌, ℕ, Bool, List, ◌++◌, length, drop, Option, ◌⊎◌, codes, bytes_eq, false, flat_map}
 use Rattle.std.specs.Fmt.{digits}
 
 -- a public key: 2 bytes of algorithm, 8 of key ID, 32 of key

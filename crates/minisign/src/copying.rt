@@ -1,12 +1,12 @@
 //! Copying the data of a box that was accepted: the data that was kept, or a second pass over the
 //! source that has to give the digest of the first.
 
-ghost use Rattle.std.specs.Prelude.{◌≡◌, ◌⊎◌, ℕ, ◌<◌, ◌++◌, List, false, length, Ok, Err, IfOk, IfErr, OnOk, MatchResult};
+ghost use Rattle.std.specs.Prelude.{◌≡◌, ◌⊎◌, ℕ, ◌<◌, ◌++◌, List, true, false, bytes_eq, length, Ok, Err, IfOk, IfErr, OnOk, MatchResult};
 ghost use Rattle.minisign_hash.specs.Blake2b.{blake2b_digest};
 ghost use Rattle.minisign_hash.specs.Fed.{IsFed, has_finalized, output_length};
 ghost use Rattle.minisign_base.specs.Devices.{BeginsAnew};
 ghost use Rattle.minisign_base.specs.Fault.{Named};
-ghost use Rattle.minisign_base.specs.declared.faults.NamedFault.TheVariants.{GoingBackFailed, ReadingFailed, WritingFailed};
+ghost use Rattle.minisign_base.specs.declared.faults.NamedFault.TheVariants.{DataChanged, GoingBackFailed, ReadingFailed, WritingFailed};
 ghost use Rattle.minisign_base.specs.DeviceCalls.{Flushes, GoesBack, IsWritingFault, Puts, rereader_call, sink_call, unused};
 ghost use Rattle.minisign.specs.Reading.{Copies, HasFailed};
 ghost use Rattle.minisign.specs.Stages.{StagesEnd, second_copy_stages, held_copy_stages};
@@ -56,10 +56,19 @@ fn copy_again<R: Rereader, O: Sink>(
 {
     go_back(data_reader)?;
     let second = copy_hashed(alloc, data_reader, out)?;
-    if second != *digest {
+    test_same(digest, &second)?;
+    flush(out)
+}
+
+// Tests that the digest of the second reading is that of the first.
+fn test_same(digest: &[u8; 64], second: &[u8; 64]) -> Result<()>
+    ensures { MatchResult result (λ _. bytes_eq second.now digest.now ≡ true)
+        (λ e. (e ≡ Named DataChanged) × (bytes_eq second.now digest.now ≡ false)) }
+{
+    if second != digest {
         return Err(NamedFault::DataChanged.into());
     }
-    flush(out)
+    Ok(())
 }
 
 // Copies all that is ahead, and returns its Blake2b digest of 64 bytes. Nothing is flushed.

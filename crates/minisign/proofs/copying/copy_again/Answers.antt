@@ -1,7 +1,6 @@
-use Rattle.std.proofs.Common.{[], ◌∷◌, inl, inr, refl, sym, ◌∙◌}
-use Rattle.minisign.proofs.Common.{err_from_is_err_and, rereader_call, sink_call, unused}
+use Rattle.std.proofs.Common.{[], ◌∷◌, inl, inr, refl, sym, ◌∙◌, true≢false}
+use Rattle.minisign.proofs.Common.{bytes_eq-Decides, err_from_is_err_and, rereader_call, sink_call, unused}
 use Rattle.minisign.specs.Stages.{Compare, Copy, Flush, Return}
-use Rattle.minisign.proofs.Copies.{different, not_different}
 use Rattle.minisign.proofs.Passes.{last_stage, next_stage}
 use Rattle.minisign.proofs.copying.copy_again.Goals as goal
 
@@ -21,7 +20,6 @@ returns-in_err-second g c =
 pub returns : goal.returns
 returns g c =
     let (second, digest, copies) = c.in_ok-second.ensures.copied in
-    let equal = not_different c.in_ok-second.second c.args.digest.now c.if-ne.ensures in
     let back = c.go_back.new.data_reader in
     let end = c.copy_hashed.new.data_reader in
     let taken = c.copy_hashed.new.out in
@@ -33,14 +31,16 @@ returns g c =
           (next_stage (record reader { old = back }) unused out (record { reader = end; status = tt; out = taken }) (Copy second) (Compare c.args.digest.now second ∷ Flush ∷ []) c.flush.result
           (copies, refl)
           (next_stage (record reader { old = end }) unused (record out { old = taken }) (record { reader = end; status = tt; out = taken }) (Compare c.args.digest.now second) (Flush ∷ []) c.flush.result
-          (sym digest ∙ equal, refl, refl, refl)
+          (sym digest ∙ (bytes_eq-Decides _ _).0 c.in_ok-test_same.ensures, refl, refl, refl)
           (last_stage (record reader { old = end }) unused (record out { old = taken }) Flush c.flush.result (c.flush.ensures, refl, refl)))),
     )
 
-pub returns-then-ne : goal.returns-then-ne
-returns-then-ne g c =
+pub returns-in_err-test_same : goal.returns-in_err-test_same
+returns-in_err-test_same g c =
+    let p = err_from_is_err_and c.from_residual-in_err-test_same.result c.from_residual-in_err-test_same.ensures.1 in
     let (second, digest, copies) = c.in_ok-second.ensures.copied in
-    rw c.into.ensures (
+    let (fault, unlike) = c.in_err-test_same.ensures in
+    rw (p.1, p.2) (
       second,
       inr (
         record { reader = c.go_back.new.data_reader; status = tt; out = c.args.out.now },
@@ -48,7 +48,7 @@ returns-then-ne g c =
         inr (
           record { reader = c.copy_hashed.new.data_reader; status = tt; out = c.copy_hashed.new.out },
           (copies, refl),
-          inl ((refl, λ same. different _ _ c.if-ne.ensures (digest ∙ same)), refl, refl, refl),
+          inl ((fault, λ same. true≢false (sym ((bytes_eq-Decides _ _).1 (digest ∙ same)) ∙ unlike)), refl, refl, refl),
         ),
       ),
     )

@@ -28,7 +28,7 @@ ahead-preserved c =
       λ one len.
           let first : k ≡ 0 = omega arith in
           let all : take 128 (drop (128 * k) blocks) ≡ blocks = rw first (take_all 128 blocks (omega arith)) in
-          next ∙ rw (all, (start first).0, (start first).1) refl,
+          next ∙ rw (c.counted-taken_in.ensures, all, (start first).0, (start first).1) refl,
     )
 
 pub returns-clause-whole : goal.returns-clause-whole

@@ -1,4 +1,4 @@
-use Rattle.std.proofs.Common.{sym, ap, ◌∙◌}
+use Rattle.std.proofs.Common.{sym}
 use Rattle.minisign.proofs.Common.{err_from_is_err_and}
 use Rattle.minisign.proofs.Openings.{unencrypted_refused, unencrypted_value, unread_unencrypted}
 use Rattle.minisign.proofs.secret_key.SecretKey.from_unencrypted_box.Goals as goal
