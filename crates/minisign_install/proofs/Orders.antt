@@ -16,8 +16,8 @@ pub record Found (s : Setting) (a : Host) : Type 0 where
   pub there : IsFound locked.now Record found
   pub number : IsKeptNumber s.terms.numbering s.first found kept
 
--- Then leftovers were removed, and only what is as P says was brought, in order. No stage is the run's own that was not
--- so before and whose name is as Of says.
+-- Then leftovers were removed, and only what is as P says was published, in order. A stage whose name is as Of says is the
+-- run's own only if it was so before.
 pub record SoFar (s : Setting) (a : Host) (P : ℕ → Name → List ℕ → Type 0) (Of : List ℕ → Type 0) (now : Run) : Type 0 where
   pub base : Found s a
   pub cleared : HasCleared base.locked now
@@ -103,7 +103,7 @@ Holds s a (Refused e) h = Refusing s a h
 abbrev N : Name → List ℕ → Type 0
 N = λ _ _. ⊥
 
--- nothing was brought, and no more stages are the run's own
+-- nothing was published, and no more stages are the run's own
 abbrev pub IsQuiet : Run → Run → Type 0
 IsQuiet old new = PublishesNothing old new × OwnsNoMore old new
 

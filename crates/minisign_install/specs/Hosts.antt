@@ -22,7 +22,7 @@ pub record Setting : Type 0 where
   pub record_file : ℕ
 
 -- a host: its directory's run so far, the data that is still ahead, what was read back of the stage, and how many
--- faults its devices have counted
+-- errors its devices have counted
 pub record Host : Type 0 where
   pub run : Run
   pub ahead : Option (List ℕ)
@@ -95,8 +95,8 @@ Makes s (SyncRecordName n) o h h' = Goes (Calls SyncsDirectory) (Calls MaySyncDi
 Makes s (Rename n) o h h' = Goes (HasRenamed s.name Place) (Calls (Perhaps (Renames s.name Place))) o h h'
 Makes s (SyncName n) o h h' = Goes (Calls SyncsDirectory) (Calls MaySyncDirectory) o h h'
 Makes s (RemoveRecord first) o h h' =
-    Goes (CallsRemove s.record_name (Removes s.record_name)) (CallsRemove s.record_name (Perhaps (Removes s.record_name))) o
-    h h'
+    Goes (CallsRemove s.record_name (Removes s.record_name))
+    (CallsRemove s.record_name (Perhaps (Removes s.record_name))) o h h'
 Makes s (Remove first) o h h' =
     Goes (CallsRemove s.name (Removes s.name)) (CallsRemove s.name (Perhaps (Removes s.name))) o h h'
 Makes s due o h h' = ⊥
@@ -114,11 +114,11 @@ HasRun s due h (event ∷ more) due' h' =
 
 -- == Why a call failed ==
 
--- the device failed that the fault speaks of; or memory ran out, and no device failed
+-- the device failed that the error speaks of; or memory ran out, and no device failed
 abbrev pub DeviceFails : InstallFault → Host → Host → Type 0
 DeviceFails e h h' = IsLibraryFault (IsCallFault h.faults h'.faults) e
 
--- The fault says why the call that was due failed: a device's, or what was found is refused. A removal that fails is
+-- The error says why the call that was due failed: a device's, or what was found is rejected. A removal that fails is
 -- not counted.
 abbrev pub Blames : Setting → Due InstallFault → InstallFault → Host → Host → Type 0
 Blames s Lock e h h' = ((e ≡ PlaceInUse) × Known h.run (HasStepped h.run h'.run IsBusy)) ⊎ DeviceFails e h h'
@@ -130,7 +130,7 @@ Blames s (RemoveRecord first) e h h' = h'.faults ≡ h.faults
 Blames s (Remove first) e h h' = h'.faults ≡ h.faults
 Blames s due e h h' = DeviceFails e h h'
 
--- devices count their faults, and what is said of a call that failed is why it did
+-- devices count their errors, and what is said of a call that failed is why it did
 abbrev pub Explains : Setting → Due InstallFault → Outcome InstallFault → Host → Host → Type 0
 Explains s due (Failed e) h h' = Blames s due e h h'
 Explains s due outcome h h' = h'.faults ≡ h.faults

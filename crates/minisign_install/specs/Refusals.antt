@@ -1,4 +1,4 @@
--- Why an installation is refused, in the order of its steps, and what its run has brought to the place and to the
+-- Why an installation is rejected, in the order of its steps, and what its run has published to the place and to the
 -- record by then.
 use Rattle.std.specs.Prelude.{◌≡◌, ◌≢◌, ◌⊎◌, ℕ, ◌<◌, Bool, false, List, Option, Some, None, Err, IfErr, IsErrAnd, MatchResult, Result}
 use Rattle.minisign_install.specs.Faults.{Rose, Fault, Named, OutOfMemory, RandomSourceFailed, ReadingFailed, WritingFailed, InstallFault, Library, PlaceInUse, NoRecord, DamagedRecord, KeptByTimestamp, KeptByVersion, OtherFile, NoNumber, OlderUpdate, DirectoryNotSynced}
@@ -9,7 +9,7 @@ use Rattle.minisign_install.specs.Directories.{Finds, Known, HasLocked, HasStepp
 use Rattle.minisign_install.specs.RecordTexts.{HasNoNumber, IsUnfit}
 use Rattle.minisign_install.specs.Runs.{PublishesNothing, PublishesOnly, HasCleared, HasReached}
 
--- how many faults there were: of the random source, of the source of the data, and of the directory, whose removals of
+-- how many errors there were: of the random source, of the source of the data, and of the directory, whose removals of
 -- stages are not counted
 pub record Counts : Type 0 where
   pub random : ℕ
@@ -24,7 +24,7 @@ abbrev pub HasFailed : Counts → Counts → Type 0
 HasFailed before after =
     Rose before.random after.random ⊎ Rose before.update after.update ⊎ Rose before.directory after.directory
 
--- why a call failed, or a run: memory ran out, and no device failed; or the device did that the fault speaks of
+-- why a call failed, or a run: memory ran out, and no device failed; or the device did that the error speaks of
 abbrev pub IsCallFault : Counts → Counts → Fault → Type 0
 IsCallFault before after e =
     ((e ≡ Named OutOfMemory) × (after ≡ before))
@@ -37,12 +37,12 @@ abbrev pub IsReadingFault : ℕ → ℕ → Fault → Type 0
 IsReadingFault before after e =
     ((e ≡ Named OutOfMemory) × (after ≡ before)) ⊎ ((e ≡ Named ReadingFailed) × Rose before after)
 
--- a fault of the library that is as P says
+-- an error of the library that is as P says
 abbrev pub IsLibraryFault : (Fault → Type 0) → InstallFault → Type 0
 IsLibraryFault P e = (fault : Fault) × (e ≡ Library fault) × P fault
 
 -- This is not the first installation, and no record was found; or one that holds no number for the field, which is
--- refused for what it holds.
+-- rejected for what it holds.
 abbrev pub IsRecordRefused : Numbering → Bool → Option (List ℕ) → InstallFault → Type 0
 IsRecordRefused numbering first found e =
     (first ≡ false)
@@ -60,7 +60,7 @@ IsCommentRefused terms kept comment e =
     × IsExpiryRefused terms.moment comment e)
     ⊎ ((e ≡ OlderUpdate) × ((n : ℕ) × Says comment terms.file terms.numbering terms.moment n × (n < kept)))
 
--- the texts do not vouch for this data, or they do and the comment that was signed with it is refused
+-- the texts do not vouch for this data, or they do and the comment that was signed with it is rejected
 abbrev pub IsDataRefused : Verifier → Terms → ℕ → List ℕ → InstallFault → Type 0
 IsDataRefused accepts terms kept message e =
     IsLibraryFault (λ f. verdict accepts terms.pk_text terms.sig_text message false ≡ Err f) e
@@ -72,8 +72,8 @@ abbrev pub HasPublishedUpdate : Verifier → Terms → ℕ → Run → Run → T
 HasPublishedUpdate accepts terms kept =
     HasReached (λ m. (bytes : List ℕ) × (n : ℕ) × IsUpdate accepts terms kept bytes n × HasOnDisk m Place bytes)
 
--- Why the data ahead is not installed where the lock is held and the kept number is known, and what is brought then. The
--- data is rejected: nothing. A device failed, or memory ran out: at most the record. The renaming failed, or the
+-- Why the data ahead is not installed where the lock is held and the kept number is known, and what is published then.
+-- The data is rejected: nothing. A device failed, or memory ran out: at most the record. The renaming failed, or the
 -- directory could not be synced: at most what a whole installation publishes. In the last case the update stands at the
 -- place, and a crash may still bring back what stood there.
 abbrev pub IsDataRefusal : Verifier → Terms → ℕ → Option (List ℕ) → Counts → Counts → Run → Run → InstallFault → Type 0
@@ -85,9 +85,9 @@ IsDataRefusal accepts terms kept ahead before after old new e =
     × ((e ≡ Library (Named WritingFailed))
     ⊎ ((e ≡ DirectoryNotSynced) × HasPublishedUpdate accepts terms kept old new)))
 
--- Why an installation is refused where the lock is held, and what it brings then. A device failed, or memory ran out:
--- nothing. Otherwise what killed runs had left was removed, and the record is refused, as it was found when the lock
--- was got: nothing. Or it was found to hold a number, and the data is refused.
+-- Why an installation is rejected where the lock is held, and what it publishes then. A device failed, or memory ran
+-- out: nothing. Otherwise what killed runs had left was removed, and the record is rejected, as it was found when the
+-- lock was got: nothing. Or it was found to hold a number, and the data is rejected.
 abbrev pub IsLockedRefusal : Verifier → Terms → Bool → Option (List ℕ) → Counts → Counts → Run → Run → InstallFault
     → Type 0
 IsLockedRefusal accepts terms first ahead before after old new e =
@@ -98,15 +98,15 @@ IsLockedRefusal accepts terms first ahead before after old new e =
     × IsKeptNumber terms.numbering first found kept
     × IsDataRefusal accepts terms kept ahead before after old new e))
 
--- Why an installation is refused, and what it brings then. Another run holds the lock, or it could not be asked for:
--- nothing, and this was the only call.
+-- Why an installation is rejected, and what it publishes then. Another run holds the lock, or it could not be asked
+-- for: nothing, and this was the only call.
 abbrev pub IsRefusal : Verifier → Terms → Bool → Option (List ℕ) → Counts → Counts → Run → Run → InstallFault → Type 0
 IsRefusal accepts terms first ahead before after old new e =
     (HasStepped old new IsBusy × (e ≡ PlaceInUse))
     ⊎ (HasStepped old new IsStill × IsLibraryFault (IsCallFault before after) e)
     ⊎ ((locked : Run) × HasLocked old locked × IsLockedRefusal accepts terms first ahead before after locked new e)
 
--- the lock was got, and since then nothing was brought
+-- the lock was got, and since then nothing was published
 abbrev pub OnlyLocked : Run → Run → Type 0
 OnlyLocked old new = (locked : Run) × HasLocked old locked × PublishesNothing locked new
 
@@ -117,8 +117,8 @@ abbrev pub CanBeInstalled : Verifier → Terms → Bool → Option (List ℕ) �
 CanBeInstalled accepts terms first found message =
     (kept : ℕ) × (n : ℕ) × IsKeptNumber terms.numbering first found kept × IsUpdate accepts terms kept message n
 
--- it cannot be installed, and this is the first reason: the record is refused; otherwise the texts do not vouch for
--- the data; otherwise the signed comment is refused
+-- it cannot be installed, and this is the first reason: the record is rejected; otherwise the texts do not vouch for
+-- the data; otherwise the signed comment is rejected
 pub record CannotBeInstalled (accepts : Verifier) (terms : Terms) (first : Bool) (found : Option (List ℕ))
     (message : List ℕ) (e : InstallFault) : Type 0 where
   pub reason : IsRecordRefused terms.numbering first found e
@@ -140,19 +140,19 @@ InstallsExactly accepts terms first ahead before after old new answer =
 
 -- == The causes alone, whether it is known what the directory holds or not ==
 
--- the record is refused, which it never is at the first installation
+-- the record is rejected, which it never is at the first installation
 abbrev pub IsRecordFault : Bool → InstallFault → Type 0
 IsRecordFault first e =
     (first ≡ false) × ((e ≡ NoRecord) ⊎ (e ≡ DamagedRecord) ⊎ (e ≡ KeptByTimestamp) ⊎ (e ≡ KeptByVersion))
 
--- reading the record refused it, for what it was found to hold
+-- reading the record rejected it, for what it was found to hold
 abbrev pub IsReadRefusal : Numbering → Bool → Run → Run → InstallFault → Type 0
 IsReadRefusal numbering first old new e =
     IsRecordFault first e × Known old ((found : Option (List ℕ)) × HasStepped old new (Finds Record found)
     × IsRecordRefused numbering first found e)
 
--- why an installation is refused: the lock is held by another, or the record is refused, or a device failed, or memory
--- ran out, or some data is refused, or the directory could not be synced
+-- why an installation is rejected: the lock is held by another, or the record is rejected, or a device failed, or
+-- memory ran out, or some data is rejected, or the directory could not be synced
 abbrev pub IsCause : Verifier → Terms → Bool → Counts → Counts → InstallFault → Type 0
 IsCause accepts terms first before after e =
     (e ≡ PlaceInUse) ⊎ IsRecordFault first e ⊎ IsLibraryFault (IsCallFault before after) e

@@ -25,7 +25,7 @@ pub record RecordHolds (numbering : Numbering) (k : ℕ) (m : Moment) : Type 0 w
 abbrev pub RecordHoldsAt : Numbering → ℕ → RunStep → Type 0
 RecordHoldsAt numbering k s = RecordHolds numbering k s.before × RecordHolds numbering k s.after
 
--- Every call since then brings to the lasting names only what is as P says. With the lock held, a number in the
+-- Every call since then publishes to the lasting names only what is as P says. With the lock held, a number in the
 -- record that no record falls below that P allows stays there at each moment, whatever others do between the calls.
 pub record PublishesOnly (P : Name → List ℕ → Type 0) (old new : Run) : Type 0 where
   pub since : List RunStep
@@ -37,7 +37,7 @@ pub record PublishesOnly (P : Name → List ℕ → Type 0) (old new : Run) : Ty
       → ((bytes : List ℕ) → P Record bytes → IsNumberFrom numbering k bytes) → RecordHolds numbering k old.now
       → All (RecordHoldsAt numbering k) since × RecordHolds numbering k new.now
 
--- nothing is brought
+-- nothing is published
 abbrev pub PublishesNothing : Run → Run → Type 0
 PublishesNothing = PublishesOnly (λ _ _. ⊥)
 

@@ -1,5 +1,5 @@
 //! The order of the calls that install an update, told one by one: a host of any language makes the
-//! call that is due, says how it went, and is told the next one. What a fault is, is the host's.
+//! call that is due, says how it went, and is told the next one. What an error is, is the host's.
 
 ghost use Rattle.std.specs.Prelude.{◌≡◌, ◌⊎◌, List, true};
 ghost use Rattle.minisign_install.specs.Directories.{HasLocked, Run};
@@ -65,7 +65,7 @@ pub enum Outcome<E> {
     More,
     /// The number: the one that the record holds, or that of the update that was vouched for.
     Number(u64),
-    /// It failed, or what it found is refused, and this is why.
+    /// It failed, or what it found is rejected, and this is why.
     Failed(E),
 }
 
@@ -133,8 +133,8 @@ pub fn any_run_installs_only_updates<E: Drop>()
         → h.run.known ≡ true → HasRun s Due.Lock h events Due.Installed h'
         → (locked : Run) × HasLocked h.run locked × HasInstalled s.accepts s.terms s.first h.ahead locked h'.run }
 
-    // Where it has ended otherwise, and each failing call says why it failed, the fault is the first
-    // reason, and what the run has brought by then is as `refused` of `install_update` says.
+    // Where it has ended otherwise, and each failing call says why it failed, the error is the first
+    // reason, and what the run has published by then is as `refused` of `install_update` says.
     ensures refused { (s : Setting) (h h' : Host) (events : List (Event InstallFault)) (e : InstallFault)
         → h.run.known ≡ true → HasRun s Due.Lock h events (Due.Refused e) h' → IsExplained s Due.Lock h events
         → IsRefusal s.accepts s.terms s.first h.ahead h.faults h'.faults h.run h'.run e }
