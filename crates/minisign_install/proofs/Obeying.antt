@@ -2,7 +2,7 @@
 use Rattle.minisign_install.proofs.Common.{◌≡◌, ◌==◌, inl, inr, ◌∙◌, ◌++◌, ℕ, Bool, true, false, List, [], ◌∷◌, Some, ap, sym, subst, refl, append-nil, arith, length, if◌then◌else◌, ne_eqb, true≢false, IsFedState, State, install_number, IsAsking, IsDue, failure, numbering_of, read_outcome, wanted_by, HasBegun, HasObeyed, Obeys, TellsAnswers, TellsFailure, TellsOutcome, TellsRecord, TellsRefusal, Told, by_field, Event, HasRun, Host, Makes, Setting, IsKeptNumber, next, Due, Lock, Clear, ReadRecord, Create, Copy, ReadBack, Answer, TakePermissions, Sync, CreateRecord, WriteRecord, SyncRecord, RenameRecord, SyncRecordName, Rename, SyncName, RemoveRecord, Remove, Installed, Outcome, Done, More, Number, Failed, Numbering, Timestamp, Version, Installation}
 use Rattle.minisign_install.specs.Order.{Refused}
 use Rattle.minisign_install.proofs.Judgements.{answers_texts}
-use Rattle.minisign_install.proofs.Orders.{reads_still}
+use Rattle.minisign_install.proofs.Works.{call_with}
 
 -- whether the record is still to be read
 abbrev is_unread : Due ℕ → Bool
@@ -144,7 +144,7 @@ module _ (s : Setting) (i i' : Installation) (h h' : Host) where
               },
             )
         | inr (e, refused, why) ↦
-            fails s ReadRecord i i' h h' x (install_number e) ((reads_still t.found h.run h'.run stepped, own), ahead, read) refused (same_field i i' rest.numbering)
+            fails s ReadRecord i i' h h' x (install_number e) ((call_with stepped stepped.this.still, own), ahead, read) refused (same_field i i' rest.numbering)
       ]
 
   tells_piece : (kept : ℕ) (piece : List ℕ) → KnownAt s (ReadBack kept) i h → ((m : List ℕ) → IsFedState i.state m → IsFedState i'.state (m ++ piece))

@@ -3,7 +3,7 @@
 use Rattle.minisign_install.proofs.Common.{◌≡◌, ◌≢◌, ◌⊎◌, inl, inr, ⊎_elim, ℕ, List, [], ◌∷◌, ◌++◌, true, Option, ap, sym, subst, ◌∙◌, refl, append_assoc, append-nil, Consumes-nil, Consumes-trans, Consumes-whole, Consumes, concat, IsAhead, HasInstalled, InstallsLocked, MayBePublished, IsKeptNumber, MayBeRecorded, IsUpdate, PublishesInOrder, ClearsAll, HasLocked, HasRenamed, HasStepped, IsFound, IsStill, OwnsTheSame, OwnsLess, Perhaps, Finds, Moment, Removes, Renames, Run, Name, Place, Record, Calls, CallsNothing, Event, HasRun, Host, Makes, Setting, Writes, WritesInPart, next, Due, Lock, Clear, ReadRecord, Create, Copy, ReadBack, Answer, TakePermissions, Sync, CreateRecord, WriteRecord, SyncRecord, RenameRecord, SyncRecordName, Rename, SyncName, RemoveRecord, Remove, Installed, Outcome, Done, More, Number, Failed, record_of, PublishesNothing, PublishesOnly, HasCleared, HasReached, OwnsNoMore, ⊤, InstallsOnlyUpdates}
 use Rattle.minisign_install.specs.Order.{Refused}
 use Rattle.minisign_install.proofs.Installs.{found_first, installs, nothing_locked, places_more, places_nothing, places_record, places_update, record_brought}
-use Rattle.minisign_install.proofs.Works.{HasRecorded, HasStage, IsKept, IsOnly, WorksOn, appending, publishes_none, publishes_nothing, publishes_trans, cleared_step, cleared_then, clearing, created_publishes, created_keeps, created_stage, giving, kept_no_more, lasting, less_let_go, names_publish, names_keep, directory_synced, no_more_trans, own_none, perhaps, published, removed_publishes, renamed_publishes, renamed_keeps, resting_publishes, syncing, spoiling, works_none, works_trans}
+use Rattle.minisign_install.proofs.Works.{call_with, HasRecorded, HasStage, IsKept, IsOnly, WorksOn, appending, publishes_none, publishes_nothing, publishes_trans, cleared_step, cleared_then, clearing, created_publishes, created_keeps, created_stage, giving, kept_no_more, lasting, less_let_go, names_publish, names_keep, directory_synced, no_more_trans, own_none, perhaps, published, removed_publishes, renamed_publishes, renamed_keeps, resting_publishes, syncing, spoiling, works_none, works_trans}
 
 -- == What stands fast ==
 
@@ -57,14 +57,6 @@ pub record RecordStage (s : Setting) (now : Run) (bytes : List ℕ) : Type 0 whe
   pub files : s.file ≢ s.record_file
   pub holds : now.now.holds s.record_file ≡ bytes
 
--- the stage got the place's name, with the number in the record before
-pub record Landed (s : Setting) (a : Host) (base : Found s a) (now : Run) (n : ℕ) : Type 0 where
-  pub before : Run
-  pub publishes : PublishesOnly (MayBeRecorded s.accepts s.terms base.kept) base.locked before
-  pub staged : Staged s a before base.kept n
-  pub recorded : HasRecorded (record_of s.terms.numbering n) before
-  pub renamed : HasRenamed s.name Place before now
-
 abbrev pub Refusing : Setting → Host → Host → Type 0
 Refusing s a h =
     (HasStepped a.run h.run IsStill × OwnsTheSame a.run h.run)
@@ -90,7 +82,9 @@ Holds s a (SyncRecordName n) h =
     (x : SoFar s a (MayBeRecorded s.accepts s.terms) (ButBoth s) h.run) × Staged s a h.run x.base.kept n
     × ((before : Run) × RecordStage s before (record_of s.terms.numbering n) × (before.now.on_disk s.record_file ≡ true) × HasRenamed s.record_name Record before h.run)
 Holds s a (Rename n) h = (x : SoFar s a (MayBeRecorded s.accepts s.terms) (But s) h.run) × Staged s a h.run x.base.kept n × HasRecorded (record_of s.terms.numbering n) h.run
-Holds s a (SyncName n) h = (x : SoFar s a (MayBePublished s.accepts s.terms) (But s) h.run) × Landed s a x.base h.run n
+Holds s a (SyncName n) h =
+    (x : SoFar s a (MayBePublished s.accepts s.terms) (But s) h.run) × ((before : Run) × PublishesOnly (MayBeRecorded s.accepts s.terms x.base.kept) x.base.locked before
+    × Staged s a before x.base.kept n × HasRecorded (record_of s.terms.numbering n) before × HasRenamed s.name Place before h.run)
 Holds s a (RemoveRecord e) h = SoFar s a (MayBePublished s.accepts s.terms) (ButBoth s) h.run
 Holds s a (Remove e) h = SoFar s a (MayBePublished s.accepts s.terms) (But s) h.run
 Holds s a Installed h =
@@ -100,18 +94,15 @@ Holds s a (Refused e) h = Refusing s a h
 
 -- == Calls together ==
 
-abbrev N : Name → List ℕ → Type 0
+abbrev pub N : Name → List ℕ → Type 0
 N = λ _ _. ⊥
 
 -- nothing was published, and no more stages are the run's own
 abbrev pub IsQuiet : Run → Run → Type 0
 IsQuiet old new = PublishesNothing old new × OwnsNoMore old new
 
-quiet_same : (old new : Run) → new ≡ old → IsQuiet old new
-quiet_same old new same = subst (IsQuiet old) (sym same) (publishes_none N old, own_none old)
-
 quiet_none : (old new : Run) → CallsNothing old new → IsQuiet old new
-quiet_none old new (inl same) = quiet_same old new same
+quiet_none old new (inl same) = subst (IsQuiet old) (sym same) (publishes_none N old, own_none old)
 quiet_none old new (inr (still, own)) = (resting_publishes old new still, kept_no_more old new own)
 
 quiet_works : {name : List ℕ} {file : ℕ} {old new : Run} → WorksOn name file old new → IsQuiet old new
@@ -133,9 +124,6 @@ quiet_part name file old new stage (pieces, mid, writes, (inl same)) = subst (Is
 quiet_part name file old new stage (pieces, mid, writes, (inr (step, own))) =
     let first = (writes_work name file pieces old mid stage writes).0 in
     quiet_works (works_trans name file old mid new first (spoiling name file mid new first.stage step own))
-
-pub reads_still : (found : Option (List ℕ)) (old new : Run) → HasStepped old new (Finds Record found) → HasStepped old new IsStill
-reads_still found old new s = record { before = s.before; others = s.others; this = s.this.still; noted = s.noted; known = s.known; locked = s.locked }
 
 pub removal_publishes : (name : List ℕ) (old new : Run) → HasStepped old new (Perhaps (Removes name)) → PublishesNothing old new
 removal_publishes name old new s = ⊎_elim (λ still. resting_publishes old new still) (λ removed. removed_publishes N name old new removed) (perhaps (Removes name) old new s)
@@ -225,8 +213,8 @@ module _ (s : Setting) (a : Host) where
   fails ReadRecord e h h' x ((still, own), ahead', read') = (resting_publishes h.run h'.run still, kept_no_more h.run h'.run own)
   fails (Create kept) e h h' x (none, ahead', read') = quiet_none h.run h'.run none
   fails (Copy kept) e h h' (x, is, stage, more) part = quiet_part s.name s.file h.run h'.run stage part
-  fails (ReadBack kept) e h h' x same = quiet_same h.run h'.run same
-  fails (Answer kept) e h h' x same = quiet_same h.run h'.run same
+  fails (ReadBack kept) e h h' x same = quiet_none h.run h'.run (inl same)
+  fails (Answer kept) e h h' x same = quiet_none h.run h'.run (inl same)
   fails (TakePermissions n) e h h' (x, judged) ((step, own), ahead', read') = quiet_works (spoiling s.name s.file h.run h'.run judged.stage step own)
   fails (Sync n) e h h' (x, judged, permissions) ((step, own), ahead', read') = quiet_works (spoiling s.name s.file h.run h'.run judged.stage step own)
   fails (CreateRecord n) e h h' x (none, ahead', read') = quiet_none h.run h'.run none
@@ -264,7 +252,7 @@ module _ (s : Setting) (a : Host) where
         let (none, own) = fails Clear e h h' (lock, mine, ahead) made in
         inr (h.run, lock, unread h.run h'.run lock none, no_more_trans a.run h.run h'.run (kept_no_more a.run h.run mine) own)
     from ReadRecord (Number n) h h' (l, lock, mine, clear, ahead) ((found, (reads, own), number), ahead', rest) =
-        let still = resting_publishes h.run h'.run (reads_still found h.run h'.run reads) in
+        let still = resting_publishes h.run h'.run (call_with reads reads.this.still) in
         let none = publishes_trans N l h.run h'.run (clearing l h.run (cleared_step l h.run clear.0)) still in (
           record {
             base = record { locked = l; lock = lock; found = found; kept = n; there = found_first found l h.run h'.run lock.held (cleared_step l h.run clear.0) reads; number = number };
@@ -349,15 +337,13 @@ module _ (s : Setting) (a : Host) where
         )
     from (Rename n) Done h h' (x, staged, recorded) (renamed, ahead', read') = (
       placed h.run h'.run n x staged recorded renamed.stepped (λ q e differs. (differs, sym (renamed.own.others q differs) ∙ e)),
-      record { before = h.run; publishes = x.publishes; staged = staged; recorded = recorded; renamed = renamed },
+      (h.run, x.publishes, staged, recorded, renamed),
     )
-    from (SyncName n) Done h h' (x, landed) ((step, own), ahead', read') =
-        let w = landed.before in
-        let staged = landed.staged in
-        let (published_so, permissions) = published s.name Place w h.run h'.run landed.renamed.stepped step s.file staged.judged.stage staged.on_disk in
+    from (SyncName n) Done h h' (x, (before, publishes, staged, recorded, renamed)) ((step, own), ahead', read') =
+        let (published_so, permissions) = published s.name Place before h.run h'.run renamed.stepped step s.file staged.judged.stage staged.on_disk in
         let y : SoFar s a All Any h'.run =
         go_on x (names_publish N h.run h'.run (directory_synced h.run h'.run step))
-        (λ q e any. let mine = sym (ap (λ o. o q) own.owns) ∙ e in (((less_let_go s.name w h.run landed.renamed.own).only q mine).0, mine)) in (
+        (λ q e any. let mine = sym (ap (λ o. o q) own.owns) ∙ e in (((less_let_go s.name before h.run renamed.own).only q mine).0, mine)) in (
           y.base.locked,
           y.base.lock,
           locked_so y,
@@ -367,13 +353,13 @@ module _ (s : Setting) (a : Host) where
             there = y.base.there;
             number = y.base.number;
             cleared = y.cleared;
-            bytes = w.now.holds s.file;
+            bytes = before.now.holds s.file;
             n = n;
             read = staged.judged.given;
             update = staged.judged.update;
-            earlier = landed.recorded.earlier;
-            recorded = w.steps;
-            number_first = landed.recorded.published;
+            earlier = recorded.earlier;
+            recorded = before.steps;
+            number_first = recorded.published;
             published = published_so;
             permissions = permissions ∙ staged.permissions;
           },

@@ -4,10 +4,7 @@ use Rattle.minisign_install.proofs.Common.{◌≡◌, inl, inr, ℕ, true, List,
 use Rattle.minisign_install.proofs.Works.{step, publishes_nothing, publishes_trans, renamed_stands, cleared_step, cleared_then, clearing, removed_publishes}
 use Rattle.minisign_install.specs.Order.{Refused}
 use Rattle.minisign_install.proofs.Installs.{found_first}
-use Rattle.minisign_install.proofs.Orders.{Found, Holds, Nothing, SoFar, at_most_record, fails, from, reached_more, stay}
-
-abbrev N : Name → List ℕ → Type 0
-N = λ _ _. ⊥
+use Rattle.minisign_install.proofs.Orders.{Found, Holds, N, Nothing, SoFar, at_most_record, fails, from, reached_more, stay}
 
 -- why the data is not installed, by what was found to be kept
 abbrev pub Unfit : Setting → Host → Host → InstallFault → Type 0
@@ -92,19 +89,19 @@ module _ (M : Type 0) (s : Setting) (a : Host) (known : a.run.known ≡ true) wh
   why (RenameRecord n) (Failed e) h h' x made blamed wants same = (call_unfit h h' e (fails s a (RenameRecord n) e h h' x made) same blamed, λ m is. absurd (wants m refl is))
   why (Rename n) (Failed e) h h' x made (writing, rose) wants same =
       let y = fails s a (Rename n) e h h' x made in ((y.base, y.cleared, inr (inr (y.publishes, rising h h' same rose, inl writing))), λ m is. absurd (wants m refl is))
-  why (SyncName n) (Failed e) h h' (x, landed) made (directory, rose) wants same =
-      let quiet = fails s a (SyncName n) e h h' (x, landed) made in
+  why (SyncName n) (Failed e) h h' (x, (before, publishes, staged, recorded, renamed)) made (directory, rose) wants same =
+      let quiet = fails s a (SyncName n) e h h' (x, (before, publishes, staged, recorded, renamed)) made in
       let y = stay s a x quiet in
-      let first = landed.renamed.stepped in
-      let judged = landed.staged.judged in
-      let renamed : HasPublishedUpdate s.accepts s.terms x.base.kept x.base.locked h.run = record {
+      let first = renamed.stepped in
+      let judged = staged.judged in
+      let reached : HasPublishedUpdate s.accepts s.terms x.base.kept x.base.locked h.run = record {
         later = [];
         call = step first.before h.run.now;
-        earlier = landed.publishes.since;
-        noted = first.noted ∙ ap (λ l. step first.before h.run.now ∷ l) landed.publishes.noted;
-        this = (landed.before.now.holds s.file, n, judged.update, renamed_stands s.name Place s.file landed.before h.run judged.stage landed.staged.on_disk first);
+        earlier = publishes.since;
+        noted = first.noted ∙ ap (λ l. step first.before h.run.now ∷ l) publishes.noted;
+        this = (before.now.holds s.file, n, judged.update, renamed_stands s.name Place s.file before h.run judged.stage staged.on_disk first);
       } in
-      ((y.base, y.cleared, inr (inr (y.publishes, rising h h' same rose, inr (directory, reached_more renamed quiet.0)))), λ m is. absurd (wants m refl is))
+      ((y.base, y.cleared, inr (inr (y.publishes, rising h h' same rose, inr (directory, reached_more reached quiet.0)))), λ m is. absurd (wants m refl is))
   why (RemoveRecord f) Done h h' x ((step, less), ahead', read') same wants unfit = more_unfit h h' f (removed_publishes N s.record_name h.run h'.run step) same unfit
   why (RemoveRecord f) (Failed e) h h' x made same wants unfit = more_unfit h h' f (fails s a (RemoveRecord f) e h h' x made).0 same unfit
   why (Remove f) Done h h' x ((step, less), ahead', read') same wants unfit = refused_so h' f (more_unfit h h' f (removed_publishes N s.name h.run h'.run step) same unfit)
