@@ -148,7 +148,7 @@ fn put_bytes<O: Sink>(out: &mut O, bytes: &[u8]) -> Result<()>
     }
 }
 
-// Passes on what was written.
+// Flushes what was written.
 fn flush<O: Sink>(out: &mut O) -> Result<()>
     ensures { MatchResult result
         (λ _. Flushes (sink_call O.Sink out.old out.new) (Ok tt))

@@ -412,7 +412,7 @@ fn write_parts<P: Sink, K: Sink>(
     write_part(sk_sink, secret)
 }
 
-// Writes a part and passes it on.
+// Writes a part and flushes it.
 fn write_part<W: Sink>(sink: &mut W, part: &[u8]) -> Result<()>
     ensures taken { OnOk result (TakesPart (sink_call W.Sink sink.old sink.new) part.now) }
     ensures failed { OnErr result (FailsAtPart (sink_call W.Sink sink.old sink.new) part.now) }
