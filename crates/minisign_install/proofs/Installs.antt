@@ -1,6 +1,6 @@
 -- What the parts of an installation bring together.
 use Rattle.minisign_install.proofs.Common.{◌≡◌, ◌≤◌, ◌<◌, ◌^◌, inl, inr, ⊎_elim, ℕ, Bool, List, Option, Some, None, ap, sym, subst, ◌∙◌, true, arith, Verifier, InstallsLocked, MayBePublished, IsKeptNumber, MayBeInstalled, MayBeRecorded, IsUpdate, NeverFalls, RecordsFirst, PublishesInOrder, Terms, Numbering, Clears, HasStepped, IsFound, RecordUnchanged, Moment, Finds, Run, Name, Place, Record, IsNumberFor, record_of, PublishesNothing, PublishesOnly, IsNumberFrom, RecordHolds}
-use Rattle.minisign_install.proofs.Works.{lasting_keeps, HasRecorded, IsKept, IsOnly, publishes_nothing, publishes_trans, publishes_weaken}
+use Rattle.minisign_install.proofs.Works.{lasting_keeps, HasRecorded, IsOnly, publishes_nothing, publishes_trans, publishes_weaken}
 use Rattle.minisign_install.proofs.RecordTexts.{record_reads, same_number}
 use Rattle.std.proofs.lemmas.Option.{none-some}
 

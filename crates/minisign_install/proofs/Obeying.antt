@@ -1,6 +1,5 @@
 -- A host that does what the header says makes a run of the law: each of its calls is one that was due.
-use Rattle.minisign_install.proofs.Common.{◌≡◌, ◌==◌, inl, inr, ◌∙◌, ◌++◌, ℕ, Bool, true, false, List, [], ◌∷◌, Some, ap, sym, subst, refl, append-nil, arith, length, if◌then◌else◌, ne_eqb, true≢false, IsFedState, State, install_number, IsAsking, IsDue, failure, numbering_of, read_outcome, wanted_by, HasBegun, HasObeyed, Obeys, TellsAnswers, TellsFailure, TellsOutcome, TellsRecord, TellsRefusal, Told, by_field, Event, HasRun, Host, Makes, Setting, IsKeptNumber, next, Due, Lock, Clear, ReadRecord, Create, Copy, ReadBack, Answer, TakePermissions, Sync, CreateRecord, WriteRecord, SyncRecord, RenameRecord, SyncRecordName, Rename, SyncName, RemoveRecord, Remove, Installed, Outcome, Done, More, Number, Failed, Numbering, Timestamp, Version, Installation}
-use Rattle.minisign_install.specs.Order.{Refused}
+use Rattle.minisign_install.proofs.Common.{◌≡◌, ◌==◌, inl, inr, ◌∙◌, ◌++◌, ℕ, Bool, true, false, List, [], ◌∷◌, Some, ap, sym, subst, refl, append-nil, arith, length, if◌then◌else◌, ne_eqb, true≢false, IsFedState, State, install_number, IsAsking, IsDue, failure, numbering_of, read_outcome, wanted_by, HasBegun, HasObeyed, Obeys, TellsAnswers, TellsFailure, TellsOutcome, TellsRecord, TellsRefusal, Told, by_field, Event, HasRun, Host, Makes, Setting, IsKeptNumber, next, Due, Lock, Clear, ReadRecord, Create, Copy, ReadBack, Answer, Outcome, Done, More, Number, Failed, Numbering, Timestamp, Version, Installation}
 use Rattle.minisign_install.proofs.Judgements.{answers_texts}
 use Rattle.minisign_install.proofs.Works.{call_with}
 

@@ -1,6 +1,6 @@
 -- Whatever outcomes come, a run that makes each call as it is due installs only updates: what stands fast at each call
 -- that is due, and that each outcome leads from there to what stands fast at the next one.
-use Rattle.minisign_install.proofs.Common.{◌≡◌, ◌≢◌, ◌⊎◌, inl, inr, ⊎_elim, ℕ, List, [], ◌∷◌, ◌++◌, true, Option, ap, sym, subst, ◌∙◌, refl, append_assoc, append-nil, Consumes-nil, Consumes-trans, Consumes-whole, Consumes, concat, IsAhead, HasInstalled, InstallsLocked, MayBePublished, IsKeptNumber, MayBeRecorded, IsUpdate, PublishesInOrder, ClearsAll, HasLocked, HasRenamed, HasStepped, IsFound, IsStill, OwnsTheSame, OwnsLess, Perhaps, Finds, Moment, Removes, Renames, Run, Name, Place, Record, Calls, CallsNothing, Event, HasRun, Host, Makes, Setting, Writes, WritesInPart, next, Due, Lock, Clear, ReadRecord, Create, Copy, ReadBack, Answer, TakePermissions, Sync, CreateRecord, WriteRecord, SyncRecord, RenameRecord, SyncRecordName, Rename, SyncName, RemoveRecord, Remove, Installed, Outcome, Done, More, Number, Failed, record_of, PublishesNothing, PublishesOnly, HasCleared, HasReached, OwnsNoMore, ⊤, InstallsOnlyUpdates}
+use Rattle.minisign_install.proofs.Common.{◌≡◌, ◌≢◌, ◌⊎◌, inl, inr, ⊎_elim, ℕ, List, [], ◌∷◌, ◌++◌, true, Option, ap, sym, subst, ◌∙◌, refl, append_assoc, append-nil, Consumes-nil, Consumes-trans, Consumes-whole, Consumes, concat, IsAhead, HasInstalled, InstallsLocked, MayBePublished, IsKeptNumber, MayBeRecorded, IsUpdate, PublishesInOrder, ClearsAll, HasLocked, HasRenamed, HasStepped, IsFound, IsStill, OwnsTheSame, OwnsLess, Perhaps, Moment, Removes, Renames, Run, Name, Place, Record, Calls, CallsNothing, Event, HasRun, Host, Makes, Setting, Writes, WritesInPart, next, Due, Lock, Clear, ReadRecord, Create, Copy, ReadBack, Answer, TakePermissions, Sync, CreateRecord, WriteRecord, SyncRecord, RenameRecord, SyncRecordName, Rename, SyncName, RemoveRecord, Remove, Installed, Outcome, Done, More, Number, Failed, record_of, PublishesNothing, PublishesOnly, HasCleared, HasReached, OwnsNoMore, ⊤, InstallsOnlyUpdates}
 use Rattle.minisign_install.specs.Order.{Refused}
 use Rattle.minisign_install.proofs.Installs.{found_first, installs, nothing_locked, places_more, places_nothing, places_record, places_update, record_brought}
 use Rattle.minisign_install.proofs.Works.{call_with, HasRecorded, HasStage, IsKept, IsOnly, WorksOn, appending, publishes_none, publishes_nothing, publishes_trans, cleared_step, cleared_then, clearing, created_publishes, created_keeps, created_stage, giving, kept_no_more, lasting, less_let_go, names_publish, names_keep, directory_synced, no_more_trans, own_none, perhaps, published, removed_publishes, renamed_publishes, renamed_keeps, resting_publishes, syncing, spoiling, works_none, works_trans}

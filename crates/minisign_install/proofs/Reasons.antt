@@ -1,6 +1,6 @@
 -- Where each failing call says why it failed, a run that is rejected says the first reason; and where memory ran out, nothing
 -- was published.
-use Rattle.minisign_install.proofs.Common.{◌≡◌, inl, inr, ℕ, true, List, [], ◌∷◌, ◌++◌, Option, ap, sym, subst, ◌∙◌, refl, ⊎_elim, Verifier, MayBePublished, MayBeRecorded, Terms, HasStepped, Run, Name, Counts, HasCleared, HasPublishedUpdate, IsDataRefusal, IsDataRefused, IsRefusal, PublishesNothing, InstallFault, IsAhead, Rose, IsBusy, IsStill, DeviceFails, Event, Explains, HasRun, Host, IsExplained, Makes, Setting, next, Due, Lock, Clear, ReadRecord, Create, Copy, ReadBack, Answer, RenameRecord, Rename, SyncName, RemoveRecord, Remove, Installed, Outcome, Done, More, Number, Failed, IsCallFault, IsLibraryFault, Place, ⊤, Named, OutOfMemory, Library, WantsNoMemory, OnlyLocked}
+use Rattle.minisign_install.proofs.Common.{◌≡◌, inl, inr, ℕ, true, List, [], ◌∷◌, Option, ap, sym, subst, ◌∙◌, refl, ⊎_elim, Verifier, MayBePublished, MayBeRecorded, Terms, HasStepped, Run, Counts, HasCleared, HasPublishedUpdate, IsDataRefusal, IsDataRefused, IsRefusal, PublishesNothing, InstallFault, IsAhead, Rose, IsBusy, IsStill, DeviceFails, Event, Explains, HasRun, Host, IsExplained, Makes, Setting, next, Due, Lock, Clear, ReadRecord, Create, Copy, ReadBack, Answer, RenameRecord, Rename, SyncName, RemoveRecord, Remove, Installed, Outcome, Done, Failed, IsCallFault, IsLibraryFault, Place, Named, OutOfMemory, Library, WantsNoMemory, OnlyLocked}
 use Rattle.minisign_install.proofs.Works.{step, publishes_nothing, publishes_trans, renamed_stands, cleared_step, cleared_then, clearing, removed_publishes}
 use Rattle.minisign_install.specs.Order.{Refused}
 use Rattle.minisign_install.proofs.Installs.{found_first}
