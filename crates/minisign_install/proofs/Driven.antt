@@ -53,24 +53,15 @@ module _ (accepts : Verifier) (terms : Terms) (first : Bool) where
         HasMade due w × Knows accepts terms due w h.read × Counted a.faults due h.faults
         × (a.run.known ≡ true → (names : Names) → AreNamed file_of w names → Holds (setting accepts terms first names) a due h × Reason ⊤ (setting accepts terms first names) a due h)
 
-    name_of : Option (Stage H) → List ℕ
-    name_of None = []
-    name_of (Some stage) = drawn_bytes stage.name
+    some_name : (made : Option (Stage H)) → (name : List ℕ) × ((file : ℕ) × IsNamed file_of made name file)
+    some_name None = ([], (0, tt))
+    some_name (Some stage) = (drawn_bytes stage.name, (file_of stage.handle, (refl, refl)))
 
-    file_at : Option (Stage H) → ℕ
-    file_at None = 0
-    file_at (Some stage) = file_of stage.handle
-
-    so_named : (made : Option (Stage H)) → IsNamed file_of made (name_of made) (file_at made)
-    unfolding name_of file_at
-    so_named None = tt
-    so_named (Some stage) = (refl, refl)
-
-    abbrev names_of : Work H → Names
-    names_of w = record { name = name_of w.stage; file = file_at w.stage; record_name = name_of w.record_stage; record_file = file_at w.record_stage }
-
-    are_named : (w : Work H) → AreNamed file_of w (names_of w)
-    are_named w = (so_named w.stage, so_named w.record_stage)
+    names_of : (w : Work H) → (names : Names) × AreNamed file_of w names
+    names_of w =
+        let (name, (file, is)) = some_name w.stage in
+        let (record_name, (record_file, record_is)) = some_name w.record_stage in
+        (record { name = name; file = file; record_name = record_name; record_file = record_file }, (is, record_is))
 
     -- the call that was due went, with what is held before and after it
     abbrev Called : Due InstallFault → Outcome InstallFault → Work H → Work H → Host → Host → Type 0
@@ -83,7 +74,7 @@ module _ (accepts : Verifier) (terms : Terms) (first : Bool) where
     drive due o old new h h' going (made, knows, went) (has, vouched, counted, holds) = (
       made,
       knows,
-      count a.faults (names_of new) due o h h' going (went (names_of new) (are_named new)).1.explained counted,
+      count a.faults (names_of new).0 due o h h' going (went (names_of new).0 (names_of new).1).1.explained counted,
       λ known names named.
           let s = setting accepts terms first names in
           let (before, so) = went names named in
@@ -101,14 +92,14 @@ module _ (accepts : Verifier) (terms : Terms) (first : Bool) where
     pub installed_runs : (w : Work H) (h : Host) → Driven Installed w h → a.run.known ≡ true
         → InstallsOnlyUpdates accepts terms first a.run h.run × ((locked : Run) × HasLocked a.run locked × HasInstalled accepts terms first a.ahead locked h.run) × OwnsNoMore a.run h.run
     installed_runs w h (has, knows, counted, holds) known =
-        let (locked, lock, so, installs, own) = (holds known (names_of w) (are_named w)).0 in
+        let (locked, lock, so, installs, own) = (holds known (names_of w).0 (names_of w).1).0 in
         (inr (locked, lock, so), (locked, lock, installs), own)
 
     pub refused_runs : (e : InstallFault) (w : Work H) (h : Host) → Driven (Refused e) w h → a.run.known ≡ true
         → InstallsOnlyUpdates accepts terms first a.run h.run × IsRefusal accepts terms first a.ahead a.faults h.faults a.run h.run e × OwnsNoMore a.run h.run × (e ≡ Library (Named OutOfMemory) → OnlyLocked a.run h.run)
     refused_runs e w h (has, knows, counted, holds) known =
-        let (refusing, (reason, spares)) = holds known (names_of w) (are_named w) in
-        (⊎_elim (λ still. inl still.0) (λ locked. inr (locked.0, locked.1, locked.2)) refusing, reason, refusing_own (setting accepts terms first (names_of w)) a h refusing, spares tt)
+        let (refusing, (reason, spares)) = holds known (names_of w).0 (names_of w).1 in
+        (⊎_elim (λ still. inl still.0) (λ locked. inr (locked.0, locked.1, locked.2)) refusing, reason, refusing_own (setting accepts terms first (names_of w).0) a h refusing, spares tt)
 
 -- what is due where the run has not ended
 pub goes_on : (due : Due InstallFault) → ¬ (due ≡ Installed) → ((e : InstallFault) → ¬ (due ≡ Refused e)) → has_ended due ≡ false

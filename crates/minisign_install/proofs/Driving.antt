@@ -28,11 +28,8 @@ pub writing_wants : Library (Named WritingFailed) ≢ Library (Named OutOfMemory
 writing_wants memory = cc
 
 record_wants : (first : Bool) (P R : Type 0) (e : InstallFault) → (IsRecordFault first e × P) ⊎ ((e ≡ Library (Named ReadingFailed)) × R) → e ≢ Library (Named OutOfMemory)
-record_wants first P R e (inl ((later, (inl is)), rest)) memory = cc
-record_wants first P R e (inl ((later, (inr (inl is))), rest)) memory = cc
-record_wants first P R e (inl ((later, (inr (inr (inl is)))), rest)) memory = cc
-record_wants first P R e (inl ((later, (inr (inr (inr is)))), rest)) memory = cc
-record_wants first P R e (inr (is, rest)) memory = cc
+record_wants first P R e why memory =
+    ⊎_elim (λ ((later, is), rest). ⊎_elim (λ is. cc) (λ is. ⊎_elim (λ is. cc) (λ is. ⊎_elim (λ is. cc) (λ is. cc) is) is) is) (λ (is, rest). cc) why
 
 -- a source and a directory that are as they were have counted no fault
 pub untouched : {A B : Type 0} (source_faults : A → ℕ) (directory_faults : B → ℕ) (random : ℕ) (u u' : A) (f f' : B) (r : Result Unit InstallFault)

@@ -1,5 +1,5 @@
 -- What the parts of an installation bring together.
-use Rattle.minisign_install.proofs.Common.{◌≡◌, ◌≤◌, ◌<◌, ◌^◌, inl, inr, ⊎_elim, ℕ, Bool, List, Option, Some, None, ap, sym, subst, ◌∙◌, true, arith, Verifier, InstallsLocked, MayBePublished, IsKeptNumber, MayBeInstalled, MayBeRecorded, IsUpdate, NeverFalls, RecordsFirst, PublishesInOrder, Terms, Numbering, Clears, HasStepped, IsFound, RecordUnchanged, Moment, Finds, Run, Name, Place, Record, IsNumberFor, record_of, PublishesNothing, PublishesOnly, IsNumberFrom, RecordHolds}
+use Rattle.minisign_install.proofs.Common.{◌≡◌, ◌≤◌, ◌<◌, ◌^◌, inl, inr, ⊎_elim, ℕ, Bool, List, Option, Some, None, ap, sym, subst, ◌∙◌, true, arith, Verifier, InstallsLocked, MayBePublished, IsKeptNumber, MayBeInstalled, MayBeRecorded, IsUpdate, NeverFalls, RecordsFirst, PublishesInOrder, Terms, Numbering, Clears, HasStepped, IsFound, Moment, Finds, Run, Name, Place, Record, IsNumberFor, record_of, PublishesNothing, PublishesOnly, IsNumberFrom, RecordHolds, MayLead}
 use Rattle.minisign_install.proofs.Works.{lasting_keeps, HasRecorded, IsOnly, publishes_nothing, publishes_trans, publishes_weaken}
 use Rattle.minisign_install.proofs.RecordTexts.{record_reads, same_number}
 use Rattle.std.proofs.lemmas.Option.{none-some}
@@ -68,21 +68,18 @@ module _ (accepts : Verifier) (terms : Terms) (kept : ℕ) where
 
 -- == The record was found when the lock was got ==
 
-found_before : (m m' : Moment) (found : Option (List ℕ)) → RecordUnchanged m m' → IsFound m' Record found → IsFound m Record found
-found_before m m' None leaves none = sym leaves.leads ∙ none
-found_before m m' (Some bytes) leaves (f, leads, holds) =
-    let there : m.leads Record ≡ Some f = sym leaves.leads ∙ leads in
-    (f, there, sym (leaves.holds f (inl there)) ∙ holds)
-
-found_cleared : (m m' : Moment) (found : Option (List ℕ)) → Clears m m' → IsFound m' Record found → IsFound m Record found
-found_cleared m m' None clears none = sym (ap (λ l. l Record) clears.leads) ∙ none
-found_cleared m m' (Some bytes) clears (f, leads, holds) = (f, sym (ap (λ l. l Record) clears.leads) ∙ leads, sym (ap (λ h. h f) clears.holds) ∙ holds)
+found_back : (m m' : Moment) (found : Option (List ℕ)) → m'.leads Record ≡ m.leads Record → ((f : ℕ) → MayLead m Record f → m'.holds f ≡ m.holds f) → IsFound m' Record found → IsFound m Record found
+found_back m m' None leads holds none = sym leads ∙ none
+found_back m m' (Some bytes) leads holds (f, led, are) =
+    let there : m.leads Record ≡ Some f = sym leads ∙ led in
+    (f, there, sym (holds f (inl there)) ∙ are)
 
 pub found_first : (found : Option (List ℕ)) (old cleared read : Run) → old.locked ≡ true → HasStepped old cleared Clears → HasStepped cleared read (Finds Record found) → IsFound old.now Record found
 found_first found old cleared read locked clear s =
-    let read_then : IsFound s.before Record found = s.this.found_there in
-    let then : IsFound cleared.now Record found = found_before cleared.now s.before found (s.others.record_left (clear.locked locked)) read_then in
-    found_before old.now clear.before found (clear.others.record_left locked) (found_cleared clear.before cleared.now found clear.this then)
+    let first = clear.others.record_left locked in
+    let then = s.others.record_left (clear.locked locked) in
+    found_back old.now clear.before found first.leads first.holds (found_back clear.before cleared.now found (ap (λ l. l Record) clear.this.leads) (λ f led. ap (λ h. h f) clear.this.holds)
+    (found_back cleared.now s.before found then.leads then.holds s.this.found_there))
 
 -- a number that was in the record is not above the one that was found there
 kept_least : (numbering : Numbering) (first : Bool) (found : Option (List ℕ)) (kept k : ℕ) (m : Moment) → IsFound m Record found → IsKeptNumber numbering first found kept → RecordHolds numbering k m → k ≤ kept
