@@ -88,11 +88,6 @@ kept_least numbering first (Some bytes) kept k m (f, leads, holds) number keeps 
     let (n, is, least) = keeps.numbers bytes (record { file = f; lead = inl leads; holds = λ kept. sym holds }) in
     number_least numbering first bytes kept k n is least number
 
-never_falls_nothing : (numbering : Numbering) (old new : Run) → old.locked ≡ true → PublishesNothing old new → NeverFalls numbering old new
-never_falls_nothing numbering old new locked none k keeps =
-    let (each, last) = none.numbers locked numbering k (λ bytes no. absurd no) keeps in
-    (none.since, none.noted, each, last)
-
 never_falls_newer : (accepts : Verifier) (terms : Terms) (first : Bool) (found : Option (List ℕ)) (kept : ℕ) (old new : Run) → old.locked ≡ true → IsFound old.now Record found → IsKeptNumber terms.numbering first found kept
     → PublishesOnly (MayBePublished accepts terms kept) old new → NeverFalls terms.numbering old new
 never_falls_newer accepts terms first found kept old new locked there number brings k keeps =
@@ -102,7 +97,10 @@ never_falls_newer accepts terms first found kept old new locked there number bri
     (brings.since, brings.noted, each, last)
 
 pub nothing_locked : (accepts : Verifier) (terms : Terms) (first : Bool) (old new : Run) → old.locked ≡ true → PublishesNothing old new → InstallsLocked accepts terms first old new
-nothing_locked accepts terms first old new locked none = record { only = inl none; never_falls = never_falls_nothing terms.numbering old new locked none }
+nothing_locked accepts terms first old new locked none = record {
+  only = inl none;
+  never_falls = λ k keeps. let (each, last) = none.numbers locked terms.numbering k (λ bytes no. absurd no) keeps in (none.since, none.noted, each, last);
+}
 
 -- what is not older than the number that was found was brought
 pub installs : (accepts : Verifier) (terms : Terms) (first : Bool) (found : Option (List ℕ)) (kept : ℕ) (old new : Run) → old.locked ≡ true → IsFound old.now Record found

@@ -3,7 +3,7 @@
 use Rattle.minisign_install.proofs.Common.{◌≡◌, ◌≢◌, ◌⊎◌, inl, inr, ⊎_elim, ℕ, List, [], ◌∷◌, ◌++◌, true, Option, ap, sym, subst, ◌∙◌, refl, append_assoc, append-nil, Consumes-nil, Consumes-trans, Consumes-whole, Consumes, concat, IsAhead, HasInstalled, InstallsLocked, MayBePublished, IsKeptNumber, MayBeRecorded, IsUpdate, PublishesInOrder, ClearsAll, HasLocked, HasRenamed, HasStepped, IsFound, IsStill, OwnsTheSame, OwnsLess, Perhaps, Moment, Removes, Renames, Run, Name, Place, Record, Calls, CallsNothing, Event, HasRun, Host, Makes, Setting, Writes, WritesInPart, next, Due, Lock, Clear, ReadRecord, Create, Copy, ReadBack, Answer, TakePermissions, Sync, CreateRecord, WriteRecord, SyncRecord, RenameRecord, SyncRecordName, Rename, SyncName, RemoveRecord, Remove, Installed, Outcome, Done, More, Number, Failed, record_of, PublishesNothing, PublishesOnly, HasCleared, HasReached, OwnsNoMore, ⊤, InstallsOnlyUpdates}
 use Rattle.minisign_install.specs.Order.{Refused}
 use Rattle.minisign_install.proofs.Installs.{found_first, installs, nothing_locked, places_more, places_nothing, places_record, places_update, record_brought}
-use Rattle.minisign_install.proofs.Works.{call_with, HasRecorded, HasStage, IsKept, IsOnly, WorksOn, appending, publishes_none, publishes_nothing, publishes_trans, cleared_step, cleared_then, clearing, created_publishes, created_keeps, created_stage, giving, kept_no_more, lasting, less_let_go, names_publish, names_keep, directory_synced, no_more_trans, own_none, perhaps, published, removed_publishes, renamed_publishes, renamed_keeps, resting_publishes, syncing, spoiling, works_none, works_trans}
+use Rattle.minisign_install.proofs.Works.{call_with, HasRecorded, HasStage, IsKept, IsOnly, WorksOn, appending, publishes_none, publishes_nothing, publishes_trans, cleared_step, cleared_then, clearing, created_publishes, created_keeps, created_stage, giving, kept_no_more, lasting, less_let_go, names_publish, names_keep, directory_synced, no_more_trans, perhaps, published, removed_publishes, renamed_publishes, renamed_keeps, resting_publishes, syncing, spoiling, works_none, works_trans}
 
 -- == What stands fast ==
 
@@ -102,7 +102,7 @@ abbrev pub IsQuiet : Run → Run → Type 0
 IsQuiet old new = PublishesNothing old new × OwnsNoMore old new
 
 quiet_none : (old new : Run) → CallsNothing old new → IsQuiet old new
-quiet_none old new (inl same) = subst (IsQuiet old) (sym same) (publishes_none N old, own_none old)
+quiet_none old new (inl same) = subst (IsQuiet old) (sym same) (publishes_none N old, record { only = λ q e. e })
 quiet_none old new (inr (still, own)) = (resting_publishes old new still, kept_no_more old new own)
 
 quiet_works : {name : List ℕ} {file : ℕ} {old new : Run} → WorksOn name file old new → IsQuiet old new
@@ -228,15 +228,15 @@ module _ (s : Setting) (a : Host) where
       ⊎_elim (λ still. at_most (stay x (resting_publishes h.run h'.run still, kept_no_more h.run h'.run own)))
       (λ done. placed h.run h'.run n x staged recorded done (λ q e of. (of, sym (ap (λ o. o q) own.owns) ∙ e))) (perhaps (Renames s.name Place) h.run h'.run step)
   fails (SyncName n) e h h' x ((step, own), ahead', read') = (names_publish N h.run h'.run step, kept_no_more h.run h'.run own)
-  fails (RemoveRecord f) e h h' x ((step, less), ahead', read') = (removal_publishes s.record_name h.run h'.run step, record { only = λ q owned. ((less_let_go s.record_name h.run h'.run less).only q owned).1 })
-  fails (Remove f) e h h' x ((step, less), ahead', read') = (removal_publishes s.name h.run h'.run step, record { only = λ q owned. ((less_let_go s.name h.run h'.run less).only q owned).1 })
+  fails (RemoveRecord f) e h h' x ((step, less), ahead', read') = (removal_publishes s.record_name h.run h'.run step, record { only = λ q owned. (less_let_go s.record_name h.run h'.run less q owned).1 })
+  fails (Remove f) e h h' x ((step, less), ahead', read') = (removal_publishes s.name h.run h'.run step, record { only = λ q owned. (less_let_go s.name h.run h'.run less q owned).1 })
   fails due e h h' x never = absurd never
 
   record_removed : (h h' : Host) → SoFar s a All (ButBoth s) h.run → PublishesNothing h.run h'.run → OwnsLess s.record_name h.run h'.run → SoFar s a All (But s) h'.run
-  record_removed h h' x none less = go_on x none (λ q e differs. let (other, mine) = (less_let_go s.record_name h.run h'.run less).only q e in ((differs, other), mine))
+  record_removed h h' x none less = go_on x none (λ q e differs. let (other, mine) = less_let_go s.record_name h.run h'.run less q e in ((differs, other), mine))
 
   removed : (h h' : Host) → SoFar s a All (But s) h.run → PublishesNothing h.run h'.run → OwnsLess s.name h.run h'.run → Refusing s a h'
-  removed h h' x none less = stopped h' (go_on {Then = Any} x none (λ q e any. (less_let_go s.name h.run h'.run less).only q e))
+  removed h h' x none less = stopped h' (go_on {Then = Any} x none (λ q e any. less_let_go s.name h.run h'.run less q e))
 
   so_safe : {P : ℕ → Name → List ℕ → Type 0} {Of : List ℕ → Type 0} {now : Run} → SoFar s a P Of now → (now ≡ a.run) ⊎ InstallsOnlyUpdates s.accepts s.terms s.first a.run now
   so_safe x = inr (inr (x.base.locked, x.base.lock, locked_so x))
@@ -327,7 +327,7 @@ module _ (s : Setting) (a : Host) where
     from (SyncRecordName n) Done h h' (x, staged, (before, stage, on_disk, renamed)) ((step, own), ahead', read') =
         let names = directory_synced h.run h'.run step in (
           go_on x (names_publish N h.run h'.run names)
-              (λ q e differs. let mine = sym (ap (λ o. o q) own.owns) ∙ e in ((differs, ((less_let_go s.record_name before h.run renamed.own).only q mine).0), mine)),
+              (λ q e differs. let mine = sym (ap (λ o. o q) own.owns) ∙ e in ((differs, (less_let_go s.record_name before h.run renamed.own q mine).0), mine)),
           staged_more staged (names_keep h.run h'.run names own s.name s.file staged.judged.stage),
           subst (λ b. HasRecorded b h'.run) stage.holds (record {
             earlier = before.steps;
@@ -343,7 +343,7 @@ module _ (s : Setting) (a : Host) where
         let (published_so, permissions) = published s.name Place before h.run h'.run renamed.stepped step s.file staged.judged.stage staged.on_disk in
         let y : SoFar s a All Any h'.run =
         go_on x (names_publish N h.run h'.run (directory_synced h.run h'.run step))
-        (λ q e any. let mine = sym (ap (λ o. o q) own.owns) ∙ e in (((less_let_go s.name before h.run renamed.own).only q mine).0, mine)) in (
+        (λ q e any. let mine = sym (ap (λ o. o q) own.owns) ∙ e in ((less_let_go s.name before h.run renamed.own q mine).0, mine)) in (
           y.base.locked,
           y.base.lock,
           locked_so y,

@@ -1,6 +1,5 @@
 -- Pieces that are written into a file, or read, one after another.
-use Rattle.minisign_install.proofs.Common.{◌≡◌, ◌+◌, ℕ, List, [], ◌∷◌, ◌++◌, true, take, drop, ap, sym, subst, ◌∙◌, append_assoc, append-nil, take-append-drop, drop-drop, concat, Run, Writes, WritesInPart}
-use Rattle.std.proofs.lemmas.List.Folds.{concat-append}
+use Rattle.minisign_install.proofs.Common.{◌≡◌, ◌+◌, ℕ, List, [], ◌∷◌, ◌++◌, true, take, drop, ap, sym, subst, ◌∙◌, append_assoc, take-append-drop, drop-drop, Run, Writes, WritesInPart}
 
 module _ (file : ℕ) where
   pub writes_both : (a b : List (List ℕ)) (old mid new : Run) → Writes file a old mid → Writes file b mid new → Writes file (a ++ b) old new
@@ -13,9 +12,6 @@ module _ (file : ℕ) where
 
   pub part_after : (pieces : List (List ℕ)) (old mid new : Run) → Writes file pieces old mid → WritesInPart file mid new → WritesInPart file old new
   part_after pieces old mid new writes (more, then, rest, last) = (pieces ++ more, then, writes_both pieces more old mid then writes rest, last)
-
-pub concat_one : (a : List (List ℕ)) (piece : List ℕ) → concat (a ++ piece ∷ []) ≡ concat a ++ piece
-concat_one a piece = concat-append a (piece ∷ []) ∙ ap (λ l. concat a ++ l) (append-nil piece)
 
 pub read_more : (at n : ℕ) (xs done front : List ℕ) → xs ≡ done ++ drop at xs → front ≡ take n (drop at xs) → xs ≡ (done ++ front) ++ drop (at + n) xs
 read_more at n xs done front so_far is =

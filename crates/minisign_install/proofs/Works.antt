@@ -25,10 +25,6 @@ pub record WorksOn (name : List ℕ) (file : ℕ) (old new : Run) : Type 0 where
   pub kept : (s : List ℕ) (f : ℕ) → HasStage old s f → f ≢ file → IsKept old new s f
   pub own : OwnsTheSame old new
 
--- no stage is the run's own that was not so before, nor this one
-pub record HasReleased (name : List ℕ) (old new : Run) : Type 0 where
-  pub only : (s : List ℕ) → new.owns s ≡ true → (s ≢ name) × (old.owns s ≡ true)
-
 -- only these bytes, at only this lasting name
 abbrev pub IsOnly : Name → List ℕ → Name → List ℕ → Type 0
 IsOnly to bytes n found = (n ≡ to) × (found ≡ bytes)
@@ -404,18 +400,14 @@ lasting name old mid new first last g stage on_disk =
 
 -- == Which stages are the run's own ==
 
-pub own_none : (r : Run) → OwnsNoMore r r
-own_none r = record { only = λ s e. e }
-
 pub kept_no_more : (old new : Run) → OwnsTheSame old new → OwnsNoMore old new
 kept_no_more old new own = record { only = λ s e. sym (ap (λ o. o s) own.owns) ∙ e }
 
 pub no_more_trans : (old mid new : Run) → OwnsNoMore old mid → OwnsNoMore mid new → OwnsNoMore old new
 no_more_trans old mid new a b = record { only = λ s e. a.only s (b.only s e) }
 
-pub less_let_go : (name : List ℕ) (old new : Run) → OwnsLess name old new → HasReleased name old new
-less_let_go name old new own = record {
-  only = λ s e.
-      let differs : s ≢ name = λ same. true≢false (sym e ∙ ap (λ t. new.owns t) same ∙ own.less) in
-      (differs, sym (own.others s differs) ∙ e);
-}
+-- no stage is the run's own that was not so before, nor this one
+pub less_let_go : (name : List ℕ) (old new : Run) → OwnsLess name old new → (s : List ℕ) → new.owns s ≡ true → (s ≢ name) × (old.owns s ≡ true)
+less_let_go name old new own s e =
+    let differs : s ≢ name = λ same. true≢false (sym e ∙ ap (λ t. new.owns t) same ∙ own.less) in
+    (differs, sym (own.others s differs) ∙ e)

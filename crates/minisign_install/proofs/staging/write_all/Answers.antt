@@ -1,5 +1,6 @@
-use Rattle.minisign_install.proofs.Common.{arith, length-drop, take-add, take, drop, refl, ap, inr, [], ◌++◌, ◌∷◌, ◌∙◌, take_rest}
-use Rattle.minisign_install.proofs.Pieces.{concat_one, part_after, writes_both, writes_told}
+use Rattle.minisign_install.proofs.Common.{arith, length-drop, take-add, take, drop, refl, ap, inr, [], ◌++◌, ◌∷◌, ◌∙◌, take_rest, append-nil, concat}
+use Rattle.std.proofs.lemmas.List.Folds.{concat-append}
+use Rattle.minisign_install.proofs.Pieces.{part_after, writes_both, writes_told}
 use Rattle.minisign_install.proofs.staging.write_all.Goals as goal
 
 pub rest-init : goal.rest-init
@@ -21,7 +22,7 @@ rest-preserved g c =
           let piece = take n (drop at xs) in (
             pieces ++ piece ∷ [],
             writes_both file pieces (piece ∷ []) _ _ _ writes (_, written, refl),
-            rw (take-add at n xs) (concat_one pieces piece ∙ ap (λ l. l ++ piece) all),
+            rw (take-add at n xs) (concat-append pieces (piece ∷ []) ∙ ap (λ l. concat pieces ++ l) (append-nil piece) ∙ ap (λ l. l ++ piece) all),
           ),
     )
 
