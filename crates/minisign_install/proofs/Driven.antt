@@ -16,7 +16,7 @@ ready s a (Refused e) h known going x = absurd (true≢false going)
 ready s a due h known going x = (x.0.publishes.known ∙ x.0.base.lock.stepped.known ∙ known, x.0.publishes.locked x.0.base.lock.held)
 
 module _ (accepts : Verifier) (terms : Terms) (first : Bool) where
-  -- What is so of any directory: no device failed so far; or the run will be refused for this fault, and why that may be.
+  -- What is so of any directory: no device failed so far; or the run will be rejected for this error, and why that may be.
   abbrev pub Counted : Counts → Due InstallFault → Counts → Type 0
   Counted before (RemoveRecord e) after = IsCause accepts terms first before after e
   Counted before (Remove e) after = IsCause accepts terms first before after e

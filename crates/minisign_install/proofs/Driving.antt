@@ -31,7 +31,7 @@ record_wants : (first : Bool) (P R : Type 0) (e : InstallFault) → (IsRecordFau
 record_wants first P R e why memory =
     ⊎_elim (λ ((later, is), rest). ⊎_elim (λ is. cc) (λ is. ⊎_elim (λ is. cc) (λ is. ⊎_elim (λ is. cc) (λ is. cc) is) is) is) (λ (is, rest). cc) why
 
--- a source and a directory that are as they were have counted no fault
+-- a source and a directory that are as they were have counted no error
 pub untouched : {A B : Type 0} (source_faults : A → ℕ) (directory_faults : B → ℕ) (random : ℕ) (u u' : A) (f f' : B) (r : Result Unit InstallFault)
     → IfErr r (λ e. ((e ≡ Library (Named OutOfMemory)) × (f' ≡ f) × (u' ≡ u)) ⊎ ((e ≡ Library (Named ReadingFailed)) × Rose (source_faults u) (source_faults u'))
     ⊎ ((e ≡ Library (Named WritingFailed)) × Rose (directory_faults f) (directory_faults f')))
@@ -107,7 +107,7 @@ module _ (accepts : Verifier) (terms : Terms) (first : Bool) {H : Type 0} (file_
       → ((names : Names) → Explains (setting accepts terms first names) due o h (after read)) → WantsNoMemory due o → Called due o old new h after
   goes due o old new h after read has knows back makes why memory = (has, (read, knows, λ names named. (back names named, record { made = makes names named; explained = why names; memory = memory })))
 
-  -- a call of the directory, which fails for this fault
+  -- a call of the directory, which fails for this error
   pub called : {D : Type 0} (due : Due InstallFault) (w : Work H) (h : Host) (after : List ℕ → Host) (read : List ℕ) (e : InstallFault) (r : Result Unit D)
       → HasMade (next due Done) w × Knows accepts terms (next due Done) w read → HasMade (next due (Failed e)) w × Knows accepts terms (next due (Failed e)) w read
       → ((names : Names) → AreNamed file_of w names → h.run.known ≡ true → MayCall due h.run

@@ -1,4 +1,4 @@
--- What the parts of an installation bring together.
+-- What the parts of an installation come to.
 use Rattle.minisign_install.proofs.Common.{◌≡◌, ◌≤◌, ◌<◌, ◌^◌, inl, inr, ⊎_elim, ℕ, Bool, List, Option, Some, None, ap, sym, subst, ◌∙◌, true, arith, Verifier, InstallsLocked, MayBePublished, IsKeptNumber, MayBeInstalled, MayBeRecorded, IsUpdate, NeverFalls, RecordsFirst, PublishesInOrder, Terms, Numbering, Clears, HasStepped, IsFound, Moment, Finds, Run, Name, Place, Record, IsNumberFor, record_of, PublishesNothing, PublishesOnly, IsNumberFrom, RecordHolds, MayLead}
 use Rattle.minisign_install.proofs.Works.{lasting_keeps, HasRecorded, IsOnly, publishes_nothing, publishes_trans, publishes_weaken}
 use Rattle.minisign_install.proofs.RecordTexts.{record_reads, same_number}
@@ -102,7 +102,7 @@ nothing_locked accepts terms first old new locked none = record {
   never_falls = λ k keeps. let (each, last) = none.numbers locked terms.numbering k (λ bytes no. absurd no) keeps in (none.since, none.noted, each, last);
 }
 
--- what is not older than the number that was found was brought
+-- what is not older than the number that was found was published
 pub installs : (accepts : Verifier) (terms : Terms) (first : Bool) (found : Option (List ℕ)) (kept : ℕ) (old new : Run) → old.locked ≡ true → IsFound old.now Record found
     → IsKeptNumber terms.numbering first found kept → PublishesInOrder accepts terms kept old new → InstallsLocked accepts terms first old new
 installs accepts terms first found kept old new locked there number places = record {

@@ -336,7 +336,7 @@ created_keeps name g old new c s f held =
           (this.only.holds f file_differs) (this.only.on_disk f file_differs) (this.only.permissions f file_differs),
     )
 
--- == A stage gets a lasting name, and the names come to the disk ==
+-- == A stage gets a lasting name, and the directory is synced ==
 
 pub names_keep : (old new : Run) → HasStepped old new MaySyncDirectory → OwnsTheSame old new → (t : List ℕ) (f : ℕ) → HasStage old t f → IsKept old new t f
 names_keep old new s own t f held =

@@ -129,7 +129,7 @@ pub record GivesPermissions (file : ℕ) (old new : Moment) : Type 0 where
   pub same : new.holds file ≡ old.holds file
   pub given : new.permissions file ≡ true
 
--- what the file holds comes to the disk, and its permissions stay
+-- the file is synced, and its permissions stay
 pub record Syncs (file : ℕ) (old new : Moment) : Type 0 where
   pub spoils : Spoils file old new
   pub same : new.holds file ≡ old.holds file
@@ -137,7 +137,7 @@ pub record Syncs (file : ℕ) (old new : Moment) : Type 0 where
   pub permissions : new.permissions file ≡ old.permissions file
 
 -- The file of a stage's name, whichever it is at this moment, gets the lasting name, in one step. Until the directory
--- is brought to the disk a crash may leave what the name led to before.
+-- is synced a crash may leave what the name led to before.
 pub record Renames (name : List ℕ) (to : Name) (old new : Moment) : Type 0 where
   pub leads : new.leads to ≡ old.stages name
   pub other_leads : (n : Name) → n ≢ to → new.leads n ≡ old.leads n
@@ -158,7 +158,7 @@ pub record MaySyncDirectory (old new : Moment) : Type 0 where
   pub permissions : new.permissions ≡ old.permissions
   pub stages : new.stages ≡ old.stages
 
--- the names come to the disk: a crash leaves them leading where they lead
+-- the directory is synced: a crash leaves them leading where they lead
 pub record SyncsDirectory (old new : Moment) : Type 0 where
   pub same : MaySyncDirectory old new
   pub synced : (n : Name) (f : ℕ) → new.left n f ≡ true → new.leads n ≡ Some f
@@ -207,7 +207,7 @@ abbrev pub IsAsked : Bool → Moment → Moment → Type 0
 IsAsked true = IsFree
 IsAsked false = IsBusy
 
--- it was done or it was not: so much is known after a fault
+-- it was done or it was not: so much is known after an error
 abbrev pub Perhaps : (Moment → Moment → Type 0) → Moment → Moment → Type 0
 Perhaps step old new = (new ≡ old) ⊎ step old new
 
@@ -248,7 +248,7 @@ pub record HasLocked (old new : Run) : Type 0 where
   pub stepped : HasStepped old new IsFree
   pub held : new.locked ≡ true
 
--- the call left the count of the directory's faults, or failed, and it rose
+-- the call left the count of the directory's errors, or failed, and it rose
 pub record HasCounted {A E : Type 0} (old new : ℕ) (answer : Result A E) : Type 0 where
   pub no_new_fault : OnOk answer (new ≡ old)
   pub fault : OnErr answer (Rose old new)

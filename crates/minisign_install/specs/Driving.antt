@@ -117,7 +117,7 @@ HasCalled accepts terms first file_of due outcome old new before after =
 abbrev pub calls_left : {E : Type 0} → Due E → ℕ
 calls_left due = 19 - due_number due
 
--- what was done, or failed for this fault, or gave this number
+-- what was done, or failed for this error, or gave this number
 abbrev pub done_or : Result Unit InstallFault → Outcome InstallFault
 done_or (Ok done) = Done
 done_or (Err e) = Failed e
@@ -126,7 +126,7 @@ abbrev pub number_or : Result ℕ InstallFault → Outcome InstallFault
 number_or (Ok n) = Number n
 number_or (Err e) = Failed e
 
--- the same of a call of the directory, which fails for this fault
+-- the same of a call of the directory, which fails for this error
 abbrev pub made_or : {D : Type 0} → Result Unit D → InstallFault → Outcome InstallFault
 made_or (Ok done) e = Done
 made_or (Err fault) e = Failed e

@@ -138,7 +138,7 @@ fn done_or(answer: Result<(), InstallFault>) -> Outcome<InstallFault>
     }
 }
 
-// The same of a call of the directory, which fails for this fault.
+// The same of a call of the directory, which fails for this error.
 fn made_or(answer: Result<(), DeviceFault>, fault: InstallFault) -> Outcome<InstallFault>
     ensures { result ≡ made_or answer fault }
 {

@@ -35,7 +35,7 @@ pub trait Directory {
     // The run so far, which says whether it is known.
     ghost run: { Self → Run };
 
-    // How many faults there were, which each directory counts, also one whose run is not known: those of all calls but
+    // How many errors there were, which each directory counts, also one whose run is not known: those of all calls but
     // `remove`. A removal that fails ends no run, and none is told of it.
     ghost directory_faults: { Self → ℕ };
 
@@ -81,7 +81,7 @@ pub trait Directory {
         ensures failed { OnErr result (read_fails ≡ true) }
         ensures read { Known (run self.now) (HasReadAt ((run self.now).now.holds (Self.Handle.file handle.now)) at buf.new result) };
 
-    /// Counts a fault of `read_at`, which leaves that to this call.
+    /// Counts an error of `read_at`, which leaves that to this call.
     fn count_fault(&mut self)
         ensures still { run self.new ≡ run self.old }
         ensures counted { read_fails ≡ true → Rose (directory_faults self.old) (directory_faults self.new) };
@@ -92,7 +92,7 @@ pub trait Directory {
         ensures given { Known (run self.old) (HasTried (λ _. GivesPermissions (Self.Handle.file handle.now)) (Spoils (Self.Handle.file handle.now)) (run self.old) (run self.new) result) }
         ensures counted { HasCounted (directory_faults self.old) (directory_faults self.new) result };
 
-    /// Brings to the disk what the stage holds.
+    /// Syncs what the stage holds: it is on the disk.
     fn sync(&mut self, handle: &Self::Handle) -> Result<(), DeviceFault>
         ensures synced { Known (run self.old) (HasTried (λ _. Syncs (Self.Handle.file handle.now)) (Spoils (Self.Handle.file handle.now)) (run self.old) (run self.new) result) }
         ensures counted { HasCounted (directory_faults self.old) (directory_faults self.new) result };
@@ -104,13 +104,13 @@ pub trait Directory {
             (λ _. HasStepped (run self.old) (run self.new) (Perhaps (Renames (drawn_bytes name.now) to)) × OwnsTheSame (run self.old) (run self.new))) }
         ensures counted { HasCounted (directory_faults self.old) (directory_faults self.new) result };
 
-    /// Brings the names to the disk.
+    /// Syncs the directory: the names are on the disk.
     fn sync_directory(&mut self) -> Result<(), DeviceFault>
         ensures synced { Known (run self.old) (HasTried (λ _. SyncsDirectory) MaySyncDirectory (run self.old) (run self.new) result) }
         ensures counted { HasCounted (directory_faults self.old) (directory_faults self.new) result };
 
     /// Removes a stage's name. Only who holds the lock may. Where that fails, the name is left to
-    /// `clear` of a later run, and no fault is counted.
+    /// `clear` of a later run, and no error is counted.
     fn remove(&mut self, name: &StageName) -> Result<(), DeviceFault>
         ensures removed { Held (run self.old) (HasRemoved (drawn_bytes name.now) (run self.old) (run self.new) result) }
         ensures uncounted { directory_faults self.new ≡ directory_faults self.old };

@@ -19,7 +19,7 @@ pub struct StageName {
 }
 
 impl StageName {
-    /// Draws a name. The only refusal is that of the random source.
+    /// Draws a name. It fails where the random source does.
     pub fn draw<Z: RandomSource>(random: &mut Z) -> Result<StageName, DeviceFault>
         ensures drawn { IfOk result (λ name. Consumes (Z.random_ahead random.old) (Z.random_ahead random.new) (drawn_bytes name)) }
         ensures no_new_fault { IfOk result (λ name. Z.random_faults random.new ≡ Z.random_faults random.old) }
