@@ -4,10 +4,9 @@
 
 pub mod files;
 pub mod installing;
-pub mod interruptions;
 pub mod troubles;
 
 pub use files::FileDirectory;
 pub use installing::install_files;
-pub use interruptions::Uninterrupted;
-pub use troubles::{Cause, Part, Trouble};
+pub use minisign_programs::interruptions::Uninterrupted;
+pub use troubles::{Part, Trouble};

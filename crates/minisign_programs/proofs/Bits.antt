@@ -1,4 +1,4 @@
--- What is kept of the rights of an older file, as a sum.
+-- What is kept of the permissions of an older file, as a sum.
 use Rattle.std.proofs.Common.{◌≡◌, ◌+◌, ◌*◌, ◌/◌, ◌%◌, ◌<◌, ◌≤◌, ℕ, bit_and, bit_or, sym, ap, ◌∙◌, arith}
 use Rattle.std.proofs.lemmas.Nat.{and_mask, and_block, and_mod, and_le_r, or_shifted}
 use Rattle.std.proofs.lemmas.Nat.Bits.{and_high}
@@ -16,8 +16,8 @@ shared_bits older others few =
     sym (ap (λ n. bit_and n (others * 8)) split) ∙ sym (ap (bit_and (older / 8 * 8 + older % 8)) shifted) ∙ block ∙ omega (arith, none, within, three)
 
 -- the bits of the owner, of the group and of all others are a sum, and those of the group are three
-pub sum_of_rights : (older : ℕ) → (bit_or (bit_or (bit_and older 448) (bit_and older (bit_and older 7 * 8 % 4294967296))) (bit_and older 7) ≡ (older / 64 % 8 * 8 + bit_and (older / 8 % 8) (older % 8)) * 8 + older % 8) × (bit_and (older / 8 % 8) (older % 8) < 8)
-sum_of_rights older =
+pub sum_of_kept : (older : ℕ) → (bit_or (bit_or (bit_and older 448) (bit_and older (bit_and older 7 * 8 % 4294967296))) (bit_and older 7) ≡ (older / 64 % 8 * 8 + bit_and (older / 8 % 8) (older % 8)) * 8 + older % 8) × (bit_and (older / 8 % 8) (older % 8) < 8)
+sum_of_kept older =
     let low = bit_and older 7 in
     let shared = bit_and (older / 8 % 8) (older % 8) in
     let few : shared ≤ older % 8 = and_le_r (older / 8 % 8) (older % 8) in

@@ -32,9 +32,9 @@ impl<R: Env> Env for UnnamedProgram<'_, R> {
 }
 
 /// The arguments, the first of which stands for the program, or none where another one is not
-/// UTF-8. Only running out of memory is refused.
+/// UTF-8. It fails only where memory runs out.
 pub fn read_arguments<R: Env + AllocGlobal>(rt: &R) -> Result<Option<Vec<String>>>
-    // Reading the arguments is refused only for running out of memory.
+    // Reading the arguments fails only where memory runs out.
     ensures { IfErr result (λ e. e ≡ Named OutOfMemory) }
 {
     let arguments = match env::args(&(UnnamedProgram(rt), rt.alloc())) {
@@ -51,7 +51,7 @@ pub fn read_arguments<R: Env + AllocGlobal>(rt: &R) -> Result<Option<Vec<String>
     Ok(Some(words))
 }
 
-/// The arguments behind the first one, which is the program. Takes no memory.
+/// The arguments behind the first one, which is the program. Does not allocate.
 pub fn behind_program(arguments: &[String]) -> &[String]
     ensures { result.now ≡ drop 1 arguments.now }
 {
@@ -61,7 +61,7 @@ pub fn behind_program(arguments: &[String]) -> &[String]
     }
 }
 
-/// The words of the arguments. Only running out of memory is refused.
+/// The words of the arguments. It fails only where memory runs out.
 pub fn words_of(alloc: Global, arguments: &[String]) -> std::result::Result<Vec<&str>, AllocError>
     ensures { IfOk result (λ v. map (λ w. w.now) v.items ≡ map (λ s. string_bytes s) arguments.now) }
 {

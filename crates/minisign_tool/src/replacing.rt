@@ -6,9 +6,9 @@ ghost use Rattle.minisign_tool.specs.Replacing.{IsWriteFault};
 
 use minisign::base::devices::sinks::{WriterSink, put_and_flush};
 use minisign::base::{NamedFault, PError, Result};
-use minisign_programs::rights::{ALL_RIGHTS, rights_after, without_group};
-use std::fs::{File, Metadata, OpenOptions, Permissions};
-use std::os::unix::fs::{MetadataExt, OpenOptionsExt, PermissionsExt, fchown};
+use minisign_programs::permissions::give_permissions;
+use std::fs::{File, Metadata, OpenOptions};
+use std::os::unix::fs::{MetadataExt, OpenOptionsExt};
 use std::random::RandomSource;
 use std::{fs, io};
 
@@ -50,16 +50,16 @@ enum Place {
 struct FilePlace {
     path: String,
     older: Option<Metadata>,
-    keeps_rights: bool,
+    keeps_permissions: bool,
 }
 
-// A new file, whole and brought to the disk, beside the path that it is to take. It is removed
+// A new file, whole and synced, beside the path that it is to take. It is removed
 // again where it is let go of before it took that.
 struct Stage {
     rt: HostRuntime,
     staged: String,
     path: String,
-    folder: Option<File>,
+    directory: Option<File>,
     is_installed: bool,
 }
 
@@ -72,7 +72,7 @@ impl Drop for Stage {
             rt: _rt,
             staged: _staged,
             path: _path,
-            folder: _folder,
+            directory: _directory,
             is_installed: _is_installed,
         } = self;
     }
@@ -88,14 +88,14 @@ impl Stage {
         Ok(())
     }
 
-    // Brings the new name to the disk, where the folder can be opened for that and knows how.
-    fn settle(&self) -> Result<()>
+    // Syncs the new name, where the directory can be opened for that and knows how.
+    fn sync(&self) -> Result<()>
         ensures { IfErr result IsWriteFault }
     {
-        let Some(folder) = &self.folder else {
+        let Some(directory) = &self.directory else {
             return Ok(());
         };
-        match folder.sync_all() {
+        match directory.sync_all() {
             Err(error) if error.kind() != io::ErrorKind::InvalidInput => Err(
                 NamedFault::WritingFailed.into(),
             ),
@@ -105,36 +105,36 @@ impl Stage {
 }
 
 /// Replaces the file that the path leads to, links followed, in one step: a new one is made beside
-/// it under a name of its own, written, brought to the disk, and renamed. It gets the rights, and
+/// it under a name of its own, written, synced, and renamed. It gets the permissions, and
 /// where that is allowed the owner and the group, of the file that was there, or else `mode`; but
 /// its group gets no right that not all others have. What is no regular file is written as it is.
 ///
-/// Where a file is refused, which is out of memory or `WritingFailed`, the older one is as it was
-/// and nothing is left beside it. Only where the folder cannot be brought to the disk the new one
+/// Where that fails, which is out of memory or `WritingFailed`, the older one is as it was
+/// and nothing is left beside it. Only where the directory cannot be synced the new one
 /// stands there already.
 pub fn replace_file(rt: &HostRuntime, contents: Contents<'_>) -> Result<()>
-    // Replacing files is refused for running out of memory or as `writing failed`.
+    // Replacing files fails as `out of memory` or `writing failed`.
     ensures { IfErr result IsWriteFault }
 {
     let place = find_place(rt, contents.path)?;
     match make_stage(rt, &place, contents)? {
         Some(mut stage) => {
             stage.install()?;
-            stage.settle()
+            stage.sync()
         }
         None => write_stream(rt, contents),
     }
 }
 
 /// Replaces the file of a public key and that of its secret key, each as `replace_file` does. Both
-/// new files are made and brought to the disk, and what is no regular file is written, before any
+/// new files are made and synced, and what is no regular file is written, before any
 /// file is replaced; the secret one is replaced last.
 ///
 /// Where both paths lead to one file it is the secret key's in the end, and its mode the one for
-/// new files, since the rights of the older file were also chosen for a public key. Two names of
+/// new files, since the permissions of the older file were also chosen for a public key. Two names of
 /// one file get a file each.
 pub fn replace_both(rt: &HostRuntime, public: Contents<'_>, secret: Contents<'_>) -> Result<()>
-    // Replacing files is refused for running out of memory or as `writing failed`.
+    // Replacing files fails as `out of memory` or `writing failed`.
     ensures { IfErr result IsWriteFault }
 {
     let (mut public_stage, mut secret_stage) = make_both(rt, public, secret)?;
@@ -147,7 +147,7 @@ pub fn replace_both(rt: &HostRuntime, public: Contents<'_>, secret: Contents<'_>
     install_both(&mut public_stage, &mut secret_stage)
 }
 
-// Makes both new files, where the places are regular files. Where that is one file, its rights are
+// Makes both new files, where the places are regular files. Where that is one file, its permissions are
 // kept for the public key alone.
 fn make_both(
     rt: &HostRuntime,
@@ -163,14 +163,14 @@ fn make_both(
     Ok((public_stage, secret_stage))
 }
 
-// Lets both stages take their paths, and then brings the new names to the disk.
+// Lets both stages take their paths, and then syncs the new names.
 fn install_both(public: &mut Option<Stage>, secret: &mut Option<Stage>) -> Result<()>
     ensures { IfErr result IsWriteFault }
 {
     install(public)?;
     install(secret)?;
-    settle(public)?;
-    settle(secret)
+    sync(public)?;
+    sync(secret)
 }
 
 // Takes the path of a stage, where there is one.
@@ -183,22 +183,22 @@ fn install(stage: &mut Option<Stage>) -> Result<()>
     }
 }
 
-// Brings the new name of a stage to the disk, where there is one.
-fn settle(stage: &Option<Stage>) -> Result<()>
+// Syncs the new name of a stage, where there is one.
+fn sync(stage: &Option<Stage>) -> Result<()>
     ensures { IfErr result IsWriteFault }
 {
     match stage {
-        Some(stage) => stage.settle(),
+        Some(stage) => stage.sync(),
         None => Ok(()),
     }
 }
 
 impl Place {
-    // The same place, where no rights are kept if the other leads to the same file.
+    // The same place, where no permissions are kept if the other leads to the same file.
     fn apart_from(self, other: &Place) -> Place {
         match self {
             Place::File(place) => Place::File(FilePlace {
-                keeps_rights: !other.leads_to(&place.older),
+                keeps_permissions: !other.leads_to(&place.older),
                 path: place.path,
                 older: place.older,
             }),
@@ -242,7 +242,7 @@ fn find_place(rt: &HostRuntime, path: &str) -> Result<Place>
         Some(path) => Place::File(FilePlace {
             path,
             older,
-            keeps_rights: true,
+            keeps_permissions: true,
         }),
         None => Place::Stream,
     })
@@ -294,23 +294,23 @@ fn make_stage(rt: &HostRuntime, place: &Place, contents: Contents<'_>) -> Result
         }
         None => contents.mode,
     };
-    let folder = fs::open(rt, folder_of(&path)).ok();
+    let directory = fs::open(rt, directory_of(&path)).ok();
     let (file, staged) = create_beside(rt, &path, mode)?;
     let stage = Stage {
         rt: *rt,
         staged,
         path,
-        folder,
+        directory,
         is_installed: false,
     };
-    if let (Some(older), true) = (&place.older, place.keeps_rights) {
-        written(take_rights(&file, older))?;
+    if place.keeps_permissions {
+        written(give_permissions(&file, &place.older, None))?;
     }
     fill(file, contents.bytes)?;
     Ok(Some(stage))
 }
 
-// Makes a file of its own name in the folder of a path.
+// Makes a file of its own name in the directory of a path.
 fn create_beside(rt: &HostRuntime, path: &str, mode: u32) -> Result<(File, String)>
     ensures { IfErr result IsWriteFault }
 {
@@ -334,25 +334,7 @@ fn create_beside(rt: &HostRuntime, path: &str, mode: u32) -> Result<(File, Strin
     Err(NamedFault::WritingFailed.into())
 }
 
-// Gives a new file the owner, the group and the rights of an older one. Where another group may not
-// be given, no group gets rights, and all others get no more than that group had.
-fn take_rights(file: &File, older: &Metadata) -> io::Result<()> {
-    let mut rights = rights_after(older.mode());
-    let made = file.metadata()?;
-    let differs = made.uid() != older.uid() || made.gid() != older.gid();
-    if differs
-        && fchown(file, Some(older.uid()), Some(older.gid())).is_err()
-        && fchown(file, None, Some(older.gid())).is_err()
-    {
-        rights = without_group(rights);
-    }
-    if made.mode() & ALL_RIGHTS == rights {
-        return Ok(());
-    }
-    file.set_permissions(Permissions::from_mode(rights))
-}
-
-// Writes all bytes and brings the file to the disk.
+// Writes all bytes and syncs the file.
 fn fill(file: File, bytes: &[u8]) -> Result<()>
     ensures { IfErr result IsWriteFault }
 {
@@ -378,7 +360,7 @@ fn write_stream(rt: &HostRuntime, contents: Contents<'_>) -> Result<()>
     }
 }
 
-// What the system returns from a call of writing: all that it refuses, except running out of
+// What the system returns from a call of writing: each error, except running out of
 // memory, is `WritingFailed`.
 fn written<T>(answer: io::Result<T>) -> Result<T>
     ensures { IfErr result IsWriteFault }
@@ -392,23 +374,23 @@ fn written<T>(answer: io::Result<T>) -> Result<T>
     }
 }
 
-// A path from the folder of another one on.
+// A path from the directory of another one on.
 fn beside(rt: &HostRuntime, path: &str, other: &str) -> Result<String>
     ensures { IfErr result IsWriteFault }
 {
     match path.rsplit_once('/') {
-        Some((folder, _)) if !other.starts_with('/') => Ok(format!(in rt.alloc();
-            "{folder}/{other}"
+        Some((directory, _)) if !other.starts_with('/') => Ok(format!(in rt.alloc();
+            "{directory}/{other}"
         )?),
         _ => Ok(String::from_str(rt.alloc(), other)?),
     }
 }
 
-// The folder that a path leads into.
-fn folder_of(path: &str) -> &str {
+// The directory that a path leads into.
+fn directory_of(path: &str) -> &str {
     match path.rsplit_once('/') {
         Some(("", _)) => "/",
-        Some((folder, _)) => folder,
+        Some((directory, _)) => directory,
         None => ".",
     }
 }

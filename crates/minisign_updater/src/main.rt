@@ -1,7 +1,7 @@
-//! The program `minisign_updater`, an example of an updater: `minisign_updater [--first] [--again] PK DATA SIG PLACE` installs
-//! the file DATA at PLACE if the texts in the files PK and SIG vouch for it. The toy scheme protects nothing. Its exit status
-//! is 255 where the update stood there already, the number of the fault, as `include/minisign.h` has it, and 1 where the
-//! arguments are others.
+//! The program `minisign_updater`, an example of an updater: `minisign_updater [--first] [--again] PK DATA SIG PLACE`
+//! installs the file DATA at PLACE if the texts in the files PK and SIG vouch for it. The toy scheme protects nothing.
+//! Its exit status is 255 where the update stood there already, the number of the error, as `include/minisign.h` has
+//! it, and 1 where the arguments are others.
 #![tactic(auto)]
 
 ghost use Rattle.std.specs.Prelude.{List, ℕ, OnOk};
@@ -25,50 +25,40 @@ use std::process::ExitCode;
 const THERE_ALREADY: u8 = 255;
 
 fn main(rt: HostRuntime) -> ExitCode {
-    let Ok(Some(arguments)) = read_arguments(&rt) else {
-        return ExitCode::FAILURE;
-    };
-    let Ok(words) = words_of(rt.alloc(), behind_program(arguments.as_slice())) else {
-        return ExitCode::FAILURE;
-    };
+    run(rt).unwrap_or(ExitCode::FAILURE)
+}
+
+// The exit status, where there are arguments as they have to be.
+fn run(rt: HostRuntime) -> Option<ExitCode> {
+    let arguments = read_arguments(&rt).ok()??;
+    let words = words_of(rt.alloc(), behind_program(arguments.as_slice())).ok()?;
     let (is_first, words) = match words.as_slice() {
         ["--first", more @ ..] => (true, more),
         words => (false, words),
     };
-    let (again, paths) = match words {
-        ["--again", paths @ ..] => (true, paths),
-        paths => (false, paths),
+    let (again, words) = match words {
+        ["--again", more @ ..] => (true, more),
+        words => (false, words),
     };
-    let [pk, data, sig, place] = paths else {
-        return ExitCode::FAILURE;
+    let [pk, data, sig, place] = words else {
+        return None;
     };
     // At a first installation all may run what is installed.
     let mode = if is_first { Some(0o755) } else { None };
-    let Some(mut directory) = FileDirectory::of_place(&rt, place, mode) else {
-        return ExitCode::FAILURE;
+    let mut directory = FileDirectory::of_place(&rt, place, mode)?;
+    let scheme = ToyScheme::new();
+    let fault = match update(&rt, &scheme, pk, data, sig, is_first, again, &mut directory) {
+        Ok(Installed::Now) => return Some(ExitCode::SUCCESS),
+        Ok(Installed::Already) => return Some(ExitCode::from(THERE_ALREADY)),
+        Err(fault) => fault,
     };
-    match update(
-        &rt,
-        &ToyScheme::new(),
-        pk,
-        data,
-        sig,
-        is_first,
-        again,
-        &mut directory,
-    ) {
-        Ok(Installed::Now) => ExitCode::SUCCESS,
-        Ok(Installed::Already) => ExitCode::from(THERE_ALREADY),
-        Err(fault) => {
-            let _ = eprintln!(rt; "error: {fault}");
-            if let Some(Trouble { part, cause }) = directory.trouble() {
-                if let Ok(path) = directory.shown(part) {
-                    let _ = eprintln!(rt; "error: {path}: {cause}");
-                }
-            }
-            ExitCode::from(fault.number() as u8)
+    let _ = eprintln!(rt; "error: {fault}");
+    if let Some(Trouble { part, error }) = directory.trouble() {
+        if let Ok(path) = directory.shown(part) {
+            let _ = eprintln!(rt; "error: {path}: {error}");
         }
     }
+    Some(ExitCode::from(fault.number() as u8))
 }
 
 // Installs the data that a file holds.
@@ -82,14 +72,14 @@ fn update<S: Scheme>(
     again: bool,
     directory: &mut FileDirectory<'_>,
 ) -> Result<Installed, InstallFault>
-    // Success only if two texts vouch for some data, and the comment that was signed with it has the name of the place, and
-    // a timestamp, and had not expired at some moment. That it is the one that the clock shows is tested.
+    // Success only if two texts vouch for some data, and the comment that was signed with it has the name of the place,
+    // and a timestamp, and had not expired at some moment. That it is the one that the clock shows is tested.
     ensures { OnOk result ((pk_text sig_text : List ℕ) × (moment : ℕ)
         × IsVouched (S.accepts scheme.now) (record { pk_text = pk_text; sig_text = sig_text; file = name_of directory.old; numbering = Timestamp; moment = moment })) }
 {
-    let pk_text = read_text(rt.alloc(), &mut ReaderSource::new(open(rt, pk)?))?;
-    let sig_text = read_text(rt.alloc(), &mut ReaderSource::new(open(rt, sig)?))?;
-    let mut update = ReaderSource::new(open(rt, data)?);
+    let pk_text = read_text(rt.alloc(), &mut open(rt, pk)?)?;
+    let sig_text = read_text(rt.alloc(), &mut open(rt, sig)?)?;
+    let mut update = open(rt, data)?;
     let wanted = Wanted {
         pk_text: pk_text.as_str(),
         sig_text: sig_text.as_str(),
@@ -102,9 +92,9 @@ fn update<S: Scheme>(
 }
 
 // Opens a file, which is read on where a signal interrupts that.
-fn open(rt: &HostRuntime, path: &str) -> Result<Uninterrupted<File>, InstallFault> {
+fn open(rt: &HostRuntime, path: &str) -> Result<ReaderSource<Uninterrupted<File>>, InstallFault> {
     match fs::open(rt, path) {
-        Ok(file) => Ok(Uninterrupted(file)),
+        Ok(file) => Ok(ReaderSource::new(Uninterrupted(file))),
         Err(_) => Err(NamedFault::ReadingFailed.into()),
     }
 }

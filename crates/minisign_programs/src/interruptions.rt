@@ -20,7 +20,7 @@ impl<R: Read + Drop> Read for Uninterrupted<R> {
 }
 
 /// Makes a call, and again each time that a signal interrupts it.
-pub(crate) fn again<T, F: FnMut() -> io::Result<T>>(mut call: F) -> io::Result<T>
+pub fn again<T, F: FnMut() -> io::Result<T>>(mut call: F) -> io::Result<T>
     requires { F.IsAlwaysCallable call }
 {
     for _ in 0..MOST_INTERRUPTIONS {
