@@ -6,8 +6,8 @@ use Rattle.minisign.specs.Acceptance.{Verifier}
 use Rattle.minisign.specs.Headline.{TextsVouchFor, verdict}
 use Rattle.minisign.specs.Texts.{IsReadOrNoMemory}
 use Rattle.minisign.proofs.ReadTexts.{read_value}
-use Rattle.minisign.proofs.Verdicts.{vouched, vouching_verdict}
-pub use Rattle.minisign.proofs.Verdicts.{judged_vouches, vouches_judged}
+use Rattle.minisign.proofs.Verdicts.{vouching_verdict}
+pub use Rattle.minisign.proofs.Verdicts.{judged_vouches, vouched, vouched_verdict, vouches_judged}
 pub use Rattle.minisign.proofs.Passes.{fails_without_output}
 pub use Rattle.minisign_base.proofs.Laws.{AppendsFront-after, AppendsFront-more}
 

@@ -17,7 +17,7 @@ some_list xs ys e = cc
 number_least : (numbering : Numbering) (first : Bool) (bytes : List ℕ) (kept k n : ℕ) → IsNumberFor numbering bytes n → k ≤ n → IsKeptNumber numbering first (Some bytes) kept → k ≤ kept
 number_least numbering first bytes kept k n is least (inl (text, same, number)) =
     omega (arith, least, same_number numbering bytes n kept is (subst (λ b. IsNumberFor numbering b kept) (some_list text bytes (sym same)) number))
-number_least numbering first bytes kept k n is least (inr (is_first, is_zero, none)) = absurd (none n is)
+number_least numbering first bytes kept k n is least (inr (is_zero, (is_first, none))) = absurd (none n is)
 
 module _ (accepts : Verifier) (terms : Terms) (kept : ℕ) where
   abbrev P : Name → List ℕ → Type 0
@@ -68,7 +68,7 @@ module _ (accepts : Verifier) (terms : Terms) (kept : ℕ) where
 
 -- == The record was found when the lock was got ==
 
-found_back : (m m' : Moment) (found : Option (List ℕ)) → m'.leads Record ≡ m.leads Record → ((f : ℕ) → MayLead m Record f → m'.holds f ≡ m.holds f) → IsFound m' Record found → IsFound m Record found
+pub found_back : (m m' : Moment) (found : Option (List ℕ)) → m'.leads Record ≡ m.leads Record → ((f : ℕ) → MayLead m Record f → m'.holds f ≡ m.holds f) → IsFound m' Record found → IsFound m Record found
 found_back m m' None leads holds none = sym leads ∙ none
 found_back m m' (Some bytes) leads holds (f, led, are) =
     let there : m.leads Record ≡ Some f = sym leads ∙ led in

@@ -1,206 +1,204 @@
--- Whether an update stands at the place already: what was found there, and what the texts say of it.
-use Rattle.std.proofs.Common.{◌≡◌, ◌≢◌, ◌⊎◌, ◌∙◌, ◌<◌, ◌==◌, inl, inr, ℕ, Bool, true, false, List, Option, Some, None, ap, sym, subst, refl, arith}
-use Rattle.std.proofs.lemmas.Bool.{eq-eqb, true≢false}
+-- Whether an update stands at the place already: what was found there, what the texts say of it, and what comes of a run
+-- that asked.
+use Rattle.std.proofs.Common.{◌≡◌, ◌≢◌, ◌⊎◌, ◌∙◌, ◌∷◌, ◌++◌, inl, inr, ⊎_elim, ℕ, Bool, true, false, List, Option, Some, None, ap, sym, subst, append_assoc}
 use Rattle.std.specs.declared.result.Result.{Result}
 use Rattle.std.specs.declared.result.Result.TheVariants.{Ok, Err}
 use Rattle.minisign_base.specs.Fault.{Fault}
-use Rattle.minisign_base.specs.declared.faults.NamedFault.TheVariants.{CommentSignatureRefused}
-use Rattle.minisign.specs.Acceptance.{Verifier, accepts_comments}
-use Rattle.minisign.specs.Calls.{TextsVouchWith}
+use Rattle.minisign.specs.Acceptance.{Verifier}
 use Rattle.minisign.specs.Headline.{verdict}
-use Rattle.minisign.specs.PublicKeyText.{read_public_key}
-use Rattle.minisign.specs.Records.{PublicKeyRecord}
-use Rattle.minisign.specs.SignatureText.{SignatureTextRecord, box_of}
-use Rattle.minisign.specs.Texts.{and_then, require}
 use Rattle.minisign.proofs.Laws.{refused_unvouched}
-use Rattle.minisign_external.specs.PublicKeys.{key_of, value_of}
-use Rattle.minisign_external.specs.Questions.{comment_verdict_under, read_under}
-use Rattle.minisign_external.specs.declared.public_keys.PublicKeyValue.{PublicKeyValue}
-use Rattle.minisign_install.specs.Checking.{IsKeptOrNone, signed_comment}
-use Rattle.minisign_install.specs.Comments.{HasNumber, IsExpiryRefused, Says, file_label, value_of as in_comment}
-use Rattle.minisign_install.specs.Directories.{Finds, HasLocked, IsStill, Known, Leads, Moment, Run}
-use Rattle.minisign_install.specs.Hosts.{Calls}
-use Rattle.minisign_install.specs.Installing.{IsVouched, Terms}
-use Rattle.minisign_install.specs.RecordTexts.{HasNoNumber, IsNumberFor}
-use Rattle.minisign_install.specs.Refusals.{Counts, IsCallFault, IsLibraryFault, IsReadingFault, counts}
-use Rattle.minisign_install.specs.There.{FindsSame, GoesOn, HasKeptNumber, InstallsFrom, InstallsUnlessThere, IsOther, IsSigned, IsVouchedFor, LooksInPart}
-use Rattle.minisign_install.specs.declared.comments.Numbering.{Numbering}
+use Rattle.minisign_install.specs.Checking.{AnswersByRecord}
+use Rattle.minisign_install.specs.Comments.{Says}
+use Rattle.minisign_install.specs.Directories.{Finds, HasLocked, HasStepped, IsFound, IsStill, Known, Leads, Moment, Run, RunStep}
+use Rattle.minisign_install.specs.Hosts.{Calls, CallsNothing}
+use Rattle.minisign_install.specs.Installing.{HasInstalled, InstallsLocked, InstallsOnlyUpdates, IsVouched, MayBePublished, MayBeRecorded, PublishesInOrder, Terms}
+use Rattle.minisign_install.specs.Refusals.{Counts, IsCallFault, IsLibraryFault, IsReadingFault, OnlyLocked, counts}
+use Rattle.minisign_install.specs.Runs.{HasCleared, PublishesNothing, PublishesOnly}
+use Rattle.minisign_install.specs.There.{FindsSame, GoesOn, InstallsFrom, InstallsUnlessThere, IsOther, IsSigned, IsThere, IsVouchedFor, LooksInPart}
+use Rattle.minisign_install.specs.declared.checking.Offer.TheVariants.{Same}
 use Rattle.minisign_install.specs.declared.faults.InstallFault.{InstallFault}
-use Rattle.minisign_install.specs.declared.faults.InstallFault.TheVariants.{NoNumber, OlderUpdate, OtherFile, SameNumber}
+use Rattle.minisign_install.specs.declared.faults.InstallFault.TheVariants.{SameNumber}
+use Rattle.minisign_install.specs.declared.directories.Name.{Name}
 use Rattle.minisign_install.specs.declared.directories.Name.TheVariants.{Place, Record}
 use Rattle.minisign_install.specs.declared.there.Installed.{Installed}
-use Rattle.minisign_install.proofs.Installs.{some_list}
-use Rattle.minisign_install.proofs.RecordTexts.{same_number}
-use Rattle.minisign_install.proofs.SignatureComments.{opened, trusted_in}
-use Rattle.minisign_install.proofs.Verdicts.{expiry_unfit, said_once}
+use Rattle.minisign_install.proofs.Installs.{found_back, installs, nothing_locked}
+use Rattle.minisign_install.proofs.Judgements.{signed_is}
+use Rattle.minisign_install.proofs.Works.{publishes_none, publishes_nothing, publishes_trans, resting_publishes}
 
--- == One comment stands in the text of a signature ==
+module _ (accepts : Verifier) (terms : Terms) where
+  -- a check answers that the number is the kept one only of a comment that the key has signed, and that says what is wanted
+  pub is_signed : (n : ℕ) (old new : Run) → AnswersByRecord accepts terms false old new (Ok (Same, n)) → IsSigned accepts terms
+  is_signed n old new (found, comment, signed, (kept, number, says, same), read) = (comment, n, signed, says)
 
-abbrev of_text : Verifier → PublicKeyValue → Result SignatureTextRecord Fault → Result (List ℕ) Fault
-of_text accepts v r = and_then r (λ t. require (accepts_comments accepts (key_of v) (box_of t)) CommentSignatureRefused (Ok t.comments.trusted))
+  -- what is vouched for at the place is then an update that was wanted
+  pub is_vouched : (m : List ℕ) → IsVouchedFor accepts terms m → IsSigned accepts terms → IsVouched accepts terms
+  is_vouched m (c, vouched) (comment, n, signed, says) =
+      (m, c, n, vouched, subst (λ t. Says t terms.file terms.numbering terms.moment n) (signed_is accepts terms m c comment vouched signed) says)
 
-abbrev of_key : Verifier → List ℕ → Result PublicKeyRecord Fault → Result (List ℕ) Fault
-of_key accepts sig_text r = and_then r (λ key. comment_verdict_under accepts (value_of key) sig_text false)
+  -- data of which the texts say no is not vouched for
+  pub unvouched : (m : List ℕ) (f : Fault) → verdict accepts terms.pk_text terms.sig_text m false ≡ Err f → ¬ (IsVouchedFor accepts terms m)
+  unvouched m f refused (c, vouched) = refused_unvouched accepts terms.pk_text terms.sig_text m false f refused vouched.vouched
 
-required : (b : Bool) (x c : List ℕ) → require b CommentSignatureRefused (Ok x) ≡ Ok c → c ≡ x
-required true x c h = cc h
-required false x c h = cc h
-
-read_so : (accepts : Verifier) (v : PublicKeyValue) (r : Result SignatureTextRecord Fault) (c : List ℕ) → of_text accepts v r ≡ Ok c
-    → (t : SignatureTextRecord) × (r ≡ Ok t) × (c ≡ t.comments.trusted)
-read_so accepts v (Ok t) c h = (t, refl, required (accepts_comments accepts (key_of v) (box_of t)) t.comments.trusted c h)
-read_so accepts v (Err e) c h = cc h
-
-keyed_so : (accepts : Verifier) (sig_text : List ℕ) (r : Result PublicKeyRecord Fault) (c : List ℕ) → of_key accepts sig_text r ≡ Ok c
-    → (v : PublicKeyValue) × (comment_verdict_under accepts v sig_text false ≡ Ok c)
-keyed_so accepts sig_text (Ok key) c h = (value_of key, h)
-keyed_so accepts sig_text (Err e) c h = cc h
-
--- the comment that the key has signed is the one that was signed with the data
-pub signed_is : (accepts : Verifier) (pk_text sig_text m c signed : List ℕ) → TextsVouchWith accepts pk_text sig_text m false c
-    → signed_comment accepts pk_text sig_text ≡ Ok signed → signed ≡ c
-signed_is accepts pk_text sig_text m c signed v is =
-    let (key, under) = keyed_so accepts sig_text (read_public_key pk_text) signed is in
-    let (t, read, told) = read_so accepts key (read_under key false sig_text) signed under in
-    told ∙ trusted_in sig_text t v.vouched.box v.comments (opened key sig_text t read).0 v.vouched.box_read v.both ∙ v.trusted
-
--- what is vouched for at the place is an update that was wanted
-pub is_vouched : (accepts : Verifier) (terms : Terms) (m comment : List ℕ) (n : ℕ) → IsVouchedFor accepts terms m → signed_comment accepts terms.pk_text terms.sig_text ≡ Ok comment
-    → Says comment terms.file terms.numbering terms.moment n → IsVouched accepts terms
-is_vouched accepts terms m comment n (c, vouched) signed says =
-    (m, c, n, vouched, subst (λ t. Says t terms.file terms.numbering terms.moment n) (signed_is accepts terms.pk_text terms.sig_text m c comment vouched signed) says)
-
--- data of which the texts say no is not vouched for
-pub unvouched : (accepts : Verifier) (terms : Terms) (m : List ℕ) (f : Fault) → verdict accepts terms.pk_text terms.sig_text m false ≡ Err f → ¬ (IsVouchedFor accepts terms m)
-unvouched accepts terms m f refused (c, vouched) = refused_unvouched accepts terms.pk_text terms.sig_text m false f refused vouched.vouched
+  -- by two calls, of which the second found this
+  pub found_same : (there : Option (List ℕ)) (n : ℕ) (old mid new : Run) → AnswersByRecord accepts terms false old mid (Ok (Same, n)) → Known mid (Calls (Finds Place there) mid new) → old.known ≡ true
+      → FindsSame accepts terms there old new
+  found_same there n old mid new (found, comment, signed, offered, read) looked known =
+      record { n = n; mid = mid; same = (found, comment, signed, offered, read); looked = looked ((read known).0.known ∙ known) }
 
 -- == What was found ==
 
+-- another thing is said of a call
+recalled : (P Q : Moment → Moment → Type 0) (old new : Run) (step : HasStepped old new P) → Q step.before new.now → HasStepped old new Q
+recalled P Q old new step says = record { before = step.before; others = step.others; this = says; noted = step.noted; known = step.known; locked = step.locked }
+
 -- the file that was found, and read, holds this
 pub found_file : (file : ℕ) (m : List ℕ) (old new : Run) → Calls (Leads Place (Some file)) old new → new.now.holds file ≡ m → Calls (Finds Place (Some m)) old new
-found_file file m old new (step, own) holds = (
-  record {
-    before = step.before;
-    others = step.others;
-    this = record { still = step.this.still; found_there = (file, step.this.leads, ap (λ (x : Moment). x.holds file) (sym step.this.still) ∙ holds) };
-    noted = step.noted;
-    known = step.known;
-    locked = step.locked;
-  },
-  own,
-)
+found_file file m old new (step, own) holds =
+    (recalled _ _ old new step (record { still = step.this.still; found_there = (file, step.this.leads, ap (λ (x : Moment). x.holds file) (sym step.this.still) ∙ holds) }), own)
 
 pub found_none : (old new : Run) → Calls (Leads Place None) old new → Calls (Finds Place None) old new
-found_none old new (step, own) = (
-  record {
-    before = step.before;
-    others = step.others;
-    this = record { still = step.this.still; found_there = step.this.leads };
-    noted = step.noted;
-    known = step.known;
-    locked = step.locked;
-  },
-  own,
-)
+found_none old new (step, own) = (recalled _ _ old new step (record { still = step.this.still; found_there = step.this.leads }), own)
 
 -- looking changes nothing
 pub leads_still : (file : Option ℕ) (old new : Run) → Calls (Leads Place file) old new → Calls IsStill old new
-leads_still file old new (step, own) =
-    (record { before = step.before; others = step.others; this = step.this.still; noted = step.noted; known = step.known; locked = step.locked }, own)
+leads_still file old new (step, own) = (recalled _ _ old new step step.this.still, own)
 
 -- nor does reading the record
 pub finds_still : (found : Option (List ℕ)) (old new : Run) → Calls (Finds Record found) old new → Calls IsStill old new
-finds_still found old new (step, own) =
-    (record { before = step.before; others = step.others; this = step.this.still; noted = step.noted; known = step.known; locked = step.locked }, own)
+finds_still found old new (step, own) = (recalled _ _ old new step step.this.still, own)
 
--- == The run goes on ==
+-- == A run that asked ==
 
-same_run : (old new : Run) → new ≡ old → new.known ≡ old.known
-same_run old new is = ap (λ (r : Run). r.known) is
+-- nothing was brought, and what the record is found to hold was there before
+record HasLooked (old new : Run) : Type 0 where
+  pub nothing : PublishesNothing old new
+  pub back : (found : Option (List ℕ)) → old.locked ≡ true → IsFound new.now Record found → IsFound old.now Record found
 
-found_known : (accepts : Verifier) (terms : Terms) (there : Option (List ℕ)) (locked mid : Run) → FindsSame accepts terms there locked mid → mid.known ≡ locked.known
-found_known accepts terms there locked mid f = f.looked.0.known ∙ f.read.0.known
+looked_none : (r : Run) → HasLooked r r
+looked_none r = record { nothing = publishes_none (λ _ _. ⊥) r; back = λ found locked there. there }
 
-found_held : (accepts : Verifier) (terms : Terms) (there : Option (List ℕ)) (locked mid : Run) → FindsSame accepts terms there locked mid → locked.locked ≡ true → mid.locked ≡ true
-found_held accepts terms there locked mid f held = f.looked.0.locked (f.read.0.locked held)
+looked_then : (old mid new : Run) → HasLooked old mid → HasLooked mid new → HasLooked old new
+looked_then old mid new a b = record {
+  nothing = publishes_trans (λ _ _. ⊥) old mid new a.nothing b.nothing;
+  back = λ found locked there. a.back found locked (b.back found (a.nothing.locked locked) there);
+}
 
--- it is known what the directory holds still, and the lock is held
-pub goes_known : (accepts : Verifier) (terms : Terms) (again : Bool) (locked mid : Run) → GoesOn accepts terms again locked mid → mid.known ≡ locked.known
-goes_known accepts terms again locked mid (inl (same, why)) = same_run locked mid same
-goes_known accepts terms again locked mid (inr (inl (found, read, other))) = read.0.known
-goes_known accepts terms again locked mid (inr (inr (inl none))) = found_known accepts terms None locked mid none
-goes_known accepts terms again locked mid (inr (inr (inr (asked, (m, found, other))))) = found_known accepts terms (Some m) locked mid found
+looked_by : (P : Moment → Moment → Type 0) (old new : Run) (step : HasStepped old new P) → new.now ≡ step.before → HasLooked old new
+looked_by P old new step still = record {
+  nothing = resting_publishes old new (recalled P IsStill old new step still);
+  back = λ found locked there.
+      let left = step.others.record_left locked in
+      found_back old.now step.before found left.leads left.holds (subst (λ m. IsFound m Record found) still there);
+}
 
-pub goes_held : (accepts : Verifier) (terms : Terms) (again : Bool) (locked mid : Run) → GoesOn accepts terms again locked mid → locked.locked ≡ true → mid.locked ≡ true
-goes_held accepts terms again locked mid (inl (same, why)) held = ap (λ (r : Run). r.locked) same ∙ held
-goes_held accepts terms again locked mid (inr (inl (found, read, other))) held = read.0.locked held
-goes_held accepts terms again locked mid (inr (inr (inl none))) held = found_held accepts terms None locked mid none held
-goes_held accepts terms again locked mid (inr (inr (inr (asked, (m, found, other))))) held = found_held accepts terms (Some m) locked mid found held
+looked_perhaps : (old new : Run) → CallsNothing old new → HasLooked old new
+looked_perhaps old new (inl same) = subst (HasLooked old) (sym same) (looked_none old)
+looked_perhaps old new (inr (step, own)) = looked_by _ old new step step.this
 
--- == The kept number ==
+looked_part : (locked new : Run) → LooksInPart locked new → HasLooked locked new
+looked_part locked new (mid, one, two) = looked_then locked mid new (looked_perhaps locked mid one) (looked_perhaps mid new two)
 
-pub one_comment : (r : Result (List ℕ) Fault) (a b : List ℕ) → r ≡ Ok a → r ≡ Ok b → a ≡ b
-one_comment r a b one other = let both = sym one ∙ other in cc both
+cleared_after : (old mid new : Run) → PublishesNothing old mid → HasCleared mid new → HasCleared old new
+cleared_after old mid new none c = record {
+  later = c.later;
+  call = c.call;
+  earlier = c.earlier ++ none.since;
+  noted = c.noted ∙ ap (λ l. c.later ++ (c.call ∷ (c.earlier ++ l))) none.noted ∙ ap (λ l. c.later ++ (c.call ∷ l)) (sym (append_assoc c.earlier none.since old.steps));
+  this = c.this;
+}
 
-module _ (comment file : List ℕ) (numbering : Numbering) (moment : ℕ) (bytes : List ℕ) where
-  kept_is : (n kept : ℕ) → IsNumberFor numbering bytes kept → IsKeptOrNone numbering false (Some bytes) (Some n) → n ≡ kept
-  kept_is n kept number (other, same, is) = same_number numbering bytes n kept (subst (λ t. IsNumberFor numbering t n) (some_list other bytes (sym same)) is) number
+-- what was published in order was so from before nothing was
+places_after : (accepts : Verifier) (terms : Terms) (kept : ℕ) (old mid new : Run) → PublishesNothing old mid → PublishesInOrder accepts terms kept mid new → PublishesInOrder accepts terms kept old new
+places_after accepts terms kept old mid new none p =
+    let before : (P : Name → List ℕ → Type 0) (to : Run) → PublishesOnly P mid to → PublishesOnly P old to = λ P to. publishes_trans P old mid to (publishes_nothing P old mid none) in
+    record {
+      publishes = before (MayBePublished accepts terms kept) new p.publishes;
+      order = ⊎_elim
+          (λ recorded. inl (before (MayBeRecorded accepts terms kept) new recorded))
+          (λ b. inr (record { n = b.n; point = b.point; recorded = before (MayBeRecorded accepts terms kept) b.point b.recorded; locked = b.locked; there = b.there; placed = b.placed; number = b.number; lasts = b.lasts }))
+          p.order;
+    }
 
-  -- the record holds no number for the field
-  pub none_kept : HasNoNumber numbering bytes → (n : ℕ) → Says comment file numbering moment n → ¬ (IsKeptOrNone numbering false (Some bytes) (Some n))
-  none_kept none n says (other, same, is) = none n (subst (λ t. IsNumberFor numbering t n) (some_list other bytes (sym same)) is)
-
-  -- it holds another one than the comment
-  pub other_kept : (number kept : ℕ) → IsNumberFor numbering bytes kept → Says comment file numbering moment number → (number == kept) ≡ false
-      → (n : ℕ) → Says comment file numbering moment n → ¬ (IsKeptOrNone numbering false (Some bytes) (Some n))
-  other_kept number kept is said differ n says held =
-      true≢false (sym (eq-eqb number kept (said_once comment file numbering moment number n said says ∙ kept_is n kept is held)) ∙ differ)
-
-  -- the comment is refused
-  pub refused_kept : (kept : ℕ) (e : InstallFault) → IsNumberFor numbering bytes kept
-      → ((e ≡ OtherFile) × (in_comment file_label comment ≢ Some file))
-      ⊎ ((e ≡ NoNumber) × (in_comment file_label comment ≡ Some file) × ((n : ℕ) → ¬ (HasNumber comment numbering n)))
-      ⊎ ((in_comment file_label comment ≡ Some file) × ((n : ℕ) × HasNumber comment numbering n) × IsExpiryRefused moment comment e)
-      ⊎ ((e ≡ OlderUpdate) × ((n : ℕ) × Says comment file numbering moment n × (n < kept)))
-      → (n : ℕ) → Says comment file numbering moment n → ¬ (IsKeptOrNone numbering false (Some bytes) (Some n))
-  refused_kept kept e is (inl (which, other)) n says held = other says.named
-  refused_kept kept e is (inr (inl (which, named, none))) n says held = none n (record { value = says.value; numbered = says.numbered; number = says.number })
-  refused_kept kept e is (inr (inr (inl (named, has, why)))) n says held = expiry_unfit comment moment e why says.unexpired
-  refused_kept kept e is (inr (inr (inr (which, (k, older, less))))) n says held =
-      omega (arith, less, said_once comment file numbering moment k n older says, kept_is n kept is held)
-
--- == What comes of the question ==
-
--- the number is the kept one, and other data was found
-pub other_found : (accepts : Verifier) (terms : Terms) (old mid new : Run) (m : List ℕ) → old.known ≡ true
-    → ((found : Option (List ℕ)) × (n : ℕ) × Calls (Finds Record found) old mid × HasKeptNumber accepts terms found n)
-    → ((f : Fault) × (verdict accepts terms.pk_text terms.sig_text m false ≡ Err f)) → (mid.known ≡ true → Calls (Finds Place (Some m)) mid new)
-    → IsOther accepts terms old new
-other_found accepts terms old mid new m known (found, n, read, same) (f, refused) looked =
-    (m, record { found = found; n = n; mid = mid; read = read; same = same; looked = looked (read.0.known ∙ known) }, unvouched accepts terms m f refused)
-
-library_fault : (r u f f' : ℕ) (e : InstallFault) → IsLibraryFault (IsReadingFault f f') e → IsLibraryFault (IsCallFault (counts r u f) (counts r u f')) e
-library_fault r u f f' e (fault, is, inl (memory, same)) = (fault, is, inl (memory, ap (λ n. counts r u n) same))
-library_fault r u f f' e (fault, is, inr (reading, rose)) = (fault, is, inr (inl (reading, inr rose)))
-
-module _ (accepts : Verifier) (terms : Terms) (first again : Bool) (ahead : Option (List ℕ)) (old locked : Run) (known : old.known ≡ true) (lock : HasLocked old locked) where
+module _ (accepts : Verifier) (terms : Terms) (first again : Bool) (old locked : Run) (known : old.known ≡ true) (lock : HasLocked old locked) where
   known_locked : locked.known ≡ true
   known_locked = lock.stepped.known ∙ known
 
-  -- the run goes on with the lock held
-  pub going : (before after : Counts) (mid new : Run) (r : Result Installed InstallFault) → (locked.known ≡ true → GoesOn accepts terms again locked mid)
-      → (mid.known ≡ true → InstallsFrom accepts terms first ahead before after mid new r)
-      → InstallsUnlessThere accepts terms first again ahead before after old new r
-  going before after mid new r goes installs =
-      let on = goes known_locked in
-      inr (inr (locked, lock, inr (inr (inr (mid, on, goes_held accepts terms again locked mid on lock.held, installs (goes_known accepts terms again locked mid on ∙ known_locked))))))
+  looked_record : (n : ℕ) (mid : Run) → AnswersByRecord accepts terms false locked mid (Ok (Same, n)) → HasLooked locked mid
+  looked_record n mid (found, comment, signed, offered, read) = let step = (read known_locked).0 in looked_by _ locked mid step step.this.still
+
+  looked_same : (there : Option (List ℕ)) (mid : Run) → FindsSame accepts terms there locked mid → HasLooked locked mid
+  looked_same there mid f = looked_then locked f.mid mid (looked_record f.n f.mid f.same) (looked_by _ f.mid mid f.looked.0 f.looked.0.this.still)
+
+  looks : (mid : Run) → GoesOn accepts terms again locked mid → HasLooked locked mid
+  looks mid (inl (same, why)) = subst (HasLooked locked) (sym same) (looked_none locked)
+  looks mid (inr (inl (answer, (found, comment, signed, offered, read), other))) = let step = (read known_locked).0 in looked_by _ locked mid step step.this.still
+  looks mid (inr (inr (inl none))) = looked_same None mid none
+  looks mid (inr (inr (inr (asked, (m, found, other))))) = looked_same (Some m) mid found
+
+  from_locked : (again new : Run) → HasLooked locked again → InstallsLocked accepts terms first again new → InstallsLocked accepts terms first locked new
+  from_locked again new l i = elim i.only [
+    | inl nothing ↦ nothing_locked accepts terms first locked new lock.held (publishes_trans (λ _ _. ⊥) locked again new l.nothing nothing)
+    | inr only ↦ installs accepts terms first only.found only.kept locked new lock.held (l.back only.found lock.held only.there) only.number (places_after accepts terms only.kept locked again new l.nothing only.places)
+  ]
+
+  -- where the run ends with looking, nothing was brought
+  ends : (new : Run) → HasLooked locked new → InstallsOnlyUpdates accepts terms first old new × OnlyLocked old new
+  ends new l = (inr (locked, lock, nothing_locked accepts terms first locked new lock.held l.nothing), (locked, lock, l.nothing))
+
+  pub ends_there : (new : Run) → Known locked (IsThere accepts terms locked new) → InstallsOnlyUpdates accepts terms first old new
+  ends_there new there = let (m, found, vouched) = there known_locked in (ends new (looked_same (Some m) new found)).0
+
+  -- or else it installs from there, with the lock held
+  module _ (mid new : Run) (goes : Known locked (GoesOn accepts terms again locked mid)) where
+    on : HasLooked locked mid
+    on = looks mid (goes known_locked)
+
+    known_on : mid.known ≡ true
+    known_on = on.nothing.known ∙ known_locked
+
+    locks_again : (again : Run) → HasLocked mid again → HasLooked locked again
+    locks_again again got = looked_then locked mid again on (looked_by _ mid again got.stepped got.stepped.this.0)
+
+    pub goes_only : Known mid (InstallsOnlyUpdates accepts terms first mid new) → InstallsOnlyUpdates accepts terms first old new
+    goes_only i = elim (i known_on) [
+      | inl still ↦ (ends new (looked_then locked mid new on (looked_by _ mid new still still.this))).0
+      | inr (again, got, i) ↦ inr (locked, lock, from_locked again new (locks_again again got) i)
+    ]
+
+    pub goes_installed : (ahead : Option (List ℕ)) → Known mid ((again : Run) × HasLocked mid again × HasInstalled accepts terms first ahead again new)
+        → (l : Run) × HasLocked old l × HasInstalled accepts terms first ahead l new
+    goes_installed ahead i =
+        let (again, got, is) = i known_on in
+        let l = locks_again again got in
+        (locked, lock, record { found = is.found; kept = is.kept; there = l.back is.found lock.held is.there; number = is.number; cleared = cleared_after locked again new l.nothing is.cleared; bytes = is.bytes; n = is.n; read = is.read; update = is.update; earlier = is.earlier; recorded = is.recorded; number_first = is.number_first; published = is.published; permissions = is.permissions })
+
+    pub goes_memory : Known mid (OnlyLocked mid new) → OnlyLocked old new
+    goes_memory i =
+        let (again, got, nothing) = i known_on in
+        (locked, lock, publishes_trans (λ _ _. ⊥) locked again new (locks_again again got).nothing nothing)
+
+    pub goes_from : (ahead : Option (List ℕ)) (r u f f' : ℕ) (after : Counts) (answer : Result Installed InstallFault) → f' ≡ f
+        → Known mid (InstallsFrom accepts terms first ahead (counts r u f') after mid new answer) → InstallsUnlessThere accepts terms first again ahead (counts r u f) after old new answer
+    goes_from ahead r u f f' after answer same i =
+        inr (inr (locked, lock, inr (inr (inr (mid, goes known_locked, on.nothing.locked lock.held, subst (λ n. InstallsFrom accepts terms first ahead (counts r u n) after mid new answer) same (i known_on))))))
 
   -- it was refused before anything was made
-  pub looking_refused : (r u f0 f f' : ℕ) (new : Run) (e : InstallFault) → f ≡ f0
-      → ((e ≡ SameNumber) × (again ≡ false) × IsSigned accepts terms × ((m : List ℕ) × ¬ (IsVouchedFor accepts terms m)) × Known locked (IsOther accepts terms locked new) × (f' ≡ f))
+  abbrev pub IsRefusedThere : ℕ → ℕ → InstallFault → Run → Type 0
+  IsRefusedThere f f' e new =
+      ((e ≡ SameNumber) × (again ≡ false) × IsSigned accepts terms × ((m : List ℕ) × ¬ (IsVouchedFor accepts terms m)) × Known locked (IsOther accepts terms locked new) × (f' ≡ f))
       ⊎ (IsLibraryFault (IsReadingFault f f') e × Known locked (LooksInPart locked new))
+
+  pub refused_ends : (f f' : ℕ) (new : Run) (e : InstallFault) → IsRefusedThere f f' e new → InstallsOnlyUpdates accepts terms first old new × OnlyLocked old new
+  refused_ends f f' new e (inl (is, unasked, signed, some, other, uncounted)) = let (m, found, not) = other known_locked in ends new (looked_same (Some m) new found)
+  refused_ends f f' new e (inr (fault, part)) = ends new (looked_part locked new (part known_locked))
+
+  library_fault : (r u f f' : ℕ) (e : InstallFault) → IsLibraryFault (IsReadingFault f f') e → IsLibraryFault (IsCallFault (counts r u f) (counts r u f')) e
+  library_fault r u f f' e (fault, is, inl (memory, same)) = (fault, is, inl (memory, ap (λ n. counts r u n) same))
+  library_fault r u f f' e (fault, is, inr (reading, rose)) = (fault, is, inr (inl (reading, inr rose)))
+
+  pub looking_refused : (ahead : Option (List ℕ)) (r u f0 f f' : ℕ) (new : Run) (e : InstallFault) → f ≡ f0 → IsRefusedThere f f' e new
       → InstallsUnlessThere accepts terms first again ahead (counts r u f0) (counts r u f') old new (Err e)
-  looking_refused r u f0 f f' new e same (inl (is, unasked, signed, some, other, uncounted)) =
+  looking_refused ahead r u f0 f f' new e same (inl (is, unasked, signed, some, other, uncounted)) =
       inr (inr (locked, lock, inr (inr (inl (unasked, other known_locked, ap (λ x. Err x) is, ap (λ n. counts r u n) (uncounted ∙ same))))))
-  looking_refused r u f0 f f' new e same (inr (fault, part)) =
+  looking_refused ahead r u f0 f f' new e same (inr (fault, part)) =
       inr (inr (locked, lock, inl (part known_locked, subst (λ n. IsLibraryFault (IsCallFault (counts r u n) (counts r u f')) e) same (library_fault r u f f' e fault))))

@@ -38,7 +38,7 @@ judged_of true true f g s t h = (refl, cc h)
 judged_of true false f g s t h = cc h
 judged_of false b f g s t h = cc h
 
-over_digest : (is : Bool) → (is || false) ≡ true → is ≡ true
+pub over_digest : (is : Bool) → (is || false) ≡ true → is ≡ true
 over_digest true h = refl
 over_digest false h = cc h
 

@@ -1,5 +1,7 @@
 -- An update is installed exactly where it can be.
-use Rattle.minisign_install.proofs.Common.{◌≡◌, ◌≢◌, inl, inr, ℕ, Bool, true, false, List, [], Option, Some, None, ap, sym, subst, ◌∙◌, refl, arith, IfErr, OnOk, Result, Ok, Err, true≢false, Named, OutOfMemory, InstallFault, Library, Verifier, TextsVouchWith, IsAhead, HasInstalled, IsKeptNumber, Terms, refused_unvouched, CommentsRecord, SignatureBoxRecord, ExpiresAt, IsExpiryRefused, IsNumberText, IsUnexpired, Says, Numbering, HasLocked, IsFound, Run, Record, CanBeInstalled, CannotBeInstalled, Counts, HasFailed, InstallsExactly, IsCallFault, IsDataRefused, IsLibraryFault, IsLockedRefusal, IsRecordRefused, IsRefusal, IsNumberFor}
+use Rattle.minisign_install.proofs.Common.{◌≡◌, ◌≢◌, inl, inr, ℕ, Bool, true, false, List, [], Option, Some, None, ap, sym, subst, ◌∙◌, refl, arith, IfErr, OnOk, Result, Ok, Err, true≢false, Named, OutOfMemory, InstallFault, Library, Verifier, TextsVouchWith, IsAhead, HasInstalled, IsKeptNumber, Terms, refused_unvouched, CommentsRecord, SignatureBoxRecord, ExpiresAt, IsExpiryRefused, IsNumberText, IsUnexpired, Says, Numbering, HasLocked, IsFound, Run, Record, CanBeInstalled, CannotBeInstalled, Counts, HasFailed, InstallsExactly, IsCallFault, IsDataRefused, IsLibraryFault, IsLockedRefusal, IsRecordRefused, IsRefusal, IsNumberFor, HasNoNumber}
+use Rattle.std.specs.Prelude.{IfSome}
+use Rattle.minisign.proofs.Laws.{vouched_verdict}
 use Rattle.minisign_install.proofs.Driving.{not_failed}
 use Rattle.minisign_install.proofs.Installs.{some_list}
 use Rattle.minisign_install.proofs.RecordTexts.{same_number}
@@ -7,28 +9,19 @@ use Rattle.minisign_install.proofs.RecordTexts.{same_number}
 no_text : (text : List ℕ) → None ≡ Some text → ⊥
 no_text text e = cc
 
-some_comments : (a b : CommentsRecord) → Some a ≡ Some b → a ≡ b
-some_comments a b e = cc
-
--- the comment that was signed stands in the text, whatever it was signed with
-same_comment : (accepts : Verifier) (pk sig m m' : List ℕ) (a b : List ℕ) → TextsVouchWith accepts pk sig m false a → TextsVouchWith accepts pk sig m' false b → a ≡ b
-same_comment accepts pk sig m m' a b u v =
-    let boxes = sym u.vouched.box_read ∙ v.vouched.box_read in
-    let box : u.vouched.box ≡ v.vouched.box = cc boxes in
-    let same = some_comments u.comments v.comments (sym u.both ∙ ap (λ (x : SignatureBoxRecord). x.comments) box ∙ v.both) in
-    sym u.trusted ∙ ap (λ k. k.trusted) same ∙ v.trusted
+-- one comment was signed with the data
+same_comment : (accepts : Verifier) (pk sig m : List ℕ) (a b : List ℕ) → TextsVouchWith accepts pk sig m false a → TextsVouchWith accepts pk sig m false b → a ≡ b
+same_comment accepts pk sig m a b u v = let both = sym (vouched_verdict accepts pk sig m false a u) ∙ vouched_verdict accepts pk sig m false b v in cc both
 
 same_kept : (numbering : Numbering) (first : Bool) (found : Option (List ℕ)) (k l : ℕ) → IsKeptNumber numbering first found k → IsKeptNumber numbering first found l → k ≡ l
 same_kept numbering first found k l (inl (bytes, there, number)) (inl (other, same, is)) =
     same_number numbering bytes k l number (subst (λ t. IsNumberFor numbering t l) (some_list other bytes (sym same ∙ there)) is)
-same_kept numbering first None k l (inl (bytes, there, number)) (inr more) = absurd (no_text bytes there)
-same_kept numbering first (Some bytes) k l (inl (other, there, number)) (inr (is, zero, none)) = absurd (none k (subst (λ t. IsNumberFor numbering t k) (some_list other bytes (sym there)) number))
-same_kept numbering first None k l (inr more) (inl (bytes, there, number)) = absurd (no_text bytes there)
-same_kept numbering first (Some bytes) k l (inr (is, zero, none)) (inl (other, there, number)) = absurd (none l (subst (λ t. IsNumberFor numbering t l) (some_list other bytes (sym there)) number))
-same_kept numbering first found k l (inr (is, zero, why)) (inr (is', zero', why')) = zero ∙ sym zero'
+same_kept numbering first found k l (inl (bytes, there, number)) (inr (zero, (is, none))) = absurd (subst (λ f. IfSome f (HasNoNumber numbering)) there none k number)
+same_kept numbering first found k l (inr (zero, (is, none))) (inl (bytes, there, number)) = absurd (subst (λ f. IfSome f (HasNoNumber numbering)) there none l number)
+same_kept numbering first found k l (inr (zero, why)) (inr (zero', why')) = zero ∙ sym zero'
 
 record_unfit : (numbering : Numbering) (first : Bool) (found : Option (List ℕ)) (kept : ℕ) (e : InstallFault) → IsRecordRefused numbering first found e → IsKeptNumber numbering first found kept → ⊥
-record_unfit numbering first found kept e (later, why) (inr (first_one, zero, number)) = true≢false (sym first_one ∙ later)
+record_unfit numbering first found kept e (later, why) (inr (zero, (first_one, number))) = true≢false (sym first_one ∙ later)
 record_unfit numbering first found kept e (later, (inl (is, none))) (inl (bytes, there, number)) = no_text bytes (sym none ∙ there)
 record_unfit numbering first found kept e (later, (inr (bytes, there, none, unfit))) (inl (other, same, number)) = none kept (subst (λ t. IsNumberFor numbering t kept) (some_list other bytes (sym same ∙ there)) number)
 
@@ -55,7 +48,7 @@ module _ (accepts : Verifier) (terms : Terms) (first : Bool) where
   data_unfit found kept message e number (inl (fault, is, refused)) (least, n, held, update) =
       refused_unvouched accepts terms.pk_text terms.sig_text message false fault refused update.vouched.vouched
   data_unfit found kept message e number (inr (comment, vouched, why)) (least, n, held, update) =
-      let same : update.comment ≡ comment = same_comment accepts terms.pk_text terms.sig_text message message update.comment comment update.vouched vouched in
+      let same : update.comment ≡ comment = same_comment accepts terms.pk_text terms.sig_text message update.comment comment update.vouched vouched in
       let says : Says comment terms.file terms.numbering terms.moment n = subst (λ t. Says t terms.file terms.numbering terms.moment n) same update.says in
       elim why [
         | inl (is, other) ↦ other says.named

@@ -1,12 +1,13 @@
 -- Whether an update is newer than what is kept, from its signature alone.
-use Rattle.std.specs.Prelude.{◌≡◌, ◌⊎◌, ◌<◌, ◌==◌, ℕ, Bool, false, true, if◌then◌else◌, nat_le, List, [], Option, Some, None, IfSome, Result, Ok, Err}
+use Rattle.std.specs.Prelude.{◌≡◌, ◌⊎◌, ◌<◌, ◌==◌, ℕ, Bool, false, true, if◌then◌else◌, nat_le, List, [], Option, Some, None, Result, Ok, Err, ⊤}
 use Rattle.std.specs.Str.{IsUtf8}
 use Rattle.minisign_install.specs.Faults.{Rose, Fault, Named, NotUtf8, OutOfMemory, ReadingFailed, InstallFault, Library}
-use Rattle.minisign_install.specs.Installing.{Verifier, Terms}
+use Rattle.minisign_install.specs.Installing.{IsKeptOrNone, Verifier, Terms}
+use Rattle.minisign.specs.Acceptance.{accepts_comments, judge_answers, judge_key}
 use Rattle.minisign.specs.PublicKeyText.{read_public_key}
+use Rattle.minisign.specs.Records.{PublicKeyRecord, SignatureRecord}
+use Rattle.minisign.specs.SignatureText.{SignatureTextRecord, box_of, read_signature}
 use Rattle.minisign.specs.Texts.{and_then}
-use Rattle.minisign_external.specs.PublicKeys.{value_of}
-use Rattle.minisign_external.specs.Questions.{comment_verdict_under}
 use Rattle.minisign_external.specs.Numbers.{misuse_number}
 use Rattle.minisign_external.specs.declared.state.Misuse.TheVariants.{BadFirstFlag, BadNumbering}
 use Rattle.minisign_install.specs.Comments.{Says, Numbering}
@@ -14,23 +15,34 @@ use Rattle.minisign_install.specs.Directories.{Finds, IsStill, Known, Run, Recor
 use Rattle.minisign_install.specs.HostNumbers.{install_number, numbering_number, offer_number}
 use Rattle.minisign_install.specs.Hosted.{wanted_by}
 use Rattle.minisign_install.specs.Hosts.{Calls}
-use Rattle.minisign_install.specs.RecordTexts.{HasNoNumber, IsNumberFor}
 use Rattle.minisign_install.specs.Refusals.{IsCommentRefused, IsRecordRefused}
 use Rattle.minisign_install.specs.declared.checking.Offer.{Offer}
 use Rattle.minisign_install.specs.declared.checking.Offer.TheVariants.{Newer, Same, Older}
 
+-- the signature is accepted for the digest, where one is given
+abbrev pub accepts_digest : Verifier → Option (List ℕ) → PublicKeyRecord → SignatureRecord → Bool
+accepts_digest accepts None key signature = true
+accepts_digest accepts (Some digest) key signature = accepts digest key.key signature.signature
+
+-- the first condition that fails of a signature over a digest under a key: the key IDs agree, and it is over a digest;
+-- it is accepted for the digest, where one is given; and the comment signature is
+abbrev pub judge_digest : Verifier → Option (List ℕ) → PublicKeyRecord → SignatureTextRecord → Result ⊤ Fault
+judge_digest accepts digest key t =
+    and_then (judge_key key t.signature false) (λ _.
+    judge_answers (accepts_digest accepts digest key t.signature) (accepts_comments accepts key (box_of t)))
+
+-- the same of the two texts: the trusted comment, or the first case that fails
+abbrev pub digest_verdict : Verifier → Terms → Option (List ℕ) → Result (List ℕ) Fault
+digest_verdict accepts terms digest =
+    and_then (read_public_key terms.pk_text) (λ key.
+    and_then (read_signature terms.sig_text) (λ t.
+    and_then (judge_digest accepts digest key t) (λ _.
+    Ok t.comments.trusted)))
+
 -- The trusted comment of the signature's text, where the key has signed it together with the signature, which is not
 -- over the data itself; or the first case that fails. Nothing is said of any data.
-abbrev pub signed_comment : Verifier → List ℕ → List ℕ → Result (List ℕ) Fault
-signed_comment accepts pk_text sig_text =
-    and_then (read_public_key pk_text) (λ key.
-    comment_verdict_under accepts (value_of key) sig_text false)
-
--- the number that the record holds for the field; where it holds none, there is none, if this is the first installation
-abbrev pub IsKeptOrNone : Numbering → Bool → Option (List ℕ) → Option ℕ → Type 0
-IsKeptOrNone numbering first found (Some kept) =
-    (bytes : List ℕ) × (found ≡ Some bytes) × IsNumberFor numbering bytes kept
-IsKeptOrNone numbering first found None = (first ≡ true) × IfSome found (HasNoNumber numbering)
+abbrev pub signed_comment : Verifier → Terms → Result (List ℕ) Fault
+signed_comment accepts terms = digest_verdict accepts terms None
 
 -- what an update of this number is beside the kept number; where none is kept, it is newer
 abbrev pub offer_beside : Option ℕ → ℕ → Offer
@@ -48,19 +60,23 @@ IsOffered terms first found comment (Err e) =
     IsRecordRefused terms.numbering first found e
     ⊎ ((kept : Option ℕ) × IsKeptOrNone terms.numbering first found kept × IsCommentRefused terms 0 comment e)
 
--- How a check ends. Memory runs out, or the texts are refused, before anything is asked of the directory. Otherwise the
--- record was read, by one call that changed nothing, and the answer is the one by what it was found to hold; or reading
--- it failed.
+-- by one call, which changed nothing, the record was read; and this is answered of the comment that the key has signed
+-- by what it was found to hold
+abbrev pub AnswersByRecord : Verifier → Terms → Bool → Run → Run → Result (Offer × ℕ) InstallFault → Type 0
+AnswersByRecord accepts terms first old new r =
+    (found : Option (List ℕ)) × (comment : List ℕ) × (signed_comment accepts terms ≡ Ok comment)
+    × IsOffered terms first found comment r × Known old (Calls (Finds Record found) old new)
+
+-- How a check ends. Memory runs out, or the texts are rejected, before anything is asked of the directory. Otherwise
+-- the answer is the one by the record; or reading it failed.
 abbrev pub ChecksSo : Verifier → Terms → Bool → ℕ → ℕ → Run → Run → Result (Offer × ℕ) InstallFault → Type 0
 ChecksSo accepts terms first before after old new r =
     ((r ≡ Err (Library (Named OutOfMemory))) × (new ≡ old) × (after ≡ before))
-    ⊎ ((fault : Fault) × (signed_comment accepts terms.pk_text terms.sig_text ≡ Err fault) × (r ≡ Err (Library fault))
-    × (new ≡ old) × (after ≡ before))
-    ⊎ ((found : Option (List ℕ)) × (comment : List ℕ)
-    × (signed_comment accepts terms.pk_text terms.sig_text ≡ Ok comment)
-    × IsOffered terms first found comment r × Known old (Calls (Finds Record found) old new) × (after ≡ before))
-    ⊎ ((comment : List ℕ) × (signed_comment accepts terms.pk_text terms.sig_text ≡ Ok comment)
-    × (r ≡ Err (Library (Named ReadingFailed))) × Known old (Calls IsStill old new) × Rose before after)
+    ⊎ ((fault : Fault) × (signed_comment accepts terms ≡ Err fault) × (r ≡ Err (Library fault)) × (new ≡ old)
+    × (after ≡ before))
+    ⊎ (AnswersByRecord accepts terms first old new r × (after ≡ before))
+    ⊎ ((comment : List ℕ) × (signed_comment accepts terms ≡ Ok comment) × (r ≡ Err (Library (Named ReadingFailed)))
+    × Known old (Calls IsStill old new) × Rose before after)
 
 -- the same of a signed comment that is handed in, and that was vouched for: it or the name is not UTF-8, or it is
 -- answered as above

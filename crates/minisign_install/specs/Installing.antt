@@ -1,5 +1,5 @@
 -- What installing an update may bring to the place and to the record beside it.
-use Rattle.std.specs.Prelude.{◌≡◌, ◌⊎◌, ℕ, ◌≤◌, Bool, true, false, List, ◌++◌, All, Option, Some, IfSome}
+use Rattle.std.specs.Prelude.{◌≡◌, ◌⊎◌, ℕ, ◌≤◌, Bool, true, false, List, ◌++◌, All, Option, Some, None, IfSome}
 pub use Rattle.minisign.specs.Acceptance.{Verifier}
 pub use Rattle.minisign.specs.Calls.{TextsVouchWith}
 use Rattle.minisign_install.specs.Comments.{Says, Numbering}
@@ -50,11 +50,16 @@ MayBeRecorded accepts terms kept name bytes = (name ≡ Record) × MayBePublishe
 abbrev pub MayBeInstalled : Verifier → Terms → ℕ → ℕ → Name → List ℕ → Type 0
 MayBeInstalled accepts terms kept n name bytes = (name ≡ Place) × IsUpdate accepts terms kept bytes n
 
--- the number that the record holds for the field; where it holds none, that is 0 if this is the first installation
+-- the number that the record holds for the field; where it holds none, there is none, if this is the first installation
+abbrev pub IsKeptOrNone : Numbering → Bool → Option (List ℕ) → Option ℕ → Type 0
+IsKeptOrNone numbering first found (Some kept) =
+    (bytes : List ℕ) × (found ≡ Some bytes) × IsNumberFor numbering bytes kept
+IsKeptOrNone numbering first found None = (first ≡ true) × IfSome found (HasNoNumber numbering)
+
+-- the same with 0 for none
 abbrev pub IsKeptNumber : Numbering → Bool → Option (List ℕ) → ℕ → Type 0
 IsKeptNumber numbering first found kept =
-    ((bytes : List ℕ) × (found ≡ Some bytes) × IsNumberFor numbering bytes kept)
-    ⊎ ((first ≡ true) × (kept ≡ 0) × IfSome found (HasNoNumber numbering))
+    IsKeptOrNone numbering first found (Some kept) ⊎ ((kept ≡ 0) × IsKeptOrNone numbering first found None)
 
 -- The number goes first. Up to some point of the run nothing was brought to the place. From there on only updates of
 -- one number are, while the record has that number or a greater one, at each moment and after a crash at any.

@@ -1,44 +1,35 @@
 -- Whether an update stands at the place already, which is asked with the lock held, before anything is made.
-use Rattle.std.specs.Prelude.{◌≡◌, ◌⊎◌, ℕ, Bool, true, false, List, Option, Some, None, Ok, Err, IfOk, IfErr, IsErrAnd}
+use Rattle.std.specs.Prelude.{◌≡◌, ◌≢◌, ◌⊎◌, ℕ, Bool, true, false, List, Option, Some, None, Ok, Err, IfOk, IfErr, IsErrAnd}
 use Rattle.std.specs.declared.result.Result.{Result}
-use Rattle.minisign_base.specs.Fault.{Fault, Named}
-use Rattle.minisign_base.specs.declared.faults.NamedFault.TheVariants.{OutOfMemory}
+use Rattle.minisign_base.specs.Fault.{Fault}
 use Rattle.minisign.specs.Acceptance.{Verifier}
 use Rattle.minisign.specs.Calls.{TextsVouchWith}
-use Rattle.minisign_install.specs.Checking.{IsKeptOrNone, signed_comment}
+use Rattle.minisign_install.specs.Checking.{AnswersByRecord, signed_comment}
 use Rattle.minisign_install.specs.Comments.{Says}
 use Rattle.minisign_install.specs.Directories.{Finds, HasLocked, HasStepped, IsBusy, IsStill, Run}
 use Rattle.minisign_install.specs.Hosts.{Calls, CallsNothing}
-use Rattle.minisign_install.specs.Installing.{HasInstalled, InstallsOnlyUpdates, Terms}
-use Rattle.minisign_install.specs.Refusals.{Counts, InstallsExactly, IsCallFault, IsCause, IsLibraryFault, IsRefusal, OnlyLocked}
+use Rattle.minisign_install.specs.Installing.{Terms}
+use Rattle.minisign_install.specs.Refusals.{Counts, InstallsExactly, IsCallFault, IsCause, IsLibraryFault, IsRefusal}
 use Rattle.minisign_install.specs.Runs.{OwnsNoMore}
+use Rattle.minisign_install.specs.declared.checking.Offer.{Offer}
+use Rattle.minisign_install.specs.declared.checking.Offer.TheVariants.{Same}
 use Rattle.minisign_install.specs.declared.faults.InstallFault.{InstallFault}
-use Rattle.minisign_install.specs.declared.faults.InstallFault.TheVariants.{Library, PlaceInUse, SameNumber}
-use Rattle.minisign_install.specs.declared.directories.Name.TheVariants.{Place, Record}
+use Rattle.minisign_install.specs.declared.faults.InstallFault.TheVariants.{PlaceInUse, SameNumber}
+use Rattle.minisign_install.specs.declared.directories.Name.TheVariants.{Place}
 use Rattle.minisign_install.specs.declared.there.Installed.{Installed}
 use Rattle.minisign_install.specs.declared.there.Installed.TheVariants.{Already, Now}
-
--- The number of the update is the kept one: the key has signed the comment, which names the file, has not expired, and
--- has the number that the record was found to hold for the field.
-pub record HasKeptNumber (accepts : Verifier) (terms : Terms) (found : Option (List ℕ)) (n : ℕ) : Type 0 where
-  pub comment : List ℕ
-  pub signed : signed_comment accepts terms.pk_text terms.sig_text ≡ Ok comment
-  pub says : Says comment terms.file terms.numbering terms.moment n
-  pub kept : IsKeptOrNone terms.numbering false found (Some n)
 
 -- the texts vouch for this data, not as a legacy signature would
 abbrev pub IsVouchedFor : Verifier → Terms → List ℕ → Type 0
 IsVouchedFor accepts terms message =
     (comment : List ℕ) × TextsVouchWith accepts terms.pk_text terms.sig_text message false comment
 
--- By two calls that changed nothing the record was found to hold the update's own number, and this was found at the
--- place.
+-- By two calls that changed nothing the update was found to have the number that the record holds, as a check answers
+-- (`IsOffered`), and this was found at the place.
 pub record FindsSame (accepts : Verifier) (terms : Terms) (there : Option (List ℕ)) (locked new : Run) : Type 0 where
-  pub found : Option (List ℕ)
   pub n : ℕ
   pub mid : Run
-  pub read : Calls (Finds Record found) locked mid
-  pub same : HasKeptNumber accepts terms found n
+  pub same : AnswersByRecord accepts terms false locked mid (Ok (Same, n))
   pub looked : Calls (Finds Place there) mid new
 
 -- the number is the kept one, and the texts vouch for the data that was found at the place
@@ -51,31 +42,35 @@ abbrev pub IsOther : Verifier → Terms → Run → Run → Type 0
 IsOther accepts terms locked new =
     (message : List ℕ) × FindsSame accepts terms (Some message) locked new × ¬ (IsVouchedFor accepts terms message)
 
--- Why the run goes on, and by which calls that changed nothing this was found: the key has not signed the comment, for
--- which no call was made; or the number of the update is not the kept one; or it is, and no file stands at the place;
--- or other data does, and it was asked for.
+-- a check of the update, which is one call that changed nothing, answers otherwise
+abbrev pub FindsAnother : Verifier → Terms → Run → Run → Type 0
+FindsAnother accepts terms locked mid =
+    (answer : Result (Offer × ℕ) InstallFault) × AnswersByRecord accepts terms false locked mid answer
+    × ((n : ℕ) → answer ≢ Ok (Same, n))
+
+-- the key has not signed the comment, for which no call was made
+abbrev pub IsUnsigned : Verifier → Terms → Run → Run → Type 0
+IsUnsigned accepts terms locked mid = (mid ≡ locked) × ((fault : Fault) × (signed_comment accepts terms ≡ Err fault))
+
+-- Why the run goes on, and by which calls that changed nothing this was found: the key has not signed the comment; or
+-- the number of the update is not the kept one; or it is, and no file stands at the place; or other data does, and it
+-- was asked for.
 abbrev pub GoesOn : Verifier → Terms → Bool → Run → Run → Type 0
 GoesOn accepts terms again locked mid =
-    ((mid ≡ locked) × ((fault : Fault) × (signed_comment accepts terms.pk_text terms.sig_text ≡ Err fault)))
-    ⊎ ((found : Option (List ℕ)) × Calls (Finds Record found) locked mid
-    × ((n : ℕ) → ¬ (HasKeptNumber accepts terms found n)))
-    ⊎ FindsSame accepts terms None locked mid
-    ⊎ ((again ≡ true) × IsOther accepts terms locked mid)
+    IsUnsigned accepts terms locked mid ⊎ FindsAnother accepts terms locked mid
+    ⊎ FindsSame accepts terms None locked mid ⊎ ((again ≡ true) × IsOther accepts terms locked mid)
 
 -- two calls at most, which changed nothing
 abbrev pub LooksInPart : Run → Run → Type 0
 LooksInPart locked new = (mid : Run) × CallsNothing locked mid × CallsNothing mid new
 
--- what `install_update` promises of a run, from where it began
+-- how a run installs, from where it began: what `install_update` promises of it
 pub record InstallsFrom (accepts : Verifier) (terms : Terms) (first : Bool) (ahead : Option (List ℕ))
     (before after : Counts) (old new : Run) (r : Result Installed InstallFault) : Type 0 where
-  pub only : InstallsOnlyUpdates accepts terms first old new
-  pub installed : IfOk r (λ which. (which ≡ Now) × ((locked : Run) × HasLocked old locked
-      × HasInstalled accepts terms first ahead locked new))
+  pub now : IfOk r (λ which. which ≡ Now)
   pub refused : IfErr r (λ e. IsRefusal accepts terms first ahead before after old new e)
   pub exact : InstallsExactly accepts terms first ahead before after old new r
   pub lets_go : OwnsNoMore old new
-  pub memory : IfErr r (λ e. e ≡ Library (Named OutOfMemory) → OnlyLocked old new)
 
 -- How a run goes that holds the lock. A device failed, or memory ran out, before anything was made. Or the update is
 -- there already, and that is said, or other data of its number is, which is refused where it was not asked for: no call
@@ -104,7 +99,7 @@ InstallsUnlessThere accepts terms first again ahead before after old new r =
 -- the key has signed a comment that names the file, has not expired, and has a number
 abbrev pub IsSigned : Verifier → Terms → Type 0
 IsSigned accepts terms =
-    (comment : List ℕ) × (n : ℕ) × (signed_comment accepts terms.pk_text terms.sig_text ≡ Ok comment)
+    (comment : List ℕ) × (n : ℕ) × (signed_comment accepts terms ≡ Ok comment)
     × Says comment terms.file terms.numbering terms.moment n
 
 -- why an installation is refused, unless the update is there already: as any is; or the number of an update whose

@@ -1,26 +1,25 @@
 //! Whether an update is newer than what is kept, from its signature alone: before its data is there. Nothing is
 //! written, and no lock is taken.
 
-ghost use Rattle.std.specs.Prelude.{◌≡◌, ◌⊎◌, ◌≤◌, ℕ, [], List, Option, Ok, Err, false, option_map, IfErr, IfOk, MatchResult, length, take};
+ghost use Rattle.std.specs.Prelude.{◌≡◌, ◌⊎◌, ℕ, [], List, Option, Ok, Err, option_map, IfErr, IfOk, OnErr, OnOk, MatchResult};
 ghost use Rattle.std.specs.Str.{IsUtf8};
-ghost use Rattle.minisign_install.specs.Faults.{Fault, Named, OutOfMemory, Library};
-ghost use Rattle.minisign_install.specs.Installing.{Verifier, terms_of};
-ghost use Rattle.minisign_install.specs.Checking.{ChecksSo, CommentChecksSo, IsKeptOrNone, IsOffered, offer_beside, signed_comment};
+ghost use Rattle.minisign_install.specs.Checking.{ChecksSo, CommentChecksSo, IsOffered, offer_beside, signed_comment};
+ghost use Rattle.minisign_install.specs.Faults.{Rose, Named, OutOfMemory, Library};
+ghost use Rattle.minisign_install.specs.Directories.{Finds, IsStill, Known};
 ghost use Rattle.minisign_install.specs.Hosted.{wanted_by};
-ghost use Rattle.minisign_install.specs.Refusals.{IsRecordFault, IsRecordRefused};
+ghost use Rattle.minisign_install.specs.Hosts.{Calls};
+ghost use Rattle.minisign_install.specs.Installing.{terms_of};
+ghost use Rattle.minisign_install.specs.declared.directories.Name.TheVariants.{Record};
 
 use crate::comments::{Numbering, check_comment};
 use crate::directories::Directory;
 use crate::faults::InstallFault;
-use crate::judging::fault_of;
-use crate::recording::{number_for, unfit};
-use crate::staging::zeros;
+use crate::judging::signed_comment;
+use crate::recording::kept_in;
 use crate::wanted::Wanted;
-use minisign::PError;
 use minisign_base::NamedFault;
+use minisign_base::devices::DeviceFault;
 use minisign_base::scheme::Scheme;
-use minisign_external::public_keys::{PublicKeyValue, tell_public_key};
-use minisign_external::state::{Questions, State};
 use std::alloc::Global;
 
 /// What an update is beside the one whose number is kept.
@@ -58,27 +57,31 @@ pub fn check_update<S: Scheme, F: Directory>(
     // with nothing asked, or reading the record fail, which is counted.
     ensures outcome { ChecksSo (S.accepts scheme.now) (terms_of wanted.entry) is_first (F.directory_faults directory.old) (F.directory_faults directory.new) (F.run directory.old) (F.run directory.new) result }
 {
-    match comment_of(alloc, scheme, wanted.pk_text, wanted.sig_text) {
-        Ok(comment) => match directory.read_record(alloc) {
-            Ok(Some(bytes)) => offered(
-                comment,
-                wanted.file,
-                wanted.numbering,
-                wanted.moment,
-                is_first,
-                Some(bytes.as_slice()),
-            ),
-            Ok(None) => offered(
-                comment,
-                wanted.file,
-                wanted.numbering,
-                wanted.moment,
-                is_first,
-                None,
-            ),
+    match signed_comment(alloc, scheme, wanted) {
+        Ok(Ok(comment)) => match answer_by_record(alloc, comment, wanted, is_first, directory) {
+            Ok(answer) => answer,
             Err(_) => Err(NamedFault::ReadingFailed.into()),
         },
-        Err(fault) => Err(InstallFault::Library(fault)),
+        Ok(Err(fault)) => Err(InstallFault::Library(fault)),
+        Err(_) => Err(NamedFault::OutOfMemory.into()),
+    }
+}
+
+// What is answered of the signed comment by what the record is found to hold; or reading it failed.
+pub(crate) fn answer_by_record<F: Directory>(
+    alloc: Global,
+    comment: &str,
+    wanted: Wanted<'_>,
+    is_first: bool,
+    directory: &mut F,
+) -> Result<Result<(Offer, u64), InstallFault>, DeviceFault>
+    ensures answered { IfOk result (λ answer. (found : Option (List ℕ)) × IsOffered (terms_of wanted.entry) is_first found comment.now answer
+        × Known (F.run directory.old) (Calls (Finds Record found) (F.run directory.old) (F.run directory.new)) × (F.directory_faults directory.new ≡ F.directory_faults directory.old)) }
+    ensures failed { OnErr result (Known (F.run directory.old) (Calls IsStill (F.run directory.old) (F.run directory.new)) × Rose (F.directory_faults directory.old) (F.directory_faults directory.new)) }
+{
+    match directory.read_record(alloc) {
+        Ok(found) => Ok(offered(comment, wanted, is_first, found.as_deref())),
+        Err(fault) => Err(fault),
     }
 }
 
@@ -103,22 +106,27 @@ pub fn check_comment_offer(
     let Ok(file) = str::from_utf8(file) else {
         return Err(NamedFault::NotUtf8.into());
     };
-    offered(comment, file, numbering, moment, is_first, found)
+    let wanted = Wanted {
+        pk_text: "",
+        sig_text: "",
+        file,
+        numbering,
+        moment,
+    };
+    offered(comment, wanted, is_first, found)
 }
 
 // What is answered of a signed comment, by what the record was found to hold.
 fn offered(
     comment: &str,
-    file: &str,
-    numbering: Numbering,
-    moment: u64,
+    wanted: Wanted<'_>,
     is_first: bool,
     found: Option<&[u8]>,
 ) -> Result<(Offer, u64), InstallFault>
-    ensures { (pk_text sig_text : List ℕ) → IsOffered (wanted_by pk_text sig_text file.now numbering moment) is_first (option_map (λ b. b.now) found.entry) comment.now result }
+    ensures { IsOffered (terms_of wanted.entry) is_first (option_map (λ b. b.now) found.entry) comment.now result }
 {
-    match kept_in(found, numbering, is_first) {
-        Ok(kept) => match check_comment(comment, file, numbering, moment, 0) {
+    match kept_in(found, wanted.numbering, is_first) {
+        Ok(kept) => match check_comment(comment, wanted.file, wanted.numbering, wanted.moment, 0) {
             Ok(number) => Ok((beside(kept, number), number)),
             Err(fault) => Err(fault),
         },
@@ -144,83 +152,4 @@ fn beside(kept: Option<u64>, number: u64) -> Offer
         }
         None => Offer::Newer,
     }
-}
-
-// The number that the record holds for the field, by what it was found to hold; where it holds none, there is none, if
-// this is the first installation.
-fn kept_in(
-    found: Option<&[u8]>,
-    numbering: Numbering,
-    is_first: bool,
-) -> Result<Option<u64>, InstallFault>
-    ensures { MatchResult result (IsKeptOrNone numbering is_first (option_map (λ b. b.now) found.entry)) (IsRecordRefused numbering is_first (option_map (λ b. b.now) found.entry)) }
-{
-    match found {
-        Some(bytes) => match number_for(bytes, numbering) {
-            Some(number) => Ok(Some(number)),
-            None if is_first => Ok(None),
-            None => Err(unfit(bytes, numbering)),
-        },
-        None if is_first => Ok(None),
-        None => Err(InstallFault::NoRecord),
-    }
-}
-
-// The trusted comment of the text of the signature, where the key has signed it.
-fn comment_of<'a, S: Scheme>(
-    alloc: Global,
-    scheme: &S,
-    pk_text: &str,
-    sig_text: &'a str,
-) -> Result<&'a str, PError>
-    ensures { MatchResult result (λ c. signed_comment (S.accepts scheme.now) pk_text.now sig_text.now ≡ Ok c.now)
-        (λ e. (e ≡ Named OutOfMemory) ⊎ (signed_comment (S.accepts scheme.now) pk_text.now sig_text.now ≡ Err e)) }
-{
-    let mut message = zeros(alloc, sig_text.len())?;
-    judged_comment(
-        scheme,
-        pk_text.as_bytes(),
-        sig_text.as_bytes(),
-        &mut message,
-    )
-}
-
-// Reads the key, asks about the comment, has the scheme answer, and gives the verdict on it. The message of the
-// question is written to `message`.
-pub(crate) fn judged_comment<'a, S: Scheme>(
-    scheme: &S,
-    pk_text: &[u8],
-    sig_text: &'a [u8],
-    message: &mut [u8],
-) -> Result<&'a str, PError>
-    ensures { IsUtf8 pk_text.now → IsUtf8 sig_text.now → length sig_text.now ≤ length message.old
-        → MatchResult result (λ c. signed_comment (S.accepts scheme.now) pk_text.now sig_text.now ≡ Ok c.now)
-        (λ e. signed_comment (S.accepts scheme.now) pk_text.now sig_text.now ≡ Err e) }
-{
-    let mut key = PublicKeyValue {
-        key: [0; 32],
-        key_id: [0; 8],
-    };
-    tell_public_key(pk_text, &mut key)?;
-    let mut questions = Questions::none();
-    let mut state = State::new();
-    match state.ask_fed(&key, sig_text, false, &mut questions, message) {
-        Ok(comment) => match state.comment_verdict(answer(scheme, &questions, message)) {
-            Ok(()) => Ok(comment),
-            Err(refusal) => Err(fault_of(refusal)),
-        },
-        Err(refusal) => Err(fault_of(refusal)),
-    }
-}
-
-// What the scheme answers to the question about the comment.
-fn answer<S: Scheme>(scheme: &S, questions: &Questions, message: &[u8]) -> bool
-    requires { questions.now.message_len ≤ length message.now }
-    ensures { result ≡ S.accepts scheme.now (take questions.now.message_len message.now) questions.now.public_key questions.now.comment_signature }
-{
-    scheme.verify(
-        &message[..questions.message_len as usize],
-        &questions.public_key,
-        &questions.comment_signature,
-    )
 }

@@ -15,7 +15,7 @@ ghost use Rattle.minisign_install.specs.declared.hosted.HostRefusal.TheVariants.
 use crate::comments::Numbering;
 use crate::faults::InstallFault;
 use crate::order::{Due, Outcome};
-use crate::recording::{number_in, number_without_record, write_record};
+use crate::recording::{kept_number, write_record};
 use minisign_external::state::{Misuse, State};
 
 // An installation that was begun begins with the letters `minstall`.
@@ -190,7 +190,7 @@ impl Installation {
         if !self.is_record_due() {
             return Err(Misuse::NotDue);
         }
-        match number_in(bytes, self.numbering(), self.is_first == 1) {
+        match kept_number(Some(bytes), self.numbering(), self.is_first == 1) {
             Ok(number) => {
                 self.set(Due::Create(number));
                 Ok(())
@@ -211,7 +211,7 @@ impl Installation {
         if !self.is_record_due() {
             return Err(Misuse::NotDue);
         }
-        match number_without_record(self.numbering(), self.is_first == 1) {
+        match kept_number(None, self.numbering(), self.is_first == 1) {
             Ok(number) => {
                 self.set(Due::Create(number));
                 Ok(())

@@ -1,13 +1,15 @@
-//! What a stage holds is read back, and judged: whether it is an update.
+//! What a file holds is read back, and judged: whether it is an update, and which comment the key has signed.
 
-ghost use Rattle.std.specs.Prelude.{◌≡◌, ◌⊎◌, ◌<◌, ◌≤◌, ℕ, List, false, true, length, take, IfOk, IfErr, OnOk, OnErr, MatchResult};
-ghost use Rattle.std.specs.Str.{IsUtf8};
-ghost use Rattle.minisign_install.specs.Faults.{Fault, Named, OutOfMemory};
-ghost use Rattle.minisign_install.specs.Installing.{TextsVouchWith, IsUpdate, terms_of};
+ghost use Rattle.std.specs.Prelude.{◌≡◌, ◌⊎◌, ◌<◌, ◌+◌, ◌≤◌, ℕ, List, false, true, length, option_map, IfOk, IfErr, OnOk, OnErr, MatchResult};
+ghost use Rattle.minisign.specs.Acceptance.{accepts_comments};
 ghost use Rattle.minisign.specs.Headline.{verdict};
+ghost use Rattle.minisign.specs.SignatureText.{SignatureTextRecord, box_of, view_of};
+ghost use Rattle.minisign.specs.Texts.{map_ok};
 ghost use Rattle.minisign_external.specs.States.{IsFedState};
-ghost use Rattle.minisign_external.specs.declared.state.Refusal.TheVariants.{Refused};
+ghost use Rattle.minisign_install.specs.Checking.{accepts_digest, digest_verdict, judge_digest, signed_comment};
+ghost use Rattle.minisign_install.specs.Faults.{Named, OutOfMemory};
 ghost use Rattle.minisign_install.specs.Directories.{Known};
+ghost use Rattle.minisign_install.specs.Installing.{TextsVouchWith, IsUpdate, terms_of};
 ghost use Rattle.minisign_install.specs.Refusals.{IsDataRefused, IsLibraryFault, IsReadingFault};
 
 use crate::comments::check_comment;
@@ -15,13 +17,17 @@ use crate::directories::{Directory, Handle};
 use crate::faults::InstallFault;
 use crate::staging::{PIECE, zeros};
 use crate::wanted::Wanted;
-use minisign::PError;
+use minisign::{
+    PError, PublicKey, Signature, SignatureView, read_public_key, read_signature,
+    write_comment_message,
+};
 use minisign_base::NamedFault;
 use minisign_base::devices::DeviceFault;
 use minisign_base::scheme::Scheme;
-use minisign_external::public_keys::{PublicKeyValue, tell_public_key};
-use minisign_external::state::{Questions, Refusal, State};
-use std::alloc::Global;
+use minisign_external::public_keys::PublicKeyValue;
+use minisign_external::state::State;
+use minisign_external::texts::test;
+use std::alloc::{AllocError, Global};
 
 // Reads all that the file holds, and feeds it to a new state. A fault of reading it is counted. Memory runs out only before
 // anything is read.
@@ -76,9 +82,8 @@ fn feed<F: Directory>(
     }
 }
 
-// Whether what the state was fed is an update: the signature scheme answers the two questions of
-// the texts, and the comment that was signed is judged. Returns the number of the update. Memory runs out only before
-// anything is asked: what says so then may have given up.
+// Whether what the state was fed is an update: the texts vouch for it, and the comment that was signed with it is judged.
+// Returns the number of the update. Memory runs out only before anything is asked: what says so then may have given up.
 pub(crate) fn judge<S: Scheme>(
     alloc: Global,
     scheme: &S,
@@ -90,8 +95,8 @@ pub(crate) fn judge<S: Scheme>(
         → MatchResult result (IsUpdate (S.accepts scheme.now) (terms_of wanted.entry) kept m)
         (λ e. IsLibraryFault (λ f. (f ≡ Named OutOfMemory) × (state.new ≡ state.old)) e ⊎ IsDataRefused (S.accepts scheme.now) (terms_of wanted.entry) kept m e) }
 {
-    match vouch(alloc, scheme, wanted.pk_text, wanted.sig_text, state) {
-        Ok(comment) => match check_comment(
+    match vouched_comment(alloc, scheme, wanted, state) {
+        Ok(Ok(comment)) => match check_comment(
             comment,
             wanted.file,
             wanted.numbering,
@@ -101,88 +106,127 @@ pub(crate) fn judge<S: Scheme>(
             Ok(number) => Ok(number),
             Err(fault) => Err(fault),
         },
-        Err(fault) => Err(InstallFault::Library(fault)),
+        Ok(Err(fault)) => Err(InstallFault::Library(fault)),
+        Err(_) => Err(NamedFault::OutOfMemory.into()),
     }
 }
 
 // Whether the two texts vouch for what the state was fed, not by a signature over the data itself: the comment that was
-// signed with it.
-fn vouch<'a, S: Scheme>(
+// signed with it. The outer error is want of memory, before anything is asked.
+pub(crate) fn vouched_comment<'a, S: Scheme>(
     alloc: Global,
     scheme: &S,
-    pk_text: &str,
-    sig_text: &'a str,
+    wanted: Wanted<'a>,
     state: &mut State,
-) -> Result<&'a str, PError>
-    ensures { (m : List ℕ) → IsFedState state.old m
-        → MatchResult result (λ c. TextsVouchWith (S.accepts scheme.now) pk_text.now sig_text.now m false c.now)
-        (λ e. ((e ≡ Named OutOfMemory) × (state.new ≡ state.old)) ⊎ (verdict (S.accepts scheme.now) pk_text.now sig_text.now m false ≡ Err e)) }
+) -> Result<Result<&'a str, PError>, AllocError>
+    ensures vouched { IfOk result (λ r. (m : List ℕ) → IsFedState state.old m
+        → MatchResult r (λ c. TextsVouchWith (S.accepts scheme.now) wanted.entry.pk_text.now wanted.entry.sig_text.now m false c.now)
+        (λ f. verdict (S.accepts scheme.now) wanted.entry.pk_text.now wanted.entry.sig_text.now m false ≡ Err f)) }
+    ensures unasked { OnErr result (state.new ≡ state.old) }
 {
-    let mut message = zeros(alloc, sig_text.len())?;
-    decide(
-        scheme,
-        pk_text.as_bytes(),
-        sig_text.as_bytes(),
-        state,
-        &mut message,
-    )
+    let mut message = zeros(alloc, wanted.sig_text.len())?;
+    let mut digest = [0u8; 64];
+    // A state that was fed tells its digest.
+    let Ok(()) = state.digest(&mut digest) else {
+        return Ok(Err(NamedFault::SignatureRefused.into()));
+    };
+    Ok(decide(scheme, wanted, Some(&digest), &mut message))
 }
 
-// Reads the key, asks its questions, has the scheme answer them, and gives the verdict, with the comment that was signed.
-// The message of the second question is written to `message`.
-pub(crate) fn decide<'a, S: Scheme>(
+// The comment that the key has signed. The outer error is want of memory.
+pub(crate) fn signed_comment<'a, S: Scheme>(
+    alloc: Global,
     scheme: &S,
-    pk_text: &[u8],
-    sig_text: &'a [u8],
-    state: &mut State,
+    wanted: Wanted<'a>,
+) -> Result<Result<&'a str, PError>, AllocError>
+    ensures { IfOk result (λ r. map_ok (λ c. c.now) r ≡ signed_comment (S.accepts scheme.now) (terms_of wanted.entry)) }
+{
+    let mut message = zeros(alloc, wanted.sig_text.len())?;
+    Ok(decide(scheme, wanted, None, &mut message))
+}
+
+// The comment that the key has signed; where a digest is given, the signature has to be accepted for it too. What the
+// comment signature is over is written to `message`.
+fn decide<'a, S: Scheme>(
+    scheme: &S,
+    wanted: Wanted<'a>,
+    digest: Option<&[u8; 64]>,
     message: &mut [u8],
 ) -> Result<&'a str, PError>
-    ensures { (m : List ℕ) → IsFedState state.old m → IsUtf8 pk_text.now → IsUtf8 sig_text.now → length sig_text.now ≤ length message.old
-        → MatchResult result (λ c. TextsVouchWith (S.accepts scheme.now) pk_text.now sig_text.now m false c.now)
-        (λ f. verdict (S.accepts scheme.now) pk_text.now sig_text.now m false ≡ Err f) }
+    requires { length wanted.sig_text.now ≤ length message.old }
+    ensures { map_ok (λ c. c.now) result ≡ digest_verdict (S.accepts scheme.now) (terms_of wanted.entry) (option_map (λ d. d.now) digest.entry) }
 {
-    let mut key = PublicKeyValue {
-        key: [0; 32],
-        key_id: [0; 8],
-    };
-    tell_public_key(pk_text, &mut key)?;
-    let mut questions = Questions::none();
-    match state.ask_fed(&key, sig_text, false, &mut questions, message) {
-        Ok(comment) => {
-            let (first, second) = answers(scheme, &questions, message);
-            match state.verdict(first, second) {
-                Ok(()) => Ok(comment),
-                Err(refusal) => Err(fault_of(refusal)),
-            }
-        }
-        Err(refusal) => Err(fault_of(refusal)),
+    match read_public_key(wanted.pk_text) {
+        Ok(pk) => match read_signature(wanted.sig_text) {
+            Ok(view) => match judge_view(scheme, &pk, &view, digest, message) {
+                Ok(()) => Ok(view.trusted_comment()),
+                Err(fault) => Err(fault),
+            },
+            Err(fault) => Err(fault),
+        },
+        Err(fault) => Err(fault),
     }
 }
 
-// What the scheme answers to the two questions.
-fn answers<S: Scheme>(scheme: &S, questions: &Questions, message: &[u8]) -> (bool, bool)
-    requires { questions.now.message_len ≤ length message.now }
-    ensures first { result.0 ≡ S.accepts scheme.now questions.now.digest questions.now.public_key questions.now.signature }
-    ensures second { result.1 ≡ S.accepts scheme.now (take questions.now.message_len message.now) questions.now.public_key questions.now.comment_signature }
+// The conditions of acceptance in their order.
+fn judge_view<S: Scheme>(
+    scheme: &S,
+    pk: &PublicKey,
+    view: &SignatureView<'_>,
+    digest: Option<&[u8; 64]>,
+    message: &mut [u8],
+) -> Result<(), PError>
+    requires { 64 + length view.now.trusted ≤ length message.old }
+    ensures { (t : SignatureTextRecord) → view.now ≡ view_of t
+        → result ≡ judge_digest (S.accepts scheme.now) (option_map (λ d. d.now) digest.entry) pk.now t }
 {
-    let message = &message[..questions.message_len as usize];
-    (
-        scheme.verify(
-            &questions.digest,
-            &questions.public_key,
-            &questions.signature,
-        ),
-        scheme.verify(message, &questions.public_key, &questions.comment_signature),
-    )
+    let value = PublicKeyValue {
+        key: *pk.key(),
+        key_id: *pk.key_id(),
+    };
+    test(&value, view, false)?;
+    if !accepts_digest(scheme, pk, view.signature(), digest) {
+        return Err(NamedFault::SignatureRefused.into());
+    }
+    if !accepts_comment(scheme, pk, view, message) {
+        return Err(NamedFault::CommentSignatureRefused.into());
+    }
+    Ok(())
 }
 
-// The fault of a refusal. A wrong use never comes here: the state is fed, and then asked, and there
-// is room for the message.
-pub(crate) fn fault_of(refusal: Refusal) -> PError
-    ensures { (e : Fault) → refusal ≡ Refused e → result ≡ e }
+// Whether the signature is accepted for the digest, where one is given.
+fn accepts_digest<S: Scheme>(
+    scheme: &S,
+    pk: &PublicKey,
+    signature: &Signature,
+    digest: Option<&[u8; 64]>,
+) -> bool
+    ensures { result ≡ accepts_digest (S.accepts scheme.now) (option_map (λ d. d.now) digest.entry) pk.now signature.now }
 {
-    match refusal {
-        Refusal::Refused(fault) => fault,
-        Refusal::WrongUse(_) => NamedFault::SignatureRefused.into(),
+    match digest {
+        Some(digest) => scheme.verify(digest, pk.key(), &signature.sig),
+        None => true,
+    }
+}
+
+// Whether the comment signature has at least 64 bytes, and the first 64 are accepted for the signature followed by the
+// trusted comment.
+fn accepts_comment<S: Scheme>(
+    scheme: &S,
+    pk: &PublicKey,
+    view: &SignatureView<'_>,
+    message: &mut [u8],
+) -> bool
+    requires { 64 + length view.now.trusted ≤ length message.old }
+    ensures { (t : SignatureTextRecord) → view.now ≡ view_of t
+        → result ≡ accepts_comments (S.accepts scheme.now) pk.now (box_of t) }
+{
+    match view.comment_signature() {
+        Some(comment_signature) => {
+            let trusted = view.trusted_comment().as_bytes();
+            write_comment_message(&view.signature().sig, trusted, message);
+            scheme.verify(&message[..64 + trusted.len()], pk.key(), &comment_signature)
+        }
+        None => false,
     }
 }

@@ -1,11 +1,11 @@
 //! The number of the newest update is kept beside the place, behind the label of its field.
 
-ghost use Rattle.std.specs.Prelude.{◌≡◌, ◌⊎◌, ◌<◌, ◌≤◌, ℕ, false, List, Option, Some, None, IfOk, IfErr, OnOk, OnErr, MatchOption, MatchResult, length, take};
+ghost use Rattle.std.specs.Prelude.{option_map, ◌≡◌, ◌⊎◌, ◌<◌, ◌≤◌, ℕ, false, List, Option, Some, None, IfOk, IfErr, OnOk, OnErr, MatchOption, MatchResult, length, take};
 ghost use Rattle.minisign_install.specs.Faults.{Rose, Named, ReadingFailed, Library};
 ghost use Rattle.minisign_install.specs.Comments.{IsNumberText};
 ghost use Rattle.minisign_install.specs.Directories.{HasStepped, IsStill, Finds, Known};
 ghost use Rattle.minisign_install.specs.Hosts.{Calls};
-ghost use Rattle.minisign_install.specs.Installing.{IsKeptNumber};
+ghost use Rattle.minisign_install.specs.Installing.{IsKeptNumber, IsKeptOrNone};
 ghost use Rattle.minisign_install.specs.RecordTexts.{HasNoNumber, IsFieldText, IsNumberFor, IsUnfit, kept_by, record_of, record_text};
 ghost use Rattle.minisign_install.specs.Refusals.{IsReadRefusal, IsRecordFault, IsRecordRefused};
 
@@ -36,46 +36,50 @@ pub(crate) fn read_number<F: Directory>(
     ensures no_new_fault { OnOk result (F.directory_faults directory.new ≡ F.directory_faults directory.old) }
 {
     match directory.read_record(alloc) {
-        Ok(Some(bytes)) => number_in(bytes.as_slice(), numbering, is_first),
-        Ok(None) => number_without_record(numbering, is_first),
+        Ok(found) => kept_number(found.as_deref(), numbering, is_first),
         Err(_) => Err(NamedFault::ReadingFailed.into()),
     }
 }
 
-// The number that a record of these bytes holds for the field. Where it holds none and this is the
-// first installation, that is 0.
-pub(crate) fn number_in(
-    bytes: &[u8],
+// The same of what the record was found to hold.
+pub(crate) fn kept_number(
+    found: Option<&[u8]>,
     numbering: Numbering,
     is_first: bool,
 ) -> Result<u64, InstallFault>
-    ensures number { MatchResult result (IsKeptNumber numbering is_first (Some bytes.now)) (IsRecordRefused numbering is_first (Some bytes.now)) }
+    ensures number { MatchResult result (IsKeptNumber numbering is_first (option_map (λ b. b.now) found.entry)) (IsRecordRefused numbering is_first (option_map (λ b. b.now) found.entry)) }
     ensures fault { IfErr result (IsRecordFault is_first) }
 {
-    match number_for(bytes, numbering) {
-        Some(number) => Ok(number),
-        None if is_first => Ok(0),
-        None => Err(unfit(bytes, numbering)),
+    match kept_in(found, numbering, is_first) {
+        Ok(Some(number)) => Ok(number),
+        Ok(None) => Ok(0),
+        Err(fault) => Err(fault),
     }
 }
 
-// The number where there is no record.
-pub(crate) fn number_without_record(
+// The number that the record was found to hold for the field; where it holds none, there is none, if this is the first
+// installation.
+pub(crate) fn kept_in(
+    found: Option<&[u8]>,
     numbering: Numbering,
     is_first: bool,
-) -> Result<u64, InstallFault>
-    ensures number { MatchResult result (IsKeptNumber numbering is_first None) (IsRecordRefused numbering is_first None) }
+) -> Result<Option<u64>, InstallFault>
+    ensures number { MatchResult result (IsKeptOrNone numbering is_first (option_map (λ b. b.now) found.entry)) (IsRecordRefused numbering is_first (option_map (λ b. b.now) found.entry)) }
     ensures fault { IfErr result (IsRecordFault is_first) }
 {
-    if is_first {
-        Ok(0)
-    } else {
-        Err(InstallFault::NoRecord)
+    match found {
+        Some(bytes) => match number_for(bytes, numbering) {
+            Some(number) => Ok(Some(number)),
+            None if is_first => Ok(None),
+            None => Err(unfit(bytes, numbering)),
+        },
+        None if is_first => Ok(None),
+        None => Err(InstallFault::NoRecord),
     }
 }
 
 // Why a record of these bytes, which holds no number for the field, is refused.
-pub(crate) fn unfit(bytes: &[u8], numbering: Numbering) -> InstallFault
+fn unfit(bytes: &[u8], numbering: Numbering) -> InstallFault
     ensures why { IsUnfit numbering bytes.now result }
     ensures fault { IsRecordFault false result }
 {
@@ -98,7 +102,7 @@ impl Numbering {
 }
 
 // The number that a record of these bytes holds for the field, where it holds one.
-pub(crate) fn number_for(bytes: &[u8], numbering: Numbering) -> Option<u64>
+fn number_for(bytes: &[u8], numbering: Numbering) -> Option<u64>
     ensures { MatchOption result (HasNoNumber numbering bytes.now) (IsNumberFor numbering bytes.now) }
 {
     match str::from_utf8(record_text(bytes)) {

@@ -1,39 +1,32 @@
 //! Installing an update, unless it stands at the place already: then nothing is written.
 
-ghost use Rattle.std.specs.Prelude.{◌≡◌, ◌⊎◌, ◌≤◌, ℕ, List, Option, Some, Ok, Err, IfErr, IfOk, MatchResult, OnErr, OnOk, false, length, option_map, true};
-ghost use Rattle.minisign_base.specs.Devices.{Rose};
-ghost use Rattle.minisign_base.specs.Fault.{Fault, Named};
-ghost use Rattle.minisign_base.specs.declared.faults.NamedFault.TheVariants.{OutOfMemory, ReadingFailed};
-ghost use Rattle.minisign.specs.Calls.{TextsVouchWith};
-ghost use Rattle.minisign.specs.Headline.{verdict};
+ghost use Rattle.std.specs.Prelude.{◌≡◌, ◌≢◌, ◌⊎◌, ℕ, List, Option, Some, None, Ok, Err, IfErr, IfOk, OnErr, OnOk, false, true};
+ghost use Rattle.minisign_base.specs.Fault.{Named};
+ghost use Rattle.minisign_base.specs.declared.faults.NamedFault.TheVariants.{OutOfMemory};
 ghost use Rattle.minisign_external.specs.States.{IsFedState};
-ghost use Rattle.minisign_install.specs.Checking.{IsKeptOrNone, signed_comment};
-ghost use Rattle.minisign_install.specs.Comments.{Says};
-ghost use Rattle.minisign_install.specs.Directories.{Finds, IsStill, Known};
+ghost use Rattle.minisign_install.specs.Checking.{AnswersByRecord};
+ghost use Rattle.minisign_install.specs.Directories.{Finds, HasLocked, Known, Run};
 ghost use Rattle.minisign_install.specs.Hosts.{Calls, CallsNothing};
-ghost use Rattle.minisign_install.specs.Installing.{IsVouched, terms_of};
-ghost use Rattle.minisign_install.specs.Refusals.{IsCallFault, IsLibraryFault, IsReadingFault, counts};
-ghost use Rattle.minisign_install.specs.There.{GoesOn, HasKeptNumber, InstallsUnlessThere, IsCauseUnlessThere, IsOther, IsSigned, IsThere, IsVouchedFor, LooksInPart};
+ghost use Rattle.minisign_install.specs.Installing.{HasInstalled, InstallsOnlyUpdates, IsVouched, terms_of};
+ghost use Rattle.minisign_install.specs.Refusals.{IsLibraryFault, IsReadingFault, OnlyLocked, counts};
+ghost use Rattle.minisign_install.specs.There.{FindsAnother, GoesOn, InstallsUnlessThere, IsCauseUnlessThere, IsOther, IsSigned, IsThere, IsUnsigned, IsVouchedFor, LooksInPart};
+ghost use Rattle.minisign_install.specs.declared.checking.Offer.TheVariants.{Same};
 ghost use Rattle.minisign_install.specs.declared.faults.InstallFault.TheVariants.{Library, SameNumber};
-ghost use Rattle.minisign_install.specs.declared.directories.Name.TheVariants.{Place, Record};
+ghost use Rattle.minisign_install.specs.declared.directories.Name.TheVariants.{Place};
 
 use crate::calls::lock;
-use crate::checking::judged_comment;
-use crate::comments::{Numbering, check_comment};
+use crate::checking::{Offer, answer_by_record};
 use crate::directories::Directory;
 use crate::faults::InstallFault;
 use crate::installing::install_update;
-use crate::judging::{decide, read_back};
-use crate::recording::number_for;
-use crate::staging::zeros;
+use crate::judging::{read_back, signed_comment, vouched_comment};
 use crate::wanted::Wanted;
-use minisign::PError;
 use minisign_base::NamedFault;
 use minisign_base::devices::random_sources::RandomSource;
 use minisign_base::devices::sources::Source;
 use minisign_base::scheme::Scheme;
 use minisign_external::state::State;
-use std::alloc::Global;
+use std::alloc::{AllocError, Global};
 
 /// Which way an update is installed.
 #[derive(Clone, Copy, PartialEq, Eq)]
@@ -66,14 +59,25 @@ pub fn install_unless_there<S: Scheme, Z: RandomSource, R: Source, F: Directory>
     update: &mut R,
     directory: &mut F,
 ) -> Result<Installed, InstallFault>
+    // All through the run, from when the lock was got: only an update is brought to the place, and only the number of one to
+    // the record, as `install_update` promises; nothing is where the update is there already.
+    ensures headline { Known (F.run directory.old) (InstallsOnlyUpdates (S.accepts scheme.now) (terms_of wanted.entry) is_first (F.run directory.old) (F.run directory.new)) }
+
+    // Where `Now` is said, what was installed is the data that was ahead, for good, as `install_update` promises, beside
+    // what the record held when the lock was got.
+    ensures installed { IfOk result (λ which. which ≡ Installed.Now → Known (F.run directory.old) ((locked : Run) × HasLocked (F.run directory.old) locked × HasInstalled (S.accepts scheme.now) (terms_of wanted.entry) is_first (R.ahead update.old) locked (F.run directory.new))) }
+
     // The lock is held by another run, or could not be asked for, and that was the only call. Or it was got, and held from
     // then on. Where the record was found to hold the number of the update for its field, and the key has signed its
     // comment, which names the file and has not expired, the place was read. `Already` is said exactly where the texts
     // vouch for what the place held then; `SameNumber` exactly where they do not, and it was not asked for: no call of the
-    // run has changed anything (`IsThere`, `IsOther`, `Finds`). Otherwise the run goes on, and all that `install_update`
-    // promises holds of it from there (`GoesOn`, `InstallsFrom`). Only a device can fail besides, or memory run out, before
-    // anything changed.
+    // run has changed anything (`IsThere`, `IsOther`, `Finds`). Otherwise the run goes on, and is refused from there as
+    // `install_update` is, or installs (`GoesOn`, `InstallsFrom`). Only a device can fail besides, or memory run out,
+    // before anything changed.
     ensures goes { Known (F.run directory.old) (InstallsUnlessThere (S.accepts scheme.now) (terms_of wanted.entry) is_first again (R.ahead update.old) (counts (Z.random_faults random.old) (R.faults update.old) (F.directory_faults directory.old)) (counts (Z.random_faults random.new) (R.faults update.new) (F.directory_faults directory.new)) (F.run directory.old) (F.run directory.new) result) }
+
+    // Memory runs out only with the lock held, and before anything is brought to the place or to the record.
+    ensures memory { IfErr result (λ e. e ≡ Library (Named OutOfMemory) → Known (F.run directory.old) (OnlyLocked (F.run directory.old) (F.run directory.new))) }
 
     // On success the two texts vouch for some data, and the comment that was signed with it names the file, has not expired,
     // and has a number.
@@ -120,7 +124,7 @@ fn is_there<S: Scheme, F: Directory>(
     ensures no_new_fault { OnOk result (F.directory_faults directory.new ≡ F.directory_faults directory.old) }
 {
     match has_kept_number(alloc, scheme, wanted, directory) {
-        Ok(true) => match look_at_place(alloc, scheme, wanted.pk_text, wanted.sig_text, directory) {
+        Ok(true) => match look_at_place(alloc, scheme, wanted, directory) {
             Ok(Standing::Update) => Ok(true),
             Ok(Standing::Nothing) => Ok(false),
             Ok(Standing::Other) => {
@@ -137,66 +141,35 @@ fn is_there<S: Scheme, F: Directory>(
     }
 }
 
-// Whether the key has signed the comment, and that says what is wanted, with the number that the record holds.
+// Whether a check of the update answers that its number is the one that the record holds.
 fn has_kept_number<S: Scheme, F: Directory>(
     alloc: Global,
     scheme: &S,
     wanted: Wanted<'_>,
     directory: &mut F,
 ) -> Result<bool, InstallFault>
-    ensures same { IfOk result (λ is. is ≡ true → IsSigned (S.accepts scheme.now) (terms_of wanted.entry)
-        × Known (F.run directory.old) ((found : Option (List ℕ)) × (n : ℕ) × Calls (Finds Record found) (F.run directory.old) (F.run directory.new) × HasKeptNumber (S.accepts scheme.now) (terms_of wanted.entry) found n)) }
-    ensures other { IfOk result (λ is. is ≡ false → Known (F.run directory.old)
-        (((F.run directory.new ≡ F.run directory.old) × ((fault : Fault) × (signed_comment (S.accepts scheme.now) wanted.entry.pk_text.now wanted.entry.sig_text.now ≡ Err fault)))
-        ⊎ ((found : Option (List ℕ)) × Calls (Finds Record found) (F.run directory.old) (F.run directory.new) × ((n : ℕ) → ¬ (HasKeptNumber (S.accepts scheme.now) (terms_of wanted.entry) found n))))) }
+    ensures same { IfOk result (λ is. is ≡ true → (n : ℕ) × AnswersByRecord (S.accepts scheme.now) (terms_of wanted.entry) false (F.run directory.old) (F.run directory.new) (Ok (Same, n))) }
+    ensures other { IfOk result (λ is. is ≡ false → IsUnsigned (S.accepts scheme.now) (terms_of wanted.entry) (F.run directory.old) (F.run directory.new)
+        ⊎ FindsAnother (S.accepts scheme.now) (terms_of wanted.entry) (F.run directory.old) (F.run directory.new)) }
     ensures refused { IfErr result (λ e. IsLibraryFault (IsReadingFault (F.directory_faults directory.old) (F.directory_faults directory.new)) e × Known (F.run directory.old) (CallsNothing (F.run directory.old) (F.run directory.new))) }
     ensures no_new_fault { OnOk result (F.directory_faults directory.new ≡ F.directory_faults directory.old) }
 {
-    let Ok(mut message) = zeros(alloc, wanted.sig_text.len()) else {
-        return Err(NamedFault::OutOfMemory.into());
-    };
-    match signed_by(scheme, wanted.pk_text, wanted.sig_text, &mut message) {
-        Ok(comment) => match directory.read_record(alloc) {
-            Ok(Some(bytes)) => Ok(is_kept(
-                comment,
-                wanted.file,
-                wanted.numbering,
-                wanted.moment,
-                bytes.as_slice(),
-            )),
-            Ok(None) => Ok(false),
+    match signed_comment(alloc, scheme, wanted) {
+        Ok(Ok(comment)) => match answer_by_record(alloc, comment, wanted, false, directory) {
+            Ok(answer) => Ok(is_same(&answer)),
             Err(_) => Err(NamedFault::ReadingFailed.into()),
         },
-        Err(_) => Ok(false),
+        Ok(Err(_)) => Ok(false),
+        Err(_) => Err(NamedFault::OutOfMemory.into()),
     }
 }
 
-// The comment that the key has signed. The message of the question is written to `message`, which has room for it.
-fn signed_by<'a, S: Scheme>(
-    scheme: &S,
-    pk_text: &str,
-    sig_text: &'a str,
-    message: &mut [u8],
-) -> Result<&'a str, PError>
-    requires { length sig_text.now ≤ length message.old }
-    ensures { MatchResult result (λ c. signed_comment (S.accepts scheme.now) pk_text.now sig_text.now ≡ Ok c.now)
-        (λ e. signed_comment (S.accepts scheme.now) pk_text.now sig_text.now ≡ Err e) }
+// Whether it is answered that the number is the kept one.
+fn is_same(answer: &Result<(Offer, u64), InstallFault>) -> bool
+    ensures same { result ≡ true → (n : ℕ) × (answer.now ≡ Ok (Same, n)) }
+    ensures other { result ≡ false → (n : ℕ) → answer.now ≢ Ok (Same, n) }
 {
-    judged_comment(scheme, pk_text.as_bytes(), sig_text.as_bytes(), message)
-}
-
-// Whether the comment says what is wanted, with the number that a record of these bytes holds for the field.
-fn is_kept(comment: &str, file: &str, numbering: Numbering, moment: u64, bytes: &[u8]) -> bool
-    ensures same { result ≡ true → (n : ℕ) × Says comment.now file.now numbering moment n × IsKeptOrNone numbering false (Some bytes.now) (Some n) }
-    ensures other { result ≡ false → (n : ℕ) → Says comment.now file.now numbering moment n → ¬ (IsKeptOrNone numbering false (Some bytes.now) (Some n)) }
-{
-    let Some(kept) = number_for(bytes, numbering) else {
-        return false;
-    };
-    match check_comment(comment, file, numbering, moment, kept) {
-        Ok(number) => number == kept,
-        Err(_) => false,
-    }
+    matches!(answer, Ok((Offer::Same, _)))
 }
 
 // What stands at the place.
@@ -214,32 +187,25 @@ enum Standing {
 fn look_at_place<S: Scheme, F: Directory>(
     alloc: Global,
     scheme: &S,
-    pk_text: &str,
-    sig_text: &str,
+    wanted: Wanted<'_>,
     directory: &mut F,
 ) -> Result<Standing, InstallFault>
     ensures nothing { IfOk result (λ is. is ≡ Standing.Nothing → Known (F.run directory.old) (Calls (Finds Place None) (F.run directory.old) (F.run directory.new))) }
-    ensures update { IfOk result (λ is. is ≡ Standing.Update → (m : List ℕ) × ((c : List ℕ) × TextsVouchWith (S.accepts scheme.now) pk_text.now sig_text.now m false c)
+    ensures update { IfOk result (λ is. is ≡ Standing.Update → (m : List ℕ) × IsVouchedFor (S.accepts scheme.now) (terms_of wanted.entry) m
         × Known (F.run directory.old) (Calls (Finds Place (Some m)) (F.run directory.old) (F.run directory.new))) }
-    ensures other { IfOk result (λ is. is ≡ Standing.Other → (m : List ℕ) × ((f : Fault) × (verdict (S.accepts scheme.now) pk_text.now sig_text.now m false ≡ Err f))
+    ensures other { IfOk result (λ is. is ≡ Standing.Other → (m : List ℕ) × ¬ (IsVouchedFor (S.accepts scheme.now) (terms_of wanted.entry) m)
         × Known (F.run directory.old) (Calls (Finds Place (Some m)) (F.run directory.old) (F.run directory.new))) }
     ensures refused { IfErr result (λ e. IsLibraryFault (IsReadingFault (F.directory_faults directory.old) (F.directory_faults directory.new)) e × Known (F.run directory.old) (CallsNothing (F.run directory.old) (F.run directory.new))) }
     ensures no_new_fault { OnOk result (F.directory_faults directory.new ≡ F.directory_faults directory.old) }
 {
-    let Ok(mut message) = zeros(alloc, sig_text.len()) else {
-        return Err(NamedFault::OutOfMemory.into());
-    };
     match directory.open_place() {
         Ok(Some(handle)) => {
             let mut state = State::new();
             match read_back(alloc, directory, &handle, &mut state) {
-                Ok(()) => {
-                    if vouches(scheme, pk_text, sig_text, &mut state, &mut message) {
-                        Ok(Standing::Update)
-                    } else {
-                        Ok(Standing::Other)
-                    }
-                }
+                Ok(()) => match judge_found(alloc, scheme, wanted, &mut state) {
+                    Ok(standing) => Ok(standing),
+                    Err(_) => Err(NamedFault::OutOfMemory.into()),
+                },
                 Err(fault) => Err(fault),
             }
         }
@@ -248,27 +214,20 @@ fn look_at_place<S: Scheme, F: Directory>(
     }
 }
 
-// Whether the two texts vouch for what the state was fed. The message of the second question is written to `message`, which
-// has room for it.
-fn vouches<S: Scheme>(
+// Whether the two texts vouch for what the state was fed.
+fn judge_found<S: Scheme>(
+    alloc: Global,
     scheme: &S,
-    pk_text: &str,
-    sig_text: &str,
+    wanted: Wanted<'_>,
     state: &mut State,
-    message: &mut [u8],
-) -> bool
-    requires { length sig_text.now ≤ length message.old }
-    ensures vouched { result ≡ true → (m : List ℕ) → IsFedState state.old m → (c : List ℕ) × TextsVouchWith (S.accepts scheme.now) pk_text.now sig_text.now m false c }
-    ensures refused { result ≡ false → (m : List ℕ) → IsFedState state.old m → (f : Fault) × (verdict (S.accepts scheme.now) pk_text.now sig_text.now m false ≡ Err f) }
+) -> Result<Standing, AllocError>
+    ensures some { IfOk result (λ is. is ≢ Standing.Nothing) }
+    ensures update { IfOk result (λ is. is ≡ Standing.Update → (m : List ℕ) → IsFedState state.old m → IsVouchedFor (S.accepts scheme.now) (terms_of wanted.entry) m) }
+    ensures other { IfOk result (λ is. is ≡ Standing.Other → (m : List ℕ) → IsFedState state.old m → ¬ (IsVouchedFor (S.accepts scheme.now) (terms_of wanted.entry) m)) }
 {
-    match decide(
-        scheme,
-        pk_text.as_bytes(),
-        sig_text.as_bytes(),
-        state,
-        message,
-    ) {
-        Ok(_) => true,
-        Err(_) => false,
+    match vouched_comment(alloc, scheme, wanted, state) {
+        Ok(Ok(_)) => Ok(Standing::Update),
+        Ok(Err(_)) => Ok(Standing::Other),
+        Err(fault) => Err(fault),
     }
 }

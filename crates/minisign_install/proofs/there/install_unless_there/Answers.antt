@@ -1,58 +1,55 @@
 use Rattle.std.proofs.Common.{◌∙◌, Err, Ok, inl, refl, subst, ℕ}
 use Rattle.minisign_install.specs.Installing.{terms_of}
 use Rattle.minisign_install.specs.Refusals.{IsCause, counts}
-use Rattle.minisign_install.specs.There.{InstallsFrom}
 use Rattle.minisign_install.specs.declared.there.Installed.TheVariants.{Now}
-use Rattle.minisign_install.proofs.Places.{going, looking_refused}
+use Rattle.minisign_install.proofs.Places.{ends_there, goes_from, goes_installed, goes_memory, goes_only, looking_refused, refused_ends}
 use Rattle.minisign_install.proofs.there.install_unless_there.Goals as goal
+
+pub returns-in-Ok-true-clause-headline : goal.returns-in-Ok-true-clause-headline
+returns-in-Ok-true-clause-headline g c = λ known.
+    ends_there (g.S.Scheme.accepts c.args.scheme.now) (terms_of c.args.wanted) c.args.is_first c.args.again _ _ known (c.in-Ok.ensures.locked known).0 _ (c.in-Ok-true.ensures.there c.in-Ok-true.field-0-test).1
+
+pub returns-in-Ok-install_update-clause-headline : goal.returns-in-Ok-install_update-clause-headline
+returns-in-Ok-install_update-clause-headline g c = λ known.
+    goes_only (g.S.Scheme.accepts c.args.scheme.now) (terms_of c.args.wanted) c.args.is_first c.args.again _ _ known (c.in-Ok.ensures.locked known).0 _ _ (c.in-Ok-false.ensures.goes_on c.in-Ok-false.field-0-test) c.in-Ok-install_update.ensures.headline
+
+pub returns-in-Ok-install_update-clause-installed : goal.returns-in-Ok-install_update-clause-installed
+returns-in-Ok-install_update-clause-installed g c = λ is known.
+    goes_installed (g.S.Scheme.accepts c.args.scheme.now) (terms_of c.args.wanted) c.args.is_first c.args.again _ _ known (c.in-Ok.ensures.locked known).0 _ _ (c.in-Ok-false.ensures.goes_on c.in-Ok-false.field-0-test) (g.R.Source.ahead c.args.update.now) c.in-Ok-install_update.ensures.installed
 
 pub returns-in-Ok-install_update-clause-goes : goal.returns-in-Ok-install_update-clause-goes
 returns-in-Ok-install_update-clause-goes g c = λ known.
-    let a = c.args in
-    let accepts = g.S.Scheme.accepts a.scheme.now in
     let u = c.in-Ok-install_update.ensures in
-    let locked = g.F.Directory.run c.lock.new.directory in
-    let mid = g.F.Directory.run c.is_there.new.directory in
-    let new = g.F.Directory.run c.install_update.new.directory in
-    let ahead = g.R.Source.ahead a.update.now in
-    let random = g.Z.RandomSource.random_faults a.random.now in
-    let faults = g.R.Source.faults a.update.now in
-    let after = counts (g.Z.RandomSource.random_faults c.install_update.new.random) (g.R.Source.faults c.install_update.new.update) (g.F.Directory.directory_faults c.install_update.new.directory) in
-    going accepts (terms_of a.wanted) a.is_first a.again ahead (g.F.Directory.run a.directory.now) locked known (c.in-Ok.ensures.locked known).0
-    (counts random faults (g.F.Directory.directory_faults a.directory.now)) after mid new (Ok Now) (c.in-Ok-false.ensures.goes_on c.in-Ok-false.field-0-test)
-    (λ k. subst (λ (f : ℕ). InstallsFrom accepts (terms_of a.wanted) a.is_first ahead (counts random faults f) after mid new (Ok Now))
-    (c.in-Ok-false.ensures.no_new_fault ∙ c.in-Ok.ensures.no_new_fault)
-    (record { only = u.headline k; installed = (refl, u.installed k); refused = tt; exact = u.exactly k; lets_go = u.lets_go k; memory = tt }))
+    goes_from (g.S.Scheme.accepts c.args.scheme.now) (terms_of c.args.wanted) c.args.is_first c.args.again _ _ known (c.in-Ok.ensures.locked known).0 _ _ (c.in-Ok-false.ensures.goes_on c.in-Ok-false.field-0-test) (g.R.Source.ahead c.args.update.now) (g.Z.RandomSource.random_faults c.args.random.now) (g.R.Source.faults c.args.update.now) (g.F.Directory.directory_faults c.args.directory.now) (g.F.Directory.directory_faults c.is_there.new.directory)
+    (counts (g.Z.RandomSource.random_faults c.install_update.new.random) (g.R.Source.faults c.install_update.new.update) (g.F.Directory.directory_faults c.install_update.new.directory)) (Ok Now) (c.in-Ok-false.ensures.no_new_fault ∙ c.in-Ok.ensures.no_new_fault) (λ k. record { now = refl; refused = tt; exact = u.exactly k; lets_go = u.lets_go k })
+
+pub returns-in-Err-install_update-clause-headline : goal.returns-in-Err-install_update-clause-headline
+returns-in-Err-install_update-clause-headline g c = λ known.
+    goes_only (g.S.Scheme.accepts c.args.scheme.now) (terms_of c.args.wanted) c.args.is_first c.args.again _ _ known (c.in-Ok.ensures.locked known).0 _ _ (c.in-Ok-false.ensures.goes_on c.in-Ok-false.field-0-test) c.in-Err-install_update.ensures.headline
 
 pub returns-in-Err-install_update-clause-goes : goal.returns-in-Err-install_update-clause-goes
 returns-in-Err-install_update-clause-goes g c = λ known.
-    let a = c.args in
-    let accepts = g.S.Scheme.accepts a.scheme.now in
     let u = c.in-Err-install_update.ensures in
-    let locked = g.F.Directory.run c.lock.new.directory in
-    let mid = g.F.Directory.run c.is_there.new.directory in
-    let new = g.F.Directory.run c.install_update.new.directory in
-    let ahead = g.R.Source.ahead a.update.now in
-    let random = g.Z.RandomSource.random_faults a.random.now in
-    let faults = g.R.Source.faults a.update.now in
-    let after = counts (g.Z.RandomSource.random_faults c.install_update.new.random) (g.R.Source.faults c.install_update.new.update) (g.F.Directory.directory_faults c.install_update.new.directory) in
-    let e = c.in-Err-install_update.fault in
-    going accepts (terms_of a.wanted) a.is_first a.again ahead (g.F.Directory.run a.directory.now) locked known (c.in-Ok.ensures.locked known).0
-    (counts random faults (g.F.Directory.directory_faults a.directory.now)) after mid new (Err e) (c.in-Ok-false.ensures.goes_on c.in-Ok-false.field-0-test)
-    (λ k. subst (λ (f : ℕ). InstallsFrom accepts (terms_of a.wanted) a.is_first ahead (counts random faults f) after mid new (Err e))
-    (c.in-Ok-false.ensures.no_new_fault ∙ c.in-Ok.ensures.no_new_fault)
-    (record { only = u.headline k; installed = tt; refused = u.refused k; exact = u.exactly k; lets_go = u.lets_go k; memory = λ is. u.memory is k }))
+    goes_from (g.S.Scheme.accepts c.args.scheme.now) (terms_of c.args.wanted) c.args.is_first c.args.again _ _ known (c.in-Ok.ensures.locked known).0 _ _ (c.in-Ok-false.ensures.goes_on c.in-Ok-false.field-0-test) (g.R.Source.ahead c.args.update.now) (g.Z.RandomSource.random_faults c.args.random.now) (g.R.Source.faults c.args.update.now) (g.F.Directory.directory_faults c.args.directory.now) (g.F.Directory.directory_faults c.is_there.new.directory)
+    (counts (g.Z.RandomSource.random_faults c.install_update.new.random) (g.R.Source.faults c.install_update.new.update) (g.F.Directory.directory_faults c.install_update.new.directory)) (Err c.in-Err-install_update.fault) (c.in-Ok-false.ensures.no_new_fault ∙ c.in-Ok.ensures.no_new_fault) (λ k. record { now = tt; refused = u.refused k; exact = u.exactly k; lets_go = u.lets_go k })
+
+pub returns-in-Err-install_update-clause-memory : goal.returns-in-Err-install_update-clause-memory
+returns-in-Err-install_update-clause-memory g c = λ is known.
+    goes_memory (g.S.Scheme.accepts c.args.scheme.now) (terms_of c.args.wanted) c.args.is_first c.args.again _ _ known (c.in-Ok.ensures.locked known).0 _ _ (c.in-Ok-false.ensures.goes_on c.in-Ok-false.field-0-test) (c.in-Err-install_update.ensures.memory is)
 
 pub returns-in-Err-install_update-clause-causes : goal.returns-in-Err-install_update-clause-causes
 returns-in-Err-install_update-clause-causes g c =
-    let a = c.args in
-    inl (subst (λ (f : ℕ). IsCause (g.S.Scheme.accepts a.scheme.now) (terms_of a.wanted) a.is_first (counts (g.Z.RandomSource.random_faults a.random.now) (g.R.Source.faults a.update.now) f)
-    (counts (g.Z.RandomSource.random_faults c.install_update.new.random) (g.R.Source.faults c.install_update.new.update) (g.F.Directory.directory_faults c.install_update.new.directory)) c.in-Err-install_update.fault)
-    (c.in-Ok-false.ensures.no_new_fault ∙ c.in-Ok.ensures.no_new_fault) c.in-Err-install_update.ensures.causes)
+    inl (subst (λ (f : ℕ). IsCause (g.S.Scheme.accepts c.args.scheme.now) (terms_of c.args.wanted) c.args.is_first (counts (g.Z.RandomSource.random_faults c.args.random.now) (g.R.Source.faults c.args.update.now) f)
+    (counts (g.Z.RandomSource.random_faults c.install_update.new.random) (g.R.Source.faults c.install_update.new.update) (g.F.Directory.directory_faults c.install_update.new.directory)) c.in-Err-install_update.fault) (c.in-Ok-false.ensures.no_new_fault ∙ c.in-Ok.ensures.no_new_fault) c.in-Err-install_update.ensures.causes)
+
+pub returns-in-Err-is_there-clause-headline : goal.returns-in-Err-is_there-clause-headline
+returns-in-Err-is_there-clause-headline g c = λ known.
+    (refused_ends (g.S.Scheme.accepts c.args.scheme.now) (terms_of c.args.wanted) c.args.is_first c.args.again _ _ known (c.in-Ok.ensures.locked known).0 (g.F.Directory.directory_faults c.lock.new.directory) (g.F.Directory.directory_faults c.is_there.new.directory) _ _ c.in-Err-is_there.ensures.other).0
+
+pub returns-in-Err-is_there-clause-memory : goal.returns-in-Err-is_there-clause-memory
+returns-in-Err-is_there-clause-memory g c = λ is known.
+    (refused_ends (g.S.Scheme.accepts c.args.scheme.now) (terms_of c.args.wanted) c.args.is_first c.args.again _ _ known (c.in-Ok.ensures.locked known).0 (g.F.Directory.directory_faults c.lock.new.directory) (g.F.Directory.directory_faults c.is_there.new.directory) _ _ c.in-Err-is_there.ensures.other).1
 
 pub returns-in-Err-is_there-clause-goes : goal.returns-in-Err-is_there-clause-goes
 returns-in-Err-is_there-clause-goes g c = λ known.
-    let a = c.args in
-    looking_refused (g.S.Scheme.accepts a.scheme.now) (terms_of a.wanted) a.is_first a.again (g.R.Source.ahead a.update.now) (g.F.Directory.run a.directory.now) (g.F.Directory.run c.lock.new.directory) known
-    (c.in-Ok.ensures.locked known).0 (g.Z.RandomSource.random_faults a.random.now) (g.R.Source.faults a.update.now) (g.F.Directory.directory_faults a.directory.now) (g.F.Directory.directory_faults c.lock.new.directory)
-    (g.F.Directory.directory_faults c.is_there.new.directory) (g.F.Directory.run c.is_there.new.directory) c.in-Err-is_there.fault c.in-Ok.ensures.no_new_fault c.in-Err-is_there.ensures.other
+    looking_refused (g.S.Scheme.accepts c.args.scheme.now) (terms_of c.args.wanted) c.args.is_first c.args.again _ _ known (c.in-Ok.ensures.locked known).0 (g.R.Source.ahead c.args.update.now) (g.Z.RandomSource.random_faults c.args.random.now) (g.R.Source.faults c.args.update.now) (g.F.Directory.directory_faults c.args.directory.now) (g.F.Directory.directory_faults c.lock.new.directory) (g.F.Directory.directory_faults c.is_there.new.directory) _ _ c.in-Ok.ensures.no_new_fault c.in-Err-is_there.ensures.other
