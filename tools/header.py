@@ -114,13 +114,11 @@ def fault_rows():
 
 
 def install_rows(comments):
-    """The faults that installing adds, in the same form."""
-    added = {name: comment for name, comment in comments.items() if name != "Library"}
-    numbers = {it.variant: str(it.number) for it in numbers_of(added, INSTALL_NUMBERS, "install_number")}
-    rows = re.findall(r'^install_row (\w+) =\s+record \{ kind = (\w+); text = codes "([^"]*)" \}$',
-                      read(f"{INSTALL}/specs/Faults.antt"), re.M)
-    texts = {name: (kind, text) for name, kind, text in rows}
-    return [(name, numbers[name], *texts[name]) for name in added]
+    """The errors that installing adds, in the same form."""
+    rows = re.findall(r'^install_row (\w+) =\s+row (\d+) (\w+) \(codes "([^"]*)"\)$', read(f"{INSTALL}/specs/Faults.antt"), re.M)
+    if {name for name, *_ in rows} != {*comments} - {"Library"}:
+        raise Unfit("install_row has not one row for each error of installing")
+    return rows
 
 
 def all_numbers(rows, comments):

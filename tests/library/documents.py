@@ -106,7 +106,7 @@ def places(document, text):
 def check_installing(report, index):
     """Each fault that installing adds stands in its table with its name and its text."""
     rows = [row.split("|")[2] for row in read(INSTALLING).split("\n") if row.count("|") == 4]
-    faults = re.findall(r'^install_row (\w+) =\s+record \{ kind = \w+; text = codes "([^"]*)"',
+    faults = re.findall(r'^install_row (\w+) =\s+row \d+ \w+ \(codes "([^"]*)"',
                         read("crates/minisign_install/specs/Faults.antt"), re.M)
     report.check(faults, "specs/Faults.antt", "no fault is read")
     for name, said in faults:

@@ -23,17 +23,17 @@ ghost use Rattle.minisign_external.specs.declared.state.Misuse.TheVariants.{BadF
 ghost use Rattle.minisign_install.specs.Checking.{HasChecked, IsCheckNumber};
 ghost use Rattle.minisign_install.specs.Comments.{Says};
 ghost use Rattle.minisign_install.specs.HostNumbers.{IsHostMeaning, numbering_number};
-ghost use Rattle.minisign_install.specs.Hosted.{CannotBeFed, CannotFail, CannotGo, GivesUpdateNumber, CallHasFailed, HasGone, HasReadRecord, HasReadBack, IsAnswerNumber, IsAskNumber, IsAsking, IsCommentNumber, IsDue, IsUnused, due_number, due_of, numbering_of, wanted_by};
+ghost use Rattle.minisign_install.specs.Hosted.{CannotBeFed, CannotFail, CannotGo, GivesUpdateNumber, CallHasFailed, HasReadRecord, HasReadBack, IsAnswerNumber, IsAskNumber, IsAsking, IsCommentNumber, IsDue, IsUnused, WasDone, due_number, due_of, numbering_of, wanted_by};
 ghost use Rattle.minisign_install.specs.Installing.{Terms};
 ghost use Rattle.minisign_install.specs.RecordTexts.{record_of};
-ghost use Rattle.minisign_install.specs.declared.order.Due.TheVariants.{Answer, Lock, ReadBack, ReadRecord, TakePermissions, WriteRecord};
+ghost use Rattle.minisign_install.specs.declared.order.Due.TheVariants.{Answer, Lock, ReadRecord, TakePermissions, WriteRecord};
 ghost use Rattle.minisign_install.specs.declared.order.Due.TheVariants as ended;
 ghost use Rattle.minisign_install.specs.declared.order.Outcome.TheVariants.{Done, More};
 ghost use Rattle.minisign_external.specs.States.{AnswersTextsBy, AreQuestions, GivesNumber, HasAsked, HasEnded, HasToldDigest, IsAnswered, IsBlank, IsCommentVerdictNumber, IsFedState, IsMarkedFed, IsMarkedTold, IsVerdictNumber, KeepsAsked, asking_number, feeding_misuse, is_asked, is_begun, questions_of, verdict_number};
 
 use minisign::Sealing;
 use minisign_external::making::{write_public_key, write_secret_key};
-use minisign_external::numbers::{ANSWER_YES, is_answer};
+use minisign_external::numbers::{ANSWER_YES, Numbered, is_answer};
 use minisign_external::public_keys::{PublicKeyValue, tell_bare_public_key, tell_public_key};
 use minisign_external::secrets::SecretKeyValue;
 use minisign_external::signed_texts::{write_comment_message, write_signed_text};
@@ -50,7 +50,7 @@ use std::alloc::Global;
 /// Returns the length of the whole text.
 #[unsafe(no_mangle)]
 pub extern "C" fn minisign_error_text(error: u32, text: &mut [u8]) -> usize
-    // The text of a number is that of the wrong use, that of the fault of installing, or what the fault of the library
+    // The text of a number is that of the wrong use, that of the error of installing, or what the error of the library
     // says without its key IDs; it has less than 128 bytes, is cut to its room and ended by a 0.
     ensures written { (meaning : List ℕ) × IsHostMeaning error meaning × (result ≡ length meaning) × WritesCut meaning text.old text.new }
     ensures room { result < 128 }
@@ -459,7 +459,7 @@ pub extern "C" fn minisign_install_init(
     // The lock is due, nothing was read back, and whether this is the first installation and which field has the number
     // are kept. Of each a number that is neither 0 nor 1 is rejected, that of the former first, and nothing is written.
     ensures due { result ≡ 0 → IsDue installation.new Lock × IsFedState installation.new.state [] }
-    ensures first { result ≡ 0 → (is_first < 2) × ((installation.new.is_first == 1) ≡ (is_first == 1)) }
+    ensures first { result ≡ 0 → (is_first < 2) × ((installation.new.chosen.is_first == 1) ≡ (is_first == 1)) }
     ensures numbering { result ≡ 0 → numbering ≡ numbering_number (numbering_of installation.new) }
     ensures unused { result ≡ 0 → IsUnused installation.new }
     ensures refused { 0 < result → (((result ≡ misuse_number BadFirstFlag) × (1 < is_first))
@@ -489,10 +489,10 @@ pub extern "C" fn minisign_install_due(installation: &Installation) -> u32
 pub extern "C" fn minisign_install_done(installation: &mut Installation) -> u32
     // What is due next is what the table says, where the call that was due can be done and is not reading back.
     // Otherwise it is not due, and nothing changes.
-    ensures gone { result ≡ 0 → HasGone Done installation.old installation.new × ((kept : ℕ) → ¬ (IsDue installation.old (ReadBack kept))) }
+    ensures gone { result ≡ 0 → WasDone Done installation.old installation.new }
     ensures refused { 0 < result → (result ≡ misuse_number NotDue) × (installation.new ≡ installation.old) × CannotGo Done installation.old }
 {
-    match installation.done() {
+    match installation.done(false) {
         Ok(()) => 0,
         Err(not_due) => not_due.number(),
     }
@@ -502,16 +502,16 @@ pub extern "C" fn minisign_install_done(installation: &mut Installation) -> u32
 #[unsafe(no_mangle)]
 pub extern "C" fn minisign_install_more(installation: &mut Installation) -> u32
     // The same where a piece was copied and there may be more. Otherwise it is not due, and nothing changes.
-    ensures gone { result ≡ 0 → HasGone More installation.old installation.new × ((kept : ℕ) → ¬ (IsDue installation.old (ReadBack kept))) }
+    ensures gone { result ≡ 0 → WasDone More installation.old installation.new }
     ensures refused { 0 < result → (result ≡ misuse_number NotDue) × (installation.new ≡ installation.old) × CannotGo More installation.old }
 {
-    match installation.more() {
+    match installation.done(true) {
         Ok(()) => 0,
         Err(not_due) => not_due.number(),
     }
 }
 
-/// The call that was due failed for the fault of this number.
+/// The call that was due failed for the error of this number.
 #[unsafe(no_mangle)]
 pub extern "C" fn minisign_install_failed(installation: &mut Installation, why: u32) -> u32
     // What is due next is what the table says, where the call that was due can fail so. Otherwise it is not due, and
@@ -533,7 +533,7 @@ pub extern "C" fn minisign_install_record(installation: &mut Installation, bytes
     ensures read { result ≡ 0 → HasReadRecord (Some bytes.now) installation.old installation.new }
     ensures refused { 0 < result → (result ≡ misuse_number NotDue) × (installation.new ≡ installation.old) × ¬ (IsDue installation.old ReadRecord) }
 {
-    match installation.record(bytes) {
+    match installation.record(Some(bytes)) {
         Ok(()) => 0,
         Err(not_due) => not_due.number(),
     }
@@ -546,7 +546,7 @@ pub extern "C" fn minisign_install_no_record(installation: &mut Installation) ->
     ensures read { result ≡ 0 → HasReadRecord None installation.old installation.new }
     ensures refused { 0 < result → (result ≡ misuse_number NotDue) × (installation.new ≡ installation.old) × ¬ (IsDue installation.old ReadRecord) }
 {
-    match installation.no_record() {
+    match installation.record(None) {
         Ok(()) => 0,
         Err(not_due) => not_due.number(),
     }
@@ -588,8 +588,8 @@ pub extern "C" fn minisign_install_ask(
         × ((pk_text : List ℕ) → IsKeyText pk_text key.now
         → IsAsking installation.new (wanted_by pk_text sig_text.now file.now (numbering_of installation.old) moment) kept) }
 
-    // The field that the number stands in stays.
-    ensures field { numbering_of installation.new ≡ numbering_of installation.old }
+    // What the host has chosen stays.
+    ensures chosen { installation.new.chosen ≡ installation.old.chosen }
 
     // The number is that of the first reason of `Installation::ask`: a wrong use changes nothing, and for any other
     // reason the stage is to be removed. The message buffer is as it was.
@@ -627,8 +627,8 @@ pub extern "C" fn minisign_install_answer(
         × HasEnded installation.old.state installation.new.state × IsAnswer first × IsAnswer second }
     ensures refused { 0 < result → IsAnswerNumber installation.old installation.new first second result }
 
-    // The field that the number stands in stays.
-    ensures field { numbering_of installation.new ≡ numbering_of installation.old }
+    // What the host has chosen stays.
+    ensures chosen { installation.new.chosen ≡ installation.old.chosen }
 {
     if !(is_answer(first) && is_answer(second)) {
         return Misuse::BadAnswer.number();
@@ -656,10 +656,10 @@ pub extern "C" fn minisign_install_number_text(
     installation.write_number(text)
 }
 
-/// The number of the fault that the run was rejected for.
+/// The number of the error that the run was rejected for.
 #[unsafe(no_mangle)]
 pub extern "C" fn minisign_install_error(installation: &Installation) -> u32
-    // The number is that of the fault that the run was rejected for, and otherwise 0.
+    // The number is that of the error that the run was rejected for, and otherwise 0.
     ensures refused { (e : ℕ) → IsDue installation.now (ended.Refused e) → result ≡ e }
     ensures none { ((e : ℕ) → ¬ (IsDue installation.now (ended.Refused e))) → result ≡ 0 }
 {

@@ -203,14 +203,14 @@ decided accepts v sig_text message legacy t whole first second opens is answers 
 
 -- == What asking rejects ==
 
-abbrev fits : Bool → Result Unit Refusal
+abbrev fits : Bool → Result Unit (Refusal Fault)
 fits b = if b then Ok tt else Err (WrongUse NoRoom)
 
 has_room : (b : Bool) (e : Fault) → fits b ≡ Err (Refused e) → ⊥
 has_room true e h = cc h
 has_room false e h = cc h
 
-abbrev begun : Bool → Result SignatureTextRecord Fault → ℕ → Misuse → Result Unit Refusal
+abbrev begun : Bool → Result SignatureTextRecord Fault → ℕ → Misuse → Result Unit (Refusal Fault)
 begun b r room m = if b then asked_of r room else Err (WrongUse m)
 
 refused_text : (b : Bool) (r : Result SignatureTextRecord Fault) (room : ℕ) (m : Misuse) (e : Fault)
@@ -220,13 +220,13 @@ refused_text true (Err f) room m e h = let same : f ≡ e = cc h in ap (λ x. Er
 refused_text false r room m e h = cc h
 
 -- of a state that may be asked
-pub opening_refusal : (v : PublicKeyValue) (sig_text : List ℕ) (legacy : Bool) (room : ℕ) (r : Refusal)
+pub opening_refusal : (v : PublicKeyValue) (sig_text : List ℕ) (legacy : Bool) (room : ℕ) (r : Refusal Fault)
     → asked_of (read_under v legacy sig_text) room ≡ Err r → IsTextRefusal v sig_text legacy r
 opening_refusal v sig_text legacy room (WrongUse m) h = tt
 opening_refusal v sig_text legacy room (Refused e) h = λ utf8 pk_text message accepts keyed.
     refuse accepts pk_text sig_text message legacy v keyed utf8 e (rw (refused_text true (read_under v legacy sig_text) room NotBegun e h) refl)
 
-pub text_refusal : (s : State) (v : PublicKeyValue) (sig_text : List ℕ) (legacy : Bool) (room : ℕ) (r : Refusal)
+pub text_refusal : (s : State) (v : PublicKeyValue) (sig_text : List ℕ) (legacy : Bool) (room : ℕ) (r : Refusal Fault)
     → asking_result s v sig_text legacy room ≡ Err r → IsTextRefusal v sig_text legacy r
 text_refusal s v sig_text legacy room (WrongUse m) h = tt
 text_refusal s v sig_text legacy room (Refused e) h = λ utf8 pk_text message accepts keyed.

@@ -2,7 +2,7 @@
 use Rattle.std.specs.Prelude.{◌≡◌, ◌⊎◌, ◌<◌, ◌≤◌, ◌+◌, ℕ, true, false, List, length, take, Option, Some, Ok, IfSome}
 use Rattle.std.specs.Str.{IsUtf8}
 use Rattle.std.specs.Str.Iter.{LacksByte}
-use Rattle.minisign_base.specs.Fault.{Named}
+use Rattle.minisign_base.specs.Fault.{Fault, Named}
 use Rattle.minisign_base.specs.declared.faults.NamedFault.TheVariants.{OutOfMemory, NotUtf8}
 use Rattle.minisign.specs.Making.{GivesParts, IsOfParts, made_key, making_fault}
 use Rattle.minisign.specs.PublicKeyText.{read_public_key, commented_public_key_text}
@@ -10,7 +10,7 @@ use Rattle.minisign.specs.Generation.{unsealed_key}
 use Rattle.minisign.specs.Records.{SecretKeyRecord, own_public_key}
 use Rattle.minisign.specs.SecretKeyText.{secret_key_text}
 use Rattle.minisign.specs.declared.making.Sealing.{Sealing}
-use Rattle.minisign_external.specs.Numbers.{misuse_number, refusal_number}
+use Rattle.minisign_external.specs.Numbers.{fault_number, misuse_number, refusal_number}
 use Rattle.minisign_external.specs.declared.state.Misuse.{Misuse}
 use Rattle.minisign_external.specs.declared.state.Misuse.TheVariants.{BadComment, BadPasswordFlag, KeyNotOpened, NoRoom, UnreadableComment}
 use Rattle.minisign_external.specs.SecretKeys.{is_opened}
@@ -62,20 +62,20 @@ AreUtf8KeyTexts comment password = IsUtf8 comment × IfSome password IsUtf8
 
 -- the text of a secret key, of a comment and a password that are texts, was not written: a wrong use; then limits that
 -- are rejected, or out of memory
-abbrev pub IsMadeRefusal : Option (List ℕ) → Sealing → List ℕ → List ℕ → Refusal → Type 0
+abbrev pub IsMadeRefusal : Option (List ℕ) → Sealing → List ℕ → List ℕ → Refusal Fault → Type 0
 IsMadeRefusal password s comment bytes (WrongUse m) = IsUnwritable comment 233 bytes m
 IsMadeRefusal password s comment bytes (Refused e) = IsWritable comment 233 bytes × (e ≡ making_fault password s)
 
 -- the text of a secret key was not written: the key was not opened, a comment or a password is not UTF-8, or else as
 -- above
-abbrev pub IsMakingRefusal : SecretKeyValue → Option (List ℕ) → Sealing → List ℕ → List ℕ → Refusal → Type 0
+abbrev pub IsMakingRefusal : SecretKeyValue → Option (List ℕ) → Sealing → List ℕ → List ℕ → Refusal Fault → Type 0
 IsMakingRefusal v password s comment bytes r =
     ((r ≡ WrongUse KeyNotOpened) × (is_opened v ≡ false))
     ⊎ ((r ≡ Refused (Named NotUtf8)) × (is_opened v ≡ true) × ¬ (AreUtf8KeyTexts comment password))
     ⊎ ((is_opened v ≡ true) × AreUtf8KeyTexts comment password × IsMadeRefusal password s comment bytes r)
 
 -- the text of a public key was not written, in the same order
-abbrev pub IsPublicKeyRefusal : SecretKeyValue → List ℕ → List ℕ → Refusal → Type 0
+abbrev pub IsPublicKeyRefusal : SecretKeyValue → List ℕ → List ℕ → Refusal Fault → Type 0
 IsPublicKeyRefusal v comment bytes (WrongUse m) =
     ((m ≡ KeyNotOpened) × (is_opened v ≡ false))
     ⊎ ((is_opened v ≡ true) × IsUtf8 comment × IsUnwritable comment 77 bytes m)
@@ -88,7 +88,9 @@ IsPublicKeyRefusal v comment bytes (Refused e) =
 abbrev pub IsMakingNumber : SecretKeyValue → Option (List ℕ) → ℕ → Sealing → List ℕ → List ℕ → ℕ → Type 0
 IsMakingNumber v password with_password s comment bytes n =
     ((n ≡ misuse_number BadPasswordFlag) × (1 < with_password))
-    ⊎ ((with_password < 2) × (r : Refusal) × (n ≡ refusal_number r) × IsMakingRefusal v password s comment bytes r)
+    ⊎ ((with_password < 2) × (r : Refusal Fault) × (n ≡ refusal_number fault_number r)
+    × IsMakingRefusal v password s comment bytes r)
 
 abbrev pub IsPublicKeyNumber : SecretKeyValue → List ℕ → List ℕ → ℕ → Type 0
-IsPublicKeyNumber v comment bytes n = (r : Refusal) × (n ≡ refusal_number r) × IsPublicKeyRefusal v comment bytes r
+IsPublicKeyNumber v comment bytes n =
+    (r : Refusal Fault) × (n ≡ refusal_number fault_number r) × IsPublicKeyRefusal v comment bytes r

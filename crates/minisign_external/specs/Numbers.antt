@@ -58,9 +58,10 @@ abbrev pub fault_number : Fault → ℕ
 fault_number (Named f) = (fault_row f).number
 fault_number (Worded kind text) = 255
 
-abbrev pub refusal_number : Refusal → ℕ
-refusal_number (WrongUse m) = misuse_number m
-refusal_number (Refused e) = fault_number e
+-- the number of a refusal: that of the wrong use, or that of the error, by its own table
+abbrev pub refusal_number : {F : Type 0} → (F → ℕ) → Refusal F → ℕ
+refusal_number number (WrongUse m) = misuse_number m
+refusal_number number (Refused e) = number e
 
 -- the text is what the number means
 pub record IsMeaning (n : ℕ) (text : List ℕ) : Type 0 where

@@ -89,7 +89,7 @@ IsOpeningFault k password greatest_work e =
     ⊎ (open_read_key k password greatest_work ≡ Err e)))
 
 -- opening was rejected: the key was not read, or else as above
-abbrev pub IsOpeningRefusal : UnopenedKeyValue → Option (List ℕ) → ℕ → Refusal → Type 0
+abbrev pub IsOpeningRefusal : UnopenedKeyValue → Option (List ℕ) → ℕ → Refusal Fault → Type 0
 IsOpeningRefusal v password greatest_work (WrongUse m) = (m ≡ KeyNotRead) × (is_read v ≡ false)
 IsOpeningRefusal v password greatest_work (Refused e) =
     (is_read v ≡ true) × IsOpeningFault (unopened_record v) password greatest_work e
@@ -98,7 +98,8 @@ IsOpeningRefusal v password greatest_work (Refused e) =
 abbrev pub IsOpeningNumber : UnopenedKeyValue → Option (List ℕ) → ℕ → ℕ → ℕ → Type 0
 IsOpeningNumber v password with_password greatest_work n =
     ((n ≡ misuse_number BadPasswordFlag) × (1 < with_password))
-    ⊎ ((with_password < 2) × (r : Refusal) × (n ≡ refusal_number r) × IsOpeningRefusal v password greatest_work r)
+    ⊎ ((with_password < 2) × (r : Refusal Fault) × (n ≡ refusal_number fault_number r)
+    × IsOpeningRefusal v password greatest_work r)
 
 -- the password that a caller passes in by two arguments: none with 0, these bytes with 1
 abbrev pub passed_in : ℕ → List ℕ → Option (List ℕ)

@@ -3,14 +3,14 @@ use Rattle.std.specs.Prelude.{◌≡◌, ◌⊎◌, ◌<◌, ◌≤◌, ℕ, tru
 use Rattle.std.specs.Str.{IsUtf8}
 use Rattle.std.specs.Str.Iter.{LacksByte}
 use Rattle.minisign_hash.specs.Blake2b.{blake2b_digest}
-use Rattle.minisign_base.specs.Fault.{Named}
+use Rattle.minisign_base.specs.Fault.{Fault, Named}
 use Rattle.minisign_base.specs.declared.faults.NamedFault.TheVariants.{OutOfMemory, NotUtf8}
 use Rattle.minisign.specs.Records.{CommentsRecord, SecretKeyRecord, SignatureRecord, SignatureBoxRecord, prehashed_algorithm}
 use Rattle.minisign.specs.Acceptance.{Verifier, VouchesUnderEachKey}
 use Rattle.minisign.specs.Headline.{SigningHeadline}
 use Rattle.minisign.specs.Signing.{AreChosenReadBack, ChosenComments, IsGenuine, Signer, signed_box}
 use Rattle.minisign.specs.SignatureText.{read_signature_box, signature_text}
-use Rattle.minisign_external.specs.Numbers.{refusal_number}
+use Rattle.minisign_external.specs.Numbers.{fault_number, refusal_number}
 use Rattle.minisign_external.specs.SecretKeys.{is_opened}
 use Rattle.minisign_external.specs.declared.secrets.SecretKeyValue.{SecretKeyValue}
 use Rattle.minisign_external.specs.declared.state.Misuse.{Misuse}
@@ -97,7 +97,7 @@ HasNoRoom key_id chosen first second bytes =
 
 -- the text was not written, and this is the first reason: the key was not opened, a comment is not UTF-8, a comment is
 -- rejected, or the text has no room; or memory ran out, of comments that are not rejected
-abbrev pub IsWritingRefusal : SecretKeyValue → ChosenComments → List ℕ → List ℕ → List ℕ → Refusal → Type 0
+abbrev pub IsWritingRefusal : SecretKeyValue → ChosenComments → List ℕ → List ℕ → List ℕ → Refusal Fault → Type 0
 IsWritingRefusal v chosen first second bytes (WrongUse m) =
     ((m ≡ KeyNotOpened) × (is_opened v ≡ false))
     ⊎ ((is_opened v ≡ true) × AreUtf8 chosen × IsCommentMisuse chosen m)
@@ -111,4 +111,4 @@ IsWritingRefusal v chosen first second bytes (Refused e) =
 -- the number of a rejection of writing a text
 abbrev pub IsWritingNumber : SecretKeyValue → ChosenComments → List ℕ → List ℕ → List ℕ → ℕ → Type 0
 IsWritingNumber v chosen first second bytes n =
-    (r : Refusal) × (n ≡ refusal_number r) × IsWritingRefusal v chosen first second bytes r
+    (r : Refusal Fault) × (n ≡ refusal_number fault_number r) × IsWritingRefusal v chosen first second bytes r

@@ -41,15 +41,14 @@ pub record HasToldDigest (s : State) (m : List ℕ) : Type 0 where
 
 -- the questions of the key and the text of the signature were asked
 pub record HasAsked (s : State) (v : PublicKeyValue) (sig_text : List ℕ) (legacy : Bool) : Type 0 where
-  pub asked : s.asked ≡ asked_mark
+  pub asked : s.asked.mark ≡ asked_mark
   pub signed : SignatureTextRecord
   pub read : read_under v legacy sig_text ≡ Ok signed
-  pub whole : (s.whole == 1) ≡ has_whole_signature signed.comments
+  pub whole : (s.asked.whole == 1) ≡ has_whole_signature signed.comments
 
 -- what was asked stays
-pub record KeepsAsked (old new : State) : Type 0 where
-  pub asked : new.asked ≡ old.asked
-  pub whole : new.whole ≡ old.whole
+abbrev pub KeepsAsked : State → State → Type 0
+KeepsAsked old new = new.asked ≡ old.asked
 
 -- the state is marked as one that is being fed, or as one that has told its digest
 abbrev pub IsMarkedFed : State → Type 0
@@ -64,7 +63,7 @@ is_begun s = (s.mark == fed_mark) || (s.mark == told_mark)
 
 -- questions were asked
 abbrev pub is_asked : State → Bool
-is_asked s = s.asked == asked_mark
+is_asked s = s.asked.mark == asked_mark
 
 -- no questions yet
 abbrev pub no_questions : Questions
@@ -104,8 +103,7 @@ IsNotFed s e = (e ≡ feeding_misuse s) × ((m : List ℕ) → ¬ (IsFedState s 
 
 -- what a new state holds beside what it was fed: nothing was asked of it
 pub record IsBlank (s : State) : Type 0 where
-  pub asked : s.asked ≡ 0
-  pub whole : s.whole ≡ 0
+  pub asked : s.asked ≡ record { mark = 0; whole = 0 }
   pub reserved : s.reserved ≡ replicate 18 0
 
 -- the questions of the key and of what the text reads as, whatever the digest, with the message of the second in these
@@ -120,10 +118,10 @@ AreAsked q bytes v t = (q ≡ questions_of v t) × HoldsMessage t.signature t.co
 
 -- what asking answers, with room for so many bytes of the message: a state that is not being fed or was asked before is
 -- rejected first, then what the text of the signature is rejected for under the key, and then too little room
-abbrev pub room_for : SignatureTextRecord → ℕ → Result Unit Refusal
+abbrev pub room_for : SignatureTextRecord → ℕ → Result Unit (Refusal Fault)
 room_for t room = if nat_le (64 + length t.comments.trusted) room then Ok tt else Err (WrongUse NoRoom)
 
-abbrev pub asked_of : Result SignatureTextRecord Fault → ℕ → Result Unit Refusal
+abbrev pub asked_of : Result SignatureTextRecord Fault → ℕ → Result Unit (Refusal Fault)
 asked_of (Ok t) room = room_for t room
 asked_of (Err e) room = Err (Refused e)
 
@@ -131,7 +129,7 @@ asked_of (Err e) room = Err (Refused e)
 abbrev pub asking_misuse : State → Misuse
 asking_misuse s = if is_begun s then AlreadyAsked else NotBegun
 
-abbrev pub asking_result : State → PublicKeyValue → List ℕ → Bool → ℕ → Result Unit Refusal
+abbrev pub asking_result : State → PublicKeyValue → List ℕ → Bool → ℕ → Result Unit (Refusal Fault)
 asking_result s v sig_text legacy room =
     if (s.mark == fed_mark) && not (is_asked s) then asked_of (read_under v legacy sig_text) room
     else Err (WrongUse (asking_misuse s))
@@ -141,23 +139,23 @@ abbrev pub verdict_misuse : State → Misuse
 verdict_misuse s = if is_begun s then NotAsked else NotBegun
 
 -- the rejection is a fault of the library, of this kind
-abbrev pub IsFaultOf : (Fault → Type 0) → Refusal → Type 0
+abbrev pub IsFaultOf : (Fault → Type 0) → Refusal Fault → Type 0
 IsFaultOf holds (WrongUse m) = ⊥
 IsFaultOf holds (Refused e) = holds e
 
 -- asking about all that a state was fed was rejected: it is not being fed; or else the text of the signature or the
 -- room is rejected as above
-abbrev pub IsNotFedRefusal : State → Refusal → Type 0
+abbrev pub IsNotFedRefusal : State → Refusal Fault → Type 0
 IsNotFedRefusal s (WrongUse m) = IsNotFed s m
 IsNotFedRefusal s (Refused e) = ⊥
 
-abbrev pub IsAskFedRefusal : State → PublicKeyValue → List ℕ → Bool → ℕ → Refusal → Type 0
+abbrev pub IsAskFedRefusal : State → PublicKeyValue → List ℕ → Bool → ℕ → Refusal Fault → Type 0
 IsAskFedRefusal s v sig_text legacy room r =
     IsNotFedRefusal s r ⊎ (IsMarkedFed s × (asked_of (read_under v legacy sig_text) room ≡ Err r))
 
 -- where it is a fault, every text that reads as the key and the text of the signature, which is UTF-8 then, reject for
 -- it, whatever the scheme and the message; or the text of the signature is not UTF-8
-abbrev pub IsTextRefusal : PublicKeyValue → List ℕ → Bool → Refusal → Type 0
+abbrev pub IsTextRefusal : PublicKeyValue → List ℕ → Bool → Refusal Fault → Type 0
 IsTextRefusal v sig_text legacy (WrongUse m) = ⊤
 IsTextRefusal v sig_text legacy (Refused e) =
     IsUtf8 sig_text → (pk_text message : List ℕ) (accepts : Verifier) → IsKeyText pk_text v
@@ -165,13 +163,13 @@ IsTextRefusal v sig_text legacy (Refused e) =
 
 -- the verdict on the texts and the message: success exactly where they vouch for it, otherwise the first case that
 -- fails
-abbrev pub GivesVerdict : {T : Type 0} → Verifier → List ℕ → List ℕ → List ℕ → Bool → Result T Refusal → Type 0
+abbrev pub GivesVerdict : {T : Type 0} → Verifier → List ℕ → List ℕ → List ℕ → Bool → Result T (Refusal Fault) → Type 0
 GivesVerdict accepts pk_text sig_text message legacy r =
     MatchResult r (λ _. TextsVouchFor accepts pk_text sig_text message legacy)
     (IsFaultOf (λ e. verdict accepts pk_text sig_text message legacy ≡ Err e))
 
 -- a verdict, of which the trusted comment is known already
-abbrev pub given_verdict : Result (List ℕ) Fault → Result Unit Refusal
+abbrev pub given_verdict : Result (List ℕ) Fault → Result Unit (Refusal Fault)
 given_verdict (Ok trusted) = Ok tt
 given_verdict (Err e) = Err (Refused e)
 
@@ -193,19 +191,19 @@ AnswersTextsBy accepts pk_text sig_text message first second =
 
 -- a state that had asked and told its digest was ended
 pub record HasEnded (old new : State) : Type 0 where
-  pub asked : old.asked ≡ asked_mark
+  pub asked : old.asked.mark ≡ asked_mark
   pub told : old.mark ≡ told_mark
   pub ended : new.mark ≡ 0
 
 -- what the second answer is worth is not told, or is nothing: the state has not asked or was ended; or it has asked,
 -- and the comment signature is rejected
-abbrev pub IsCommentRefusal : State → Refusal → Type 0
+abbrev pub IsCommentRefusal : State → Refusal Fault → Type 0
 IsCommentRefusal s (WrongUse m) = (m ≡ verdict_misuse s) × ((is_asked s && is_begun s) ≡ false)
 IsCommentRefusal s (Refused e) = (e ≡ Named CommentSignatureRefused) × (is_asked s ≡ true) × (is_begun s ≡ true)
 
 -- no success: where the state has not asked or not told its digest, it stays as it was; where it has, the first
 -- question was answered by no, or else the second
-abbrev pub IsVerdictRefusal : State → State → Bool → Refusal → Type 0
+abbrev pub IsVerdictRefusal : State → State → Bool → Refusal Fault → Type 0
 IsVerdictRefusal old new first (WrongUse m) =
     (m ≡ verdict_misuse old) × (new ≡ old) × ((is_asked old && (old.mark == told_mark)) ≡ false)
 IsVerdictRefusal old new first (Refused e) =
@@ -214,9 +212,9 @@ IsVerdictRefusal old new first (Refused e) =
 -- == The same by numbers ==
 
 -- the number of a result: 0 of a success
-abbrev pub result_number : Result Unit Refusal → ℕ
+abbrev pub result_number : Result Unit (Refusal Fault) → ℕ
 result_number (Ok t) = 0
-result_number (Err r) = refusal_number r
+result_number (Err r) = refusal_number fault_number r
 
 -- the verdict on the texts and the message as a number: 0 exactly where they vouch for it, otherwise that of the first
 -- case that fails
@@ -229,7 +227,7 @@ GivesNumber accepts pk_text sig_text message legacy n =
 abbrev pub IsCommentVerdictNumber : State → ℕ → ℕ → Type 0
 IsCommentVerdictNumber s second n =
     ((n ≡ misuse_number BadAnswer) × ¬ (IsAnswer second))
-    ⊎ (IsAnswer second × (r : Refusal) × (n ≡ refusal_number r) × IsCommentRefusal s r)
+    ⊎ (IsAnswer second × (r : Refusal Fault) × (n ≡ refusal_number fault_number r) × IsCommentRefusal s r)
 
 -- a number that is no flag is rejected, and only then the other reasons come
 abbrev pub asking_number : State → PublicKeyValue → List ℕ → ℕ → ℕ → ℕ
@@ -247,5 +245,5 @@ verdict_number (Err e) = fault_number e
 abbrev pub IsVerdictNumber : State → State → ℕ → ℕ → ℕ → Type 0
 IsVerdictNumber old new first second n =
     ((n ≡ misuse_number BadAnswer) × (¬ (IsAnswer first) ⊎ ¬ (IsAnswer second)) × (new ≡ old))
-    ⊎ (IsAnswer first × IsAnswer second × (r : Refusal) × (n ≡ refusal_number r)
+    ⊎ (IsAnswer first × IsAnswer second × (r : Refusal Fault) × (n ≡ refusal_number fault_number r)
     × IsVerdictRefusal old new (first == answer_yes) r)

@@ -13,7 +13,7 @@ ghost use Rattle.minisign_external.specs.declared.state.Refusal.TheVariants.{Wro
 
 use crate::public_keys::PublicKeyValue;
 use crate::signed_texts::write_comment_message;
-use crate::state::{ASKED, FED, Misuse, Questions, Refusal, State, TOLD};
+use crate::state::{ASKED, Asked, FED, Misuse, Questions, Refusal, State, TOLD};
 use crate::texts::{legacy_number, read_bytes, test, told_comment_signature};
 use crate::verdict::{comment_verdict, verdict};
 use minisign::SignatureView;
@@ -134,8 +134,10 @@ impl State {
         questions.signature_key_id = signature.signature().keynum;
         test(key, &signature, allow_legacy)?;
         let whole = write_questions(key, &signature, questions, message)?;
-        self.asked = ASKED;
-        self.whole = u64::from(whole);
+        self.asked = Asked {
+            mark: ASKED,
+            whole: u64::from(whole),
+        };
         Ok(signature.trusted_comment())
     }
 
@@ -156,7 +158,7 @@ impl State {
         if !self.is_begun() || !self.is_asked() {
             return Err(Refusal::WrongUse(self.verdict_misuse()));
         }
-        match comment_verdict(self.whole == 1, second) {
+        match comment_verdict(self.asked.whole == 1, second) {
             Ok(()) => Ok(()),
             Err(fault) => Err(Refusal::Refused(fault)),
         }
@@ -187,7 +189,7 @@ impl State {
             return Err(Refusal::WrongUse(self.verdict_misuse()));
         }
         self.mark = 0;
-        match verdict(self.whole == 1, first, second) {
+        match verdict(self.asked.whole == 1, first, second) {
             Ok(()) => Ok(()),
             Err(fault) => Err(Refusal::Refused(fault)),
         }

@@ -25,28 +25,40 @@ pub fn is_answer(number: u32) -> bool
 // The number of a fault without a name, which no call of this library answers.
 const UNNAMED: u32 = 255;
 
-impl Refusal {
-    /// The number of the rejection: that of the wrong use, or that of the fault.
-    pub fn number(&self) -> u32
-        // The number of a rejection is that of its wrong use or of its fault, by a table: 7 is out of memory and
-        // nothing else.
-        ensures { result ≡ refusal_number self.now }
-    {
-        match self {
-            Refusal::WrongUse(misuse) => misuse.number(),
-            Refusal::Refused(fault) => number_of(fault),
+/// An error by whose number a program in another language knows it.
+pub trait Numbered {
+    // The number of the error.
+    ghost number_of: { Self → ℕ };
+
+    /// The number of the error.
+    fn number(&self) -> u32
+        // The number of an error is that of a table.
+        ensures { result ≡ number_of self.now };
+}
+
+/// The number of an error of the library: 255 where it has no name, which no call answers.
+impl Numbered for PError {
+    ghost number_of = { fault_number };
+
+    fn number(&self) -> u32 {
+        match self.named() {
+            Some(fault) => fault.number(),
+            None => UNNAMED,
         }
     }
 }
 
-/// The number of a fault of the library: 255 where it has no name, which no call answers.
-pub fn number_of(fault: &PError) -> u32
-    // The number of a fault is that of its name, by a table.
-    ensures { result ≡ fault_number fault.now }
-{
-    match fault.named() {
-        Some(fault) => fault.number(),
-        None => UNNAMED,
+impl<F: Numbered> Refusal<F> {
+    /// The number of the refusal: that of the wrong use, or that of the error.
+    pub fn number(&self) -> u32
+        // The number of a refusal is that of its wrong use or of its error, by a table: of the library's 7 is out of
+        // memory and nothing else.
+        ensures { result ≡ refusal_number F.number_of self.now }
+    {
+        match self {
+            Refusal::WrongUse(misuse) => misuse.number(),
+            Refusal::Refused(error) => error.number(),
+        }
     }
 }
 

@@ -25,11 +25,18 @@ pub(crate) const ASKED: u64 = 7742639332697991533;
 pub struct State {
     pub(crate) mark: u64,
     hash: StoredBlake2b,
+    pub(crate) asked: Asked,
+    reserved: [u64; 18],
+}
+
+// What was asked. It is written as a whole where the questions are asked; before that it is the default, zeros.
+#[repr(C)]
+#[derive(Clone, Copy, Default)]
+pub(crate) struct Asked {
     // Whether the questions were asked: `ASKED`, or anything else.
-    pub(crate) asked: u64,
+    pub(crate) mark: u64,
     // Whether the second question could be asked: 1 or 0.
     pub(crate) whole: u64,
-    reserved: [u64; 18],
 }
 
 /// What has to be asked, with the layout of C.
@@ -91,13 +98,13 @@ pub enum Misuse {
     KeyNotRead,
 }
 
-/// Why nothing was asked or signed.
+/// Why a call did not go: mostly for an error of the library.
 #[derive(Debug, Drop)]
-pub enum Refusal {
+pub enum Refusal<F = PError> {
     /// A wrong use.
     WrongUse(Misuse),
-    /// A fault of the library.
-    Refused(PError),
+    /// What was asked for is rejected, for this error.
+    Refused(F),
 }
 
 /// The rejection that this fault is.
@@ -110,10 +117,10 @@ impl From<PError> for Refusal {
 }
 
 /// The rejection that this wrong use is.
-impl From<Misuse> for Refusal {
+impl<F> From<Misuse> for Refusal<F> {
     ghost from_gives = { λ m r. r ≡ WrongUse m };
 
-    fn from(misuse: Misuse) -> Refusal {
+    fn from(misuse: Misuse) -> Refusal<F> {
         Refusal::WrongUse(misuse)
     }
 }
@@ -148,8 +155,7 @@ impl State {
         State {
             mark: FED,
             hash: StoredBlake2b::store(&Blake2b::new(64)),
-            asked: 0,
-            whole: 0,
+            asked: Asked::default(),
             reserved: [0; 18],
         }
     }
@@ -198,7 +204,7 @@ impl State {
     pub(crate) fn is_asked(&self) -> bool
         ensures { result ≡ is_asked self.now }
     {
-        self.asked == ASKED
+        self.asked.mark == ASKED
     }
 
     // The hash of what the state was fed.

@@ -21,10 +21,9 @@ pub use Rattle.minisign_hash.specs.Blake2b.{blake2b_digest}
 pub use Rattle.minisign_install.specs.Checking.{IsOffered, signed_comment}
 pub use Rattle.minisign_install.specs.Comments.{first_of, ExpiresAt, IsExpiryRefused, IsNumberText, IsUnexpired, Numbering, Says, Timestamp, Version, fields, file_label, number_label, values_in, values_of}
 pub use Rattle.minisign_install.specs.Driving.{AreNamed, HasMade, IsNamed, Knows, MayCall, Names, WantsNoMemory, Went, calls_left, done_or, host, made_or, number_or, setting}
-pub use Rattle.minisign_install.specs.Faults.{Fault, InstallFault, Library, Named, NotUtf8, OutOfMemory, PlaceInUse, RandomSourceFailed, ReadingFailed, Rose, WritingFailed}
+pub use Rattle.minisign_install.specs.Faults.{Fault, InstallFault, Library, Named, NotUtf8, OutOfMemory, PlaceInUse, RandomSourceFailed, ReadingFailed, Rose, WritingFailed, install_number}
 pub use Rattle.minisign_install.specs.Directories.{Appends, Clears, ClearsAll, Creates, Finds, GivesPermissions, HasCounted, HasCreated, HasLocked, HasRenamed, HasStepped, HasTried, IsApart, IsBusy, IsFound, IsStill, MaySyncDirectory, OwnsTheSame, Known, RecordUnchanged, MayFind, MayLead, Moment, Name, OtherProcesses, OwnsLess, OwnsMore, Perhaps, Place, Record, Removes, Renames, Run, RunStep, Syncs, SyncsDirectory, Spoils, HasOnDisk, TouchesOnly}
-pub use Rattle.minisign_install.specs.HostNumbers.{install_number}
-pub use Rattle.minisign_install.specs.Hosted.{GivesUpdate, IsAsking, IsDue, IsJudged, failure, numbering_of, read_outcome, wanted_by}
+pub use Rattle.minisign_install.specs.Hosted.{GivesUpdate, IsAsking, IsDue, IsJudged, failure, is_read_back, numbering_of, wanted_by}
 pub use Rattle.minisign_install.specs.Hosting.{HasBegun, HasObeyed, Obeys, TellsAnswers, TellsFailure, TellsOutcome, TellsRecord, TellsRefusal, Told, by_field}
 pub use Rattle.minisign_install.specs.Hosts.{Blames, Calls, CallsNothing, DeviceFails, Event, Explains, HasRun, Host, IsExplained, CallsRemove, Makes, Setting, Writes, WritesInPart}
 pub use Rattle.minisign_install.specs.Installing.{HasInstalled, InstallsLocked, InstallsOnlyUpdates, IsAhead, MayBePublished, IsKeptNumber, MayBeInstalled, MayBeRecorded, IsUpdate, IsVouched, NeverFalls, RecordsFirst, PublishesInOrder, Terms, TextsVouchWith, Verifier, terms_of}
@@ -35,7 +34,7 @@ pub use Rattle.minisign_install.specs.Refusals.{CanBeInstalled, CannotBeInstalle
 pub use Rattle.minisign_install.specs.Runs.{Publishes, PublishesNothing, PublishesOnly, HasCleared, HasReached, IsNumberFrom, IsPublished, RecordHolds, RecordHoldsAt, OwnsNoMore, permissions_of}
 pub use Rattle.minisign_install.specs.declared.calls.Stage.{Stage}
 pub use Rattle.minisign_install.specs.declared.calls.Work.{Work}
-pub use Rattle.minisign_install.specs.declared.hosted.HostRefusal.{HostRefusal}
+pub use Rattle.minisign_install.specs.declared.hosted.Chosen.{Chosen}
 pub use Rattle.minisign_install.specs.declared.hosted.Installation.{Installation}
 pub use Rattle.std.proofs.Common.{Bool, Bor, Err, Global, IfErr, IfOk, IsNone, IsSomeAnd, IsTrue, List, MatchResult, None, Ok, OnErr, OnOk, Option, Result, Some, Vec, [], ap, append-nil, append_assoc, arith, bytes_eq, cond, drop, false, get_or, if◌then◌else◌, inl, inr, length, length-append, length-drop, lit<, nat_le, option_map, refl, rules, subst, suc, sym, take, take-add, take-append-drop, true, zero, ℕ, ⊎_elim, ◌&&◌, ◌++◌, ◌+◌, ◌-◌, ◌<◌, ◌==◌, ◌^◌, ◌||◌, ◌∙◌, ◌∷◌, ◌≡◌, ◌≢◌, ◌≤◌, ◌⊎◌}
 pub use Rattle.std.proofs.KnownBytes.{Consumes-nil, Consumes-trans, Consumes-whole}

@@ -1,7 +1,7 @@
 -- A host in another language that does what include/minisign.h says: it makes the call that an installation says is
 -- due, as it is told there, and says how it went by the call that is there for it. Of each call of the header this
 -- cites what its clauses say where it is no wrong use.
-use Rattle.std.specs.Prelude.{◌≡◌, ◌==◌, ◌⊎◌, ◌++◌, ℕ, Bool, List, [], ◌∷◌, Option, Ok, false, take}
+use Rattle.std.specs.Prelude.{◌≡◌, ◌==◌, ◌⊎◌, ◌++◌, ℕ, Bool, List, [], ◌∷◌, Option, Ok, IsSomeAnd, false, take}
 use Rattle.minisign_hash.specs.Blake2b.{blake2b_digest}
 use Rattle.minisign_install.specs.Installing.{Verifier, Terms}
 use Rattle.minisign.specs.SignatureText.{SignatureTextRecord}
@@ -9,14 +9,14 @@ use Rattle.minisign_external.specs.Questions.{AnswersTexts, IsKeyText, read_unde
 use Rattle.minisign_external.specs.States.{AreQuestions, IsFedState}
 use Rattle.minisign_external.specs.declared.public_keys.PublicKeyValue.{PublicKeyValue}
 use Rattle.minisign_external.specs.declared.state.Questions.{Questions}
+use Rattle.minisign_external.specs.declared.state.Refusal.TheVariants.{Refused}
 use Rattle.minisign_install.specs.Directories.{Finds, Record}
-use Rattle.minisign_install.specs.Hosted.{CallHasFailed, GivesUpdateNumber, HasGone, HasReadBack, HasReadRecord, IsAskRefusal, IsAsking, IsDue, failure, numbering_of, wanted_by}
+use Rattle.minisign_install.specs.Hosted.{CallHasFailed, GivesUpdateNumber, HasReadBack, HasReadRecord, IsAskRefusal, IsAsking, IsDue, WasDone, due_of, failure, numbering_of, wanted_by}
 use Rattle.minisign_install.specs.Hosts.{Calls, Host, Makes, OnDirectory, Setting}
 use Rattle.minisign_install.specs.Comments.{Numbering}
 use Rattle.minisign_install.specs.Faults.{InstallFault}
-use Rattle.minisign_install.specs.declared.hosted.HostRefusal.TheVariants.{Refused}
 use Rattle.minisign_install.specs.declared.hosted.Installation.{Installation}
-use Rattle.minisign_install.specs.Order.{Answer, Lock, ReadBack, Outcome, Done, Failed, More}
+use Rattle.minisign_install.specs.Order.{Answer, Lock, Outcome, Done, Failed, More}
 
 -- the same setting, where the number stands in this field
 abbrev pub by_field : Setting → Numbering → Setting
@@ -27,29 +27,27 @@ by_field s field = record s { terms = record s.terms { numbering = field } }
 pub record HasBegun (s : Setting) (i : Installation) (h : Host) : Type 0 where
   pub due : IsDue i Lock
   pub fed : IsFedState i.state []
-  pub first : (i.is_first == 1) ≡ s.first
+  pub first : (i.chosen.is_first == 1) ≡ s.first
   pub field : numbering_of i ≡ s.terms.numbering
   pub read : h.read ≡ []
 
 -- minisign_install_done or minisign_install_more: the call that was due was made and went so. Into the stage of the
 -- record the host writes what minisign_install_number_text gives, which goes by the field of the installation.
-pub record TellsOutcome (outcome : Outcome ℕ) (s : Setting) (i i' : Installation) (h h' : Host) : Type 0 where
-  pub gone : HasGone outcome i i'
-  pub other : (kept : ℕ) → ¬ (IsDue i (ReadBack kept))
-  pub made : Makes (by_field s (numbering_of i)) gone.was outcome h h'
+abbrev pub TellsOutcome : Outcome ℕ → Setting → Installation → Installation → Host → Host → Type 0
+TellsOutcome outcome s i i' h h' =
+    WasDone outcome i i' × IsSomeAnd (due_of i) (λ due. Makes (by_field s (numbering_of i)) due outcome h h')
 
--- minisign_install_failed: the call that was due failed
-pub record TellsFailure (s : Setting) (i i' : Installation) (h h' : Host) : Type 0 where
-  pub why : ℕ
-  pub failed : CallHasFailed why i i'
-  pub made : Makes (by_field s (numbering_of i)) failed.was (Failed (failure failed.was why)) h h'
+-- minisign_install_failed, with this number: the call that was due failed
+abbrev pub TellsFailure : Setting → Installation → Installation → Host → Host → Type 0
+TellsFailure s i i' h h' =
+    (e : ℕ) × CallHasFailed e i i' × IsSomeAnd (due_of i) (λ due.
+    IsSomeAnd (failure due e) (λ why. Makes (by_field s (numbering_of i)) due (Failed why) h h'))
 
 -- minisign_install_record, with the bytes that the record was found to hold, or minisign_install_no_record where there
 -- was none
-pub record TellsRecord (s : Setting) (i i' : Installation) (h h' : Host) : Type 0 where
-  pub found : Option (List ℕ)
-  pub read : HasReadRecord found i i'
-  pub made : OnDirectory (Calls (Finds Record found)) h h'
+abbrev pub TellsRecord : Installation → Installation → Host → Host → Type 0
+TellsRecord i i' h h' =
+    (found : Option (List ℕ)) × HasReadRecord found i i' × OnDirectory (Calls (Finds Record found)) h h'
 
 -- minisign_install_piece, with the next bytes of what the stage holds, and with none at its end
 pub record TellsPiece (s : Setting) (i i' : Installation) (h h' : Host) : Type 0 where
@@ -84,22 +82,20 @@ pub record TellsAnswers (s : Setting) (i i' : Installation) (h h' : Host) : Type
   pub told : (terms : Terms) (kept : ℕ) (m : List ℕ) (accepts : Verifier) → IsAsking asked terms kept
       → AnswersTexts accepts terms.pk_text terms.sig_text m first second
       → GivesUpdateNumber accepts terms kept m i' number
-  pub asked_field : numbering_of asked ≡ numbering_of i
-  pub field : numbering_of i' ≡ numbering_of asked
+  pub asked_chosen : asked.chosen ≡ i.chosen
+  pub chosen : i'.chosen ≡ asked.chosen
   pub still : h'.run ≡ h.run
 
--- minisign_install_ask refused the name or the text of the signature, and was no wrong use
-pub record TellsRefusal (s : Setting) (i i' : Installation) (h h' : Host) : Type 0 where
-  pub key : PublicKeyValue
-  pub room : ℕ
-  pub fault : InstallFault
-  pub refused : IsAskRefusal i i' key s.terms.sig_text s.terms.file room (Refused fault)
-  pub still : h'.run ≡ h.run
+-- minisign_install_ask rejected the name or the text of the signature, and was no wrong use
+abbrev pub TellsRefusal : Setting → Installation → Installation → Host → Host → Type 0
+TellsRefusal s i i' h h' =
+    (h'.run ≡ h.run) × ((key : PublicKeyValue) × (room : ℕ) × (fault : InstallFault)
+    × IsAskRefusal i i' key s.terms.sig_text s.terms.file room (Refused fault))
 
 -- the call that was due was made, and the installation was told how it went
 abbrev pub Obeys : Setting → Installation → Installation → Host → Host → Type 0
 Obeys s i i' h h' =
-    TellsOutcome Done s i i' h h' ⊎ TellsOutcome More s i i' h h' ⊎ TellsFailure s i i' h h' ⊎ TellsRecord s i i' h h'
+    TellsOutcome Done s i i' h h' ⊎ TellsOutcome More s i i' h h' ⊎ TellsFailure s i i' h h' ⊎ TellsRecord i i' h h'
     ⊎ TellsPiece s i i' h h' ⊎ TellsAnswers s i i' h h' ⊎ TellsRefusal s i i' h h'
 
 -- an installation and its host, behind a call

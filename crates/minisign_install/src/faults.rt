@@ -1,24 +1,26 @@
-//! Why an installation is refused: one enum of the faults of the library and of those that
-//! installing adds. None of the latter takes memory.
+//! Why an installation is rejected: one enum of the errors of the library and of those that installing adds, of each of
+//! the latter the number, the kind and the text. None of these allocates.
 
-ghost use Rattle.std.specs.Prelude.{◌≡◌, Some};
+ghost use Rattle.std.specs.Prelude.{◌≡◌, Some, IfSome, MatchResult};
 ghost use Rattle.minisign_base.specs.Fault.{Named};
-ghost use Rattle.minisign_install.specs.Faults.{install_row};
+ghost use Rattle.minisign_install.specs.Faults.{IsOwn, install_number, install_row};
 ghost use Rattle.minisign_install.specs.declared.faults.InstallFault.TheVariants.{Library};
 
-use minisign_base::{ErrorKind, NamedFault, PError};
+use minisign_base::ErrorKind::{self, Io, Verify};
+use minisign_base::{NamedFault, PError};
+use minisign_external::numbers::Numbered;
 use std::fmt;
 
-/// Why an installation is refused. `Display` writes the text.
+/// Why an installation is rejected. `Display` writes the text.
 #[derive(Debug, Drop)]
 pub enum InstallFault {
-    /// A fault of the library: of the texts, of a device, or of memory.
+    /// An error of the library: of the texts, of a device, or of memory.
     Library(PError),
-    /// Another run holds the lock on this place.
+    /// Another run holds the lock on this target.
     PlaceInUse,
-    /// No number is kept beside the place, and this was not said to be the first installation.
+    /// No number is kept beside the target, and this was not said to be the first installation.
     NoRecord,
-    /// What is kept beside the place does not read as a number, and this was not said to be the
+    /// What is kept beside the target does not read as a number, and this was not said to be the
     /// first installation.
     DamagedRecord,
     /// The trusted comment does not name the file that the caller expects.
@@ -28,7 +30,7 @@ pub enum InstallFault {
     NoNumber,
     /// The number of the trusted comment is below the one that is kept.
     OlderUpdate,
-    /// The update stands at the place, but a crash may still bring back what stood there before.
+    /// The update stands at the target, but a crash may still bring back what stood there before.
     DirectoryNotSynced,
     /// The number that is kept is a timestamp and not a version, and this was not said to be the first
     /// installation.
@@ -41,68 +43,111 @@ pub enum InstallFault {
     /// The trusted comment has more than one field for when the update expires, or one with no number in decimal digits
     /// alone, or none below 2^64.
     BadExpiry,
-    /// The number of the trusted comment is the one that is kept, other data stands at the place, and the caller did not
-    /// ask for the update to be installed again.
+    /// The number of the trusted comment is the one that is kept, other data stands at the target, and the caller did
+    /// not ask for the update to be installed again.
     SameNumber,
 }
 
 impl InstallFault {
-    /// What the fault concerns.
+    /// What the error concerns.
     pub fn kind(&self) -> &ErrorKind
-        // Each fault of installing has the kind of one table, and a fault of the library its own.
+        // Each error of installing has the kind of one table, and an error of the library its own.
         ensures { result.now ≡ (install_row self.now).kind }
     {
-        use InstallFault::*;
-        match self {
-            Library(fault) => fault.kind(),
-            PlaceInUse
-            | NoRecord
-            | DamagedRecord
-            | DirectoryNotSynced
-            | KeptByTimestamp
-            | KeptByVersion => &ErrorKind::Io,
-            OtherFile | NoNumber | OlderUpdate | Expired | BadExpiry | SameNumber => {
-                &ErrorKind::Verify
-            }
+        match self.row() {
+            Ok((_, kind, _)) => kind,
+            Err(fault) => fault.kind(),
         }
     }
-}
 
-/// Writes the text of the fault, by one table; of a fault of the library its own.
-impl fmt::Display for InstallFault {
-    ghost output = { λ e. Some (install_row e).text };
-
-    fn fmt<W: fmt::Write>(&self, f: &mut fmt::Formatter<W>) -> fmt::Result {
+    /// The error of installing that has this number.
+    pub(crate) fn of_number(number: u32) -> Option<InstallFault>
+        ensures found { (e : InstallFault) → IsOwn e → number ≡ install_number e → result ≡ Some e }
+        ensures own { IfSome result (λ e. IsOwn e × (number ≡ install_number e)) }
+    {
         use InstallFault::*;
-        match self {
-            Library(fault) => fault.fmt(f),
-            PlaceInUse => f.write_str("another installation is at work at this place"),
-            NoRecord => f.write_str("no number is kept beside the place"),
-            DamagedRecord => f.write_str("what is kept beside the place is no number"),
-            OtherFile => f.write_str("the signed comment does not name this file"),
-            NoNumber => f.write_str("the signed comment has no such number"),
-            OlderUpdate => f.write_str("the update is older than what was installed"),
-            DirectoryNotSynced => {
-                f.write_str("installed, but the directory could not be synced")
-            }
-            KeptByTimestamp => f.write_str(
+        Some(match number {
+            46 => PlaceInUse,
+            47 => NoRecord,
+            48 => DamagedRecord,
+            49 => OtherFile,
+            50 => NoNumber,
+            51 => OlderUpdate,
+            52 => DirectoryNotSynced,
+            53 => KeptByTimestamp,
+            54 => KeptByVersion,
+            55 => Expired,
+            56 => BadExpiry,
+            57 => SameNumber,
+            _ => return None,
+        })
+    }
+
+    // The number, the kind and the text of an error that installing adds; of any other the error of the library.
+    pub(crate) fn row(&self) -> Result<&'static (u32, ErrorKind, &'static str), &PError>
+        ensures { MatchResult result (λ row. IsOwn self.now × (record { number = row.now.0; kind = row.now.1; summary = row.now.2.now } ≡ install_row self.now))
+            (λ fault. self.now ≡ Library fault.now) }
+    {
+        use InstallFault::*;
+        Ok(match self {
+            Library(fault) => return Err(fault),
+            PlaceInUse => &(46, Io, "another installation is at work at this place"),
+            NoRecord => &(47, Io, "no number is kept beside the place"),
+            DamagedRecord => &(48, Io, "what is kept beside the place is no number"),
+            OtherFile => &(49, Verify, "the signed comment does not name this file"),
+            NoNumber => &(50, Verify, "the signed comment has no such number"),
+            OlderUpdate => &(51, Verify, "the update is older than what was installed"),
+            DirectoryNotSynced => &(52, Io, "installed, but the directory could not be synced"),
+            KeptByTimestamp => &(
+                53,
+                Io,
                 "the number that is kept beside the place is a timestamp, and no version",
             ),
-            KeptByVersion => f.write_str(
+            KeptByVersion => &(
+                54,
+                Io,
                 "the number that is kept beside the place is a version, and no timestamp",
             ),
-            Expired => f.write_str("the update has expired"),
-            BadExpiry => f.write_str(
+            Expired => &(55, Verify, "the update has expired"),
+            BadExpiry => &(
+                56,
+                Verify,
                 "the signed comment does not say once, in a number, when it expires",
             ),
-            SameNumber => f.write_str(
+            SameNumber => &(
+                57,
+                Verify,
                 "an update of this number was installed, and other data stands at the place",
             ),
+        })
+    }
+}
+
+/// The number of the error: of one of the library its own.
+impl Numbered for InstallFault {
+    ghost number_of = { install_number };
+
+    fn number(&self) -> u32 {
+        match self.row() {
+            Ok((number, _, _)) => *number,
+            Err(fault) => fault.number(),
         }
     }
 }
 
-/// The fault of installing that holds this one.
+/// Writes the text of the error, by one table; of an error of the library its own.
+impl fmt::Display for InstallFault {
+    ghost output = { λ e. Some (install_row e).summary };
+
+    fn fmt<W: fmt::Write>(&self, f: &mut fmt::Formatter<W>) -> fmt::Result {
+        match self.row() {
+            Ok((_, _, text)) => f.write_str(text),
+            Err(fault) => fault.fmt(f),
+        }
+    }
+}
+
+/// The error of installing that holds this one.
 impl From<PError> for InstallFault {
     ghost from_gives = { λ f e. e ≡ Library f };
 
@@ -111,7 +156,7 @@ impl From<PError> for InstallFault {
     }
 }
 
-/// The fault of installing that holds the one of this name.
+/// The error of installing that holds the one of this name.
 impl From<NamedFault> for InstallFault {
     ghost from_gives = { λ f e. e ≡ Library (Named f) };
 

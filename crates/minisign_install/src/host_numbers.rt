@@ -1,62 +1,28 @@
-//! The numbers by which a host in another language knows why an installation is refused, and what they mean. None of it
-//! takes memory.
+//! The numbers by which a host in another language knows why an installation is rejected, and what they mean. None of it
+//! allocates.
 
 ghost use Rattle.std.specs.Prelude.{◌≡◌, ◌<◌, ℕ, List, length, Some, None, IfSome, MatchOption};
 ghost use Rattle.minisign_external.specs.Numbers.{WritesCut};
-ghost use Rattle.minisign_install.specs.HostNumbers.{IsHostMeaning, install_number, numbering_number, offer_number};
+ghost use Rattle.minisign_install.specs.HostNumbers.{IsHostMeaning, numbering_number, offer_number};
 
 use crate::checking::Offer;
 use crate::comments::Numbering;
 use crate::faults::InstallFault;
 use minisign_external::numbers;
 
-impl InstallFault {
-    /// The number of the fault: of one of the library its own.
-    pub fn number(&self) -> u32
-        // The number of a fault of installing is that of a table, and of a fault of the library its own.
-        ensures { result ≡ install_number self.now }
-    {
-        use InstallFault::*;
-        match self {
-            Library(fault) => numbers::number_of(fault),
-            PlaceInUse => 46,
-            NoRecord => 47,
-            DamagedRecord => 48,
-            OtherFile => 49,
-            NoNumber => 50,
-            OlderUpdate => 51,
-            DirectoryNotSynced => 52,
-            KeptByTimestamp => 53,
-            KeptByVersion => 54,
-            Expired => 55,
-            BadExpiry => 56,
-            SameNumber => 57,
-        }
-    }
-}
-
-/// What a number means, in English: of a fault of the library what it says without its identifiers.
+/// What a number means, in English: of an error of the library what it says without its identifiers.
 pub fn error_text(number: u32) -> &'static str
-    // The text of a number is that of the wrong use, of the fault of installing, or what the fault of the library says
+    // The text of a number is that of the wrong use, of the error of installing, or what the error of the library says
     // without its identifiers; it has less than 128 bytes.
     ensures meaning { IsHostMeaning number result.now }
     ensures room { length result.now < 128 }
 {
-    match number {
-        46 => "another installation is at work at this place",
-        47 => "no number is kept beside the place",
-        48 => "what is kept beside the place is no number",
-        49 => "the signed comment does not name this file",
-        50 => "the signed comment has no such number",
-        51 => "the update is older than what was installed",
-        52 => "installed, but the directory could not be synced",
-        53 => "the number that is kept beside the place is a timestamp, and no version",
-        54 => "the number that is kept beside the place is a version, and no timestamp",
-        55 => "the update has expired",
-        56 => "the signed comment does not say once, in a number, when it expires",
-        57 => "an update of this number was installed, and other data stands at the place",
-        _ => numbers::error_text(number),
+    if let Some(fault) = InstallFault::of_number(number) {
+        if let Ok((_, _, text)) = fault.row() {
+            return text;
+        }
     }
+    numbers::error_text(number)
 }
 
 /// Writes what a number means, in English, to the front of `to`, ended by a 0 and cut where there

@@ -1,21 +1,19 @@
 //! An installation of fixed size that a host in another language holds: it is told which call is due, says how the call
-//! went, and hands over what it reads back. None of it takes memory.
+//! went, and hands over what it reads back. None of it allocates.
 
-ghost use Rattle.std.specs.Prelude.{◌≡◌, ◌==◌, ◌⊎◌, ◌<◌, ◌≤◌, ◌++◌, ℕ, Bool, List, [], true, false, Some, None, option_map, OnOk, OnErr, IfErr, IfSome, MatchOption, MatchResult, length, take};
-ghost use Rattle.minisign_external.specs.Numbers.{misuse_number};
-ghost use Rattle.minisign_external.specs.States.{IsFedState};
-ghost use Rattle.minisign_external.specs.declared.state.Misuse.TheVariants.{NotDue};
-ghost use Rattle.minisign_install.specs.HostNumbers.{install_number};
-ghost use Rattle.minisign_install.specs.Hosted.{CannotBeFed, CannotFail, CannotGo, CallHasFailed, HasGone, HasReadRecord, HasReadBack, IsNotDue, IsUnused, RestUnchanged, IsDue, begun_mark, due_from, due_number, due_of, failure, host_number, is_device_fault, is_failure, is_read_back, numbering_of};
-ghost use Rattle.minisign_install.specs.Order.{fits, Answer, Lock, ReadBack, ReadRecord, SyncName, WriteRecord, Done, More};
+ghost use Rattle.std.specs.Prelude.{◌≡◌, ◌==◌, ◌<◌, ◌≤◌, ◌++◌, ℕ, Bool, List, [], false, true, Some, None, option_map, if◌then◌else◌, OnOk, IfErr, IfSome, MatchOption, length, take};
+ghost use Rattle.minisign_external.specs.States.{IsBlank, IsFedState};
+ghost use Rattle.minisign_install.specs.Hosted.{CallHasFailed, CannotBeFed, CannotFail, CannotGo, HasGone, HasReadBack, HasReadRecord, IsDue, IsNotDue, IsUnused, RestUnchanged, WasDone, due_from, due_number, due_of, failure, is_device_error, numbering_of};
+ghost use Rattle.minisign_install.specs.Order.{fits, Due, Lock, ReadBack, ReadRecord, WriteRecord, Done, More};
 ghost use Rattle.minisign_install.specs.RecordTexts.{record_of};
 ghost use Rattle.minisign_install.specs.declared.order.Due.TheVariants as ended;
-ghost use Rattle.minisign_install.specs.declared.hosted.HostRefusal.TheVariants.{Refused, WrongUse};
 
 use crate::comments::Numbering;
 use crate::faults::InstallFault;
 use crate::order::{Due, Outcome};
 use crate::recording::{kept_number, write_record};
+use minisign_base::NamedFault;
+use minisign_external::numbers::Numbered;
 use minisign_external::state::{Misuse, State};
 
 // An installation that was begun begins with the letters `minstall`.
@@ -26,53 +24,43 @@ const BEGUN: u64 = 7812726606361684333;
 #[derive(Clone, Copy)]
 pub struct Installation {
     mark: u64,
-    // What is due: the number of the call, and the number and the fault that come with it.
-    due: u32,
-    fault: u32,
-    number: u64,
-    // Whether an update is taken also where no number is kept: 1 or 0.
-    is_first: u32,
-    // What came of the signed comment: 0 before it is judged, 1 where it says that this is an
-    // update, otherwise the number of the fault; and the number of the update.
-    pub(crate) comment: u32,
-    pub(crate) update: u64,
+    due: StoredDue,
+    pub(crate) chosen: Chosen,
+    pub(crate) judged: Judged,
     // What was read back, and asked of it.
     pub(crate) state: State,
-    // The number of the field that has the number of an update.
-    numbering: u32,
-    unused: u32,
     reserved: [u64; 10],
 }
 
-/// Why a call of an installation that a host holds did not go.
-#[derive(Drop)]
-pub enum HostRefusal {
-    /// A wrong use, which changes nothing.
-    WrongUse(Misuse),
-    /// The installation is refused.
-    Refused(InstallFault),
+// What is due: the number of the call, in the order of `Due` from 1 on, and the error and the number that come with it.
+#[repr(C)]
+#[derive(Clone, Copy, Default)]
+struct StoredDue {
+    call: u32,
+    error: u32,
+    number: u64,
 }
 
-/// The refusal that this wrong use is.
-impl From<Misuse> for HostRefusal {
-    ghost from_gives = { λ m r. r ≡ WrongUse m };
-
-    fn from(misuse: Misuse) -> HostRefusal {
-        HostRefusal::WrongUse(misuse)
-    }
+// What the host has chosen.
+#[repr(C)]
+#[derive(Clone, Copy)]
+pub(crate) struct Chosen {
+    // Whether an update is taken also where no number is kept: 1 or 0.
+    pub(crate) is_first: u32,
+    // The number of the field that has the number of an update.
+    pub(crate) numbering: u32,
 }
 
-impl HostRefusal {
-    /// The number of the refusal.
-    pub fn number(&self) -> u32
-        // The number of a refusal is that of its wrong use or of its fault, by a table.
-        ensures { result ≡ host_number self.now }
-    {
-        match self {
-            HostRefusal::WrongUse(misuse) => misuse.number(),
-            HostRefusal::Refused(fault) => fault.number(),
-        }
-    }
+// What came of the signed comment. It is written as a whole where the comment is judged; before that it is the default,
+// zeros.
+#[repr(C)]
+#[derive(Clone, Copy, Default)]
+pub(crate) struct Judged {
+    // 1 where the comment says that this is an update, otherwise the number of the error.
+    pub(crate) verdict: u32,
+    pub(crate) unused: u32,
+    // The number of the update.
+    pub(crate) number: u64,
 }
 
 impl Installation {
@@ -83,22 +71,23 @@ impl Installation {
         // number are kept.
         ensures due { IsDue result Lock }
         ensures fed { IsFedState result.state [] }
-        ensures first { (result.is_first == 1) ≡ is_first }
+        ensures first { (result.chosen.is_first == 1) ≡ is_first }
         ensures numbering { numbering_of result ≡ numbering }
-        // No number, no fault and no signed comment is kept yet.
+        // No number, no error and no signed comment is kept yet.
         ensures unused { IsUnused result }
     {
         Installation {
             mark: BEGUN,
-            due: 1,
-            fault: 0,
-            number: 0,
-            is_first: u32::from(is_first),
-            comment: 0,
-            update: 0,
+            due: StoredDue {
+                call: 1,
+                ..StoredDue::default()
+            },
+            chosen: Chosen {
+                is_first: u32::from(is_first),
+                numbering: numbering.number(),
+            },
+            judged: Judged::default(),
             state: State::new(),
-            numbering: numbering.number(),
-            unused: 0,
             reserved: [0; 10],
         }
     }
@@ -111,7 +100,7 @@ impl Installation {
         if self.mark != BEGUN {
             return None;
         }
-        due_from(self.due, self.number, self.fault)
+        self.due.read()
     }
 
     /// The number of the call that is due, in the order of `Due` from 1 on; 0 of an installation
@@ -121,15 +110,15 @@ impl Installation {
         ensures { MatchOption (due_of self.now) (result ≡ 0) (λ due. result ≡ due_number due) }
     {
         match self.due() {
-            Some(due) => due.parts().0,
+            Some(due) => due.stored().call,
             None => 0,
         }
     }
 
-    /// Why the run was refused: the number of the fault; 0 before its end, and where the update is
+    /// Why the run was rejected: the number of the error; 0 before its end, and where the update is
     /// installed.
     pub fn refused_for(&self) -> u32
-        // The number is that of the fault that the run was refused for, and otherwise 0.
+        // The number is that of the error that the run was rejected for, and otherwise 0.
         ensures refused { (e : ℕ) → IsDue self.now (ended.Refused e) → result ≡ e }
         ensures none { ((e : ℕ) → ¬ (IsDue self.now (ended.Refused e))) → result ≡ 0 }
     {
@@ -139,88 +128,73 @@ impl Installation {
         }
     }
 
-    /// The call that is due was done. Not of one that reads back, gives a number, or ends the run.
-    pub fn done(&mut self) -> Result<(), Misuse>
-        // What is due next is what the table says. Otherwise nothing changes, and no call was due that can be done and is
+    /// The call that is due was done; or with `more` a piece was copied, and there may be more. Not of one that reads
+    /// back, gives a number, or ends the run.
+    pub fn done(&mut self, more: bool) -> Result<(), Misuse>
+        // What is due next is what the table says. Otherwise nothing changes, and no call was due that can go so and is
         // not reading back.
-        ensures gone { OnOk result (HasGone Done self.old self.new × ((kept : ℕ) → ¬ (IsDue self.old (ReadBack kept)))) }
-        ensures refused { IfErr result (IsNotDue (CannotGo Done self.old) self.old self.new) }
+        ensures gone { OnOk result (WasDone (if more then More else Done) self.old self.new) }
+        ensures refused { IfErr result (IsNotDue (CannotGo (if more then More else Done) self.old) self.old self.new) }
     {
-        if self.is_read_back() {
-            return Err(Misuse::NotDue);
+        if more {
+            self.go(Outcome::More)
+        } else {
+            self.go(Outcome::Done)
         }
-        self.go(Outcome::Done)
     }
 
-    /// A piece was copied, and there may be more.
-    pub fn more(&mut self) -> Result<(), Misuse>
-        // The same where a piece was copied, and there may be more.
-        ensures gone { OnOk result (HasGone More self.old self.new × ((kept : ℕ) → ¬ (IsDue self.old (ReadBack kept)))) }
-        ensures refused { IfErr result (IsNotDue (CannotGo More self.old) self.old self.new) }
-    {
-        if self.is_read_back() {
-            return Err(Misuse::NotDue);
-        }
-        self.go(Outcome::More)
-    }
-
-    /// The call that is due failed for this fault: out of memory, reading, writing or the random
-    /// source, and of locking that another holds the lock. Where the place's name could not be
-    /// brought to the disk, that is the fault.
-    pub fn failed(&mut self, fault: u32) -> Result<(), Misuse>
-        // What is due next is what the table says. Otherwise nothing changes, and no call was due that can fail so.
-        ensures failed { OnOk result (CallHasFailed fault self.old self.new) }
-        ensures refused { IfErr result (IsNotDue (CannotFail fault self.old) self.old self.new) }
+    // The call that was due went so.
+    fn go(&mut self, outcome: Outcome<u32>) -> Result<(), Misuse>
+        ensures gone { OnOk result (WasDone outcome self.old self.new) }
+        ensures refused { IfErr result (IsNotDue (CannotGo outcome self.old) self.old self.new) }
     {
         match self.due() {
-            Some(due) if can_fail(&due, fault) => self.go(Outcome::Failed(failure(&due, fault))),
-            _ => Err(Misuse::NotDue),
+            None | Some(Due::ReadBack(_)) => Err(Misuse::NotDue),
+            Some(due) if due.fits(&outcome) => {
+                self.set(due.next(outcome));
+                Ok(())
+            }
+            Some(_) => Err(Misuse::NotDue),
         }
     }
 
-    /// The record holds these bytes: the number behind the label of its field, as `timestamp:5`, or
-    /// alone, which counts for either field. A line feed at their end is left out, and more than 64
+    /// The call that is due failed for this error: out of memory, reading, writing or the random
+    /// source, and of locking that another holds the lock. Where the target's name could not be
+    /// synced, that is the error.
+    pub fn failed(&mut self, error: u32) -> Result<(), Misuse>
+        // What is due next is what the table says. Otherwise nothing changes, and no call was due that can fail so.
+        ensures failed { OnOk result (CallHasFailed error self.old self.new) }
+        ensures refused { IfErr result (IsNotDue (CannotFail error self.old) self.old self.new) }
+    {
+        let Some(due) = self.due() else {
+            return Err(Misuse::NotDue);
+        };
+        match failure(&due, error) {
+            Some(why) => {
+                self.set(due.next(Outcome::Failed(why)));
+                Ok(())
+            }
+            None => Err(Misuse::NotDue),
+        }
+    }
+
+    /// The record was found to hold these bytes, or there is none: the number behind the label of its field, as
+    /// `timestamp:5`, or alone, which counts for either field. A line feed at their end is left out, and more than 64
     /// bytes are no number.
-    pub fn record(&mut self, bytes: &[u8]) -> Result<(), Misuse>
-        // The number that the record holds for the field is kept, or the run is refused where it holds none and this is not
-        // the first installation. Otherwise nothing changes, and the record was not to be read.
-        ensures read { OnOk result (HasReadRecord (Some bytes.now) self.old self.new) }
+    pub fn record(&mut self, found: Option<&[u8]>) -> Result<(), Misuse>
+        // The number that the record holds for the field is kept, or the run is rejected where it holds none, or there is
+        // none, and this is not the first installation. Otherwise nothing changes, and the record was not to be read.
+        ensures read { OnOk result (HasReadRecord (option_map (λ b. b.now) found.entry) self.old self.new) }
         ensures refused { IfErr result (IsNotDue (¬ (IsDue self.old ReadRecord)) self.old self.new) }
     {
-        if !self.is_record_due() {
+        let Some(Due::ReadRecord) = self.due() else {
             return Err(Misuse::NotDue);
+        };
+        match kept_number(found, self.numbering(), self.chosen.is_first == 1) {
+            Ok(number) => self.set(Due::Create(number)),
+            Err(fault) => self.set(Due::Refused(fault.number())),
         }
-        match kept_number(Some(bytes), self.numbering(), self.is_first == 1) {
-            Ok(number) => {
-                self.set(Due::Create(number));
-                Ok(())
-            }
-            Err(fault) => {
-                self.set(Due::Refused(fault.number()));
-                Ok(())
-            }
-        }
-    }
-
-    /// There is no record.
-    pub fn no_record(&mut self) -> Result<(), Misuse>
-        // The same where there is no record.
-        ensures read { OnOk result (HasReadRecord None self.old self.new) }
-        ensures refused { IfErr result (IsNotDue (¬ (IsDue self.old ReadRecord)) self.old self.new) }
-    {
-        if !self.is_record_due() {
-            return Err(Misuse::NotDue);
-        }
-        match kept_number(None, self.numbering(), self.is_first == 1) {
-            Ok(number) => {
-                self.set(Due::Create(number));
-                Ok(())
-            }
-            Err(fault) => {
-                self.set(Due::Refused(fault.number()));
-                Ok(())
-            }
-        }
+        Ok(())
     }
 
     /// The next bytes of what the stage holds were read back; none at its end.
@@ -262,40 +236,10 @@ impl Installation {
     pub(crate) fn numbering(&self) -> Numbering
         ensures { result ≡ numbering_of self.now }
     {
-        if self.numbering == 1 {
+        if self.chosen.numbering == 1 {
             Numbering::Version
         } else {
             Numbering::Timestamp
-        }
-    }
-
-    // Whether the stage is read back.
-    fn is_read_back(&self) -> bool
-        ensures yes { result ≡ true → (kept : ℕ) × IsDue self.now (ReadBack kept) }
-        ensures no { result ≡ false → (kept : ℕ) → ¬ (IsDue self.now (ReadBack kept)) }
-    {
-        matches!(self.due(), Some(Due::ReadBack(_)))
-    }
-
-    // Whether the record is to be read.
-    fn is_record_due(&self) -> bool
-        ensures yes { result ≡ true → IsDue self.now ReadRecord }
-        ensures no { result ≡ false → ¬ (IsDue self.now ReadRecord) }
-    {
-        matches!(self.due(), Some(Due::ReadRecord))
-    }
-
-    // The call that was due went so.
-    fn go(&mut self, outcome: Outcome<u32>) -> Result<(), Misuse>
-        ensures gone { OnOk result (HasGone outcome self.old self.new) }
-        ensures refused { IfErr result (IsNotDue ((due : Due ℕ) → IsDue self.old due → fits due outcome ≡ false) self.old self.new) }
-    {
-        match self.due() {
-            Some(due) if due.fits(&outcome) => {
-                self.set(due.next(outcome));
-                Ok(())
-            }
-            _ => Err(Misuse::NotDue),
         }
     }
 
@@ -304,22 +248,19 @@ impl Installation {
         ensures due { IsDue self.new due }
         ensures rest { RestUnchanged self.old self.new }
     {
-        let (call, number, fault) = due.parts();
         self.mark = BEGUN;
-        self.due = call;
-        self.number = number;
-        self.fault = fault;
+        self.due = due.stored();
     }
 }
 
 impl Due<u32> {
-    // The number of the call, and the number and the fault that come with it, where they do.
-    fn parts(&self) -> (u32, u64, u32)
-        ensures number { result.0 ≡ due_number self.now }
-        ensures parts { due_from result.0 result.1 result.2 ≡ Some self.now }
+    // The stored form.
+    fn stored(&self) -> StoredDue
+        ensures number { result.call ≡ due_number self.now }
+        ensures due { due_from result ≡ Some self.now }
     {
         use Due::*;
-        match self {
+        let (call, number, error) = match self {
             Lock => (1, 0, 0),
             Clear => (2, 0, 0),
             ReadRecord => (3, 0, 0),
@@ -336,82 +277,79 @@ impl Due<u32> {
             SyncRecordName(number) => (14, *number, 0),
             Rename(number) => (15, *number, 0),
             SyncName(number) => (16, *number, 0),
-            RemoveRecord(fault) => (17, 0, *fault),
-            Remove(fault) => (18, 0, *fault),
+            RemoveRecord(error) => (17, 0, *error),
+            Remove(error) => (18, 0, *error),
             Installed => (19, 0, 0),
-            Refused(fault) => (20, 0, *fault),
+            Refused(error) => (20, 0, *error),
+        };
+        StoredDue {
+            call,
+            error,
+            number,
         }
     }
 }
 
-// What is due by a call's number, with the number and the fault that come with it.
-fn due_from(call: u32, number: u64, fault: u32) -> Option<Due<u32>>
-    ensures { result ≡ due_from call number fault }
-{
-    match call {
-        1 => Some(Due::Lock),
-        2 => Some(Due::Clear),
-        3 => Some(Due::ReadRecord),
-        4 => Some(Due::Create(number)),
-        5 => Some(Due::Copy(number)),
-        6 => Some(Due::ReadBack(number)),
-        7 => Some(Due::Answer(number)),
-        8 => Some(Due::TakePermissions(number)),
-        9 => Some(Due::Sync(number)),
-        10 => Some(Due::CreateRecord(number)),
-        11 => Some(Due::WriteRecord(number)),
-        12 => Some(Due::SyncRecord(number)),
-        13 => Some(Due::RenameRecord(number)),
-        14 => Some(Due::SyncRecordName(number)),
-        15 => Some(Due::Rename(number)),
-        16 => Some(Due::SyncName(number)),
-        17 => Some(Due::RemoveRecord(fault)),
-        18 => Some(Due::Remove(fault)),
-        19 => Some(Due::Installed),
-        20 => Some(Due::Refused(fault)),
-        _ => None,
+impl StoredDue {
+    // What is due by the stored form.
+    fn read(&self) -> Option<Due<u32>>
+        ensures { result ≡ due_from self.now }
+    {
+        use Due::*;
+        let StoredDue {
+            call,
+            error,
+            number,
+        } = *self;
+        match call {
+            1 => Some(Lock),
+            2 => Some(Clear),
+            3 => Some(ReadRecord),
+            4 => Some(Create(number)),
+            5 => Some(Copy(number)),
+            6 => Some(ReadBack(number)),
+            7 => Some(Answer(number)),
+            8 => Some(TakePermissions(number)),
+            9 => Some(Sync(number)),
+            10 => Some(CreateRecord(number)),
+            11 => Some(WriteRecord(number)),
+            12 => Some(SyncRecord(number)),
+            13 => Some(RenameRecord(number)),
+            14 => Some(SyncRecordName(number)),
+            15 => Some(Rename(number)),
+            16 => Some(SyncName(number)),
+            17 => Some(RemoveRecord(error)),
+            18 => Some(Remove(error)),
+            19 => Some(Installed),
+            20 => Some(Refused(error)),
+            _ => None,
+        }
     }
 }
 
-// The numbers of the faults of devices and of memory, and of a lock that another holds.
-const OUT_OF_MEMORY: u32 = 7;
-
-const READING_FAILED: u32 = 64;
-
-const WRITING_FAILED: u32 = 65;
-
-const RANDOM_SOURCE_FAILED: u32 = 67;
-
-const PLACE_IN_USE: u32 = 46;
-
-const DIRECTORY_NOT_SYNCED: u32 = 52;
-
-// Whether a call can fail for the fault of this number.
-fn can_fail(due: &Due<u32>, fault: u32) -> bool
-    ensures { result ≡ is_failure due.now fault }
+// What a run is rejected for where the call that is due failed for the error of this number, if it can fail so.
+fn failure(due: &Due<u32>, error: u32) -> Option<u32>
+    ensures { result ≡ failure due.now error }
 {
     match due {
-        Due::Lock => is_device_fault(fault) || fault == PLACE_IN_USE,
-        _ => is_device_fault(fault),
+        Due::Installed | Due::Refused(_) => None,
+        Due::Lock if error == InstallFault::PlaceInUse.number() => Some(error),
+        _ if !is_device_error(error) => None,
+        Due::SyncName(_) => Some(InstallFault::DirectoryNotSynced.number()),
+        _ => Some(error),
     }
 }
 
-// Whether the fault of this number is one of a device or of memory.
-fn is_device_fault(fault: u32) -> bool
-    ensures { result ≡ is_device_fault fault }
+// Whether the error of this number is one of a device or of memory.
+fn is_device_error(error: u32) -> bool
+    ensures { result ≡ is_device_error error }
 {
-    fault == OUT_OF_MEMORY
-        || fault == READING_FAILED
-        || fault == WRITING_FAILED
-        || fault == RANDOM_SOURCE_FAILED
-}
-
-// What a run is refused for where this call failed.
-fn failure(due: &Due<u32>, fault: u32) -> u32
-    ensures { result ≡ failure due.now fault }
-{
-    match due {
-        Due::SyncName(_) => DIRECTORY_NOT_SYNCED,
-        _ => fault,
-    }
+    [
+        NamedFault::OutOfMemory,
+        NamedFault::ReadingFailed,
+        NamedFault::WritingFailed,
+        NamedFault::RandomSourceFailed,
+    ]
+    .iter()
+    .any(|fault| fault.number() == error)
 }

@@ -10,7 +10,7 @@ ghost use Rattle.minisign.specs.PublicKeyText.{read_bare_public_key, read_public
 ghost use Rattle.minisign.specs.SignatureText.{SignatureTextRecord, read_signature};
 ghost use Rattle.minisign.specs.Acceptance.{Verifier};
 ghost use Rattle.minisign_external.specs.Questions.{HoldsMessage, IsKeyText, read_under, verdict_under};
-ghost use Rattle.minisign_external.specs.Numbers.{IsAnswer, IsMeaning, WritesCut, misuse_number, refusal_number};
+ghost use Rattle.minisign_external.specs.Numbers.{IsAnswer, IsMeaning, WritesCut, fault_number, misuse_number, refusal_number};
 ghost use Rattle.minisign_external.specs.PublicKeys.{read_utf8, told_key_number};
 ghost use Rattle.minisign_external.specs.States.{GivesNumber, HasAsked, HasEnded, HasToldDigest, IsAnswered, IsBlank, IsFedState, IsMarkedFed, IsMarkedTold, IsVerdictNumber, KeepsAsked, asking_number, feeding_misuse, is_asked, questions_of, verdict_number};
 ghost use Rattle.minisign_external.specs.declared.public_keys.PublicKeyValue.{PublicKeyValue};
@@ -145,7 +145,7 @@ pub extern "C" fn page_verdict(state: &mut State, first: u32, second: u32) -> u3
 // The number of a rejection. It is forgotten and not dropped: it has no memory to give back, and the type of a fault,
 // which may have a text of its own, would have the module call for giving memory back.
 fn number_of(refusal: Refusal) -> u32
-    ensures { result ≡ refusal_number refusal }
+    ensures { result ≡ refusal_number fault_number refusal }
 {
     let number = refusal.number();
     forget(refusal);

@@ -4,14 +4,14 @@ use Rattle.minisign_base.specs.Faults.{fault_row}
 use Rattle.minisign_base.specs.declared.faults.NamedFault.{NamedFault}
 use Rattle.minisign_base.specs.declared.faults.NamedFault.TheVariants.{OutOfMemory}
 use Rattle.minisign.specs.Acceptance.{Verifier}
-use Rattle.minisign_external.specs.Numbers.{fault_number}
-use Rattle.minisign_install.specs.HostNumbers.{install_number}
-use Rattle.minisign_install.specs.Hosted.{GivesUpdateNumber, IsUpdateRefusal, IsDue, host_number}
+use Rattle.minisign_external.specs.Numbers.{fault_number, refusal_number}
+use Rattle.minisign_external.specs.declared.state.Refusal.{Refusal}
+use Rattle.minisign_external.specs.declared.state.Refusal.TheVariants.{Refused, WrongUse}
+use Rattle.minisign_install.specs.Faults.{install_number}
+use Rattle.minisign_install.specs.Hosted.{GivesUpdateNumber, IsUpdateRefusal, IsDue}
 use Rattle.minisign_install.specs.Installing.{Terms}
 use Rattle.minisign_install.specs.declared.faults.InstallFault.{InstallFault}
 use Rattle.minisign_install.specs.declared.faults.InstallFault.TheVariants.{Library}
-use Rattle.minisign_install.specs.declared.hosted.HostRefusal.{HostRefusal}
-use Rattle.minisign_install.specs.declared.hosted.HostRefusal.TheVariants.{Refused, WrongUse}
 use Rattle.minisign_install.specs.declared.hosted.Installation.{Installation}
 use Rattle.minisign_install.specs.declared.order.Due.TheVariants.{Remove}
 use Rattle.minisign_c.proofs.minisign_install_answer.Goals as goal
@@ -30,7 +30,7 @@ positive (Library e) = library_positive e
 positive _ = lit< tt
 
 -- what is no update has the number of its fault
-refused_number : (accepts : Verifier) (terms : Terms) (kept : ℕ) (message : List ℕ) (new : Installation) (r : HostRefusal) (n : ℕ) → n ≡ host_number r
+refused_number : (accepts : Verifier) (terms : Terms) (kept : ℕ) (message : List ℕ) (new : Installation) (r : Refusal InstallFault) (n : ℕ) → n ≡ refusal_number install_number r
     → IsUpdateRefusal accepts terms kept message new r → GivesUpdateNumber accepts terms kept message new n
 refused_number accepts terms kept message new (WrongUse m) n is none = absurd none
 refused_number accepts terms kept message new (Refused e) n is (due, refused) =

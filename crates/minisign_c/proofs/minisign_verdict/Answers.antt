@@ -16,16 +16,16 @@ positive true e is = subst (λ x. 0 < fault_number x) (sym is) (lit< tt)
 positive false e is = subst (λ x. 0 < fault_number x) (sym is) (lit< tt)
 
 -- a verdict that is no success has the number of its fault
-given_number : (accepts : Verifier) (pk_text sig_text message : List ℕ) (legacy first : Bool) (old new : State) (r : Refusal) (n : ℕ) → n ≡ refusal_number r
+given_number : (accepts : Verifier) (pk_text sig_text message : List ℕ) (legacy first : Bool) (old new : State) (r : Refusal Fault) (n : ℕ) → n ≡ refusal_number fault_number r
     → IsFaultOf (λ f. verdict accepts pk_text sig_text message legacy ≡ Err f) r → IsVerdictRefusal old new first r → GivesNumber accepts pk_text sig_text message legacy n
 given_number accepts pk_text sig_text message legacy first old new (WrongUse m) n is refuses refused = absurd refuses
 given_number accepts pk_text sig_text message legacy first old new (Refused e) n is refuses refused =
     inr (subst (λ k. 0 < k) (sym is) (positive first e refused.1), e, is, refuses)
 
 -- the number of a verdict
-refused_number : (v : Result (List ℕ) Fault) (r : Refusal) → Err r ≡ given_verdict v → refusal_number r ≡ verdict_number v
+refused_number : (v : Result (List ℕ) Fault) (r : Refusal Fault) → Err r ≡ given_verdict v → refusal_number fault_number r ≡ verdict_number v
 refused_number (Ok t) r h = cc h
-refused_number (Err e) r h = let same : r ≡ Refused e = cc h in ap refusal_number same
+refused_number (Err e) r h = let same : r ≡ Refused e = cc h in ap (refusal_number fault_number) same
 
 success_number : (v : Result (List ℕ) Fault) → Ok tt ≡ given_verdict v → 0 ≡ verdict_number v
 success_number (Ok t) h = refl
