@@ -4,6 +4,8 @@
 //!
 //! The texts are of the toy scheme, under its key of 32 zeros; `tests/shared/toy.py` makes such texts.
 
+mod looking;
+
 use crate::memory::{MemoryDirectory, install_in_memory};
 use minisign::NamedFault;
 use minisign_base::devices::random_sources::FixedRandom;
