@@ -331,7 +331,7 @@ enum minisign_error {
     MINISIGN_NO_ROOM = 5,
     /* allow_legacy is neither 0 nor 1. */
     MINISIGN_BAD_LEGACY_FLAG = 6,
-    /* A growth was refused, or a size that no allocation can have was asked for. */
+    /* An allocation failed, or a size that no allocation can have was asked for. */
     MINISIGN_OUT_OF_MEMORY = 7,
     /* A text, a typed line, a password or a comment is not UTF-8. */
     MINISIGN_NOT_UTF8 = 8,
@@ -410,11 +410,11 @@ enum minisign_error {
     MINISIGN_BARE_PUBLIC_KEY_LENGTH = 44,
     /* A public key given as base64 alone is not base64. */
     MINISIGN_BARE_PUBLIC_KEY_NOT_BASE64 = 45,
-    /* Another run holds the lock on this place. */
+    /* Another run holds the lock on this target. */
     MINISIGN_PLACE_IN_USE = 46,
-    /* No number is kept beside the place, and this was not said to be the first installation. */
+    /* No number is kept beside the target, and this was not said to be the first installation. */
     MINISIGN_NO_RECORD = 47,
-    /* What is kept beside the place does not read as a number, and this was not said to be the first
+    /* What is kept beside the target does not read as a number, and this was not said to be the first
      * installation. */
     MINISIGN_DAMAGED_RECORD = 48,
     /* The trusted comment does not name the file that the caller expects. */
@@ -424,7 +424,7 @@ enum minisign_error {
     MINISIGN_NO_NUMBER = 50,
     /* The number of the trusted comment is below the one that is kept. */
     MINISIGN_OLDER_UPDATE = 51,
-    /* The update stands at the place, but a crash may still bring back what stood there before. */
+    /* The update stands at the target, but a crash may still bring back what stood there before. */
     MINISIGN_DIRECTORY_NOT_SYNCED = 52,
     /* The number that is kept is a timestamp and not a version, and this was not said to be the first
      * installation. */
@@ -437,8 +437,8 @@ enum minisign_error {
     /* The trusted comment has more than one field for when the update expires, or one with no number in decimal
      * digits alone, or none below 2^64. */
     MINISIGN_BAD_EXPIRY = 56,
-    /* The number of the trusted comment is the one that is kept, other data stands at the place, and the caller did
-     * not ask for the update to be installed again. */
+    /* The number of the trusted comment is the one that is kept, other data stands at the target, and the caller
+     * did not ask for the update to be installed again. */
     MINISIGN_SAME_NUMBER = 57,
     /* A secret key that is to be opened was not read. */
     MINISIGN_KEY_NOT_READ = 63,

@@ -18,7 +18,7 @@ pub use Rattle.minisign_external.specs.declared.state.Refusal.{Refusal}
 pub use Rattle.minisign_external.specs.declared.state.Refusal.TheVariants.{WrongUse}
 pub use Rattle.minisign_external.specs.declared.state.State.{State}
 pub use Rattle.minisign_hash.specs.Blake2b.{blake2b_digest}
-pub use Rattle.minisign_install.specs.Checking.{IsOffered, signed_comment}
+pub use Rattle.minisign_install.specs.Checking.{IsOffered, signed_comment, AnswersByRecord}
 pub use Rattle.minisign_install.specs.Comments.{first_of, ExpiresAt, IsExpiryRefused, IsNumberText, IsUnexpired, Numbering, Says, Timestamp, Version, fields, file_label, number_label, values_in, values_of}
 pub use Rattle.minisign_install.specs.Driving.{AreNamed, HasMade, IsNamed, Knows, MayCall, Names, WantsNoMemory, Went, calls_left, done_or, host, made_or, number_or, setting}
 pub use Rattle.minisign_install.specs.Faults.{Fault, InstallFault, Library, Named, NotUtf8, OutOfMemory, PlaceInUse, RandomSourceFailed, ReadingFailed, Rose, WritingFailed, install_number}
@@ -57,3 +57,6 @@ pub use Rattle.std.specs.List.{after_first, before_first, concat, position_or_le
 pub use Rattle.std.specs.Prelude.{MatchOption, codes, ⊤}
 pub use Rattle.std.specs.Str.{IsAscii, IsUtf8, is_utf8}
 pub use Rattle.std.specs.Str.Pattern.{FindsChar}
+pub use Rattle.minisign.specs.Headline.{verdict}
+pub use Rattle.minisign_install.specs.declared.checking.Offer.TheVariants.{Same}
+pub use Rattle.minisign_install.specs.declared.faults.InstallFault.TheVariants.{SameNumber}

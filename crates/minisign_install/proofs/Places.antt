@@ -1,25 +1,7 @@
 -- Whether an update stands at the place already: what was found there, what the texts say of it, and what comes of a run
 -- that asked.
-use Rattle.std.proofs.Common.{◌≡◌, ◌≢◌, ◌⊎◌, ◌∙◌, ◌∷◌, ◌++◌, inl, inr, ⊎_elim, ℕ, Bool, true, false, List, Option, Some, None, ap, sym, subst, append_assoc}
-use Rattle.std.specs.declared.result.Result.{Result}
-use Rattle.std.specs.declared.result.Result.TheVariants.{Ok, Err}
-use Rattle.minisign_base.specs.Fault.{Fault}
-use Rattle.minisign.specs.Acceptance.{Verifier}
-use Rattle.minisign.specs.Headline.{verdict}
-use Rattle.minisign.proofs.Laws.{refused_unvouched}
-use Rattle.minisign_install.specs.Checking.{AnswersByRecord}
-use Rattle.minisign_install.specs.Comments.{Says}
-use Rattle.minisign_install.specs.Directories.{Finds, HasLocked, HasStepped, IsFound, IsStill, Known, Leads, Moment, Run, RunStep}
-use Rattle.minisign_install.specs.Hosts.{Calls, CallsNothing}
-use Rattle.minisign_install.specs.Installing.{HasInstalled, InstallsLocked, InstallsOnlyUpdates, IsVouched, MayBePublished, MayBeRecorded, PublishesInOrder, Terms}
-use Rattle.minisign_install.specs.Refusals.{Counts, IsCallFault, IsLibraryFault, IsReadingFault, OnlyLocked, counts}
-use Rattle.minisign_install.specs.Runs.{HasCleared, PublishesNothing, PublishesOnly}
+use Rattle.minisign_install.proofs.Common.{AnswersByRecord, Bool, Calls, CallsNothing, Counts, Err, Fault, Finds, HasCleared, HasInstalled, HasLocked, HasStepped, InstallFault, InstallsLocked, InstallsOnlyUpdates, IsCallFault, IsFound, IsLibraryFault, IsReadingFault, IsStill, IsVouched, Known, List, MayBePublished, MayBeRecorded, Moment, Name, None, Ok, OnlyLocked, Option, Place, PublishesInOrder, PublishesNothing, PublishesOnly, Record, Result, Run, Same, SameNumber, Says, Some, Terms, Verifier, ap, append_assoc, counts, false, inl, inr, refused_unvouched, subst, sym, true, verdict, ℕ, ⊎_elim, ◌++◌, ◌∙◌, ◌∷◌, ◌≡◌, ◌⊎◌}
 use Rattle.minisign_install.specs.There.{FindsSame, GoesOn, InstallsFrom, InstallsUnlessThere, IsOther, IsSigned, IsThere, IsVouchedFor, LooksInPart}
-use Rattle.minisign_install.specs.declared.checking.Offer.TheVariants.{Same}
-use Rattle.minisign_install.specs.declared.faults.InstallFault.{InstallFault}
-use Rattle.minisign_install.specs.declared.faults.InstallFault.TheVariants.{SameNumber}
-use Rattle.minisign_install.specs.declared.directories.Name.{Name}
-use Rattle.minisign_install.specs.declared.directories.Name.TheVariants.{Place, Record}
 use Rattle.minisign_install.specs.declared.there.Installed.{Installed}
 use Rattle.minisign_install.proofs.Installs.{found_back, installs, nothing_locked}
 use Rattle.minisign_install.proofs.Judgements.{signed_is}
@@ -50,22 +32,6 @@ module _ (accepts : Verifier) (terms : Terms) where
 -- another thing is said of a call
 recalled : (P Q : Moment → Moment → Type 0) (old new : Run) (step : HasStepped old new P) → Q step.before new.now → HasStepped old new Q
 recalled P Q old new step says = record { before = step.before; others = step.others; this = says; noted = step.noted; known = step.known; locked = step.locked }
-
--- the file that was found, and read, holds this
-pub found_file : (file : ℕ) (m : List ℕ) (old new : Run) → Calls (Leads Place (Some file)) old new → new.now.holds file ≡ m → Calls (Finds Place (Some m)) old new
-found_file file m old new (step, own) holds =
-    (recalled _ _ old new step (record { still = step.this.still; found_there = (file, step.this.leads, ap (λ (x : Moment). x.holds file) (sym step.this.still) ∙ holds) }), own)
-
-pub found_none : (old new : Run) → Calls (Leads Place None) old new → Calls (Finds Place None) old new
-found_none old new (step, own) = (recalled _ _ old new step (record { still = step.this.still; found_there = step.this.leads }), own)
-
--- looking changes nothing
-pub leads_still : (file : Option ℕ) (old new : Run) → Calls (Leads Place file) old new → Calls IsStill old new
-leads_still file old new (step, own) = (recalled _ _ old new step step.this.still, own)
-
--- nor does reading the record
-pub finds_still : (found : Option (List ℕ)) (old new : Run) → Calls (Finds Record found) old new → Calls IsStill old new
-finds_still found old new (step, own) = (recalled _ _ old new step step.this.still, own)
 
 -- == A run that asked ==
 

@@ -47,7 +47,7 @@ class BadLegacyFlag(MinisignError):
 
 
 class OutOfMemory(MinisignError):
-    """A growth was refused, or a size that no allocation can have was asked for."""
+    """An allocation failed, or a size that no allocation can have was asked for."""
 
     number = 7
 
@@ -281,19 +281,19 @@ class BarePublicKeyNotBase64(MinisignError):
 
 
 class PlaceInUse(MinisignError):
-    """Another run holds the lock on this place."""
+    """Another run holds the lock on this target."""
 
     number = 46
 
 
 class NoRecord(MinisignError):
-    """No number is kept beside the place, and this was not said to be the first installation."""
+    """No number is kept beside the target, and this was not said to be the first installation."""
 
     number = 47
 
 
 class DamagedRecord(MinisignError):
-    """What is kept beside the place does not read as a number, and this was not said to be the first installation."""
+    """What is kept beside the target does not read as a number, and this was not said to be the first installation."""
 
     number = 48
 
@@ -317,7 +317,7 @@ class OlderUpdate(MinisignError):
 
 
 class DirectoryNotSynced(MinisignError):
-    """The update stands at the place, but a crash may still bring back what stood there before."""
+    """The update stands at the target, but a crash may still bring back what stood there before."""
 
     number = 52
 
@@ -347,7 +347,7 @@ class BadExpiry(MinisignError):
 
 
 class SameNumber(MinisignError):
-    """The number of the trusted comment is the one that is kept, other data stands at the place, and the caller did not ask for the update to be installed again."""
+    """The number of the trusted comment is the one that is kept, other data stands at the target, and the caller did not ask for the update to be installed again."""
 
     number = 57
 

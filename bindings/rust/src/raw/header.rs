@@ -20,7 +20,7 @@ impl Reason {
     pub const NO_ROOM: Reason = Reason(5);
     /// allow_legacy is neither 0 nor 1.
     pub const BAD_LEGACY_FLAG: Reason = Reason(6);
-    /// A growth was refused, or a size that no allocation can have was asked for.
+    /// An allocation failed, or a size that no allocation can have was asked for.
     pub const OUT_OF_MEMORY: Reason = Reason(7);
     /// A text, a typed line, a password or a comment is not UTF-8.
     pub const NOT_UTF8: Reason = Reason(8);
@@ -99,11 +99,11 @@ impl Reason {
     pub const BARE_PUBLIC_KEY_LENGTH: Reason = Reason(44);
     /// A public key given as base64 alone is not base64.
     pub const BARE_PUBLIC_KEY_NOT_BASE64: Reason = Reason(45);
-    /// Another run holds the lock on this place.
+    /// Another run holds the lock on this target.
     pub const PLACE_IN_USE: Reason = Reason(46);
-    /// No number is kept beside the place, and this was not said to be the first installation.
+    /// No number is kept beside the target, and this was not said to be the first installation.
     pub const NO_RECORD: Reason = Reason(47);
-    /// What is kept beside the place does not read as a number, and this was not said to be the first installation.
+    /// What is kept beside the target does not read as a number, and this was not said to be the first installation.
     pub const DAMAGED_RECORD: Reason = Reason(48);
     /// The trusted comment does not name the file that the caller expects.
     pub const OTHER_FILE: Reason = Reason(49);
@@ -112,7 +112,7 @@ impl Reason {
     pub const NO_NUMBER: Reason = Reason(50);
     /// The number of the trusted comment is below the one that is kept.
     pub const OLDER_UPDATE: Reason = Reason(51);
-    /// The update stands at the place, but a crash may still bring back what stood there before.
+    /// The update stands at the target, but a crash may still bring back what stood there before.
     pub const DIRECTORY_NOT_SYNCED: Reason = Reason(52);
     /// The number that is kept is a timestamp and not a version, and this was not said to be the first installation.
     pub const KEPT_BY_TIMESTAMP: Reason = Reason(53);
@@ -123,7 +123,7 @@ impl Reason {
     /// The trusted comment has more than one field for when the update expires, or one with no number in decimal digits
     /// alone, or none below 2^64.
     pub const BAD_EXPIRY: Reason = Reason(56);
-    /// The number of the trusted comment is the one that is kept, other data stands at the place, and the caller did
+    /// The number of the trusted comment is the one that is kept, other data stands at the target, and the caller did
     /// not ask for the update to be installed again.
     pub const SAME_NUMBER: Reason = Reason(57);
     /// A secret key that is to be opened was not read.
