@@ -1,7 +1,7 @@
 //! What a file holds is read back, and judged: whether it is an update, and which comment the key has signed.
 
 ghost use Rattle.std.specs.Prelude.{◌≡◌, ◌⊎◌, ◌<◌, ◌+◌, ◌≤◌, ℕ, List, false, true, length, option_map, IfOk, IfErr, OnOk, OnErr, MatchResult};
-ghost use Rattle.minisign.specs.Acceptance.{accepts_comments};
+ghost use Rattle.minisign.specs.Acceptance.{accepts_comments, judge_answers};
 ghost use Rattle.minisign.specs.Headline.{verdict};
 ghost use Rattle.minisign.specs.SignatureText.{SignatureTextRecord, box_of, view_of};
 ghost use Rattle.minisign.specs.Texts.{map_ok};
@@ -185,10 +185,18 @@ fn judge_view<S: Scheme>(
         key_id: *pk.key_id(),
     };
     test(&value, view, false)?;
-    if !accepts_digest(scheme, pk, view.signature(), digest) {
+    let first = accepts_digest(scheme, pk, view.signature(), digest);
+    judge_answers(first, accepts_comment(scheme, pk, view, message))
+}
+
+// What the two answers of the scheme decide.
+fn judge_answers(first: bool, second: bool) -> Result<(), PError>
+    ensures { result ≡ judge_answers first second }
+{
+    if !first {
         return Err(NamedFault::SignatureRefused.into());
     }
-    if !accepts_comment(scheme, pk, view, message) {
+    if !second {
         return Err(NamedFault::CommentSignatureRefused.into());
     }
     Ok(())
