@@ -14,6 +14,7 @@ use minisign_base::devices::sources::ReaderSource;
 use minisign_base::scheme::Scheme;
 use minisign_base::toy::ToyScheme;
 use minisign_base::{NamedFault, unix_timestamp};
+use minisign_external::numbers::Numbered;
 use minisign_install::{InstallFault, Installed, Numbering, Wanted};
 use minisign_install_files::{FileDirectory, Trouble, Uninterrupted, install_files};
 use minisign_programs::arguments::{behind_program, read_arguments, words_of};
