@@ -49,7 +49,7 @@ ERRORS = (
      "SecretKeyBox::into_secret_key(password), SecretKey::from_box(box, password), "
      "SecretKey::from_file(path, password), or use KeyPair::generate_unencrypted_keypair() for "
      "passwordless keys."),
-    ("RejectedByGivenKey", 72, "Verify", "Could not verify signature with the provided public key ID: A"),
+    ("RefusedByGivenKey", 72, "Verify", "Could not verify signature with the provided public key ID: A"),
     ("DifferentKeyIds", 29, "Verify", "Signature key id: A is different from public key: B"),
     ("LegacyNotAccepted", 30, "Verify", "Legacy signatures are not accepted"),
     ("SignatureRefused", 31, "Verify", "Signature verification failed"),

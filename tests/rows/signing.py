@@ -135,7 +135,7 @@ def given_keys():
     """The 32 bytes of a public key that is passed in are tested, and never its identifier: its own one, another one,
     and that of the key of a seed of 32 times 01."""
     good = lambda **deeds: gives(**signature(b"abc", b"t", b"c"), **deeds)
-    other = lambda **deeds: rejected("RejectedByGivenKey", text=OTHER_GIVEN, **deeds)
+    other = lambda **deeds: rejected("RefusedByGivenKey", text=OTHER_GIVEN, **deeds)
     for name, keynum, key, answer in [
         ("its own", toy.KEYNUM, toy.KEY, good),
         ("with another identifier", toy.OTHER_KEYNUM, toy.KEY, good),
