@@ -1,23 +1,14 @@
 -- Whether an update is newer than what is kept, from its signature alone.
 use Rattle.std.specs.Prelude.{◌≡◌, ◌⊎◌, ◌<◌, ◌==◌, ℕ, Bool, false, true, if◌then◌else◌, nat_le, List, [], Option, Some, None, Result, Ok, Err, ⊤}
-use Rattle.std.specs.Str.{IsUtf8}
+use Rattle.minisign_install.specs.Common.{IsUtf8, accepts_comments, judge_answers, judge_key, read_public_key, PublicKeyRecord, SignatureRecord, SignatureTextRecord, box_of, read_signature, and_then, misuse_number, BadFirstFlag, BadNumbering, Offer, Newer, Same, Older}
 use Rattle.minisign_install.specs.Faults.{Rose, Fault, Named, NotUtf8, OutOfMemory, ReadingFailed, InstallFault, Library, install_number}
 use Rattle.minisign_install.specs.Installing.{IsKeptOrNone, Verifier, Terms}
-use Rattle.minisign.specs.Acceptance.{accepts_comments, judge_answers, judge_key}
-use Rattle.minisign.specs.PublicKeyText.{read_public_key}
-use Rattle.minisign.specs.Records.{PublicKeyRecord, SignatureRecord}
-use Rattle.minisign.specs.SignatureText.{SignatureTextRecord, box_of, read_signature}
-use Rattle.minisign.specs.Texts.{and_then}
-use Rattle.minisign_external.specs.Numbers.{misuse_number}
-use Rattle.minisign_external.specs.declared.state.Misuse.TheVariants.{BadFirstFlag, BadNumbering}
 use Rattle.minisign_install.specs.Comments.{Says, Numbering}
 use Rattle.minisign_install.specs.Directories.{Finds, IsStill, Known, Run, Record}
 use Rattle.minisign_install.specs.HostNumbers.{numbering_number, offer_number}
 use Rattle.minisign_install.specs.Hosted.{wanted_by}
 use Rattle.minisign_install.specs.Hosts.{Calls}
 use Rattle.minisign_install.specs.Refusals.{IsCommentRefused, IsRecordRefused}
-use Rattle.minisign_install.specs.declared.checking.Offer.{Offer}
-use Rattle.minisign_install.specs.declared.checking.Offer.TheVariants.{Newer, Same, Older}
 
 -- the signature is accepted for the digest, where one is given
 abbrev pub accepts_digest : Verifier → Option (List ℕ) → PublicKeyRecord → SignatureRecord → Bool

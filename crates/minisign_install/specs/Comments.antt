@@ -1,7 +1,6 @@
 -- What a signed comment says of an update.
 use Rattle.std.specs.Prelude.{◌≡◌, ◌⊎◌, ℕ, ◌^◌, ◌<◌, ◌≤◌, List, [], ◌∷◌, ◌==◌, length, take, drop, Option, Some, None, if◌then◌else◌, bytes_eq, codes}
-use Rattle.std.specs.List.{slice_split}
-use Rattle.std.specs.Str.Parse.{IsNumeral, digits_value}
+use Rattle.minisign_install.specs.Common.{slice_split, IsNumeral, digits_value}
 pub use Rattle.minisign_install.specs.declared.comments.Numbering.{Numbering}
 pub use Rattle.minisign_install.specs.declared.comments.Numbering.TheVariants.{Timestamp, Version}
 use Rattle.minisign_install.specs.Faults.{InstallFault, BadExpiry, Expired}

@@ -1,15 +1,13 @@
 -- What an installation over a directory holds between two calls, and what each call that is due does to it.
 use Rattle.std.specs.Prelude.{◌≡◌, ◌≢◌, ◌-◌, ⊤, ℕ, Bool, true, false, List, Option, IsNone, IsSome, IfSome, Result, Ok, Err}
+use Rattle.minisign_install.specs.Common.{IsFedState, Stage, Work}
 use Rattle.minisign_install.specs.Faults.{Named, OutOfMemory, InstallFault, Library}
 use Rattle.minisign_install.specs.Installing.{Verifier, IsVouched, Terms}
-use Rattle.minisign_external.specs.States.{IsFedState}
 use Rattle.minisign_install.specs.Directories.{Run}
 use Rattle.minisign_install.specs.Hosts.{Explains, Host, Makes, Setting}
 use Rattle.minisign_install.specs.Names.{drawn_bytes}
 use Rattle.minisign_install.specs.Order.{due_number, next, Due, Lock, Clear, ReadRecord, Create, Copy, ReadBack, Answer, TakePermissions, Sync, CreateRecord, WriteRecord, SyncRecord, RenameRecord, SyncRecordName, Rename, SyncName, RemoveRecord, Remove, Installed, Refused, Outcome, Done, Number, Failed}
 use Rattle.minisign_install.specs.Refusals.{Counts}
-use Rattle.minisign_install.specs.declared.calls.Stage.{Stage}
-use Rattle.minisign_install.specs.declared.calls.Work.{Work}
 
 -- a host at one moment
 abbrev pub host : Run → Option (List ℕ) → Counts → List ℕ → Host

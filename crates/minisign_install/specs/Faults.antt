@@ -1,11 +1,8 @@
 -- Why an installation is rejected: of each error the number by which a host in another language knows it, the kind, and
 -- the text, which a program shows word for word.
 use Rattle.std.specs.Prelude.{ℕ, ⊤, codes}
+use Rattle.minisign_install.specs.Common.{kind_of, text_of, FaultRow, row, Io, Verify, fault_number}
 pub use Rattle.minisign_base.specs.Fault.{Fault, Named}
-use Rattle.minisign_base.specs.Fault.{kind_of, text_of}
-use Rattle.minisign_base.specs.Faults.{FaultRow, row}
-use Rattle.minisign_base.specs.declared.errors.ErrorKind.TheVariants.{Io, Verify}
-use Rattle.minisign_external.specs.Numbers.{fault_number}
 pub use Rattle.minisign_install.specs.declared.faults.InstallFault.{InstallFault}
 pub use Rattle.minisign_install.specs.declared.faults.InstallFault.TheVariants.{Library, PlaceInUse, NoRecord, DamagedRecord, KeptByTimestamp, KeptByVersion, OtherFile, NoNumber, OlderUpdate, DirectoryNotSynced, Expired, BadExpiry, SameNumber}
 pub use Rattle.minisign_base.specs.Devices.{Rose}

@@ -1,9 +1,7 @@
 -- What the numbers mean by which a host in another language knows why an installation is rejected, and other numbers.
 use Rattle.std.specs.Prelude.{◌≡◌, ℕ, List}
-use Rattle.minisign_external.specs.Numbers.{IsMeaning}
+use Rattle.minisign_install.specs.Common.{IsMeaning, Offer, Newer, Same, Older}
 use Rattle.minisign_install.specs.Faults.{InstallFault, IsOwn, install_number, install_row}
-use Rattle.minisign_install.specs.declared.checking.Offer.{Offer}
-use Rattle.minisign_install.specs.declared.checking.Offer.TheVariants.{Newer, Same, Older}
 use Rattle.minisign_install.specs.Comments.{Numbering, Timestamp, Version}
 
 -- the text is what the number means: that of the error of installing that has it; an error of the library is reported

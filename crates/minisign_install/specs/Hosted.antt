@@ -1,28 +1,14 @@
 -- What an installation that a host in another language holds stands for, and what its calls do.
 use Rattle.std.specs.Prelude.{◌≡◌, ◌⊎◌, ◌==◌, ◌||◌, ◌<◌, ◌≤◌, ℕ, Bool, true, false, if◌then◌else◌, List, [], ◌∷◌, map, get_or, length, Option, Some, None, IfSome, IsSomeAnd, MatchResult, Ok, Result}
-use Rattle.std.specs.List.{list_any}
-use Rattle.std.specs.Str.{IsUtf8}
+use Rattle.minisign_install.specs.Common.{list_any, IsUtf8, fault_row, CommentsRecord, SignatureBoxRecord, read_signature_box, IsAnswer, misuse_number, refusal_number, IsKeyText, HasAsked, IsAskFedRefusal, IsBlank, IsMarkedTold, IsNotFed, verdict_misuse, PublicKeyValue, Misuse, BadAnswer, BadNumbering, NotDue, Refusal, WrongUse, Installation, Judged, StoredDue}
 use Rattle.minisign_install.specs.Faults.{Fault, Named, NotUtf8, OutOfMemory, RandomSourceFailed, ReadingFailed, WritingFailed, InstallFault, DirectoryNotSynced, Library, PlaceInUse, install_number}
-use Rattle.minisign_base.specs.Faults.{fault_row}
 use Rattle.minisign_install.specs.Installing.{Verifier, IsKeptNumber, IsUpdate, Terms}
-use Rattle.minisign.specs.Records.{CommentsRecord, SignatureBoxRecord}
-use Rattle.minisign.specs.SignatureText.{read_signature_box}
-use Rattle.minisign_external.specs.Numbers.{IsAnswer, misuse_number, refusal_number}
-use Rattle.minisign_external.specs.Questions.{IsKeyText}
-use Rattle.minisign_external.specs.States.{HasAsked, IsAskFedRefusal, IsBlank, IsMarkedTold, IsNotFed, verdict_misuse}
-use Rattle.minisign_external.specs.declared.public_keys.PublicKeyValue.{PublicKeyValue}
-use Rattle.minisign_external.specs.declared.state.Misuse.{Misuse}
-use Rattle.minisign_external.specs.declared.state.Misuse.TheVariants.{BadAnswer, BadNumbering, NotDue}
-use Rattle.minisign_external.specs.declared.state.Refusal.{Refusal}
-use Rattle.minisign_external.specs.declared.state.Refusal.TheVariants.{WrongUse, Refused}
+use Rattle.minisign_external.specs.declared.state.Refusal.TheVariants.{Refused}
 use Rattle.minisign_install.specs.Comments.{Says, Numbering, Timestamp, Version}
 use Rattle.minisign_install.specs.HostNumbers.{numbering_number}
 pub use Rattle.minisign_install.specs.Order.{due_number}
 use Rattle.minisign_install.specs.Order.{fits, next, Due, Lock, Clear, ReadRecord, Create, Copy, ReadBack, Answer, TakePermissions, Sync, CreateRecord, WriteRecord, SyncRecord, RenameRecord, SyncRecordName, Rename, SyncName, RemoveRecord, Remove, Outcome, Failed}
 use Rattle.minisign_install.specs.Refusals.{IsCommentRefused, IsDataRefused, IsRecordRefused}
-use Rattle.minisign_install.specs.declared.hosted.Installation.{Installation}
-use Rattle.minisign_install.specs.declared.hosted.Judged.{Judged}
-use Rattle.minisign_install.specs.declared.hosted.StoredDue.{StoredDue}
 use Rattle.minisign_install.specs.declared.order.Due.TheVariants as ended
 
 -- the mark of an installation that was begun: "minstall"

@@ -2,20 +2,14 @@
 -- due, as it is told there, and says how it went by the call that is there for it. Of each call of the header this
 -- cites what its clauses say where it is no wrong use.
 use Rattle.std.specs.Prelude.{◌≡◌, ◌==◌, ◌⊎◌, ◌++◌, ℕ, Bool, List, [], ◌∷◌, Option, Ok, IsSomeAnd, false, take}
-use Rattle.minisign_hash.specs.Blake2b.{blake2b_digest}
+use Rattle.minisign_install.specs.Common.{blake2b_digest, SignatureTextRecord, AnswersTexts, IsKeyText, read_under, AreQuestions, IsFedState, PublicKeyValue, Questions, Installation}
 use Rattle.minisign_install.specs.Installing.{Verifier, Terms}
-use Rattle.minisign.specs.SignatureText.{SignatureTextRecord}
-use Rattle.minisign_external.specs.Questions.{AnswersTexts, IsKeyText, read_under}
-use Rattle.minisign_external.specs.States.{AreQuestions, IsFedState}
-use Rattle.minisign_external.specs.declared.public_keys.PublicKeyValue.{PublicKeyValue}
-use Rattle.minisign_external.specs.declared.state.Questions.{Questions}
 use Rattle.minisign_external.specs.declared.state.Refusal.TheVariants.{Refused}
 use Rattle.minisign_install.specs.Directories.{Finds, Record}
 use Rattle.minisign_install.specs.Hosted.{CallHasFailed, GivesUpdateNumber, HasReadBack, HasReadRecord, IsAskRefusal, IsAsking, IsDue, WasDone, due_of, failure, numbering_of, wanted_by}
 use Rattle.minisign_install.specs.Hosts.{Calls, Host, Makes, OnDirectory, Setting}
 use Rattle.minisign_install.specs.Comments.{Numbering}
 use Rattle.minisign_install.specs.Faults.{InstallFault}
-use Rattle.minisign_install.specs.declared.hosted.Installation.{Installation}
 use Rattle.minisign_install.specs.Order.{Answer, Lock, Outcome, Done, Failed, More}
 
 -- the same setting, where the number stands in this field

@@ -1,8 +1,7 @@
 -- A host that installs an update by making each call as it is due, and saying how it went: what one such call does to
 -- the directory, and what all of them do, one after another.
 use Rattle.std.specs.Prelude.{◌≡◌, ◌⊎◌, ℕ, List, [], ◌∷◌, ◌++◌, Bool, Option, ⊤}
-use Rattle.std.specs.Io.KnownBytes.{Consumes, IsAtEnd}
-use Rattle.std.specs.List.{concat}
+use Rattle.minisign_install.specs.Common.{Consumes, IsAtEnd, concat}
 use Rattle.minisign_install.specs.Faults.{Rose, Named, WritingFailed, InstallFault, DirectoryNotSynced, Library, PlaceInUse}
 use Rattle.minisign_install.specs.Installing.{Verifier, IsKeptNumber, IsUpdate, Terms}
 use Rattle.minisign_install.specs.Directories.{Appends, Clears, ClearsAll, GivesPermissions, HasCreated, HasLocked, HasRenamed, HasStepped, IsBusy, IsStill, MaySyncDirectory, OwnsTheSame, Moment, OwnsLess, Perhaps, Finds, Removes, Renames, Run, Syncs, SyncsDirectory, Spoils, Known, Place, Record}

@@ -1,5 +1,6 @@
 -- What installing an update may bring to the place and to the record beside it.
 use Rattle.std.specs.Prelude.{◌≡◌, ◌⊎◌, ℕ, ◌≤◌, Bool, true, false, List, ◌++◌, All, Option, Some, None, IfSome}
+use Rattle.minisign_install.specs.Common.{Wanted}
 pub use Rattle.minisign.specs.Acceptance.{Verifier}
 pub use Rattle.minisign.specs.Calls.{TextsVouchWith}
 use Rattle.minisign_install.specs.Comments.{Says, Numbering}
@@ -7,7 +8,6 @@ pub use Rattle.minisign.specs.Reading.{IsAhead}
 use Rattle.minisign_install.specs.Directories.{HasLocked, HasStepped, IsFound, IsStill, Run, RunStep, Name, Place, Record}
 use Rattle.minisign_install.specs.RecordTexts.{HasNoNumber, IsNumberFor, record_of}
 use Rattle.minisign_install.specs.Runs.{PublishesNothing, PublishesOnly, HasCleared, IsPublished, RecordHolds, RecordHoldsAt, permissions_of}
-use Rattle.minisign_install.specs.declared.wanted.Wanted.{Wanted}
 
 -- which updates are wanted: the two texts, the file's name, where the number stands, and at which moment they must not
 -- have expired, in seconds since the beginning of 1970

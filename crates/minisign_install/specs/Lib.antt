@@ -1,8 +1,9 @@
 pub mod Checking
 pub mod Comments
+pub mod Common
+pub mod Directories
 pub mod Driving
 pub mod Faults
-pub mod Directories
 pub mod HostNumbers
 pub mod Hosted
 pub mod Hosting
@@ -14,3 +15,4 @@ pub mod RecordTexts
 pub mod Refusals
 pub mod Runs
 pub mod There
+pub mod Words

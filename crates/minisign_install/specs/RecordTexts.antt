@@ -1,8 +1,6 @@
 -- What the record beside the place holds: the number of the newest update, behind the label of its field.
 use Rattle.std.specs.Prelude.{◌≡◌, ◌⊎◌, ℕ, List, [], ◌++◌, length, nat_le, if◌then◌else◌}
-use Rattle.std.specs.Fmt.{decimal}
-use Rattle.std.specs.Io.BufRead.{strip_last}
-use Rattle.std.specs.Str.{IsUtf8}
+use Rattle.minisign_install.specs.Common.{decimal, strip_last, IsUtf8}
 use Rattle.minisign_install.specs.Comments.{IsNumberText, number_label, Numbering, Timestamp, Version}
 use Rattle.minisign_install.specs.Faults.{InstallFault, DamagedRecord, KeptByTimestamp, KeptByVersion}
 

@@ -1,9 +1,9 @@
 -- Why an installation is rejected, in the order of its steps, and what its run has published to the place and to the
 -- record by then.
 use Rattle.std.specs.Prelude.{◌≡◌, ◌≢◌, ◌⊎◌, ℕ, ◌<◌, Bool, false, List, Option, Some, None, Err, IfErr, IsErrAnd, MatchResult, Result}
+use Rattle.minisign_install.specs.Common.{verdict}
 use Rattle.minisign_install.specs.Faults.{Rose, Fault, Named, OutOfMemory, RandomSourceFailed, ReadingFailed, WritingFailed, InstallFault, Library, PlaceInUse, NoRecord, DamagedRecord, KeptByTimestamp, KeptByVersion, OtherFile, NoNumber, OlderUpdate, DirectoryNotSynced}
 use Rattle.minisign_install.specs.Installing.{Verifier, TextsVouchWith, IsAhead, MayBePublished, IsKeptNumber, MayBeRecorded, IsUpdate, Terms}
-use Rattle.minisign.specs.Headline.{verdict}
 use Rattle.minisign_install.specs.Comments.{HasNumber, IsExpiryRefused, Says, file_label, value_of, Numbering}
 use Rattle.minisign_install.specs.Directories.{Finds, Known, HasLocked, HasStepped, IsBusy, IsFound, IsStill, Run, HasOnDisk, Place, Record}
 use Rattle.minisign_install.specs.RecordTexts.{HasNoNumber, IsUnfit}

@@ -1,9 +1,6 @@
 -- Whether an update stands at the place already, which is asked with the lock held, before anything is made.
-use Rattle.std.specs.Prelude.{◌≡◌, ◌≢◌, ◌⊎◌, ℕ, Bool, true, false, List, Option, Some, None, Ok, Err, IfOk, IfErr, IsErrAnd}
-use Rattle.std.specs.declared.result.Result.{Result}
-use Rattle.minisign_base.specs.Fault.{Fault}
-use Rattle.minisign.specs.Acceptance.{Verifier}
-use Rattle.minisign.specs.Calls.{TextsVouchWith}
+use Rattle.std.specs.Prelude.{◌≡◌, ◌≢◌, ◌⊎◌, ℕ, Bool, true, false, List, Option, Some, None, Ok, Err, IfOk, IfErr, IsErrAnd, Result}
+use Rattle.minisign_install.specs.Common.{Fault, Verifier, TextsVouchWith, Offer, Same, InstallFault, PlaceInUse, SameNumber, Place, Already, Now}
 use Rattle.minisign_install.specs.Checking.{AnswersByRecord, signed_comment}
 use Rattle.minisign_install.specs.Comments.{Says}
 use Rattle.minisign_install.specs.Directories.{Finds, HasLocked, HasStepped, IsBusy, IsStill, Run}
@@ -11,13 +8,7 @@ use Rattle.minisign_install.specs.Hosts.{Calls, CallsNothing}
 use Rattle.minisign_install.specs.Installing.{Terms}
 use Rattle.minisign_install.specs.Refusals.{Counts, InstallsExactly, IsCallFault, IsCause, IsLibraryFault, IsRefusal}
 use Rattle.minisign_install.specs.Runs.{OwnsNoMore}
-use Rattle.minisign_install.specs.declared.checking.Offer.{Offer}
-use Rattle.minisign_install.specs.declared.checking.Offer.TheVariants.{Same}
-use Rattle.minisign_install.specs.declared.faults.InstallFault.{InstallFault}
-use Rattle.minisign_install.specs.declared.faults.InstallFault.TheVariants.{PlaceInUse, SameNumber}
-use Rattle.minisign_install.specs.declared.directories.Name.TheVariants.{Place}
 use Rattle.minisign_install.specs.declared.there.Installed.{Installed}
-use Rattle.minisign_install.specs.declared.there.Installed.TheVariants.{Already, Now}
 
 -- the texts vouch for this data, not as a legacy signature would
 abbrev pub IsVouchedFor : Verifier → Terms → List ℕ → Type 0

@@ -1,16 +1,7 @@
 //! The calls of an installation over a directory: each is made as it is due, and says how it went.
 
 ghost use Rattle.std.specs.Prelude.{◌≡◌, ◌⊎◌, ◌<◌, ℕ, List, Some, false, IfErr, IsSome, IsSomeAnd, OnOk, OnErr, MatchResult};
-ghost use Rattle.std.specs.List.{concat};
-ghost use Rattle.minisign_install.specs.Driving.{HasCalled, HasMade, calls_left, done_or, host, made_or, number_or};
-ghost use Rattle.minisign_install.specs.Faults.{Library, Named, PlaceInUse, RandomSourceFailed, ReadingFailed, Rose, WritingFailed};
-ghost use Rattle.minisign_install.specs.Directories.{Clears, ClearsAll, GivesPermissions, HasCounted, HasCreated, HasLocked, HasRemoved, HasStepped, HasTried, Held, IsBusy, IsStill, OwnsTheSame, Known, Spoils};
-ghost use Rattle.minisign_install.specs.Hosts.{Calls, CallsNothing, Writes, WritesInPart};
-ghost use Rattle.minisign_install.specs.Installing.{terms_of};
-ghost use Rattle.minisign_install.specs.Names.{drawn_bytes};
-ghost use Rattle.minisign_install.specs.Order.{has_ended, next};
-ghost use Rattle.minisign_install.specs.RecordTexts.{record_of};
-ghost use Rattle.minisign_install.specs.Refusals.{counts};
+ghost use Rattle.minisign_install.specs.Words.{concat, HasCalled, HasMade, calls_left, done_or, host, made_or, number_or, Library, Named, PlaceInUse, RandomSourceFailed, ReadingFailed, Rose, WritingFailed, Clears, ClearsAll, GivesPermissions, HasCounted, HasCreated, HasLocked, HasRemoved, HasStepped, HasTried, Held, IsBusy, IsStill, OwnsTheSame, Known, Spoils, Calls, CallsNothing, Writes, WritesInPart, terms_of, drawn_bytes, has_ended, next, record_of, counts};
 
 use crate::comments::Numbering;
 use crate::directories::{Directory, Handle, Name};

@@ -2,14 +2,7 @@
 //! written, and no lock is taken.
 
 ghost use Rattle.std.specs.Prelude.{◌≡◌, ◌⊎◌, ℕ, [], List, Option, Ok, Err, option_map, IfErr, IfOk, OnErr, OnOk, MatchResult};
-ghost use Rattle.std.specs.Str.{IsUtf8};
-ghost use Rattle.minisign_install.specs.Checking.{ChecksSo, CommentChecksSo, IsOffered, offer_beside, signed_comment};
-ghost use Rattle.minisign_install.specs.Faults.{Rose, Named, OutOfMemory, Library};
-ghost use Rattle.minisign_install.specs.Directories.{Finds, IsStill, Known};
-ghost use Rattle.minisign_install.specs.Hosted.{wanted_by};
-ghost use Rattle.minisign_install.specs.Hosts.{Calls};
-ghost use Rattle.minisign_install.specs.Installing.{terms_of};
-ghost use Rattle.minisign_install.specs.declared.directories.Name.TheVariants.{Record};
+ghost use Rattle.minisign_install.specs.Words.{IsUtf8, ChecksSo, CommentChecksSo, IsOffered, offer_beside, signed_comment, Rose, Named, OutOfMemory, Library, Finds, IsStill, Known, wanted_by, Calls, terms_of, Record};
 
 use crate::comments::{Numbering, check_comment};
 use crate::directories::Directory;

@@ -1,11 +1,7 @@
 //! What the signed comment says of an update.
 
 ghost use Rattle.std.specs.Prelude.{◌≡◌, ◌≢◌, ◌⊎◌, ◌≤◌, ◌<◌, ◌∷◌, [], ℕ, List, Some, None, option_map, IfOk, IfErr, MatchOption, MatchResult, bytes_eq, take, drop, length, true, false};
-ghost use Rattle.minisign_install.specs.Comments.{HasNumber, IsExpiryRefused, IsNumberText, IsUnexpired, Says, expiry_label, file_label, number_label, value_of, values_of};
-ghost use Rattle.minisign_install.specs.Hosted.{wanted_by};
-ghost use Rattle.minisign_install.specs.RecordTexts.{other_field};
-ghost use Rattle.minisign_install.specs.Refusals.{IsCommentRefused};
-ghost use Rattle.minisign_install.specs.Faults.{BadExpiry, Expired, NoNumber, OlderUpdate, OtherFile};
+ghost use Rattle.minisign_install.specs.Words.{HasNumber, IsExpiryRefused, IsNumberText, IsUnexpired, Says, expiry_label, file_label, number_label, value_of, values_of, wanted_by, other_field, IsCommentRefused, BadExpiry, Expired, NoNumber, OlderUpdate, OtherFile};
 
 use crate::faults::InstallFault;
 

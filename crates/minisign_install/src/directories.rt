@@ -3,9 +3,7 @@
 //! allows them.
 
 ghost use Rattle.std.specs.Prelude.{◌≡◌, ◌⊎◌, ℕ, Bool, true, OnErr, List, Some, None, MatchOption, MatchResult, IfOk, take, length, option_map, ◌+◌, ◌^◌, ◌<◌, ◌≤◌};
-ghost use Rattle.minisign_base.specs.Devices.{Rose};
-ghost use Rattle.minisign_install.specs.Directories.{Run, Appends, Clears, ClearsAll, GivesPermissions, HasCounted, HasCreated, HasReadAt, Held, HasRemoved, HasRenamed, HasStepped, HasTried, IsAsked, IsStill, Leads, MaySyncDirectory, OwnsTheSame, Perhaps, Finds, Renames, Syncs, SyncsDirectory, Spoils, Known};
-ghost use Rattle.minisign_install.specs.Names.{drawn_bytes};
+ghost use Rattle.minisign_install.specs.Words.{Rose, Run, Appends, Clears, ClearsAll, GivesPermissions, HasCounted, HasCreated, HasReadAt, Held, HasRemoved, HasRenamed, HasStepped, HasTried, IsAsked, IsStill, Leads, MaySyncDirectory, OwnsTheSame, Perhaps, Finds, Renames, Syncs, SyncsDirectory, Spoils, Known, drawn_bytes};
 
 use crate::stage_names::StageName;
 use minisign_base::devices::DeviceFault;

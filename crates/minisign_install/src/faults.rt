@@ -2,9 +2,7 @@
 //! the latter the number, the kind and the text. None of these allocates.
 
 ghost use Rattle.std.specs.Prelude.{◌≡◌, Some, IfSome, MatchResult};
-ghost use Rattle.minisign_base.specs.Fault.{Named};
-ghost use Rattle.minisign_install.specs.Faults.{IsOwn, install_number, install_row};
-ghost use Rattle.minisign_install.specs.declared.faults.InstallFault.TheVariants.{Library};
+ghost use Rattle.minisign_install.specs.Words.{Named, IsOwn, install_number, install_row, Library};
 
 use minisign_base::ErrorKind::{self, Io, Verify};
 use minisign_base::{NamedFault, PError};

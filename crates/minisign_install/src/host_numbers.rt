@@ -2,8 +2,7 @@
 //! allocates.
 
 ghost use Rattle.std.specs.Prelude.{◌≡◌, ◌<◌, ℕ, List, length, Some, None, IfSome, MatchOption};
-ghost use Rattle.minisign_external.specs.Numbers.{WritesCut};
-ghost use Rattle.minisign_install.specs.HostNumbers.{IsHostMeaning, numbering_number, offer_number};
+ghost use Rattle.minisign_install.specs.Words.{WritesCut, IsHostMeaning, numbering_number, offer_number};
 
 use crate::checking::Offer;
 use crate::comments::Numbering;

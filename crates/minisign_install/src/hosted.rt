@@ -2,10 +2,7 @@
 //! went, and hands over what it reads back. None of it allocates.
 
 ghost use Rattle.std.specs.Prelude.{◌≡◌, ◌==◌, ◌<◌, ◌≤◌, ◌++◌, ℕ, Bool, List, [], false, true, Some, None, option_map, if◌then◌else◌, OnOk, IfErr, IfSome, MatchOption, length, take};
-ghost use Rattle.minisign_external.specs.States.{IsBlank, IsFedState};
-ghost use Rattle.minisign_install.specs.Hosted.{CallHasFailed, CannotBeFed, CannotFail, CannotGo, HasGone, HasReadBack, HasReadRecord, IsDue, IsNotDue, IsUnused, RestUnchanged, WasDone, due_from, due_number, due_of, failure, is_device_error, numbering_of};
-ghost use Rattle.minisign_install.specs.Order.{fits, Due, Lock, ReadBack, ReadRecord, WriteRecord, Done, More};
-ghost use Rattle.minisign_install.specs.RecordTexts.{record_of};
+ghost use Rattle.minisign_install.specs.Words.{IsBlank, IsFedState, CallHasFailed, CannotBeFed, CannotFail, CannotGo, HasGone, HasReadBack, HasReadRecord, IsDue, IsNotDue, IsUnused, RestUnchanged, WasDone, due_from, due_number, due_of, failure, is_device_error, numbering_of, fits, Due, Lock, ReadBack, ReadRecord, WriteRecord, Done, More, record_of};
 ghost use Rattle.minisign_install.specs.declared.order.Due.TheVariants as ended;
 
 use crate::comments::Numbering;

@@ -1,18 +1,8 @@
 //! Asking a signature scheme about what a host has read back, and judging the signed comment. None of it allocates.
 
 ghost use Rattle.std.specs.Prelude.{◌≡◌, ◌⊎◌, ◌≤◌, ℕ, Bool, List, false, OnOk, OnErr, IfErr, IfOk, MatchResult, [], Ok, length};
-ghost use Rattle.std.specs.Str.{IsUtf8};
-ghost use Rattle.minisign_hash.specs.Blake2b.{blake2b_digest};
-ghost use Rattle.minisign_install.specs.Installing.{Verifier, Terms};
-ghost use Rattle.minisign.specs.SignatureText.{SignatureTextRecord};
-ghost use Rattle.minisign_external.specs.Questions.{AnswersTexts, IsKeyText, read_under};
-ghost use Rattle.minisign_external.specs.States.{AreQuestions, HasEnded, IsFedState};
+ghost use Rattle.minisign_install.specs.Words.{IsUtf8, blake2b_digest, Verifier, Terms, SignatureTextRecord, AnswersTexts, IsKeyText, read_under, AreQuestions, HasEnded, IsFedState, Says, install_number, GivesUpdate, IsAnswerRefusal, IsAskRefusal, IsAsking, IsCommentFault, IsJudged, RestUnchanged, IsDue, numbering_of, wanted_by, IsCommentRefused, Answer, Remove, TakePermissions};
 ghost use Rattle.minisign_external.specs.declared.state.Refusal.TheVariants.{Refused};
-ghost use Rattle.minisign_install.specs.Comments.{Says};
-ghost use Rattle.minisign_install.specs.Faults.{install_number};
-ghost use Rattle.minisign_install.specs.Hosted.{GivesUpdate, IsAnswerRefusal, IsAskRefusal, IsAsking, IsCommentFault, IsJudged, RestUnchanged, IsDue, numbering_of, wanted_by};
-ghost use Rattle.minisign_install.specs.Refusals.{IsCommentRefused};
-ghost use Rattle.minisign_install.specs.Order.{Answer, Remove, TakePermissions};
 
 use crate::comments::{Numbering, check_comment};
 use crate::faults::InstallFault;

@@ -1,11 +1,7 @@
 //! A host in another language that does what `include/minisign.h` says makes a run of the law on runs.
 
 ghost use Rattle.std.specs.Prelude.{ℕ, List};
-ghost use Rattle.minisign_install.specs.Hosted.{IsDue};
-ghost use Rattle.minisign_install.specs.Hosting.{HasBegun, HasObeyed, Told};
-ghost use Rattle.minisign_install.specs.Hosts.{Event, HasRun, Host, Setting};
-ghost use Rattle.minisign_install.specs.Order.{Due, Lock};
-ghost use Rattle.minisign_install.specs.declared.hosted.Installation.{Installation};
+ghost use Rattle.minisign_install.specs.Words.{IsDue, HasBegun, HasObeyed, Told, Event, HasRun, Host, Setting, Due, Lock, Installation};
 
 /// A law, for which nothing is done: a host of another language that makes each call as it is due,
 /// and tells how it went by the calls of the header, installs only updates, whatever comes of its

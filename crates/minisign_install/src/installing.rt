@@ -1,11 +1,7 @@
 //! Installing an update in a directory: each call is made as the table of `Due` has it due.
 
 ghost use Rattle.std.specs.Prelude.{◌≡◌, IfErr, OnOk};
-ghost use Rattle.minisign_install.specs.Faults.{Named, OutOfMemory, Library};
-ghost use Rattle.minisign_install.specs.Directories.{HasLocked, Run, Known};
-ghost use Rattle.minisign_install.specs.Installing.{HasInstalled, InstallsOnlyUpdates, IsVouched, terms_of};
-ghost use Rattle.minisign_install.specs.Refusals.{InstallsExactly, IsCause, IsRefusal, OnlyLocked, counts};
-ghost use Rattle.minisign_install.specs.Runs.{OwnsNoMore};
+ghost use Rattle.minisign_install.specs.Words.{Named, OutOfMemory, Library, HasLocked, Run, Known, HasInstalled, InstallsOnlyUpdates, IsVouched, terms_of, InstallsExactly, IsCause, IsRefusal, OnlyLocked, counts, OwnsNoMore};
 
 use crate::calls::{Work, make};
 use crate::directories::Directory;

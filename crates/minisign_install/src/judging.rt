@@ -1,16 +1,7 @@
 //! What a file holds is read back, and judged: whether it is an update, and which comment the key has signed.
 
 ghost use Rattle.std.specs.Prelude.{◌≡◌, ◌⊎◌, ◌<◌, ◌+◌, ◌≤◌, ℕ, List, false, true, length, option_map, IfOk, IfErr, OnOk, OnErr, MatchResult};
-ghost use Rattle.minisign.specs.Acceptance.{accepts_comments, judge_answers};
-ghost use Rattle.minisign.specs.Headline.{verdict};
-ghost use Rattle.minisign.specs.SignatureText.{SignatureTextRecord, box_of, view_of};
-ghost use Rattle.minisign.specs.Texts.{map_ok};
-ghost use Rattle.minisign_external.specs.States.{IsFedState};
-ghost use Rattle.minisign_install.specs.Checking.{accepts_digest, digest_verdict, judge_digest, signed_comment};
-ghost use Rattle.minisign_install.specs.Faults.{Named, OutOfMemory};
-ghost use Rattle.minisign_install.specs.Directories.{Known};
-ghost use Rattle.minisign_install.specs.Installing.{TextsVouchWith, IsUpdate, terms_of};
-ghost use Rattle.minisign_install.specs.Refusals.{IsDataRefused, IsLibraryFault, IsReadingFault};
+ghost use Rattle.minisign_install.specs.Words.{accepts_comments, judge_answers, verdict, SignatureTextRecord, box_of, view_of, map_ok, IsFedState, accepts_digest, digest_verdict, judge_digest, signed_comment, Named, OutOfMemory, Known, TextsVouchWith, IsUpdate, terms_of, IsDataRefused, IsLibraryFault, IsReadingFault};
 
 use crate::comments::check_comment;
 use crate::directories::{Directory, Handle};

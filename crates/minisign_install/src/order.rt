@@ -2,13 +2,7 @@
 //! call that is due, says how it went, and is told the next one. What an error is, is the host's.
 
 ghost use Rattle.std.specs.Prelude.{◌≡◌, ◌⊎◌, List, true};
-ghost use Rattle.minisign_install.specs.Directories.{HasLocked, Run};
-ghost use Rattle.minisign_install.specs.Hosts.{Event, HasRun, Host, IsExplained, Setting};
-ghost use Rattle.minisign_install.specs.Installing.{HasInstalled, InstallsOnlyUpdates};
-ghost use Rattle.minisign_install.specs.Faults.{InstallFault};
-ghost use Rattle.minisign_install.specs.Order.{fits, next};
-ghost use Rattle.minisign_install.specs.Refusals.{IsRefusal};
-ghost use Rattle.minisign_install.specs.Runs.{OwnsNoMore};
+ghost use Rattle.minisign_install.specs.Words.{HasLocked, Run, Event, HasRun, Host, IsExplained, Setting, HasInstalled, InstallsOnlyUpdates, InstallFault, fits, next, IsRefusal, OwnsNoMore};
 
 /// What is due: the call that the host makes next, or how the run has ended. The numbers are those
 /// of the record up to the answers of the signature scheme, and then those of the update.

@@ -1,13 +1,7 @@
 //! The number of the newest update is kept beside the place, behind the label of its field.
 
 ghost use Rattle.std.specs.Prelude.{option_map, ◌≡◌, ◌⊎◌, ◌<◌, ◌≤◌, ℕ, false, List, Option, Some, None, IfOk, IfErr, OnOk, OnErr, MatchOption, MatchResult, length, take};
-ghost use Rattle.minisign_install.specs.Faults.{Rose, Named, ReadingFailed, Library};
-ghost use Rattle.minisign_install.specs.Comments.{IsNumberText};
-ghost use Rattle.minisign_install.specs.Directories.{HasStepped, IsStill, Finds, Known};
-ghost use Rattle.minisign_install.specs.Hosts.{Calls};
-ghost use Rattle.minisign_install.specs.Installing.{IsKeptNumber, IsKeptOrNone};
-ghost use Rattle.minisign_install.specs.RecordTexts.{HasNoNumber, IsFieldText, IsNumberFor, IsUnfit, kept_by, record_of, record_text};
-ghost use Rattle.minisign_install.specs.Refusals.{IsReadRefusal, IsRecordFault, IsRecordRefused};
+ghost use Rattle.minisign_install.specs.Words.{Rose, Named, ReadingFailed, Library, IsNumberText, HasStepped, IsStill, Finds, Known, Calls, IsKeptNumber, IsKeptOrNone, HasNoNumber, IsFieldText, IsNumberFor, IsUnfit, kept_by, record_of, record_text, IsReadRefusal, IsRecordFault, IsRecordRefused};
 
 use crate::comments::{Numbering, number_of, strip};
 use crate::directories::{Directory, Name};

@@ -1,9 +1,7 @@
 //! Names that nobody else knows.
 
 ghost use Rattle.std.specs.Prelude.{◌≡◌, List, ℕ, length, IfOk, OnErr};
-ghost use Rattle.std.specs.Io.KnownBytes.{Consumes};
-ghost use Rattle.minisign_install.specs.Faults.{Rose};
-ghost use Rattle.minisign_install.specs.Names.{drawn_bytes};
+ghost use Rattle.minisign_install.specs.Words.{Consumes, Rose, drawn_bytes};
 
 use minisign_base::devices::DeviceFault;
 use minisign_base::devices::random_sources::RandomSource;

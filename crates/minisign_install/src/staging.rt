@@ -1,11 +1,7 @@
 //! What is written into a stage, piece by piece.
 
 ghost use Rattle.std.specs.Prelude.{◌≡◌, ◌⊎◌, ◌<◌, ℕ, List, length, vec_len, IfOk, IfErr, OnOk, OnErr, MatchResult};
-ghost use Rattle.std.specs.Io.KnownBytes.{Consumes, IsAtEnd};
-ghost use Rattle.std.specs.List.{concat};
-ghost use Rattle.minisign_install.specs.Faults.{Library, Rose, Named, OutOfMemory, ReadingFailed, WritingFailed};
-ghost use Rattle.minisign_install.specs.Directories.{HasCounted, Known};
-ghost use Rattle.minisign_install.specs.Hosts.{Writes, WritesInPart};
+ghost use Rattle.minisign_install.specs.Words.{Consumes, IsAtEnd, concat, Library, Rose, Named, OutOfMemory, ReadingFailed, WritingFailed, HasCounted, Known, Writes, WritesInPart};
 
 use crate::directories::{Directory, Handle};
 use crate::faults::InstallFault;

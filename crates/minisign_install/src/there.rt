@@ -1,18 +1,7 @@
 //! Installing an update, unless it stands at the place already: then nothing is written.
 
 ghost use Rattle.std.specs.Prelude.{◌≡◌, ◌≢◌, ◌⊎◌, ℕ, List, Option, Some, None, Ok, Err, IfErr, IfOk, OnErr, OnOk, false, true};
-ghost use Rattle.minisign_base.specs.Fault.{Named};
-ghost use Rattle.minisign_base.specs.declared.faults.NamedFault.TheVariants.{OutOfMemory};
-ghost use Rattle.minisign_external.specs.States.{IsFedState};
-ghost use Rattle.minisign_install.specs.Checking.{AnswersByRecord};
-ghost use Rattle.minisign_install.specs.Directories.{Finds, HasLocked, Known, Run};
-ghost use Rattle.minisign_install.specs.Hosts.{Calls, CallsNothing};
-ghost use Rattle.minisign_install.specs.Installing.{HasInstalled, InstallsOnlyUpdates, IsVouched, terms_of};
-ghost use Rattle.minisign_install.specs.Refusals.{IsLibraryFault, IsReadingFault, OnlyLocked, counts};
-ghost use Rattle.minisign_install.specs.There.{FindsAnother, GoesOn, InstallsUnlessThere, IsCauseUnlessThere, IsOther, IsSigned, IsThere, IsUnsigned, IsVouchedFor, LooksInPart};
-ghost use Rattle.minisign_install.specs.declared.checking.Offer.TheVariants.{Same};
-ghost use Rattle.minisign_install.specs.declared.faults.InstallFault.TheVariants.{Library, SameNumber};
-ghost use Rattle.minisign_install.specs.declared.directories.Name.TheVariants.{Place};
+ghost use Rattle.minisign_install.specs.Words.{Named, OutOfMemory, IsFedState, AnswersByRecord, Finds, HasLocked, Known, Run, Calls, CallsNothing, HasInstalled, InstallsOnlyUpdates, IsVouched, terms_of, IsLibraryFault, IsReadingFault, OnlyLocked, counts, FindsAnother, GoesOn, InstallsUnlessThere, IsCauseUnlessThere, IsOther, IsSigned, IsThere, IsUnsigned, IsVouchedFor, LooksInPart, Same, Library, SameNumber, Place};
 
 use crate::calls::lock;
 use crate::checking::{Offer, answer_by_record};
