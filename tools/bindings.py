@@ -35,7 +35,7 @@ def kept(path, begin, end):
 
 
 def name_of(constant):
-    """The name of a type: NOT_BEGUN, or minisign_not_begun, becomes NotBegun."""
+    """The name of a type: NOT_BEGUN becomes NotBegun, and minisign_public_key PublicKey."""
     return "".join(word.capitalize() for word in constant.removeprefix("minisign_").split("_"))
 
 

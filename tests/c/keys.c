@@ -1,11 +1,12 @@
 /*
- * Makes and opens keys through minisign.h, for tests/made_keys.py.
+ * Makes and opens keys through minisign.h, for made_keys.py.
  *
- *     keys secret KEY_ID SECRET SALT OPERATIONS MEMORY KEEP_EVERY ROOM COMMENT [PASSWORD]
+ *     keys secret KEY_ID SECRET SALT OPERATIONS MEMORY EVERY ROOM COMMENT [PASSWORD]
  *     keys public KEY_ID SECRET ROOM COMMENT
- *     keys open KEEP_EVERY GREATEST_WORK FILE [PASSWORD]
+ *     keys open EVERY WORK FILE [PASSWORD]
  *
- * The first three are in hexadecimal. It writes the text, or the identifier and the secret in hexadecimal; or the
+ * EVERY says how many rows of scrypt are kept, and WORK how much work is allowed, as in the header. The first three are
+ * in hexadecimal. It writes the text, or the identifier and the secret in hexadecimal; or the
  * number of the error, with the exit status 1.
  */
 #include <inttypes.h>

@@ -1,8 +1,8 @@
 #!/usr/bin/env python3
 """Compares what the documents name with what is there: functions and clauses, the calls that a CALLING.md quotes, the
-faults of docs/INSTALLING.md, blocks of code, links, paths, names, and the old texts of the must-fail edits; and so the names in
-the comments of the sources, of `c/`, `include/`, `page/` and `bindings/`. It also looks for crates that name the proofs of
-another one.
+errors of docs/INSTALLING.md, blocks of code, links, paths, names, and the old texts of the must-fail edits; and so the names
+and paths in the comments of all code, of makefiles and of manual pages. It also looks for crates that name the proofs of another
+one.
 
 It prints a line for each name that is not there; the last line is `N passed, M failed`. Needs Python 3.9 or later.
 """
@@ -37,19 +37,32 @@ PATH_NAME = re.compile(r"[A-Za-z_]\w*(?:::(?:[A-Za-z_]\w*|\.\.))*$")
 TEXT = re.compile(r'"((?:[^"\\]|\\.)*)"')
 
 
-# Files with comments, by their endings, and of those the ones whose comments are looked through.
-CODE = (".rt", ".antt", ".c", ".h", ".js", ".mjs", ".ts", ".go", ".rs", ".py", ".sh", ".html", ".toml", ".json")
-COMMENTED = re.compile(r"(?:crates/\w+/(?:src|specs)|c|include|page|bindings)/.*\.(?:rt|antt|c|h|js|mjs|ts|go|rs|py)$")
-# Of antt and of Python; what has other comments has them as Rattle has.
-OTHER_COMMENTS = {".antt": re.compile(r"(?<!\S)--(?=\s)[^\n]*"), ".py": re.compile(r'#[^\n]*|""".*?"""', re.S)}
+# Files whose names are those of the repository, and with these the ones whose comments are looked through.
+CODE = (".rt", ".rt.txt", ".antt", ".antt.txt", ".c", ".h", ".js", ".mjs", ".ts", ".go", ".rs", ".py", ".sh", ".html", ".toml", ".json", "Makefile", ".ci/run")
+COMMENTED = (*CODE, ".css", ".txt", ".1", ".3", ".edit")
+# Comments of other forms than in Rattle. (In Python a text in three quotes is one where it stands by itself.)
+HASH = re.compile(r"(?<!\S)#[^\n]*")
+PYTHON = re.compile(r'#[^\n]*|"""(?:[^\\]|\\.)*?"""|"(?:[^"\\\n]|\\.)*"|\'(?:[^\'\\\n]|\\.)*\'', re.S)
+OTHER_COMMENTS = {
+    ".antt": re.compile(r"(?<!\S)--(?=\s)[^\n]*"), ".html": re.compile(r"<!--.*?-->", re.S), ".css": re.compile(r"/\*.*?\*/", re.S),
+    ".1": re.compile(r'(?m)^\.\\"[^\n]*'), ".3": re.compile(r'(?m)^\.\\"[^\n]*'), ".edit": re.compile(r"(?m)^why: [^\n]*"),
+    ".sh": HASH, ".toml": HASH, ".txt": HASH, "": HASH,
+}
 # Names by their form: with an underscore, or with a capital letter inside.
-NAMES_IN_COMMENTS = re.compile(r"(?<![\w`./:-])(?:[A-Za-z]\w+_\w+|[A-Z][a-z0-9]+[A-Z]\w*)(?![\w`])")
+NAMES_IN_COMMENTS = re.compile(r"(?<![\w`./:-])(?:[A-Za-z]\w+_\w+|[A-Za-z][a-z0-9]+[A-Z]\w*)(?![\w`])")
+PATHS_IN_COMMENTS = re.compile(r"(?<![\w`./-])(?:\.ci|bench|bindings|c|compare|crates|docs|examples|include|page|tests|tools)/[\w/-]+\.[a-z]+\b")
 # What looks like a name, and is one of the world.
-OTHER_NAMES = {"OpenPGP", "WebAssembly", "crypto_pwhash_scryptsalsa208sha256"}
+OTHER_NAMES = {"OpenPGP", "WebAssembly", "KiB", "MiB", "GiB", "EdDSAs", "BlockMix", "scryptBlockMix", "scryptROMix", "VerifyError",
+               "crypto_pwhash_scryptsalsa208sha256", "AddressSanitizer", "UndefinedBehaviorSanitizer"}
 
 
 def comments_in(path, text):
-    form = OTHER_COMMENTS.get(os.path.splitext(path)[1], sources.OPAQUE)
+    """The comments of a file, and the lines `why:` of an edit."""
+    ending = ".rt" if path.endswith(".rt.txt") else os.path.splitext(path)[1]
+    if ending == ".py":
+        found = [it for it in PYTHON.finditer(text) if it[0].startswith(("#", '"""'))]
+        return [it[0] for it in found if it[0][0] == "#" or not text[text.rfind("\n", 0, it.start()) + 1:it.start()].strip()]
+    form = OTHER_COMMENTS.get(ending, sources.OPAQUE)
     return [it[0] for it in form.finditer(text) if form is not sources.OPAQUE or it[0].startswith(("//", "/*"))]
 
 
@@ -71,9 +84,9 @@ class Index:
         # Those of the crates and of C alone, which a comment in a crate may name; comments in Python name what that has.
         self.of_crates = set(self.known)
         self.known.update(dir(builtins))
-        for file in (it for it in files if it.endswith(CODE) or it.endswith("Makefile")):
+        for file in (it for it in files if it.endswith(CODE)):
             text = read(file)
-            for comment in comments_in(file, text):
+            for comment in sorted(comments_in(file, text), key=len, reverse=True):
                 text = text.replace(comment, " ")
             self.known.update(NAME.findall(text))
             if file.startswith(("crates/", "c/", "include/")):
@@ -228,8 +241,8 @@ def names_of(path):
     return {*NAME.findall(read(path))} if os.path.isfile(file) else set()
 
 
-def check_names(report, document, text, index):
-    """Each quoted name is one of the sources; a quoted path of names is one of a type or module."""
+def check_names(report, document, text, index, types):
+    """Each quoted name is one of the sources; a quoted path of names is one of a module, or of one of these types."""
     for where, line in places(document, without_blocks(text)):
         if document == "docs/DIFFERENCES.md" and line.startswith("|"):
             # What stands first is the Rust crate's.
@@ -239,17 +252,18 @@ def check_names(report, document, text, index):
             if not PATH_NAME.match(name) or name.endswith("::..") or re.fullmatch(r"[a-zA-Z]{1,8}|[A-Z][A-Z0-9]*", name):
                 continue
             *owners, last = name.split("::")
-            report.check({*owners, last} <= index.known, where, f"no `{quoted}` in any source")
-            if owners and owners[-1] in index.types:
+            report.check({*owners, last} <= index.known | OTHER_NAMES, where, f"no `{quoted}` in any source")
+            if owners and owners[-1] in types:
                 there = [item for item in index.items if item.owner == owners[-1] and item.name == last]
                 there += [item for item in index.types[owners[-1]] if re.search(rf"\b{last}\b", item.text)]
                 report.check(there, where, f"{owners[-1]} has no {last}")
 
 
-def check_comments(report, path, index):
-    """Each name in a comment is one of the sources, where it is quoted, or has the form of a name."""
+def check_comments(report, path, index, paths):
+    """Each name in a comment is one of the sources, where it is quoted, or has the form of a name; each path leads somewhere."""
     text = read(path)
-    for comment in comments_in(path, text):
+    # (in a line of use variables have names of their own)
+    for comment in (it for it in comments_in(path, text) if not re.match(r"/// let .*;$", it)):
         quoted = [re.sub(r"\(.*\)$", "", it) for it in QUOTED.findall(comment)]
         names = [it for it in quoted if PATH_NAME.match(it) and not re.fullmatch(r"[a-zA-Z]{1,8}|[A-Z][A-Z0-9]*|.*::\.\.", it)]
         known = index.of_crates if path.startswith("crates/") else index.known
@@ -257,6 +271,9 @@ def check_comments(report, path, index):
             # (what ends with an underscore begins a name)
             holds = all(it in known or it.endswith("_") and any(other.startswith(it) for other in known) for it in name.split("::"))
             report.check(holds, path, f"a comment names `{name}`, which no source has")
+        # (the paths that an edit quotes are an input)
+        for place in {*filter(is_path, () if path.endswith(".edit") else quoted), *PATHS_IN_COMMENTS.findall(comment)}:
+            report.check(place.startswith(".") or paths.find(place), path, f"a comment names the file {place}, which is not there")
 
 
 def check_clauses(report, index, document, text):
@@ -382,17 +399,18 @@ def main():
         if document == MADE:
             continue
         check_paths(report, document, text, paths)
-        # (the packages, and what is a repository of its own, have names of their own, and their tests run their examples)
+        # (the packages, and what is a repository of its own, have blocks of their own, which their tests run)
         if document.startswith(("bindings/", "examples/rattle/")):
+            check_names(report, document, text, index, set())
             continue
         if CALLS.match(document):
             check_calls(report, index, document, text)
         else:
             check_blocks(report, document, text, index)
-        check_names(report, document, text, index)
+        check_names(report, document, text, index, index.types)
         check_clauses(report, index, document, text)
-    for path in filter(COMMENTED.match, files):
-        check_comments(report, path, index)
+    for path in (it for it in files if it.endswith(COMMENTED) and not it.startswith("dist/")):
+        check_comments(report, path, index, paths)
     check_installing(report, index)
     check_texts(report, index)
     check_architecture(report, index)
