@@ -64,7 +64,7 @@ function listen() {
   at("key-remove").addEventListener("click", () => inTurn(removeKey));
   at("files").addEventListener("change", () => takeEach(at("files"), takeFiles));
   at("clear").addEventListener("click", () => inTurn(clearList));
-  // Whoever opened this page can change what stands behind # of its address: then all begins anew.
+  // Whoever opened this page can change what stands after # of its address: then all begins anew.
   addEventListener("hashchange", () => location.reload());
   for (const name of ["dragenter", "dragover"]) {
     addEventListener(name, event => {
@@ -77,18 +77,18 @@ function listen() {
   }
   addEventListener("drop", event => {
     event.preventDefault();
-    const {files, hasFolders} = droppedFiles(event.dataTransfer);
-    const isKey = files.length === 1 && !hasFolders && !BUILT_IN_KEY && at("key").contains(event.target);
-    inTurn(() => isKey ? takeKeyFile(files[0], "chosen") : takeFiles(files, hasFolders));
+    const {files, hasDirectories} = droppedFiles(event.dataTransfer);
+    const isKey = files.length === 1 && !hasDirectories && !BUILT_IN_KEY && at("key").contains(event.target);
+    inTurn(() => isKey ? takeKeyFile(files[0], "chosen") : takeFiles(files, hasDirectories));
   });
 }
 
 // The files that were dropped, and whether there were directories among them.
 function droppedFiles(transfer) {
   const items = [...transfer.items].filter(item => item.kind === "file");
-  const isFolder = item => item.webkitGetAsEntry()?.isDirectory === true;
-  const files = items.filter(item => !isFolder(item)).map(item => item.getAsFile()).filter(file => file !== null);
-  return {files, hasFolders: items.some(isFolder)};
+  const isDirectory = item => item.webkitGetAsEntry()?.isDirectory === true;
+  const files = items.filter(item => !isDirectory(item)).map(item => item.getAsFile()).filter(file => file !== null);
+  return {files, hasDirectories: items.some(isDirectory)};
 }
 
 // Passes on what was chosen, and leaves the place empty, so that the same file can be chosen again.

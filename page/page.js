@@ -59,7 +59,7 @@ function setKey(text, isBare, source) {
   at("key-said").dataset.number = number;
 }
 
-// The name of a file that is no key, behind what is said of it.
+// The name of a file that is no key, after what is said of it.
 function beside({name}) {
   return name === undefined ? [] : [" (", nameOf(name), ")"];
 }
@@ -150,9 +150,9 @@ function nameOfSigned(name) {
 
 // Takes files that were chosen or dropped together: each is a public key, a signature or data. One file and one signature
 // belong together whatever their names are.
-async function takeFiles(files, hasFolders = false) {
+async function takeFiles(files, hasDirectories = false) {
   emptyLog();
-  sayOfFiles(hasFolders ? [HAS_FOLDERS] : []);
+  sayOfFiles(hasDirectories ? [HAS_DIRECTORIES] : []);
   const names = new Set(files.map(file => file.name));
   // A file that was taken for a download before, or comes with its signature, is one whatever is in it.
   const isDownload = ({name}) =>

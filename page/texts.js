@@ -43,15 +43,15 @@ function hintOf(text) {
 }
 
 // The 56 letters of a public key, as minisign writes them, from the bytes that the library told of it: the key's 32, and the 8
-// of its key ID behind them.
+// of its key ID after them.
 function lettersOf(key) {
   return btoa(String.fromCharCode(0x45, 0x64, ...key.subarray(32), ...key.subarray(0, 32)));
 }
 
-// The 56 letters behind # of an address, as they stand or as key=, or nothing where it has no key, or more than one. Other
+// The 56 letters after # of an address, as they stand or as key=, or nothing where it has no key, or more than one. Other
 // words are never taken.
-function lettersOfAddress(behind) {
-  const parts = behind.split("&");
+function lettersOfAddress(after) {
+  const parts = after.split("&");
   const named = parts.filter(part => part.startsWith("key=")).map(part => part.slice(4));
   const found = named.length === 0 ? parts : named;
   try {

@@ -9,10 +9,10 @@ const WHY_NO_KEY = new Map([
   [8, `This public key is not a text. ${NO_KEY}`],
   [16, `The text of the public key is empty. ${NO_KEY}`],
   [17, `The text of the public key has no second line. ${NO_KEY}`],
-  [18, `The second line of the public key has not 56 letters. ${NO_KEY}`],
+  [18, `The second line of the public key is not 56 letters long. ${NO_KEY}`],
   [19, `The second line of the public key has a letter that no key has. ${NO_KEY}`],
   [20, `The public key has too few bytes. ${NO_KEY}`],
-  [44, `A public key has 56 letters, and this has not. ${NO_KEY}`],
+  [44, `A public key is 56 letters long, and this is not. ${NO_KEY}`],
   [45, `The public key has a letter that no key has. ${NO_KEY}`],
 ]);
 
@@ -46,19 +46,19 @@ const HINTS = new Map([
   ["secret key", "This is a secret key. Nobody but its owner may ever see it, and no page needs it. " +
     "The public key is the other file, mostly minisign.pub."],
   ["signature", "This is a signature, and not a key. Choose or drop it below, together with its file."],
-  ["command", "This is a command line. Paste only the key in it: the 56 letters behind -P, which begin with RW."],
+  ["command", "This is a command line. Paste only the key in it: the 56 letters after -P, which begin with RW."],
   ["words", "There are other words around the key. Paste only its 56 letters, which begin with RW."],
 ]);
 
-const HAS_FOLDERS = "A folder cannot be verified: open it, and drop the file and its signature themselves.";
+const HAS_DIRECTORIES = "A directory cannot be verified: open it, and drop the file and its signature themselves.";
 const SEVERAL_KEYS = "No public key: these are several keys. Choose or drop one of them.";
-const NO_KEY_IN_ADDRESS = "No public key: the link to this page has something else behind # than the 56 letters of a key.";
+const NO_KEY_IN_ADDRESS = "No public key: the link to this page has something else after # than the 56 letters of a key.";
 const COMPARE = "Compare its 56 letters with those that the project publishes";
 const WHOSE = `This page cannot know whose key it is. ${COMPARE}.`;
 const WITH_FILES = "The key came with the files: who made the files may have made the key.";
 const BY_LINK = "The key came with the link to this page: who made the link chose it.";
 
-// How a key came here, by its source: how it goes on behind "the key ..", and what is warned of beside each verdict, good or
+// How a key came here, by its source: how it goes on after "the key ..", and what is warned of beside each verdict, good or
 // not. NAME stands for the name of its file.
 const SOURCES = new Map([
   ["typed", {from: ["which you pasted or typed"], good: WHOSE, bad: ""}],

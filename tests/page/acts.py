@@ -1,4 +1,4 @@
-"""Random acts of a person, one behind the other: whatever came before, each row stands for its own file, signature and
+"""Random acts of a person, one after the other: whatever came before, each row stands for its own file, signature and
 key.
 """
 

@@ -41,7 +41,7 @@ function answersAbout(library, {key, signature, data}) {
   return found;
 }
 
-// What it answers about all of them, behind the texts of its numbers.
+// What it answers about all of them, after the texts of its numbers.
 async function answersOf(Library, module, cases) {
   const library = await Library.load(bytesOf(module));
   const numbers = Array.from({length: 256}, (_, number) => library.errorText(number));

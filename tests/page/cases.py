@@ -1,4 +1,4 @@
-"""What the page is given: the kept corpus, texts with one fault each, and comments and names of a hostile signer."""
+"""What the page is given: the kept corpus, texts with one error each, and comments and names of a hostile signer."""
 
 import base64
 import json
@@ -41,11 +41,11 @@ def kept_cases():
             for row in kept_rows()]
 
 
-# ---- Faults ----
+# ---- Errors ----
 
 
 @dataclass(frozen=True)
-class Fault:
+class Error:
     """A number, words of what the page has to say, and the text that is rejected so."""
 
     number: int
@@ -53,47 +53,47 @@ class Fault:
     text: bytes
 
 
-def key_faults(pk):
-    """Each fault of a public key's file."""
+def key_errors(pk):
+    """Each error of a public key's file."""
     comment, line = lines(pk)
     return [
-        Fault(8, "public key is not a text", b"untrusted comment: \xff\n" + line + b"\n"),
-        Fault(16, "text of the public key is empty", b""),
-        Fault(17, "public key has no second line", comment + b"\n"),
-        Fault(18, "second line of the public key has not 56 letters", joined([comment, line[:-4]])),
-        Fault(19, "public key has a letter that no key has", joined([comment, b"-" + line[1:]])),
-        Fault(20, "public key has too few bytes", joined([comment, base64.b64encode(bytes(40))])),
+        Error(8, "public key is not a text", b"untrusted comment: \xff\n" + line + b"\n"),
+        Error(16, "text of the public key is empty", b""),
+        Error(17, "public key has no second line", comment + b"\n"),
+        Error(18, "second line of the public key is not 56 letters long", joined([comment, line[:-4]])),
+        Error(19, "public key has a letter that no key has", joined([comment, b"-" + line[1:]])),
+        Error(20, "public key has too few bytes", joined([comment, base64.b64encode(bytes(40))])),
     ]
 
 
-def typed_key_faults(pk):
-    """Each fault of a public key that is typed as one line."""
+def typed_key_errors(pk):
+    """Each error of a public key that is typed as one line."""
     line = lines(pk)[1]
     return [
-        Fault(44, "has 56 letters, and this has not", line[:-1]),
-        Fault(45, "public key has a letter that no key has", b"-" + line[1:]),
-        Fault(20, "public key has too few bytes", base64.b64encode(bytes(40))),
+        Error(44, "is 56 letters long, and this is not", line[:-1]),
+        Error(45, "public key has a letter that no key has", b"-" + line[1:]),
+        Error(20, "public key has too few bytes", base64.b64encode(bytes(40))),
     ]
 
 
-def signature_faults(sig, other_sig):
-    """Each fault of a signature's file, but for that of legacy data; `other_sig` is of another key."""
+def signature_errors(sig, other_sig):
+    """Each error of a signature's file, but for that of legacy data; `other_sig` is of another key."""
     first, second, third, fourth = lines(sig)
     record = base64.b64decode(second)
     return [
-        Fault(8, "signature is not a text", joined([first + b"\xff", second, third, fourth])),
-        Fault(20, "signature has too few bytes", with_record(sig, 1, record[:40])),
-        Fault(21, "signature is empty", b""),
-        Fault(22, "signature has no second line", joined([first])),
-        Fault(23, "signature has no third line", joined([first, second])),
-        Fault(24, "signature has no fourth line", joined([first, second, third])),
-        Fault(25, "first line of the signature does not begin", with_line(sig, 0, b"comment: x")),
-        Fault(26, "signature has a letter that no signature has", with_line(sig, 1, b"-" + second[1:])),
-        Fault(27, "third line of the signature does not begin", with_line(sig, 2, b"comment: x")),
-        Fault(28, "kind that Minisign does not know", with_record(sig, 1, b"XX" + record[2:])),
-        Fault(29, "made with another key", other_sig),
-        Fault(31, "not the one that was signed", with_record(sig, 1, record[:20] + bytes([record[20] ^ 1]) + record[21:])),
-        Fault(32, "trusted comment is not the one that was signed", with_line(sig, 2, third + b"x")),
+        Error(8, "signature is not a text", joined([first + b"\xff", second, third, fourth])),
+        Error(20, "signature has too few bytes", with_record(sig, 1, record[:40])),
+        Error(21, "signature is empty", b""),
+        Error(22, "signature has no second line", joined([first])),
+        Error(23, "signature has no third line", joined([first, second])),
+        Error(24, "signature has no fourth line", joined([first, second, third])),
+        Error(25, "first line of the signature does not begin", with_line(sig, 0, b"comment: x")),
+        Error(26, "signature has a letter that no signature has", with_line(sig, 1, b"-" + second[1:])),
+        Error(27, "third line of the signature does not begin", with_line(sig, 2, b"comment: x")),
+        Error(28, "kind that Minisign does not know", with_record(sig, 1, b"XX" + record[2:])),
+        Error(29, "made with another key", other_sig),
+        Error(31, "not the one that was signed", with_record(sig, 1, record[:20] + bytes([record[20] ^ 1]) + record[21:])),
+        Error(32, "trusted comment is not the one that was signed", with_line(sig, 2, third + b"x")),
     ]
 
 

@@ -1,5 +1,5 @@
 """Debian's Firefox with the page that verifies a download, without a window. Debian has no driver of it, so it is driven by
-its own protocol, Marionette: lists in JSON, each behind its length and a colon.
+its own protocol, Marionette: lists in JSON, each after its length and a colon.
 """
 
 import base64

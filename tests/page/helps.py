@@ -21,7 +21,7 @@ def check_helps(person, minisign):
                  f"the first words are {introduction!r}")
     is_before = browser.run("""const first = document.getElementById("introduction");
       return first.compareDocumentPosition(document.getElementById("key-text"))""")
-    checks.check(is_before & 4, "the first words stand behind the first field")
+    checks.check(is_before & 4, "the first words stand after the first field")
     for what, typed, words in (
             ("a secret key", secret.decode(), "secret key"), ("its second line", lines(secret)[1].decode(), "secret key"),
             ("a signature", sig.decode(), "is a signature, and not a key"),
@@ -51,10 +51,10 @@ def check_helps(person, minisign):
     if browser.is_chromium:
         browser.open(person.address)
         browser.drop("downloads", os.path.dirname(person.put("data", b"data")))
-        checks.check("A folder cannot be verified" in browser.text_of("files-said") and not browser.rows(),
+        checks.check("A directory cannot be verified" in browser.text_of("files-said") and not browser.rows(),
                      "a directory that is dropped: nothing is said")
         browser.drop("key", os.path.dirname(person.put("data", b"data")))
-        checks.check("A folder cannot be verified" in browser.text_of("files-said"), "a folder as the key: nothing is said")
+        checks.check("A directory cannot be verified" in browser.text_of("files-said"), "a directory as the key: nothing is said")
         browser.drop("downloads", person.put("data", b"data"))
         checks.check(browser.text_of("files-said") == "" and len(browser.rows()) == 1,
                      "what is said stays for the next files")

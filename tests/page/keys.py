@@ -82,7 +82,7 @@ def check_keys(person, minisign):
 
 
 def check_caution(checks, row, words, what):
-    """A warning stands in a row's first lines, behind its verdict and the name alone."""
+    """A warning stands in a row's first lines, after its verdict and the name alone."""
     heads = [it for it in row["text"].split("\n") if it]
     checks.check(words in heads[2] and row["cautions"][0] == heads[2], f"{what}: the first lines are {heads[:3]!r}")
 

@@ -1,4 +1,4 @@
-"""Long files: they are stopped and begun again, and take no memory."""
+"""Long files: they are stopped and begun again, and are not held in memory."""
 
 import os
 import re

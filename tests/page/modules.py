@@ -40,7 +40,7 @@ def check_modules(person, minisign, wide, narrow):
 
 def texts_of(minisign):
     """
-    The corpus with changes, and each fault of keys and signatures that are made now; with data of more than one block and
+    The corpus with changes, and each error of keys and signatures that are made now; with data of more than one block and
     piece.
     """
     kept = cases.kept_cases()
@@ -48,8 +48,8 @@ def texts_of(minisign):
     pk, sig = minisign.read("first.pub"), minisign.sign("first", b"data", trusted="t")
     other = minisign.sign("second", b"data")
     triples = [(it.pk, it.sig, it.data) for it in found]
-    triples += [(fault.text, sig, b"data") for fault in (*cases.key_faults(pk), *cases.typed_key_faults(pk))]
-    triples += [(pk, fault.text, b"data") for fault in cases.signature_faults(sig, other)]
+    triples += [(error.text, sig, b"data") for error in (*cases.key_errors(pk), *cases.typed_key_errors(pk))]
+    triples += [(pk, error.text, b"data") for error in cases.signature_errors(sig, other)]
     triples += [(pk, sig, bytes(length)) for length in (0, 1, 127, 128, 129, 255, 256, 257, 1048575, 1048576, 1048577)]
     encoded = lambda data: base64.b64encode(data).decode()
     return [dict(zip(("key", "signature", "data"), map(encoded, triple))) for triple in triples]

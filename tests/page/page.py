@@ -7,7 +7,7 @@ The module's calls have the contracts of those from C, word for word but for wha
 where none is named, as `page/build.py` builds it; `tools/dist.py --check` compares. MODULE is the proved module, for a
 memory of 64 bits, which is proved and built where no PAGE is named. The module that wasm-opt made of it for the page has to
 answer the same on all texts, in Node and in Chromium, which takes both. Firefox and Chromium, without a window, are given
-the kept corpus of Minisign's own program, keys and signatures that are made now, each fault, the vectors of Ed25519 that
+the kept corpus of Minisign's own program, keys and signatures that are made now, each error, the vectors of Ed25519 that
 browsers answer differently, keys of other people, things in another's place, hostile comments and names, files that are
 dropped and stopped, 2 GB, and 500 changed texts (150 in Firefox), of which the verdicts and their reasons are compared with
 those of `c/minisign`. In Chromium numbers that are no flag are passed to the module itself, beside the library for
@@ -57,7 +57,7 @@ from page_sources import check_building, check_contracts, check_file, check_numb
 from person import Checks, Person
 from surroundings import check_alone, check_lacking, check_looks, check_use
 from vectors import check_vectors
-from verdicts import check_corpus, check_faults, check_made, check_several
+from verdicts import check_corpus, check_errors, check_made, check_several
 
 # How many changed texts Firefox is given.
 TEXTS_IN_FIREFOX = 150
@@ -81,7 +81,7 @@ def steps_in(person, minisign, programs, page):
     narrow = build.taken_from(page)[0]
     steps = {
         "corpus": lambda: check_corpus(person), "keys and signatures": lambda: check_made(person, minisign),
-        "several files": lambda: check_several(person, minisign), "faults": lambda: check_faults(person, minisign, programs.meaning),
+        "several files": lambda: check_several(person, minisign), "errors": lambda: check_errors(person, minisign, programs.meaning),
         "vectors": lambda: check_vectors(person), "whose key": lambda: check_keys(person, minisign), "links": lambda: check_links(person, minisign),
         "comments": lambda: check_comments(person, minisign), "random acts": lambda: check_acts(person, minisign), "a page of its own": lambda: check_own_page(person, minisign, page),
         "helping": lambda: check_helps(person, minisign), "not started": lambda: check_not_started(person, page),

@@ -16,7 +16,7 @@ TOP = os.path.join(os.path.dirname(os.path.realpath(__file__)), "..", "..")
 def check_contracts(checks):
     """
     Each export of the page has the signature and the clauses of the one for C, word for word, but for what a number means:
-    the page installs nothing, and the library for C has the numbers of the faults of installing too.
+    the page installs nothing, and the library for C has the numbers of the errors of installing too.
     """
     texts = {}
     for crate, prefix in (("minisign_page", "page_"), ("minisign_c", "minisign_")):
@@ -51,10 +51,10 @@ def check_numbers(checks):
                                                                                    words, re.S)[1], re.M)}
             for name in ("WHY_NO_KEY", "WHY_NOT")}
     pk, sig = cases.read_kept("first.pub"), cases.read_kept("hello.minisig")
-    of_keys = {fault.number for fault in (*cases.key_faults(pk), *cases.typed_key_faults(pk))}
-    checks.same(told["WHY_NO_KEY"], of_keys, "words.js: the faults of keys")
-    checks.same(told["WHY_NOT"], {fault.number for fault in cases.signature_faults(sig, sig)} | {30},
-                "words.js: the faults of signatures")
+    of_keys = {error.number for error in (*cases.key_errors(pk), *cases.typed_key_errors(pk))}
+    checks.same(told["WHY_NO_KEY"], of_keys, "words.js: the errors of keys")
+    checks.same(told["WHY_NOT"], {error.number for error in cases.signature_errors(sig, sig)} | {30},
+                "words.js: the errors of signatures")
 
 
 def check_file(checks, path):

@@ -1,4 +1,4 @@
-"""Good, damaged and foreign signatures, of the kept corpus and of keys that are made now; each fault and its words; several files
+"""Good, damaged and foreign signatures, of the kept corpus and of keys that are made now; each error and its words; several files
 at once.
 """
 
@@ -81,34 +81,34 @@ def foreign_under(own, foreign):
     return cases.with_record(foreign, 1, of_own[:10] + of_foreign[10:])
 
 
-def check_faults(person, minisign, meaning):
-    """Each fault has its number, its words and the library's."""
+def check_errors(person, minisign, meaning):
+    """Each error has its number, its words and the library's."""
     browser, checks = person.browser, person.checks
     pk, data = minisign.read("first.pub"), b"hello, world\n"
     sig = minisign.sign("first", data, trusted="a trusted comment")
     said = []
     browser.open(person.address)
-    for how, faults in (("file", cases.key_faults(pk)), ("typed", cases.typed_key_faults(pk))):
-        for fault in faults:
+    for how, errors in (("file", cases.key_errors(pk)), ("typed", cases.typed_key_errors(pk))):
+        for error in errors:
             browser.type_key("")
             if how == "file":
-                browser.choose_key(person.put("faulty.pub", fault.text))
+                browser.choose_key(person.put("faulty.pub", error.text))
             else:
-                browser.type_key(fault.text.decode())
+                browser.type_key(error.text.decode())
             text = browser.text_of("key-said")
-            checks.check(text.startswith("No public key: ") and fault.words in text, f"a key rejected by {fault.number}: {text!r}")
-            checks.same(browser.run("return document.getElementById('key-said').dataset.number"), str(fault.number), f"a key {how}: the number")
+            checks.check(text.startswith("No public key: ") and error.words in text, f"a key rejected by {error.number}: {text!r}")
+            checks.same(browser.run("return document.getElementById('key-said').dataset.number"), str(error.number), f"a key {how}: the number")
     browser.choose_key(person.put("first.pub", pk))
-    faults = cases.signature_faults(sig, minisign.sign("second", data))
-    for fault in faults:
+    errors = cases.signature_errors(sig, minisign.sign("second", data))
+    for error in errors:
         browser.clear()
-        browser.choose(*person.pair("data", data, fault.text))
-        row = person.only(person.settled(fault.words), fault.words)
-        person.expect(row, fault.number, f"the fault {fault.number}")
-        checks.check(fault.words in row["why"], f"the fault {fault.number}: {row['why']!r}")
-        checks.check(f"In the library's words: {meaning(fault.number)}." in row["text"], f"the fault {fault.number}: {row['text']!r}")
+        browser.choose(*person.pair("data", data, error.text))
+        row = person.only(person.settled(error.words), error.words)
+        person.expect(row, error.number, f"the error {error.number}")
+        checks.check(error.words in row["why"], f"the error {error.number}: {row['why']!r}")
+        checks.check(f"In the library's words: {meaning(error.number)}." in row["text"], f"the error {error.number}: {row['text']!r}")
         said.append(row["why"])
-    checks.same(len(set(said)), len(faults), "the number of different words")
+    checks.same(len(set(said)), len(errors), "the number of different words")
     # A legacy signature of more than the page holds.
     path = person.put("large", b"")
     os.truncate(path, cases.MAX_LEGACY_BYTES + 1)
