@@ -62,7 +62,7 @@ struct grant rattle_alloc(size_t len, size_t alignment);
 struct grant rattle_realloc(void *block, size_t old_len, size_t len, size_t alignment);
 void rattle_dealloc(void *block);
 
-/* Stands for the block of a request that was refused. */
+/* Stands for the block of an allocation that failed. */
 static char nothing;
 
 _Static_assert(sizeof(struct front) == 16, "as far as malloc aligns");

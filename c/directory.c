@@ -1,5 +1,5 @@
 /* SPDX-License-Identifier: MIT */
-/* The directory of a place, and the calls of the system that an installation makes there. */
+/* The directory of a target, and the calls of the system that an installation makes there. */
 #define _GNU_SOURCE
 
 #include "directory.h"
@@ -31,7 +31,7 @@
  * to wait for. */
 #define BEGUN_BYTES (8 << 20)
 
-/* How many names of a directory are made, and how many bytes each may have beyond those of the place's path. */
+/* How many names of a directory are made, and how many bytes each may have beyond those of the target's path. */
 #define NAMES 6
 #define MORE_BYTES 64
 
@@ -46,14 +46,14 @@ static size_t front_length(const struct directory *directory)
     return strlen(directory->stages.name) - 1;
 }
 
-bool name_directory(struct directory *directory, const char *place)
+bool name_directory(struct directory *directory, const char *target)
 {
     static const char *const after[] = { "lock", "number", "stage-*" };
     struct part *const beside[] = { &directory->lock, &directory->record, &directory->stages };
-    const char *slash = strrchr(place, '/');
-    const char *name = slash == NULL ? place : slash + 1, *front = slash == NULL ? "." : place;
-    int length = slash == NULL || slash == place ? 1 : (int) (slash - place);
-    size_t room = strlen(place) + MORE_BYTES;
+    const char *slash = strrchr(target, '/');
+    const char *name = slash == NULL ? target : slash + 1, *front = slash == NULL ? "." : target;
+    int length = slash == NULL || slash == target ? 1 : (int) (slash - target);
+    size_t room = strlen(target) + MORE_BYTES;
     char *names;
 
     if (*name == 0 || strcmp(name, ".") == 0 || strcmp(name, "..") == 0) {
@@ -64,7 +64,7 @@ bool name_directory(struct directory *directory, const char *place)
     if (names == NULL) {
         return false;
     }
-    *directory = (struct directory) { .place = { place, name }, .fd = -1, .locked = -1, .names = names };
+    *directory = (struct directory) { .target = { target, name }, .fd = -1, .locked = -1, .names = names };
     snprintf(names, room, "%.*s", length, front);
     directory->itself = (struct part) { names, "." };
     for (size_t i = 0; i < sizeof beside / sizeof beside[0]; i++) {
@@ -91,7 +91,7 @@ void close_directory(struct directory *directory)
     free(directory->names);
 }
 
-/* Whether this is the name of a stage beside this place. */
+/* Whether this is the name of a stage beside this target. */
 static bool is_stage(const struct directory *directory, const char *name)
 {
     size_t front = front_length(directory);
@@ -186,11 +186,11 @@ static enum found leads_to(struct directory *directory, const struct part *part,
     return found;
 }
 
-/* Whose the lock file and the record have to be: the owner and the group of the file at the place, or where that is
+/* Whose the lock file and the record have to be: the owner and the group of the file at the target, or where that is
  * root's or there is none, of the directory. So a run by root locks nobody out who may go on. */
 static bool find_keeper(struct directory *directory, struct stat *keeper)
 {
-    enum found found = find(directory, &directory->place, keeper);
+    enum found found = find(directory, &directory->target, keeper);
 
     if (found == THERE && keeper->st_uid != 0) {
         return true;
@@ -225,7 +225,7 @@ struct opened {
 /* Remembers why a file could not be opened that is for its owner alone. */
 static enum minisign_error fails_to_open(struct directory *directory, const struct part *part)
 {
-    return fails(directory, part, errno == EACCES ? "it is for its owner alone: give it the owner of the place" : NULL,
+    return fails(directory, part, errno == EACCES ? "it is for its owner alone: give it the owner of the target" : NULL,
                  MINISIGN_READING_FAILED);
 }
 
@@ -334,7 +334,7 @@ static bool put_new_lock(struct directory *directory, const struct stage *fresh,
     return answer == 0;
 }
 
-/* Where the lock is another's than the keeper's, as after a run by root or where the place was given away, and root
+/* Where the lock is another's than the keeper's, as after a run by root or where the target was given away, and root
  * runs this, the lock becomes a new file of the keeper's. One that was found is never given away, and stays where it
  * holds anything: such a file is no lock that a run has made. */
 static enum minisign_error renew_lock(struct directory *directory)
@@ -362,7 +362,7 @@ static enum minisign_error renew_lock(struct directory *directory)
     return remove_stage(directory, &fresh);
 }
 
-enum minisign_error lock_place(struct directory *directory)
+enum minisign_error lock_target(struct directory *directory)
 {
     enum minisign_error error = open_directory(directory);
 
@@ -375,7 +375,7 @@ enum minisign_error lock_place(struct directory *directory)
     return error == MINISIGN_OK ? renew_lock(directory) : error;
 }
 
-void unlock_place(struct directory *directory)
+void unlock_target(struct directory *directory)
 {
     if (directory->locked >= 0) {
         close(directory->locked);
@@ -436,7 +436,7 @@ static enum minisign_error read_kept(struct directory *directory, int fd, uint8_
     return MINISIGN_OK;
 }
 
-/* Opens the record, to which its name has to lead still once it is open: where the place is not locked, another may
+/* Opens the record, to which its name has to lead still once it is open: where the target is not locked, another may
  * get it. */
 static enum found open_record(struct directory *directory, int *fd)
 {
@@ -475,31 +475,31 @@ enum minisign_error read_record(struct directory *directory, uint8_t record[RECO
     return fails(directory, &directory->record, "others remove it again and again", MINISIGN_READING_FAILED);
 }
 
-/* ---- The place ---- */
+/* ---- The target ---- */
 
-enum minisign_error open_place(struct directory *directory, bool *is_there)
+enum minisign_error open_target(struct directory *directory, bool *is_there)
 {
     struct stat named;
-    enum found found = find(directory, &directory->place, &named);
+    enum found found = find(directory, &directory->target, &named);
 
     *is_there = found == THERE;
     if (found != THERE) {
         return found == NOT_THERE ? MINISIGN_OK : MINISIGN_READING_FAILED;
     }
     directory->there = (struct stage) { .fd = -1 };
-    AGAIN(directory->there.fd, openat(directory->fd, directory->place.name, O_RDONLY | SAFELY));
-    return directory->there.fd >= 0 && leads_to(directory, &directory->place, directory->there.fd) == THERE
+    AGAIN(directory->there.fd, openat(directory->fd, directory->target.name, O_RDONLY | SAFELY));
+    return directory->there.fd >= 0 && leads_to(directory, &directory->target, directory->there.fd) == THERE
                ? MINISIGN_OK
-               : fails(directory, &directory->place, NULL, MINISIGN_READING_FAILED);
+               : fails(directory, &directory->target, NULL, MINISIGN_READING_FAILED);
 }
 
-enum minisign_error read_place(struct directory *directory, uint8_t *bytes, size_t room, size_t *len)
+enum minisign_error read_target(struct directory *directory, uint8_t *bytes, size_t room, size_t *len)
 {
     ssize_t n;
 
     AGAIN(n, read(directory->there.fd, bytes, room));
     if (n < 0) {
-        return fails(directory, &directory->place, NULL, MINISIGN_READING_FAILED);
+        return fails(directory, &directory->target, NULL, MINISIGN_READING_FAILED);
     }
     if (n == 0) {
         close(directory->there.fd);
@@ -579,13 +579,13 @@ enum minisign_error read_stage(struct directory *directory, struct stage *stage,
     return MINISIGN_OK;
 }
 
-/* Gives the stage the permissions of the file at the place, or those with the mode that is given. */
+/* Gives the stage the permissions of the file at the target, or those with the mode that is given. */
 static enum minisign_error take_older(struct directory *directory)
 {
     struct permissions older;
 
-    if (!read_permissions(&older, directory->fd, directory->place.name)) {
-        return fails(directory, &directory->place, NULL, MINISIGN_WRITING_FAILED);
+    if (!read_permissions(&older, directory->fd, directory->target.name)) {
+        return fails(directory, &directory->target, NULL, MINISIGN_WRITING_FAILED);
     }
     if (directory->has_mode) {
         replace_mode(&older, directory->mode);
@@ -599,7 +599,7 @@ enum minisign_error take_permissions(struct directory *directory)
 {
     struct stat older;
 
-    switch (find(directory, &directory->place, &older)) {
+    switch (find(directory, &directory->target, &older)) {
     case UNUSABLE: return MINISIGN_WRITING_FAILED;
     case THERE: return take_older(directory);
     case NOT_THERE: break;

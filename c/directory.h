@@ -1,6 +1,6 @@
 /* SPDX-License-Identifier: MIT */
 /*
- * The directory of a place, and the calls of the system that an installation makes there: one function for each call of
+ * The directory of a target, and the calls of the system that an installation makes there: one function for each call of
  * the machine of minisign.h, which is told what the function answers. All names are looked up in the directory, which
  * is opened once, and no link at the end of one is followed. A call that a signal interrupts is made again. What could
  * not be used first, and why, is remembered.
@@ -44,12 +44,12 @@ struct directory {
     /* What could not be used first, if anything. */
     struct trouble trouble;
     struct part itself;
-    struct part place;
+    struct part target;
     struct part lock;
     struct part record;
     /* Shown of each stage. */
     struct part stages;
-    /* The stage of the update, and that of its number; and the file at the place, while it is looked at. */
+    /* The stage of the update, and that of its number; and the file at the target, while it is looked at. */
     struct stage update;
     struct stage number;
     struct stage there;
@@ -62,9 +62,9 @@ struct directory {
     char *names;
 };
 
-/* The directory of the place at this path, which has to stay. False with errno EINVAL where the path does not end with
+/* The directory of the target at this path, which has to stay. False with errno EINVAL where the path does not end with
  * the name of a file, and ENOMEM where an allocation fails. */
-bool name_directory(struct directory *directory, const char *place);
+bool name_directory(struct directory *directory, const char *target);
 
 /* Closes all that is open of it, the lock too, and gives the memory of the names back. */
 void close_directory(struct directory *directory);
@@ -76,13 +76,13 @@ void close_directory(struct directory *directory);
 /* Opens the directory, where it is not open yet. */
 enum minisign_error open_directory(struct directory *directory);
 
-/* Locks the place by the lock file: MINISIGN_PLACE_IN_USE where another run holds the lock. A place that this run has
+/* Locks the target by the lock file: MINISIGN_PLACE_IN_USE where another run holds the lock. A target that this run has
  * locked stays so. The lock file becomes that
  * of whoever may go on after this run, as far as that is allowed, but none that was found is given away. */
-enum minisign_error lock_place(struct directory *directory);
+enum minisign_error lock_target(struct directory *directory);
 
 /* Lets the lock go, if it is held. */
-void unlock_place(struct directory *directory);
+void unlock_target(struct directory *directory);
 
 /* Removes the stages that killed runs have left, as far as they can be removed. */
 enum minisign_error remove_leftovers(struct directory *directory);
@@ -90,11 +90,11 @@ enum minisign_error remove_leftovers(struct directory *directory);
 /* Reads what the record holds, and its length; or tells that there is none. */
 enum minisign_error read_record(struct directory *directory, uint8_t record[RECORD_BYTES], size_t *len, bool *is_there);
 
-/* Opens the file at the place for reading, or tells that there is none. */
-enum minisign_error open_place(struct directory *directory, bool *is_there);
+/* Opens the file at the target for reading, or tells that there is none. */
+enum minisign_error open_target(struct directory *directory, bool *is_there);
 
-/* Reads the next bytes of the file at the place, none at its end. */
-enum minisign_error read_place(struct directory *directory, uint8_t *bytes, size_t room, size_t *len);
+/* Reads the next bytes of the file at the target, none at its end. */
+enum minisign_error read_target(struct directory *directory, uint8_t *bytes, size_t room, size_t *len);
 
 /* Draws a name, and makes the stage under it, for its owner alone. */
 enum minisign_error create_stage(struct directory *directory, struct stage *stage);
@@ -110,14 +110,14 @@ enum minisign_error write_stage(struct directory *directory, const struct stage 
 enum minisign_error read_stage(struct directory *directory, struct stage *stage, uint8_t *bytes, size_t room,
                                size_t *len);
 
-/* Gives the stage of the update the permissions of the file at the place, or those that are given. */
+/* Gives the stage of the update the permissions of the file at the target, or those that are given. */
 enum minisign_error take_permissions(struct directory *directory);
 
 /* Syncs what the stage holds. That of the number becomes that of whoever may go on after this run, as far
  * as that is allowed. */
 enum minisign_error sync_stage(struct directory *directory, struct stage *stage);
 
-/* Gives the stage the name of the record or of the place. */
+/* Gives the stage the name of the record or of the target. */
 enum minisign_error rename_stage(struct directory *directory, const struct stage *stage, const struct part *to);
 
 /* Syncs the names in the directory. */

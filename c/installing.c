@@ -28,7 +28,7 @@ struct installing *begin_installing(const struct wanted *wanted)
     struct directory directory;
     struct installing *run;
 
-    if (!name_directory(&directory, wanted->place)) {
+    if (!name_directory(&directory, wanted->target)) {
         return NULL;
     }
     run = calloc(1, sizeof *run);
@@ -64,7 +64,7 @@ void end_installing(struct installing *run)
 
 const char *wanted_name(const struct installing *run)
 {
-    return run->wanted->name == NULL ? run->directory.place.name : run->wanted->name;
+    return run->wanted->name == NULL ? run->directory.target.name : run->wanted->name;
 }
 
 /* The key that has to have made the signature: of two the second, where it has not the key ID of the first. */
@@ -231,7 +231,7 @@ static bool make_due_call(struct installing *run)
     struct stage *update = &directory->update, *number = &directory->number;
 
     switch ((enum minisign_due) minisign_install_due(&run->machine)) {
-    case MINISIGN_DUE_LOCK: tell(run, lock_place(directory)); break;
+    case MINISIGN_DUE_LOCK: tell(run, lock_target(directory)); break;
     case MINISIGN_DUE_CLEAR: tell(run, remove_leftovers(directory)); break;
     case MINISIGN_DUE_READ_RECORD: tell_record(run); break;
     case MINISIGN_DUE_CREATE: tell(run, create_stage(directory, update)); break;
@@ -245,7 +245,7 @@ static bool make_due_call(struct installing *run)
     case MINISIGN_DUE_SYNC_RECORD: tell(run, sync_stage(directory, number)); break;
     case MINISIGN_DUE_RENAME_RECORD: tell(run, rename_stage(directory, number, &directory->record)); break;
     case MINISIGN_DUE_SYNC_RECORD_NAME: tell(run, sync_names(directory)); break;
-    case MINISIGN_DUE_RENAME: tell(run, rename_stage(directory, update, &directory->place)); break;
+    case MINISIGN_DUE_RENAME: tell(run, rename_stage(directory, update, &directory->target)); break;
     case MINISIGN_DUE_SYNC_NAME: tell(run, sync_names(directory)); break;
     case MINISIGN_DUE_REMOVE_RECORD: tell(run, remove_stage(directory, number)); break;
     case MINISIGN_DUE_REMOVE: tell(run, remove_stage(directory, update)); break;
@@ -308,18 +308,18 @@ static enum minisign_error go_on(struct installing *run)
         begin_reading(run, COPYING, run->data_size);
         return MINISIGN_OK;
     }
-    unlock_place(&run->directory);
+    unlock_target(&run->directory);
     begin_reading(run, RECEIVING, 0);
     return create_nameless(&run->directory, &run->held);
 }
 
-/* Begins to look, with the lock held, at what stands at the place, where the number of the update is the kept one. What
+/* Begins to look, with the lock held, at what stands at the target, where the number of the update is the kept one. What
  * else comes of the number, of the record or of the texts, the machine judges. */
 static enum minisign_error begin_looking(struct installing *run)
 {
     uint32_t offer = MINISIGN_OFFER_NEWER;
     bool is_there = false;
-    enum minisign_error error = lock_place(&run->directory);
+    enum minisign_error error = lock_target(&run->directory);
 
     if (error == MINISIGN_PLACE_IN_USE && !run->is_at_hand) {
         return go_on(run);
@@ -329,7 +329,7 @@ static enum minisign_error begin_looking(struct installing *run)
         return error;
     }
     if (error == MINISIGN_OK && offer == MINISIGN_OFFER_SAME) {
-        error = open_place(&run->directory, &is_there);
+        error = open_target(&run->directory, &is_there);
         if (error != MINISIGN_OK) {
             return error;
         }
@@ -359,7 +359,7 @@ static enum minisign_error begin_run(struct installing *run)
     return begin_looking(run);
 }
 
-/* Whether the texts vouch for what was read of the file at the place. */
+/* Whether the texts vouch for what was read of the file at the target. */
 static bool is_vouched_for(struct installing *run)
 {
     ed25519_answer *answer = run->wanted->answer;
@@ -371,12 +371,12 @@ static bool is_vouched_for(struct installing *run)
            == MINISIGN_OK;
 }
 
-/* Looks at the next piece of the file at the place. Other data than that of the update is rejected, unless it was asked
+/* Looks at the next piece of the file at the target. Other data than that of the update is rejected, unless it was asked
  * for. */
 static enum minisign_error look_at_piece(struct installing *run)
 {
     size_t len = 0;
-    enum minisign_error error = read_place(&run->directory, run->piece, PIECE_BYTES, &len);
+    enum minisign_error error = read_target(&run->directory, run->piece, PIECE_BYTES, &len);
 
     if (error != MINISIGN_OK || len > 0) {
         must(minisign_update(&run->looked, run->piece, len));

@@ -1,12 +1,12 @@
 /* SPDX-License-Identifier: MIT */
 /*
- * The installing host: an update that is put at a place, unless it stands there already, and whether there is a newer
+ * The installing host: an update that is put at a target, unless it stands there already, and whether there is a newer
  * one. The machine of minisign.h says which call is due, and judges: the texts, the data as it was staged, and the
  * comment that was signed with it. Here the call that is due is made (directory.h), and the machine is told how it
  * went.
  * Nothing here decides what comes next, what is removed, or what is rejected, but for one thing. Before the machine
  * is told anything, and with the lock held from there on, it is seen whether the number of the update is the kept
- * one, and its data at the place: then there is nothing to do, and other data is rejected. Data that may stand
+ * one, and its data at the target: then there is nothing to do, and other data is rejected. Data that may stand
  * still, as that of a pipe, is received after that, for which the lock is let go.
  *
  * It says nothing, ends no program and keeps nothing between two runs, so it may be part of a library: what came of a
@@ -41,16 +41,16 @@ typedef enum minisign_answer ed25519_answer(const uint8_t signed_by[64], const u
 /* What is wanted. It has to stay as it is to the end of the run. */
 struct wanted {
     /* The path at which the update is to stand. */
-    const char *place;
+    const char *target;
     /* The name that the signed comment has to have, or NULL: the last part of the path. */
     const char *name;
     /* How the data is shown, where it is open for reading, and how many bytes may come. A check has none. */
     const char *shown;
     int data;
     uint64_t most;
-    /* Whether no number need be kept beside the place. */
+    /* Whether no number need be kept beside the target. */
     bool is_first;
-    /* Whether an update of the number that is kept is to be installed where other data stands at the place. */
+    /* Whether an update of the number that is kept is to be installed where other data stands at the target. */
     bool again;
     /* Which field of the signed comment has the number. */
     enum minisign_numbering numbering;
@@ -74,7 +74,7 @@ struct installing {
     minisign_installation machine;
     /* Once it has ended: why it was rejected, or MINISIGN_OK. */
     enum minisign_error error;
-    /* Whether the update stood at the place already, and nothing was written. */
+    /* Whether the update stood at the target already, and nothing was written. */
     bool is_there;
     /* Whether it was rejected because more data came than may. */
     bool is_too_long;
@@ -85,7 +85,7 @@ struct installing {
     /* What could not be used first, the data too, is its trouble. */
     struct directory directory;
     const struct wanted *wanted;
-    /* What was read of the file at the place, and what is asked about it. */
+    /* What was read of the file at the target, and what is asked about it. */
     minisign_state looked;
     minisign_questions questions;
     /* Where the data is read, whether it is all there, how many bytes it has, where that is known, and how many may
@@ -102,10 +102,10 @@ struct installing {
 #pragma GCC visibility push(default)
 
 /* Begins a run, of which the data, the keys and the signature may still be filled in. NULL with errno EINVAL where the
- * place does not end with the name of a file, and with ENOMEM. */
+ * target does not end with the name of a file, and with ENOMEM. */
 struct installing *begin_installing(const struct wanted *wanted);
 
-/* Makes the next call: looks at a piece of the file at the place, receives one of the data, or makes the call that is
+/* Makes the next call: looks at a piece of the file at the target, receives one of the data, or makes the call that is
  * due. Whether there is another one. */
 bool make_call(struct installing *run);
 
@@ -116,7 +116,7 @@ enum minisign_error check_update(struct installing *run, uint32_t *offer);
 /* The name that the signed comment has to have. */
 const char *wanted_name(const struct installing *run);
 
-/* Ends a run, at any time: a stage that it has made is removed. Closes what is open, which unlocks the place, and gives
+/* Ends a run, at any time: a stage that it has made is removed. Closes what is open, which unlocks the target, and gives
  * the memory back. */
 void end_installing(struct installing *run);
 

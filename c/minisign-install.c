@@ -1,6 +1,6 @@
 /* SPDX-License-Identifier: MIT */
 /*
- * minisign-install PK DATA SIG PLACE: installs an update that two texts vouch for, and nothing else. With --check it
+ * minisign-install PK DATA SIG TARGET: installs an update that two texts vouch for, and nothing else. With --check it
  * only tells, by the signature alone, whether there is a newer one.
  *
  * The host of installing.h does that. This program reads the texts, has libsodium answer for Ed25519, and says what
@@ -200,7 +200,7 @@ static const char *blamed(const struct request *request, enum minisign_error err
     case MINISIGN_KEPT_BY_TIMESTAMP:
     case MINISIGN_KEPT_BY_VERSION:
     case MINISIGN_SAME_NUMBER:
-    case MINISIGN_DIRECTORY_NOT_SYNCED: return request->wanted.place;
+    case MINISIGN_DIRECTORY_NOT_SYNCED: return request->wanted.target;
     default: return request->signature;
     }
 }
@@ -235,7 +235,7 @@ static void say_rejected(const struct request *request, const struct installing 
                  ": is the field that is wanted, by `--numbering` or without it");
         break;
     case MINISIGN_OTHER_FILE:
-        say_more(file, text, wanted_name(run), " is wanted, by the place or `--name`");
+        say_more(file, text, wanted_name(run), " is wanted, by the target or `--name`");
         break;
     default: say_error(file, error);
     }
@@ -273,7 +273,7 @@ static struct installing *begin(const struct wanted *wanted)
     struct installing *run = begin_installing(wanted);
 
     if (run == NULL && errno == EINVAL) {
-        say(wanted->place, "it does not end with the name of a file");
+        say(wanted->target, "it does not end with the name of a file");
         exit(USAGE_ERROR);
     }
     if (run == NULL) {
@@ -299,7 +299,7 @@ int main(int argc, char *argv[])
     request.wanted.answer = answer_of;
     run = begin(&request.wanted);
     if (sodium_init() < 0) {
-        say(request.wanted.place, "libsodium could not be started");
+        say(request.wanted.target, "libsodium could not be started");
         return FAILED;
     }
     read_texts(&request);

@@ -19,15 +19,15 @@ enum status {
     REJECTED = 3,
     OLDER = 4,
     IN_USE = 5,
-    /* The update stands at the place, and a crash may bring back what stood there before. */
+    /* The update stands at the target, and a crash may bring back what stood there before. */
     NOT_SYNCED = 6,
-    /* No number of the field is kept beside the place. */
+    /* No number of the field is kept beside the target. */
     UNRECORDED = 7,
-    /* The update has the number that is kept, and where it was to be installed, other data stands at the place. */
+    /* The update has the number that is kept, and where it was to be installed, other data stands at the target. */
     SAME = 8,
     /* The update has expired. */
     EXPIRED = 9,
-    /* The update stands at the place already. */
+    /* The update stands at the target already. */
     THERE_ALREADY = 10
 };
 

@@ -11,27 +11,27 @@
 
 #include "report.h"
 
-#define USAGE "usage: minisign-install [OPTION ..] PK DATA SIG PLACE"
+#define USAGE "usage: minisign-install [OPTION ..] PK DATA SIG TARGET"
 
 #define HELP \
-    "Installs DATA at PLACE if the texts of the public key PK and of the signature\n" \
+    "Installs DATA at TARGET if the texts of the public key PK and of the signature\n" \
     "SIG vouch for it as the update that is wanted.\n" \
     "\n" \
     "  --again            install also where the number is the one that is kept, and\n" \
-    "                     other data stands at PLACE\n" \
+    "                     other data stands at TARGET\n" \
     "  --check            do not install, but tell by SIG alone whether the update is\n" \
-    "                     newer than what is kept beside PLACE: DATA is not named,\n" \
+    "                     newer than what is kept beside TARGET: DATA is not named,\n" \
     "                     and nothing is written\n" \
     "  --first            take the update also where no number of FIELD is kept\n" \
-    "                     beside PLACE\n" \
+    "                     beside TARGET\n" \
     "  --key KEY          the public key itself, in base64: PK is not named then;\n" \
     "                     given twice, either will do, by its key ID\n" \
     "  --numbering FIELD  the update's number is the field `timestamp` of the signed\n" \
     "                     comment, as without this option, or `version`\n" \
     "  --name NAME        the name that the signed comment has to have for the file;\n" \
-    "                     without this option it is the last part of PLACE\n" \
+    "                     without this option it is the last part of TARGET\n" \
     "  --mode MODE        the permissions of the file, as 755; without this option it\n" \
-    "                     gets those of the file at PLACE, with its access control\n" \
+    "                     gets those of the file at TARGET, with its access control\n" \
     "                     list, and a new file is for its owner alone\n" \
     "  --most BYTES       reject data that is longer; after the number K, M, G or T\n" \
     "                     may stand, for units of 1024 bytes, 1024 of these, ..\n" \
@@ -47,11 +47,11 @@
     "  2  usage error\n" \
     "  3  the update is rejected\n" \
     "  4  the update is older than what was installed\n" \
-    "  5  another installation is at work at this place\n" \
+    "  5  another installation is at work at this target\n" \
     "  6  the update stands there, but a crash may bring back what stood there before\n" \
-    "  7  no number of FIELD is kept beside PLACE, and `--first` was not given\n" \
+    "  7  no number of FIELD is kept beside TARGET, and `--first` was not given\n" \
     "  8  the update has the number that is kept; without `--check` other data stands\n" \
-    "     at PLACE, and `--again` was not given\n" \
+    "     at TARGET, and `--again` was not given\n" \
     "  9  the update has expired\n" \
     "  10 the update stands there already, and nothing was written\n"
 
@@ -288,6 +288,6 @@ struct request read_request(int argc, char *argv[])
     request.key = line.key_count > 0 ? NULL : line.paths[0];
     wanted->shown = line.is_check ? NULL : line.paths[line.count - 3];
     request.signature = line.paths[line.count - 2];
-    wanted->place = line.paths[line.count - 1];
+    wanted->target = line.paths[line.count - 1];
     return request;
 }

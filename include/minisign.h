@@ -769,23 +769,23 @@ MINISIGN_MUST_USE enum minisign_error minisign_public_key_text(
 /* ---- Installing ---- */
 
 /*
- * Installs an update at a place, beside which the number of the newest one is kept: nothing else gets there, no
+ * Installs an update at a target, beside which the number of the newest one is kept: nothing else gets there, no
  * older one either, and whatever comes between, a crash too, what stands there is whole. The library knows no
  * directory. It tells which call is due; you make it, and say how it went. A host that does no more than that, over
  * calls of the system relative to a directory that is open, is c/installing.c of the sources.
  *
- * Both are files of one directory: the place, and the record with the number and the field that it stands in. A stage
+ * Both are files of one directory: the target, and the record with the number and the field that it stands in. A stage
  * is a new file beside them, of a name that nobody else has; what is renamed is always whole and synced.
  *
  * What is outside, and what is required beyond the head of this page: the lock is held from MINISIGN_DUE_LOCK to the
  * end of the run, and others keep to it; you say that a call was done only where it was made and went well, and
  * what it is about is what this page says; and what you hand to minisign_install_piece is what the stage holds,
  * read through the descriptor that it was written by, from its first byte to its end. Where one of these is broken,
- * nothing is promised of the place.
+ * nothing is promised of the target.
  *
  * An update of the number that is kept may stand there already, and this is asked first: with the lock held, and
  * before the installation is told anything. minisign_check_comment tells what the update is, and of the file at the
- * place a state that is fed all of it tells whether the texts vouch for it:
+ * target a state that is fed all of it tells whether the texts vouch for it:
  *
  *     MINISIGN_OFFER_SAME, and they vouch for it       it is installed already: nothing is due, and nothing written
  *     MINISIGN_OFFER_SAME, and no file stands there    begin: the update is put back
@@ -859,7 +859,7 @@ typedef struct minisign_installation {
 
 /*
  * Begins: MINISIGN_DUE_LOCK is due. The numbering says which field of the signed comment has the number: stay with
- * one at a place, since the record is kept by it. With is_first 1 an update is taken also where no number of that
+ * one at a target, since the record is kept by it. With is_first 1 an update is taken also where no number of that
  * field is kept: none at all, none that reads as one, or one of the other field. Otherwise is_first is 0.
  *
  * MINISIGN_BAD_FIRST_FLAG, then MINISIGN_BAD_NUMBERING: nothing is written.
@@ -890,7 +890,7 @@ MINISIGN_MUST_USE enum minisign_error minisign_install_more(minisign_installatio
  * The call that was due failed, also where it is one with a call of its own: MINISIGN_OUT_OF_MEMORY,
  * MINISIGN_READING_FAILED, MINISIGN_WRITING_FAILED or MINISIGN_RANDOM_SOURCE_FAILED, and of MINISIGN_DUE_LOCK also
  * MINISIGN_PLACE_IN_USE. What was made is then to be removed, and at the end that is what the run was rejected for.
- * Of MINISIGN_DUE_SYNC_NAME it becomes MINISIGN_DIRECTORY_NOT_SYNCED: the update stands at the place.
+ * Of MINISIGN_DUE_SYNC_NAME it becomes MINISIGN_DIRECTORY_NOT_SYNCED: the update stands at the target.
  *
  * MINISIGN_NOT_DUE for another number, and once the run has ended: nothing changes.
  */
@@ -993,7 +993,7 @@ enum minisign_offer {
  * Whether an update is newer than what is kept, by its signed comment: before its data is there. The comment is one
  * that minisign_comment_verdict has vouched for, which can be asked before a byte was fed: after minisign_ask it
  * stands in the message, after the 64 bytes of the signature. Nothing vouches for the data. The record is that of
- * a place, as minisign_install_record takes it, read whole and without the lock; or there is none.
+ * a target, as minisign_install_record takes it, read whole and without the lock; or there is none.
  *
  * Writes a number of enum minisign_offer, and the number of the update, which has to name the file and not to have
  * expired, as minisign_install_ask says. With is_first 1 an update is newer where no number of the field is kept;

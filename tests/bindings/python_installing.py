@@ -47,7 +47,7 @@ def rejection_text(data, signature, place, name, numbering, error):
     if isinstance(error, minisign.NoNumber):
         more = f" ({numbering}: is the field that is wanted, by `--numbering` or without it)"
     if isinstance(error, minisign.OtherFile):
-        more = f" ({name} is wanted, by the place or `--name`)"
+        more = f" ({name} is wanted, by the target or `--name`)"
     return f"error: {at}: {error}{more}"
 
 

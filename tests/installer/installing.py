@@ -47,7 +47,7 @@ STAGE = ".place.stage-"
 OTHER_KEY = "RWQf6LRCGA9i53mlYecO4IzT51TGPpvWucNSCh1CBM0QTaLn73Y7GFO3"
 # When an update expires.
 SOON, PAST = "\texpires:99999999999", "\texpires:1700000000"
-USAGE = b"usage: minisign-install [OPTION ..] PK DATA SIG PLACE (--help shows the options)\n"
+USAGE = b"usage: minisign-install [OPTION ..] PK DATA SIG TARGET (--help shows the options)\n"
 PK = "key.pub"
 OLD, NEW = b"old" * 1000, b"new" * 50000
 LATER = b"later" * 40000
@@ -951,7 +951,7 @@ class Installing:
                 if status != FAILED or b"memory" not in said:
                     raise Failure(f"at request {number} it ended with status {status}, and said {said}")
                 directory.expect(OLD, b"5")
-        raise Failure("it asks for memory without end")
+        raise Failure("it allocates without end")
 
     def on_full_disk(self):
         with self.directory() as path, SmallDisk(path):
@@ -1327,7 +1327,7 @@ def cases(it):
     yield "other data", lambda: it.rejects(b"error: bad: Signature verification failed\n", signed=LATER)
     yield "no data", lambda: it.rejects(b"error: bad: Signature verification failed\n", data=b"", signed=LATER)
     yield "an older update", lambda: it.rejects(b"error: bad: the update is older than what was installed\n", number=4, status=OLDER)
-    yield "another file", lambda: it.rejects(b"error: bad.sig: the signed comment does not name this file (place is wanted, by the place or `--name`)\n", names="other")
+    yield "another file", lambda: it.rejects(b"error: bad.sig: the signed comment does not name this file (place is wanted, by the target or `--name`)\n", names="other")
     no_number = b"error: bad.sig: the signed comment has no such number (timestamp: is the field that is wanted, by `--numbering` or without it)\n"
     yield "no number", lambda: it.rejects(no_number, label="version")
     yield "a number too great", lambda: it.rejects(no_number, number=2 ** 64)
@@ -1422,7 +1422,7 @@ def there_cases(it):
     yield "there already, and older", lambda: it.rejects_of_kept_number(b"error: bad: the update is older than what was installed\n", 5, OLDER)
     yield "there already, and expired", lambda: it.rejects_of_kept_number(b"error: bad.sig: the update has expired\n", 6, EXPIRED, more=PAST)
     yield "there already, for another file", lambda: it.rejects_of_kept_number(
-        b"error: bad.sig: the signed comment does not name this file (place is wanted, by the place or `--name`)\n", names="other")
+        b"error: bad.sig: the signed comment does not name this file (place is wanted, by the target or `--name`)\n", names="other")
     yield "there already, with a legacy signature", lambda: it.rejects_of_kept_number(b"error: bad.sig: Legacy signatures are not accepted\n", legacy=True)
     yield "a link to it at the place", lambda: it.looks_at_no_other(lambda at: os.symlink("behind", at), b"a link stands there, which is not followed")
     yield "a pipe at the place, of the kept number", lambda: it.looks_at_no_other(os.mkfifo, b"what stands there is no regular file")
@@ -1476,7 +1476,7 @@ def check_cases(it):
         ("no record", UNRECORDED, (), {"record": None, "said": b"error: place: no number is kept beside the place (`--first` installs all the same)\n"}),
         ("a record of the other field", UNRECORDED, version,
          {"label": "version", "said": b"error: place: the number that is kept beside the place is a timestamp, and no version\n"}),
-        ("another file", REJECTED, (), {"names": "app", "said": b"error: new.sig: the signed comment does not name this file (place is wanted, by the place or `--name`)\n"}),
+        ("another file", REJECTED, (), {"names": "app", "said": b"error: new.sig: the signed comment does not name this file (place is wanted, by the target or `--name`)\n"}),
         ("no number of the field", REJECTED, version, {"record": b"version:5", "said": b"error: new.sig: the signed comment has no such number (version: is the field that is wanted, by `--numbering` or without it)\n"}),
         ("one that has expired", EXPIRED, (), {"more": past, "said": b"error: new.sig: the update has expired\n"}),
         ("an older one that has expired", EXPIRED, (), {"number": 4, "more": past, "said": b"error: new.sig: the update has expired\n"}),
@@ -1516,7 +1516,7 @@ def word_cases(it):
     """Words that ask for nothing, and words that ask for an installation in another way."""
     paths = [PK, "new", "new.sig", PLACE]
     name = it.kind.name.encode()
-    usage = b"usage: " + name + b" [OPTION ..] PK DATA SIG PLACE (--help shows the options)\n"
+    usage = b"usage: " + name + b" [OPTION ..] PK DATA SIG TARGET (--help shows the options)\n"
     misuses = [
         ("no words", [], b"error: there are fewer than four paths\n" + usage),
         ("three paths", paths[:3], b"error: there are fewer than four paths\n" + usage),
@@ -1544,7 +1544,7 @@ def word_cases(it):
         ("a bound with a blank", ["--most", " 1000000", *paths], b"error:  1000000: the option before it has no such value\n"),
         ("a bound too great", ["--most", str(2 ** 64), *paths], b": the option before it has no such value\n"),
         ("help beside other words", ["--help", *paths], b"error: --help: there is no such option\n" + usage),
-        ("an option behind the end of options", ["--", "--first", *paths], b"error: place: there are four paths, and this is a fifth\n"),
+        ("an option after the end of options", ["--", "--first", *paths], b"error: place: there are four paths, and this is a fifth\n"),
         ("a directory as place", [*paths[:3], "place/"], b"error: place/: it does not end with the name of a file\n"),
         ("the directory itself as place", [*paths[:3], "."], b"error: .: it does not end with the name of a file\n"),
         ("bytes that are not UTF-8", [*paths[:3], b"pl\xe4ce"], b"error: an argument is not UTF-8\n" + usage),
@@ -1567,7 +1567,7 @@ def word_cases(it):
         yield f"help by {word}", lambda word=word: it.says([word], 0, b"", shown=usage.replace(b" (--help shows the options)", b""))
     yield "the version", lambda: it.says(["--version"], 0, b"", shown=name + b" " + it.kind.version + b"\n")
     orders = [
-        ("options behind the paths", [*paths, "--first", "--mode", "0640"], 0o640),
+        ("options after the paths", [*paths, "--first", "--mode", "0640"], 0o640),
         ("a bound with a unit", ["--most", "1M", *paths], None),
         ("the greatest bound", ["--most", "16777215T", *paths], None),
         ("options between the paths", [PK, "--mode", "640", "new", "--most", "1000000", "new.sig", "--first", PLACE], 0o640),

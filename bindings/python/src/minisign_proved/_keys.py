@@ -97,7 +97,7 @@ class PublicKey:
 
     @classmethod
     def from_base64(cls, letters: str) -> "PublicKey":
-        """Reads the 56 letters that stand in the second line and behind minisign -P. NotUtf8, BarePublicKeyLength,
+        """Reads the 56 letters that stand in the second line and after minisign -P. NotUtf8, BarePublicKeyLength,
         BarePublicKeyNotBase64, RecordTooShort."""
         return cls(b"", _read=calls.read_bare_public_key(letters.encode("utf-8", "surrogatepass")))
 

@@ -23,7 +23,7 @@ Answer = CFUNCTYPE(c_uint, POINTER(c_ubyte * 64), c_void_p, c_size_t, POINTER(c_
 class Wanted(Structure):
     """`struct wanted` of c/installing.h."""
 
-    _fields_ = [("place", c_char_p), ("name", c_char_p), ("shown", c_char_p), ("data", c_int), ("most", c_uint64), ("is_first", c_bool),
+    _fields_ = [("target", c_char_p), ("name", c_char_p), ("shown", c_char_p), ("data", c_int), ("most", c_uint64), ("is_first", c_bool),
                 ("again", c_bool), ("numbering", c_uint), ("has_mode", c_bool), ("mode", c_uint), ("keys", POINTER(h.PublicKey)), ("key_count", c_int),
                 ("signature", c_char_p), ("signature_len", c_size_t), ("answer", Answer)]
 
@@ -39,7 +39,7 @@ library.begin_installing.restype, library.make_call.restype = POINTER(Installing
 
 
 def _received(data: IO[bytes], directory: str, most: int, progress: Optional[Progress]) -> IO[bytes]:
-    """Data that may stand still, in a file without a name: so the place is locked no longer than the work takes."""
+    """Data that may stand still, in a file without a name: so the target is locked no longer than the work takes."""
     held = tempfile.TemporaryFile(dir=directory)
     for piece in pieces_of(data, progress):
         held.write(piece)
@@ -49,25 +49,25 @@ def _received(data: IO[bytes], directory: str, most: int, progress: Optional[Pro
     return held
 
 
-def install(key: PublicKey, data: Union[Path, IO[bytes]], signature: Signature, place: Path, *, first: bool = False, again: bool = False,
+def install(key: PublicKey, data: Union[Path, IO[bytes]], signature: Signature, target: Path, *, first: bool = False, again: bool = False,
             numbering: str = "timestamp", name: Optional[str] = None, mode: Optional[int] = None, most: Optional[int] = None,
             progress: Optional[Progress] = None) -> bool:
-    """Installs the data of an update at a place. It raises nothing where the update stands there, whole and synced: true
+    """Installs the data of an update at a target. It raises nothing where the update stands there, whole and synced: true
     where it was installed now, and false where it stood there already and nothing was written.
 
     `data` is a path or a binary file. What is no path of a regular file, as that of a pipe, or a file that is open, is
-    received first, into a file without a name in the directory of the place. `first` takes an update also where no
-    number of the field is kept, and `again` one of the number that is kept, where other data stands at the place.
+    received first, into a file without a name in the directory of the target. `first` takes an update also where no
+    number of the field is kept, and `again` one of the number that is kept, where other data stands at the target.
     `numbering` is the field that has the number: `timestamp` or `version`. `name` is the file that the signed comment
-    has to name, otherwise the last part of `place`. `mode` has the permissions, otherwise they are those of the file at
-    the place, or 0o600. Data of more than `most` bytes is rejected.
+    has to name, otherwise the last part of `target`. `mode` has the permissions, otherwise they are those of the file at
+    the target, or 0o600. Data of more than `most` bytes is rejected.
 
     Raises the errors of verifying; OtherFile, NoNumber, BadExpiry, Expired, OlderUpdate; PlaceInUse; NoRecord,
     DamagedRecord, KeptByTimestamp, KeptByVersion; SameNumber; TooLong; ReadingFailed, WritingFailed, RandomSourceFailed,
-    OutOfMemory. Then the place is as before. With DirectoryNotSynced the update stands there, and a crash may bring back
-    what stood there before. `__cause__` says which call failed. What `progress` raises comes out of it, and the place is
+    OutOfMemory. Then the target is as before. With DirectoryNotSynced the update stands there, and a crash may bring back
+    what stood there before. `__cause__` says which call failed. What `progress` raises comes out of it, and the target is
     as before. After an interruption, as KeyboardInterrupt, the update may stand there or not. OSError where the
-    directory or the data cannot be opened, or what is no regular file cannot be received; ValueError where `place` does
+    directory or the data cannot be opened, or what is no regular file cannot be received; ValueError where `target` does
     not end with the name of a file.
     """
     accepts, text = ed25519().accepts, signature.text
@@ -76,15 +76,15 @@ def install(key: PublicKey, data: Union[Path, IO[bytes]], signature: Signature, 
         return h.ANSWER_YES if accepts(bytes(signature.contents), string_at(data, length), bytes(key.contents)) else h.ANSWER_NO
 
     field, longest = NUMBERINGS[numbering], LONGEST if most is None else max(0, min(most, LONGEST))
-    directory, last = os.path.split(os.fsdecode(place))
+    directory, last = os.path.split(os.fsdecode(target))
     if last in ("", ".", "..") or "\0" in last + (name or ""):
-        raise ValueError(f"{place!r}: it does not end with the name of a file")
+        raise ValueError(f"{target!r}: it does not end with the name of a file")
     os.close(os.open(directory or ".", os.O_RDONLY | os.O_DIRECTORY))
     # (what is open already may be anything, and is read as Python reads it)
     is_path = not hasattr(data, "read")
     with open(cast(Path, data), "rb", buffering=0) if is_path else _received(cast("IO[bytes]", data), directory or ".", longest, progress) as file:
         shown = os.fsencode(cast(Path, data) if is_path else directory)
-        wanted = Wanted(os.fsencode(place), os.fsencode(name or last), shown, file.fileno(), longest, first, again, field, mode is not None,
+        wanted = Wanted(os.fsencode(target), os.fsencode(name or last), shown, file.fileno(), longest, first, again, field, mode is not None,
                         (mode or 0) & 0o777, pointer(key._read), 1, text, len(text), Answer(answer))
         begun = library.begin_installing(byref(wanted))
         if not begun:
