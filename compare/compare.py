@@ -72,8 +72,8 @@ def answers(program, lines, directory):
 
 def summary(request, answer):
     """What a request is about and how it was answered, without the values."""
-    fault = answer.fault()
-    outcome = (fault[0], re.sub(rb'[0-9A-F]{16}', b'ID', fault[1])) if fault else answer.kind()
+    error = answer.error()
+    outcome = (error[0], re.sub(rb'[0-9A-F]{16}', b'ID', error[1])) if error else answer.kind()
     words = request.split(' ')
     flags = tuple(words[4:]) if words[0].startswith('verify') else ()
     parts = tuple(sorted(re.findall(r',(pos|chunk|fail|second)=', request)))

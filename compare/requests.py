@@ -438,7 +438,7 @@ def pairs(rng, count):
 
 
 def data_word(rng, body, legacy=False, output=True):
-    """The data with parts behind it: place, piece, failing read, second reading."""
+    """The data with parts after it: place, piece, failing read, second reading."""
     parts = []
     if rng.randrange(4) == 0:
         parts.append(f'pos={rng.choice((0, 1, len(body), len(body) + 1, rng.randrange(len(body) + 2)))}')

@@ -1,6 +1,6 @@
 #!/usr/bin/env python3
 """Makes what `include/minisign.h` and docs/FORMATS.md say of numbers from the sources of the crates: the numbers, as definitions
-have them, and the names, comments and texts of wrong uses and faults. It copies the examples of `c/examples` into the header,
+have them, and the names, comments and texts of usage errors and of errors. It copies the examples of `c/examples` into the header,
 and makes of that the boundary before the proved calls (`boundary.py`), and its manual page (`manual.py`).
 
     tools/header.py            writes them
@@ -31,7 +31,7 @@ NUMBERS = "crates/minisign_external/src/numbers.rt"
 INSTALL = "crates/minisign_install"
 INSTALL_NUMBERS = f"{INSTALL}/specs/HostNumbers.antt"
 
-# Named faults with this number or a greater one are answered by no call of the header, but for those that a host may tell.
+# Named errors with this number or a greater one are answered by no call of the header, but for those that a host may tell.
 UNANSWERED = 46
 TOLD_BY_HOSTS = ("ReadingFailed", "WritingFailed", "RandomSourceFailed")
 
@@ -98,13 +98,13 @@ def numbers_of(comments, file, definition):
 
 
 def misuses():
-    """The wrong uses."""
+    """The usage errors."""
     comments = comments_of("crates/minisign_external/src/state.rt", "Misuse")
     return numbers_of(comments, "crates/minisign_external/specs/Numbers.antt", "misuse_number")
 
 
 def fault_rows():
-    """The named faults in their order: their names, numbers, kinds and texts, with A and B for identifiers."""
+    """The named errors in their order: their names, numbers, kinds and texts, with A and B for identifiers."""
     longer, specs = {}, read(FAULT_ROWS)
     for name, body in re.findall(r"^named_text \(?fault\.(\w+)[^=]*=\s*(.*(?:\n    .*)*)", specs, re.M):
         letters = iter("AB")
@@ -195,13 +195,13 @@ def header_text(numbers):
 
 
 def formats_text(numbers, rows, comments):
-    """The document with the table of wrong uses, and that of all faults with the names of those that C knows."""
+    """The document with the table of usage errors, and that of all errors with the names of those that C knows."""
     texts = re.findall(r'Misuse::(\w+) => (?:\{\s*)?"((?:[^"\\]|\\.)*)"', item_text(NUMBERS, "fn", "Misuse::text"))
     in_c = {it.variant: f"`MINISIGN_{it.name}`" for it in numbers}
     uses = [(str(it.number), in_c[it.variant], it.comment, f"`{dict(texts)[it.variant]}`") for it in misuses()]
     told = [(f"`{name}`", number, in_c.get(name, ""), kind, f"`{text}`", comments[name]) for name, number, kind, text in rows]
     tables = {"numbers": table(("Number", "Name in C", "When", "Text"), uses),
-              "faults": table(("Name", "Number", "Name in C", "Kind", "Text", "When"), told)}
+              "errors": table(("Name", "Number", "Name in C", "Kind", "Text", "When"), told)}
     text = read(FORMATS)
     for name, made in tables.items():
         text = between(text, f"<!-- {name}, made by tools/header.py -->", f"<!-- the end of the {name} -->", made)
