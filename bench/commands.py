@@ -69,10 +69,10 @@ def tool_runs(tool, files, data):
     yield f"{os.path.basename(tool)} verify (legacy)", lambda: rejected_timed(rejected, LEGACY)
 
 
-def rejected_timed(command, fault):
-    """Runs a command that has to end with this fault, and answers its processor time, memory and output."""
+def rejected_timed(command, error):
+    """Runs a command that has to end with this error, and answers its processor time, memory and output."""
     ended = run(command)
-    if ended.status != 1 or not ended.output.endswith(fault):
+    if ended.status != 1 or not ended.output.endswith(error):
         raise SystemExit(f"{command[0]} ended with {ended.status}: {ended.output}")
     return ended.processor_seconds, ended.memory, ended.output
 

@@ -124,7 +124,7 @@ def empty_memory(browser, directory):
 
 
 def in_turns(runs):
-    """The turns of each run, by its name, behind a first one."""
+    """The turns of each run, by its name, after a first one."""
     found = {name: [] for name in runs}
     for _ in range(1 + (int(sys.argv[1]) if len(sys.argv) > 1 else ROUNDS)):
         for name, run in runs.items():

@@ -29,7 +29,7 @@ PARTS = {"Answers", "Code", "Given", "Goals", "Invariants", "Kinds", "Layout", "
 
 
 def saved(directory):
-    """The modules that the prover saved below a directory, in their order, with the seconds behind the one before."""
+    """The modules that the prover saved below a directory, in their order, with the seconds after the one before."""
     files = [(os.stat(f"{at}/{it}").st_mtime, it[: -len(".oantt")]) for at, _, names in os.walk(directory)
              for it in names if it.endswith(".oantt") and not at.endswith("/records")]
     files.sort()

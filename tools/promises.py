@@ -32,7 +32,7 @@ HEAD = ["", "| Promise | Carried by |", "|---|---|"]
 SAID = ("output", "debug_output", "eq", "is_default", "from_gives")
 # What stands in the comment of a call and is said for all at once: no allocator is passed to it.
 NO_MEMORY = re.compile(r"\s*(?:Takes no memory|Does not allocate)\.")
-# What a clause cites for every fault, every record and every device, and what is left out of a table therefore.
+# What a clause cites for every error, every record and every device, and what is left out of a table therefore.
 PLAIN = re.compile(r"(?:Named|Worded|PError|\w+Record|[A-Z]|.*[^\w].*|[a-z_0-9]+)$")
 
 

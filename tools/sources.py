@@ -145,7 +145,7 @@ class Reader:
     def __init__(self, file):
         self.source = Source(file, read(file), [], {})
         self.text = self.source.text
-        # The text with spaces for what is opaque, and the places behind the brackets that close others.
+        # The text with spaces for what is opaque, and the places after the brackets that close others.
         self.bare = OPAQUE.sub(lambda it: re.sub(r"[^\n]", " ", it[0]), self.text)
         self.closed, waiting = {}, []
         for found in re.finditer(r"[(\[{]|[)\]}]", self.bare):
@@ -181,7 +181,7 @@ class Reader:
         return self.source
 
     def item(self, found, blocks):
-        """Takes an item, and returns where to read on: behind it, or inside it where it has items."""
+        """Takes an item, and returns where to read on: after it, or inside it where it has items."""
         text, word, begin = self.text, found["word"], found.end() - len(found[0].lstrip())
         if word in ("ghost use", "use"):
             end = self.end_of_statement(begin)

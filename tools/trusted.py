@@ -38,7 +38,7 @@ SHOWN_LINES = 5
 
 PARTS = RELATIONS, FAULTS, PRIMITIVES, DEVICES, FROM_C, KIT = range(6)
 
-# Files of devices and prompts; and of what faults are, and their names.
+# Files of devices and prompts; and of what errors are, and their names.
 OF_DEVICES = re.compile(r"/src/(?:devices|prompt)\b|/specs/(?:Devices|Prompts|DeviceCalls)\b")
 OF_FAULTS = re.compile(r"/specs/(?:Fault|Faults|Identifiers)\.antt|/src/(?:errors|faults|identifiers)\.rt")
 
@@ -170,7 +170,7 @@ def signature_of(definition):
 
 
 def speaks_of_faults(definition):
-    """Whether a definition is about which fault there is: its signature takes or gives one, and not as the
+    """Whether a definition is about which error there is: its signature takes or gives one, and not as the
     error of a `Result`."""
     signature = re.sub(r"Result (?:\([^)]*\)|\S+) Fault", "", signature_of(definition))
     return bool(re.search(r"Option Fault|(?:→|:) Fault\b", signature))
@@ -185,7 +185,7 @@ def text_of(definition):
     if isinstance(definition, Definition):
         return "\n".join([*definition.comment, *definition.lines]).rstrip()
     if definition.what == "enum" and OF_FAULTS.search(definition.file):
-        # (an enum of faults by the names of its variants: when each comes, the functions say)
+        # (an enum of errors by the names of its variants: when each comes, the functions say)
         first, *names, last = [it.strip() for it in definition.text.strip().split("\n") if not it.lstrip().startswith(("///", "#["))]
         indent = "    "
         return "\n".join([first, textwrap.fill(" ".join(names), 120, initial_indent=indent, subsequent_indent=indent,

@@ -29,7 +29,7 @@ type Signature struct {
 	SignatureAlgorithm [2]byte
 	KeyId              [8]byte
 	Signature          [64]byte
-	// What was signed with the data, behind the words "trusted comment: ".
+	// What was signed with the data, after the words "trusted comment: ".
 	TrustedComment  string
 	GlobalSignature [64]byte
 	text            string

@@ -81,7 +81,7 @@ export class Library {
   }
 
   // Reads a public key, of two lines or of its base64 alone: its identifier, and the 32 bytes of the key with the 8 of its
-  // identifier behind them; or the number of why there is none.
+  // identifier after them; or the number of why there is none.
   readKey(text, isBare) {
     const read = isBare ? this.calls.page_read_bare_public_key : this.calls.page_read_public_key;
     const number = read(...this.put(this.text, TEXT_BYTES, text), BigInt(this.key)) >>> 0;
@@ -123,12 +123,12 @@ export class Library {
     this.placed = this.put(this.piece, this.pieceBytes, bytes);
   }
 
-  // Feeds the piece that was placed last: 0, or the number of a wrong use.
+  // Feeds the piece that was placed last: 0, or the number of a usage error.
   feedPlaced(state) {
     return this.onState(state, place => this.calls.page_update(place, ...this.placed));
   }
 
-  // Feeds the next bytes of the data, however many: 0, or the number of a wrong use.
+  // Feeds the next bytes of the data, however many: 0, or the number of a usage error.
   feed(state, bytes) {
     let number = 0;
     for (let begin = 0; begin < bytes.length && number === 0; begin += this.pieceBytes) {
@@ -138,7 +138,7 @@ export class Library {
     return number;
   }
 
-  // Tells the questions the digest of all that was fed, behind which no more is: 0, or the number of a wrong use.
+  // Tells the questions the digest of all that was fed, after which no more is: 0, or the number of a usage error.
   digest(state, questions) {
     const at = this.questions + QUESTIONS.digest;
     const number = this.onState(state, place => this.calls.page_digest(place, BigInt(at)));

@@ -26,7 +26,7 @@ export interface Verified {
  * of no such type; with what the stream failed with; with an Error where there is no Ed25519 in WebCrypto, as in a page that
  * was loaded by http.
  *
- * A key is the text of its file, or as a string of one line its 56 letters alone, behind which white space is left out.
+ * A key is the text of its file, or as a string of one line its 56 letters alone, after which white space is left out.
  */
 export function verify(data: Data, signature: Text, key: Text, options?: Options): Promise<Verified>;
 

@@ -47,7 +47,7 @@ GLOBALS = ("Blob", "TextDecoder", "TextEncoder", "WebAssembly", "atob", "crypto"
 CALLS = 100_000
 # How many bytes may be in memory after all calls that were not after a tenth of them.
 GROWTH = 16 * 1048576
-# The errors of the header that verifying has besides wrong uses of a call.
+# The errors of the header that verifying has besides usage errors.
 VERIFYING = {8, *range(16, 33), 44, 45}
 
 

@@ -6,7 +6,7 @@ without a network, and uses it as its user would, by libsodium and by the packag
 
 Its answers are compared with those of `c/minisign`: the kept corpus, 500 damaged texts, data in pieces; and with those of libsodium:
 the signatures of Ed25519 that implementations answer differently. Also: the exceptions and structs are those of the header; the
-types hold; calls take no memory in the end; threads; keys and signatures of Minisign's own program; the examples of the README; the
+types hold; calls hold no memory in the end; threads; keys and signatures of Minisign's own program; the examples of the README; the
 cases of tests/installer for `install`; and each of some planted bugs is noticed. It prints a line for each case that failed or was
 skipped; the last line is `N passed, M failed`.
 
@@ -278,7 +278,7 @@ def check_keys(checks, user, room):
 
 
 def check_examples(checks, python_path, room):
-    """The examples of the README, one behind the other, in a directory with what they name."""
+    """The examples of the README, one after the other, in a directory with what they name."""
     text = shared.read(os.path.join(shared.TOP, "bindings", "python", "README.md")).decode()
     examples = "\n".join(re.findall(r"^```python\n(.*?)^```$", text, re.M | re.S))
     os.makedirs(os.path.join(room, "there"))

@@ -252,7 +252,7 @@ def check_signing(checks, program, room, minisign):
     os.mkdir(made)
     run([minisign, "-G", "-W", "-s", f"{made}/secret", "-p", f"{made}/public"])
     directories["of c/minisign"] = made
-    rejected = lambda name: f"Err(Refused(Reason({numbers[name]})))"
+    rejected = lambda name: f"Err(Rejected(Reason({numbers[name]})))"
     cases = [("open", COMMENT, [], "Ok(())"), ("sealed", COMMENT, ["pass word"], "Ok(())"), ("of c/minisign", "", [], "Ok(())"),
              ("open", "a\nb", [], rejected("BAD_COMMENT")), ("open", "a\rb", [], rejected("UNREADABLE_COMMENT")),
              ("open", "a", ["pass word"], rejected("KEY_NOT_SEALED")), ("sealed", "a", [], rejected("KEY_SEALED")),

@@ -201,7 +201,7 @@ static void wait_for_pages(void *block)
     }
 }
 
-/* A block of several parts: all is brought in, from its begin to its end, and the part behind a slow one in other
+/* A block of several parts: all is brought in, from its begin to its end, and the part after a slow one in other
  * pages. */
 static void check_parts(void)
 {

@@ -3,12 +3,12 @@
 
     tests/c/c_library.py [LIBRARY]
 
-Its declarations beside the exports of the sources, the layout of its structs as C and as C++ (`exports.py`), wrong use (`wrong_use.c`), what texts are asked about and the
+Its declarations beside the exports of the sources, the layout of its structs as C and as C++ (`exports.py`), usage errors (`usage_errors.c`), what texts are asked about and the
 number of each rejection (`asked_texts.c`), the text of each number (`error_texts.c`), an installation at each of its
 calls (`installations.c`), the texts of public keys (`public_keys.c`), what is taken from malloc and cleared before it
 is given back (`allocations.c`), each allocation failing, of which verifying makes none (`out_of_memory.c`),
 buffers beside pages without access (`guard_pages.c`), NULL (`null.c`), threads (`threads.c`), and calls at random
-beside a model (`random_calls.c`); each program also with what finds wrong use of memory, where the compiler has it.
+beside a model (`random_calls.c`); each program also with what finds misuse of memory, where the compiler has it.
 LIBRARY is a `libminisign.a`; where none is named it is built over `dist/` (`static_library.py`), once more with the
 copy of the calls that is for processors without AVX2 alone, and once more with -DMINISIGN_NO_THREADS: such a library
 names no call for threads. It prints a line for each failure; the last line is `N passed, M failed`.
@@ -35,7 +35,7 @@ SANITIZED = ["-fsanitize=address,undefined", "-fno-sanitize-recover=all"]
 WRAPPED = ["-Wl,--wrap=malloc", "-Wl,--wrap=realloc", "-Wl,--wrap=free"]
 
 # The programs, with what each is linked with.
-PROGRAMS = {"wrong_use": [], "asked_texts": [], "error_texts": [], "public_keys": WRAPPED, "out_of_memory": WRAPPED,
+PROGRAMS = {"usage_errors": [], "asked_texts": [], "error_texts": [], "public_keys": WRAPPED, "out_of_memory": WRAPPED,
             "allocations": [*WRAPPED, "-Wl,--wrap=madvise"], "installations": WRAPPED, "null": [], "guard_pages": [], "threads": ["-pthread"],
             "random_calls": []}
 

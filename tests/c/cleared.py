@@ -257,7 +257,7 @@ def check_program(checks, builder):
 # What is taken away, of which file, in whose place what stands, and what is found then.
 STACK, REGISTERS, ELSEWHERE = 1, 0, 2
 BUGS = {
-    "nothing is cleared behind a call": ([("boundary.c", r"    minisign_clear_used\(\);\n", "")], STACK),
+    "nothing is cleared after a call": ([("boundary.c", r"    minisign_clear_used\(\);\n", "")], STACK),
     "too little of the stack is cleared": ([("clearing.h", r"CLEARED_BYTES 16384", "CLEARED_BYTES 256")], STACK),
     "registers are not cleared": ([("clearing.c", r'"(?:pxor|vpxorq|vzeroall)[^"]*"', '""')], REGISTERS),
     "what is given back is not cleared": ([("allocation.c", r"    clear\(block, front\.len\);\n", "    (void) clear;\n")], ELSEWHERE),

@@ -1,6 +1,6 @@
 /*
- * The text of each number of minisign.h, as the published list of faults has it, and of wrong use in the library's
- * own words; whole in MINISIGN_ERROR_TEXT_BYTES, cut in less, and no byte behind it written.
+ * The text of each number of minisign.h, as the published list of errors has it, and of usage errors in the library's
+ * own words; whole in MINISIGN_ERROR_TEXT_BYTES, cut in less, and no byte after it written.
  *
  * Prints a line for each check that failed; the last line is `N passed, M failed`.
  */
@@ -94,7 +94,7 @@ int main(void)
 
     for (uint32_t number = 0; number <= GREATEST; number++) {
         if (texts[number] == NULL && number > 63) {
-            continue; /* of faults that no call answers */
+            continue; /* of errors that no call answers */
         }
         const char *text = texts[number] != NULL ? texts[number] : "unknown error";
         size_t len = strlen(text);
@@ -106,7 +106,7 @@ int main(void)
             memset(cut, 0xaa, sizeof cut);
             check(minisign_error_text(number, cut, room) == len, number, "another length where it is cut");
             check(room == 0 || (memcmp(cut, text, room - 1) == 0 && cut[room - 1] == 0), number, "it is cut elsewhere");
-            check(cut[room] == (char) 0xaa, number, "it is written behind its room");
+            check(cut[room] == (char) 0xaa, number, "it is written after its room");
         }
     }
     check(minisign_error_text(UINT32_MAX, whole, sizeof whole) == strlen("unknown error"), UINT32_MAX, "another length");

@@ -1,6 +1,6 @@
 /*
  * An installation through minisign.h: at each call that may be due each call of the header is made, and what is due
- * then is compared with a table of its own here; where a call is rejected as a wrong use, no byte of the struct changes.
+ * then is compared with a table of its own here; where a call is rejected as a usage error, no byte of the struct changes.
  * Also the records and the signed comments that are taken and rejected, what is asked of Ed25519, and that no memory is
  * taken.
  *
@@ -72,7 +72,7 @@ static const uint8_t DIGEST_OF_ABC[64] = {
     0x18, 0xd3, 0x8a, 0xa8, 0xdb, 0xf1, 0x92, 0x5a, 0xb9, 0x23, 0x86, 0xed, 0xd4, 0x00, 0x99, 0x23,
 };
 
-/* What is due behind each call: where it was done, where it failed, and whether it may be done at all by
+/* What is due after each call: where it was done, where it failed, and whether it may be done at all by
  * minisign_install_done. */
 static const struct row {
     uint32_t due, done, failed;
@@ -430,7 +430,7 @@ static void answers(void)
     gives("0", SIGNATURE, "tes", by_time, YES, YES, MINISIGN_OK, MINISIGN_OTHER_FILE);
     gives("0", SIGNATURE, "", by_time, YES, YES, MINISIGN_OK, MINISIGN_OTHER_FILE);
     gives("0", SIGNATURE, "test", by_version, YES, YES, MINISIGN_OK, MINISIGN_NO_NUMBER);
-    /* What is said of the comment comes behind the verdict. */
+    /* What is said of the comment comes after the verdict. */
     gives("1556193336", SIGNATURE, "tes", by_version, NO, NO, MINISIGN_OK, MINISIGN_SIGNATURE_REFUSED);
     gives("1556193336", SIGNATURE, "tes", by_version, NO, YES, MINISIGN_OK, MINISIGN_SIGNATURE_REFUSED);
     gives("1556193336", SIGNATURE, "tes", by_version, YES, NO, MINISIGN_OK, MINISIGN_COMMENT_SIGNATURE_REFUSED);
@@ -439,7 +439,7 @@ static void answers(void)
     gives("0", "\xff", "test", by_time, YES, YES, MINISIGN_NOT_UTF8, MINISIGN_OK);
     gives("0", SIGNATURE, "\xff", by_time, YES, YES, MINISIGN_NOT_UTF8, MINISIGN_OK);
 
-    /* Wrong use changes nothing. */
+    /* A usage error changes nothing. */
     i = before = at(MINISIGN_DUE_ANSWER);
     CHECK(ask_of(&i, SIGNATURE, "test", 64 + sizeof COMMENT - 2) == MINISIGN_NO_ROOM && same(&i, &before));
     CHECK(ask_of(&i, SIGNATURE, "test", 64 + sizeof COMMENT - 1) == MINISIGN_OK);

@@ -220,7 +220,7 @@ def comments(keys):
 
 
 def rejections(keys):
-    """Each rejection has its number, and comes before those behind it."""
+    """Each rejection has its number, and comes before those after it."""
     secret = SEED + SALT
     too_much = (33554432, 1073741825)
     for name, wanted, arguments in (

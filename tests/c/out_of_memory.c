@@ -1,7 +1,7 @@
 /*
  * Verifying makes no request for memory. Of the other calls each request is refused in turn: the answer is
  * MINISIGN_OUT_OF_MEMORY, nothing else, the state stays as it was, and what was taken is given back. Also with each
- * request behind it refused, and the whole memory of scrypt refused for a key sealed as `minisign -G` seals.
+ * request after it refused, and the whole memory of scrypt refused for a key sealed as `minisign -G` seals.
  *
  * Linked with -Wl,--wrap=malloc -Wl,--wrap=realloc -Wl,--wrap=free. Prints a line for each check that failed; the last
  * line is `N passed, M failed`.
@@ -143,7 +143,7 @@ static enum minisign_error write_text(void)
     return minisign_signed_text(&key, first, second, bytes("t"), 1, bytes("u"), 1, message, sizeof message, &text_len);
 }
 
-/* One call with this key, with one request refused or with this one and all behind it: whether the call came to it. */
+/* One call with this key, with one request refused or with this one and all after it: whether the call came to it. */
 static int refuse(const char *name, enum minisign_error (*call)(void), const minisign_secret_key *before, long request,
                   long last)
 {

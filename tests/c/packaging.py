@@ -208,7 +208,7 @@ def check_musl(checks, room, top):
     compiler = needs.program("musl-gcc", "musl-tools")
     status, said = run(["make", "-s", "-C", f"{top}/c", "CC=musl-gcc", f"OUT={room}/musl", "library"])
     checks.check(status == 0, f"the library by musl-gcc: {said[-800:]}")
-    for name in ("asked_texts", "public_keys", "wrong_use"):
+    for name in ("asked_texts", "public_keys", "usage_errors"):
         wrapped = ["-Wl,--wrap=malloc", "-Wl,--wrap=realloc", "-Wl,--wrap=free"] if name == "public_keys" else []
         program = f"{room}/{name}"
         status, said = run([compiler, "-std=c11", "-static", "-I", f"{top}/include", "-o", program, os.path.join(HERE, f"{name}.c"),

@@ -20,10 +20,10 @@ FAILED, MISUSED, REJECTED, OLDER, IN_USE, NOT_ON_DISK, UNRECORDED, SAME, EXPIRED
 
 
 class Updater:
-    """`minisign_updater`, an example under the toy scheme, whose options are `--first` and, behind it, `--again`."""
+    """`minisign_updater`, an example under the toy scheme, whose options are `--first` and, after it, `--again`."""
 
     name = "minisign_updater"
-    # Which ending of `minisign-install` the number of a fault stands for; all others reject the update.
+    # Which ending of `minisign-install` the number of an error stands for; all others reject the update.
     endings = {0: 0, 1: MISUSED, 7: FAILED, 64: FAILED, 65: FAILED, 67: FAILED, 46: IN_USE, 47: UNRECORDED, 48: UNRECORDED, 51: OLDER,
                52: NOT_ON_DISK, 53: UNRECORDED, 54: UNRECORDED, 55: EXPIRED, 57: SAME, 255: THERE}
     # Each of these calls fails in turn, and is interrupted in turn.
@@ -72,7 +72,7 @@ sync .
         return status if status < 0 else self.endings.get(status, REJECTED)
 
     def is_said(self, text, said):
-        """Whether it says what that line of `minisign-install` does, without the file and what is in brackets behind it."""
+        """Whether it says what that line of `minisign-install` does, without the file and what is in brackets after it."""
         return re.sub(rb"( \(.*\))?\n$", b"", said.split(b": ", 2)[-1]) in text
 
     def public_text(self):

@@ -117,12 +117,12 @@ def places(document, text):
 
 
 def check_installing(report, index):
-    """Each fault that installing adds stands in its table with its name and its text."""
+    """Each error that installing adds stands in its table with its name and its text."""
     rows = [row.split("|")[2] for row in read(INSTALLING).split("\n") if row.count("|") == 4]
-    faults = re.findall(r'^install_row (\w+) =\s+row \d+ \w+ \(codes "([^"]*)"',
+    errors = re.findall(r'^install_row (\w+) =\s+row \d+ \w+ \(codes "([^"]*)"',
                         read("crates/minisign_install/specs/Faults.antt"), re.M)
-    report.check(faults, "specs/Faults.antt", "no fault is read")
-    for name, said in faults:
+    report.check(errors, "specs/Faults.antt", "no error is read")
+    for name, said in errors:
         report.check(any(f"`{name}`: `{said}`" in row for row in rows), INSTALLING, f"no row for {name}")
 
 
@@ -359,7 +359,7 @@ def check_edit(report, shown):
             count = texts.get(path, "").count(old)
             report.check(count == 1, where, f"the old text stands {count} times in {path}: {old}")
         elif line.startswith("new:") and old:
-            # The texts behind it are looked for in the text that it leaves.
+            # The texts after it are looked for in the text that it leaves.
             texts[path] = texts.get(path, "").replace(old, line[len("new:"):].removeprefix(" "))
             old, pairs = None, pairs + 1
         elif line:

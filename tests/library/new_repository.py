@@ -61,7 +61,7 @@ def lines_of_crates():
 
 
 def fill(directory):
-    """Puts the caller's crate into a directory: the example of the documents behind the imports of the same in its crate."""
+    """Puts the caller's crate into a directory: the example of the documents after the imports of the same in its crate."""
     example = block_with("pub fn check_update")
     module = read(f"crates/{EXAMPLES}/src/{MODULE}.rt")
     if example not in module:

@@ -37,7 +37,7 @@ WITHIN = [
     ("limits_are_refused_behind_a_typed_password", 8, 0),
 ]
 
-# Tests that ask for memory so many times: the rows of scrypt are reserved in one request, and what they are mixed
+# Tests that allocate so many times: the rows of scrypt are reserved in one request, and what they are mixed
 # in is a second one.
 REQUESTS = {"rows_are_reserved_in_one_request": 2}
 

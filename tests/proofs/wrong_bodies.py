@@ -1,14 +1,14 @@
 #!/usr/bin/env python3
-"""Tries the must-fail edits of crates/*/wrong-bodies/*.edit: the prover has to refuse each.
+"""Tries the must-fail edits of crates/*/wrong-bodies/*.edit: the prover has to reject each.
 
-An edit has the form of the kit's, a first line `why:`, and a line `fn:` with the function that has to be refused, as
+An edit has the form of the kit's, a first line `why:`, and a line `fn:` with the function that has to be rejected, as
 `rt check` prints it. `rt ci` would give each a check of its own, as it does with those of must-fail/; here many share
-one: each is written into a copy of its function, which stands behind it under a name of its own, with the same
+one: each is written into a copy of its function, which stands after it under a name of its own, with the same
 contract and a copy of its written proof. So what calls the function is not proved again. A method of a trait's impl has
 no second name and is changed where it stands, and an edit that reaches beyond the body of its function is tried alone.
 The crate has to be proved as it stands, by `rt ci` where this runs beside it (tests/shared/proved.py), and else by a check
 of the functions that the edits change. What is proved so is assumed in the copies: its body is a loop without an end, and
-its proof a hole, so that a check tries the wrong bodies alone. An edit that is not refused beside others is tried once more alone.
+its proof a hole, so that a check tries the wrong bodies alone. An edit that is not rejected beside others is tried once more alone.
 
 An edit passes if the search for a proof of one of the function's own goals came to its end and found none. It fails if
 the search gave up at one of its limits, so that the goal may hold, or if only the function's written proof no longer fits:
@@ -18,7 +18,7 @@ proved, if the prover could not tell, and if all that is left is a limit at whic
 tests/proofs/wrong_bodies.txt says how many edits each crate has: it fails too on other numbers.
 
 usage: wrong_bodies.py [--unchanged] [CRATE[/NAME]..]
-  --unchanged    leaves the changes out, and passes what is proved: so a refusal comes from a change and not from copying
+  --unchanged    leaves the changes out, and passes what is proved: so a rejection comes from a change and not from copying
 """
 
 import os
@@ -48,7 +48,7 @@ BESIDE, FREE = 2, 5_000_000_000
 GROUP = 24
 # What a check of a crate reads.
 PARTS = ("src", "specs", "proofs")
-# What stands behind the name of a function in that of a copy with a wrong body, before the number of this.
+# What stands after the name of a function in that of a copy with a wrong body, before the number of this.
 COPY = "_with_wrong_body_"
 # A body that is of each type and calls nothing, and a proof that is a hole: what calls such a function rests on its contract.
 LOOP = "\n{indent}    loop {{}}\n"
@@ -71,11 +71,11 @@ STOPPED = re.compile(r"may hold\b|could not tell|stopped at its own limit|step l
 
 
 class WrongBody:
-    """A wrong body: its name, its file, the function to be refused, and what stands in place of what."""
+    """A wrong body: its name, its file, the function to be rejected, and what stands in place of what."""
 
     def __init__(self, crate, file, number):
         self.label = f"{crate}/{os.path.basename(file)[: -len('.edit')]}"
-        self.path = self.function = self.fault = ""
+        self.path = self.function = self.why_not = ""
         self.changes, self.is_alone, self.is_unchanged, old = [], False, False, ""
         # Where its function begins and ends in the file, if it is written into a copy of it, and what the name gets.
         self.copied, self.suffix = None, f"{COPY}{number}"
@@ -92,7 +92,7 @@ class WrongBody:
             elif key == "new":
                 self.changes.append((old, value))
         if not (file.endswith(".edit") and self.path and self.function and self.changes):
-            self.fault = "it is no file .edit with the lines `file:`, `fn:`, `old:` and `new:`"
+            self.why_not = "it is no file .edit with the lines `file:`, `fn:`, `old:` and `new:`"
 
     def leave_unchanged(self):
         """Has its function stand as it is."""
@@ -103,7 +103,7 @@ class WrongBody:
         found, left = [], text
         for old, new in self.changes:
             if left.count(old) != 1:
-                self.fault = f"its old text stands in {self.path} {left.count(old)} times, and not once"
+                self.why_not = f"its old text stands in {self.path} {left.count(old)} times, and not once"
             at = left.find(old)
             left = left.replace(old, "\0" * len(old))
             around = function_at(text, at)
@@ -117,7 +117,7 @@ class WrongBody:
         return self.function + self.suffix if self.copied else self.function
 
     def pieces(self, text):
-        """Returns what has to stand in place of what in the text of its file: a copy behind the function, or the changes."""
+        """Returns what has to stand in place of what in the text of its file: a copy after the function, or the changes."""
         places = self.places(text)
         if not self.copied:
             return places
@@ -142,11 +142,11 @@ class WrongBody:
 
 
 class Verdict:
-    """What there is to say of a wrong body: it is refused, refused in a way that shows nothing, or neither; or, where it
+    """What there is to say of a wrong body: it is rejected, rejected in a way that shows nothing, or neither; or, where it
     was left unchanged, that it is proved."""
 
-    REFUSED, GAVE_UP, APART, FAILED, PROVED = ("refused", "refused by a search that gave up at a limit",
-                                               "refused by its written proof alone", "FAILED", "proved, unchanged")
+    REJECTED, GAVE_UP, APART, FAILED, PROVED = ("rejected", "rejected by a search that gave up at a limit",
+                                               "rejected by its written proof alone", "FAILED", "proved, unchanged")
 
     def __init__(self, body, outcome, why):
         self.body, self.label, self.crate, self.outcome = body, body.label, body.label.partition("/")[0], outcome
@@ -189,7 +189,7 @@ def assume(directory, crate, functions):
 
 
 def body_of(text, header):
-    """Returns where the body of a function begins and ends, behind this match of HEADER, if it has one: by the layout of
+    """Returns where the body of a function begins and ends, after this match of HEADER, if it has one: by the layout of
     `rt fmt`, in which its brackets end the line of the head and stand at the head's place."""
     indent = header["indent"]
     begin = re.compile(rf"(?m)(?:\A.*|^{indent}(?:\).*)?)\{{$").search(text[header.end():])
@@ -252,14 +252,14 @@ class Trial:
 
     def begin(self, bodies, submit):
         """Has the crate proved as it stands, and submits the groups. It tells of each body once, here or there."""
-        for it in [it for it in bodies if not it.fault]:
+        for it in [it for it in bodies if not it.why_not]:
             with open(f"crates/{self.crate}/{it.path}", encoding="utf-8") as file:
                 it.places(file.read())
-        whole = [it for it in bodies if not it.fault]
+        whole = [it for it in bodies if not it.why_not]
         why = proved.supply(proved.crates()[self.crate].below) or self.lacks_proof(whole)
         for it in bodies:
-            if it.fault or why:
-                self.tell(Verdict(it, Verdict.FAILED, f"bad edit: {it.fault}" if it.fault else f"not tried: {why}"))
+            if it.why_not or why:
+                self.tell(Verdict(it, Verdict.FAILED, f"bad edit: {it.why_not}" if it.why_not else f"not tried: {why}"))
         for group in [] if why else groups_of(whole):
             submit(self.try_group, group)
 
@@ -296,7 +296,7 @@ class Trial:
                 it.write(text)
 
     def try_group(self, group):
-        """Tries a group, and alone once more each of it that was not refused, and tells of each."""
+        """Tries a group, and alone once more each of it that was not rejected, and tells of each."""
         for it, was in zip(group, self.tried(group)):
             is_final = was.outcome != Verdict.FAILED or len(group) == 1
             self.tell(was if is_final else self.tried([it])[0])
@@ -350,7 +350,7 @@ class Trial:
         is_searched = bool(above or SEARCHED.search(line))
         ended = [it for it in above if not GAVE_UP.search(it)]
         if is_searched and (ended or not above) and "could not tell" not in line:
-            return Verdict(body, Verdict.REFUSED, (ended or [line])[0])
+            return Verdict(body, Verdict.REJECTED, (ended or [line])[0])
         stopped = next((it for it in (line, *errors, *told_of(lines, proof)) if STOPPED.search(it)), "")
         if stopped:
             return Verdict(body, Verdict.FAILED, f"the prover could not tell, or stopped at a limit: {stopped}")
@@ -358,7 +358,7 @@ class Trial:
             return Verdict(body, Verdict.GAVE_UP, (above or [line])[0])
         if errors or line.startswith("not proved") and "it calls `" not in line:
             return Verdict(body, Verdict.APART, (errors or [line])[0])
-        return Verdict(body, Verdict.FAILED, f"it is not refused for a goal of its own: {line}")
+        return Verdict(body, Verdict.FAILED, f"it is not rejected for a goal of its own: {line}")
 
 
 def told_of(lines, proof):
@@ -455,12 +455,12 @@ def main(words):
         if verdict.outcome in (Verdict.GAVE_UP, Verdict.APART):
             wrong.append(f"{verdict.label} is {verdict.outcome}: aim it at a smaller function")
     for crate, counted in outcomes.items():
-        kinds = (Verdict.REFUSED, Verdict.GAVE_UP, Verdict.APART, Verdict.FAILED)
+        kinds = (Verdict.REJECTED, Verdict.GAVE_UP, Verdict.APART, Verdict.FAILED)
         kinds = (Verdict.PROVED, Verdict.FAILED) if is_unchanged else kinds
         print(f"{crate}: " + ", ".join(f"{counted[it]} {it}" for it in kinds))
     for it in wrong:
         print(f"FAILED: {it}")
-    passed = sum(it[Verdict.REFUSED] + it[Verdict.PROVED] for it in outcomes.values())
+    passed = sum(it[Verdict.REJECTED] + it[Verdict.PROVED] for it in outcomes.values())
     failed = sum(it[Verdict.FAILED] for it in outcomes.values()) + len(wrong)
     print(f"{passed} passed, {failed} failed")
     return 1 if failed or not tasks else 0

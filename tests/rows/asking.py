@@ -64,7 +64,7 @@ def ask(name, *words):
 
 
 # The kind and the text of each named error.
-FAULTS = {name: (kind, text) for name, _, kind, text in ERRORS}
+BY_NAME = {name: (kind, text) for name, _, kind, text in ERRORS}
 
 
 @dataclass(frozen=True)
@@ -81,9 +81,9 @@ class Answer:
         """Returns what is different in a line that was answered, or nothing."""
         head, _, tail = line.partition(" | ")
         words = head.split(" ")
-        is_fault = words[0] == "err"
-        said = dict(it.partition("=")[::2] for it in [*words[1:] * (not is_fault), *tail.split()])
-        has = head if is_fault else words[0]
+        is_error = words[0] == "err"
+        said = dict(it.partition("=")[::2] for it in [*words[1:] * (not is_error), *tail.split()])
+        has = head if is_error else words[0]
         wanted = {**self.values, "stdout": self.stdout, "stderr": self.stderr, "typed_left": self.typed_left}
         wrong = [] if has == self.head else [f"it is `{has}` and not `{self.head}`"]
         wrong += [f"{name} is {said.get(name)} and not {spelled(value)}" for name, value in wanted.items()
@@ -97,9 +97,9 @@ def gives(stdout=b"", stderr=b"", typed_left=0, **values):
     return Answer("ok", values, stdout, stderr, typed_left)
 
 
-def rejected(fault, stdout=b"", stderr=b"", typed_left=0, text=None, **values):
-    """The call is rejected with this named fault, or with this text of it where the text names keys."""
-    kind, usual = FAULTS[fault]
+def rejected(error, stdout=b"", stderr=b"", typed_left=0, text=None, **values):
+    """The call is rejected with this named error, or with this text of it where the text names keys."""
+    kind, usual = BY_NAME[error]
     return Answer(f"err {kind} {spelled(text or usual)}", values, stdout, stderr, typed_left)
 
 

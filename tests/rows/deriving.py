@@ -44,9 +44,9 @@ def keys():
     yield derived(b"", b"", 15, 8, 1)
 
 
-def asked(name, numbers, fault):
+def asked(name, numbers, error):
     """A row of a key that is rejected so."""
-    return Row(f"scrypt: {name}: {numbers}", ask("scrypt", *numbers, b"pw", b"salt"), rejected(fault))
+    return Row(f"scrypt: {name}: {numbers}", ask("scrypt", *numbers, b"pw", b"salt"), rejected(error))
 
 
 def rejections():
@@ -54,8 +54,8 @@ def rejections():
     for n_log2, r, p in ((4, 1, 1), (53, 8, 1)):
         yield asked("no bytes", (n_log2, r, p, 0), "InvalidOutputLength")
     for n_log2, r, p in ((53, 8, 1), (54, 7, 1), (63, 8, 1)):
-        fault = "OutOfMemory" if 128 * r << n_log2 < 1 << 64 else "InvalidParameters"
-        yield asked("no memory", (n_log2, r, p, 32), fault)
+        error = "OutOfMemory" if 128 * r << n_log2 < 1 << 64 else "InvalidParameters"
+        yield asked("no memory", (n_log2, r, p, 32), error)
     for n_log2, r, p in ((0, 8, 1), (1, 0, 1), (1, 1, 0), (16, 1, 1), (32, 2, 1), (1, 32768, 32768), (1, 8, 134217728),
                          (1, 1 << 30, 1), (1, 1, 1 << 30), (54, 8, 1), (55, 4, 1), (63, 4, 1), (64, 8, 1), (255, 16, 1),
                          (255, (1 << 32) - 1, 1), (1, (1 << 32) - 1, (1 << 32) - 1)):
@@ -75,13 +75,13 @@ def limits():
     ):
         request = ask("raw_scrypt_params", memory, operations, 20)
         yield Row(f"limits: {memory} and {operations}", request, gives(n_log2=n_log2, r=8, p=p))
-    for memory, operations, greatest, fault in (
+    for memory, operations, greatest, error in (
         (0, 1 << 40, 20, "InvalidParameters"),
         (1 << 31, 1 << 40, 20, "ParametersTooHigh"),
         (33554432, 1048576, 14, "ParametersTooHigh"),
     ):
         request = ask("raw_scrypt_params", memory, operations, greatest)
-        yield Row(f"limits: not {memory} and {operations}", request, rejected(fault))
+        yield Row(f"limits: not {memory} and {operations}", request, rejected(error))
 
 
 def rows(directory):

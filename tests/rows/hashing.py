@@ -8,7 +8,7 @@ from asking import OUTSIDE, Row, Word, ask, gives, rejected
 # Appendix A of RFC 7693.
 OF_ABC = bytes.fromhex("ba80a53f981c4d0d6a2797b69f12f6e94c212f14685ac4b74b12bb6fdbffa2d1"
                        "7d87c5392aab792dc252d5de4533cc9518d38aa8dbf1925ab92386edd4009923")
-# Places behind which a message is cut in two.
+# Places after which a message is cut in two.
 CUTS = (1, 127, 128, 129, 255, 256, 257)
 WHOLE = Word("-")
 
@@ -35,7 +35,7 @@ def digests():
         message = counted_to(250, length)
         yield hashed(f"{length} bytes at once", message)
         for cut in CUTS:
-            yield hashed(f"{length} bytes cut behind {cut}", message, Word(str(cut)))
+            yield hashed(f"{length} bytes cut after {cut}", message, Word(str(cut)))
     for length in (127, 128, 129, 255, 256, 257, 385):
         each = Word(",".join(map(str, range(1, length))))
         yield hashed(f"{length} bytes one by one", counted_to(255, length), each)
@@ -61,7 +61,7 @@ def numbers():
 
 
 def moments():
-    """Moments before and behind those that 32 bits hold, with a sign (2038) and without (2106), and a clock that cannot
+    """Moments before and after those that 32 bits hold, with a sign (2038) and without (2106), and a clock that cannot
     be read."""
     for moment in (0, 1, 1700000000, (1 << 31) - 1, 1 << 31, (1 << 32) - 1, 1 << 32, (1 << 63) - 1):
         yield Row(f"clock: {moment}", ask("unix_timestamp", moment), gives(out=moment))

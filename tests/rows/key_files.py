@@ -44,8 +44,8 @@ def signature(comment=b"c"):
 
 @dataclass(frozen=True)
 class Kind:
-    """What a file is read as: the request, the words behind the path, and how many typed lines are left where nothing
-    is asked; what stands behind the first line, without the last line feed; and the answer with the comment `c` and
+    """What a file is read as: the request, the words after the path, and how many typed lines are left where nothing
+    is asked; what stands after the first line, without the last line feed; and the answer with the comment `c` and
     with a long one."""
 
     name: str
@@ -57,7 +57,7 @@ class Kind:
     read_long: Answer
 
     def row(self, name, path, answer):
-        """A row that reads a file, and where a fault is named is rejected so."""
+        """A row that reads a file, and where an error is named is rejected so."""
         if isinstance(answer, str):
             answer = rejected(answer, typed_left=self.left)
         return Row(f"{self.name} file: {name}", ask(self.request, path, *self.words), answer)
@@ -140,18 +140,18 @@ def without_permissions(directory):
             yield kind.row("it may not be read", path, UNREADABLE)
 
 
-def behind(directory, kind, name, line, answer, letter, fault):
-    """The body is read behind this line, with and without a long line behind it, and a letter behind it is rejected."""
+def after_line(directory, kind, name, line, answer, letter, error):
+    """The body is read after this line, with and without a long line after it, and a letter after it is rejected."""
     for more, text, expected in (("nothing", b"", answer), ("a long line", b"\n" + LETTERS, answer),
-                                 ("a letter", letter, fault)):
+                                 ("a letter", letter, error)):
         path = put(directory, f"{kind.name}: {name}, {more}", line + kind.body + text)
-        yield kind.row(f"{name}, and {more} behind the text", path, expected)
+        yield kind.row(f"{name}, and {more} after the text", path, expected)
 
 
-def whole(directory, kind, fed, letter, fault):
-    """The same behind a short comment and a long one; a line feed before them is rejected."""
-    yield from behind(directory, kind, "a short comment", COMMENT, kind.read, letter, fault)
-    yield from behind(directory, kind, "a long comment", LONG_COMMENT, kind.read_long, letter, fault)
+def whole(directory, kind, fed, letter, error):
+    """The same after a short comment and a long one; a line feed before them is rejected."""
+    yield from after_line(directory, kind, "a short comment", COMMENT, kind.read, letter, error)
+    yield from after_line(directory, kind, "a long comment", LONG_COMMENT, kind.read_long, letter, error)
     path = put(directory, f"{kind.name}: fed", public_keys.FED + kind.body)
     yield kind.row("a line feed before the comment", path, fed)
 
@@ -167,7 +167,7 @@ def names_with_blanks(directory):
     """Blanks at both ends belong to a path: a file under this name is read, and one under the other name is not
     there."""
     for kind in KINDS:
-        for place, name in (("before", f" {kind.name} led by a blank"), ("behind", f"{kind.name} ended by one ")):
+        for place, name in (("before", f" {kind.name} led by a blank"), ("after", f"{kind.name} ended by one ")):
             path = put(directory, name, COMMENT + kind.body + b"\n")
             yield kind.row(f"a blank {place} its name", path, kind.read)
             yield kind.row(f"a blank {place} its name is left out", path.strip(), UNREADABLE)

@@ -97,13 +97,13 @@ def sealed_pairs_under_typed_passwords():
     """The password is asked for twice, once all is drawn. Both texts are written, the secret one with the comment by
     default, or none of them."""
     nothing = {"sink1": b"", "sink2": b""}
-    asked = lambda fault, told: rejected(fault, drawn=DRAWN, stdout=told, **nothing)
+    asked = lambda error, told: rejected(error, drawn=DRAWN, stdout=told, **nothing)
     for name, lines, answer in (
         ("a letter", typed("p", "p"), made_sealed("p", stdout=SHOWN)),
-        ("empty passwords, and a line behind them", typed("\r", "", "x"),
+        ("empty passwords, and a line after them", typed("\r", "", "x"),
          made_sealed("", stdout=MARKED, typed_left=1)),
         ("two passwords that differ", typed("a", "b"), asked("PasswordsDiffer", TWICE)),
-        ("the end behind the first password", typed("a"), asked("EndOfInput", TWICE)),
+        ("the end after the first password", typed("a"), asked("EndOfInput", TWICE)),
         ("the end at once", NOTHING_TYPED, asked("EndOfInput", ONCE)),
     ):
         yield writing_sealed(name, COUNTED, (sink(), sink()), None, lines, answer)

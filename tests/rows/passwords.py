@@ -6,7 +6,7 @@ ASKED = b"Password: "
 EMPTY = ASKED + b"<empty>\n"
 
 
-def rows(folder):
+def rows(directory):
     """Yields all rows; none needs a directory. Of a line that is too long the 1026th byte and what follows are left."""
     too_long = lambda left: rejected("PasswordTooLong", stdout=ASKED, typed_left=left)
     for name, lines, answer in (

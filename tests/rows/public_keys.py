@@ -7,7 +7,7 @@ from asking import Row, ask, gives, rejected
 
 RECORD = b"Ed" + toy.KEYNUM + toy.KEY
 LINE = base64.b64encode(RECORD)
-# The first line of key A's text, behind an empty one: it has as many letters as an encoded key.
+# The first line of key A's text, after an empty one: it has as many letters as an encoded key.
 FED = b"\nuntrusted comment: minisign public key: 0807060504030201\n"
 
 # A key of the upstream tool, and how that tool shows its identifier.
@@ -82,7 +82,7 @@ def boxes():
     yield box("carriage returns", b"c\r\n" + LINE + b"\r\n", KEY_A)
     yield box("an empty comment, and more lines", b"\n" + LINE + b"\nmore\nlines", KEY_A)
     yield box("two carriage returns", b"c\n" + LINE + b"\r\r\n", LENGTH)
-    yield box("a letter behind the key", b"c\n" + LINE + b"A\n", LENGTH)
+    yield box("a letter after the key", b"c\n" + LINE + b"A\n", LENGTH)
     yield box("a blank before the key", b"c\n " + LINE + b"\n", LENGTH)
     yield box("the last letter is none of base64", b"c\n" + LINE[:55] + b"!\n", NOT_BASE64)
     yield box("a blank before all letters but one", b"c\n " + LINE[:55] + b"\n", NOT_BASE64)
@@ -97,7 +97,7 @@ def bare_keys():
     bare = lambda name, text, answer: Row(f"bare key: {name}", ask("pk_from_base64", text), answer)
     yield bare("another key", OTHER, key(base64.b64decode(OTHER)))
     yield bare("a blank before it", b" " + OTHER, BARE_NOT_BASE64)
-    yield bare("a line feed behind it", OTHER + b"\n", BARE_NOT_BASE64)
+    yield bare("a line feed after it", OTHER + b"\n", BARE_NOT_BASE64)
     yield bare("58 letters", LONGER, BARE_LENGTH)
     yield bare("nothing", b"", BARE_LENGTH)
     yield bare("a shorter key that is filled up", LINE[:54] + b"o=", TOO_SHORT)

@@ -152,7 +152,7 @@ def that_no_password_opens():
     """What no password opens is rejected before one is asked for. Other key derivations than the one that opens come
     before the limits, which are too high here."""
     too_high = Limits(MOST_MEMORY + 1)
-    for name, text, fault in (
+    for name, text, error in (
         ("nothing", b"", "MissingSecretKeyComment"),
         ("a comment alone", b"c\n", "MissingEncodedSecretKey"),
         ("no base64", b"c\n!\n", "SecretKeyNotBase64"),
@@ -163,7 +163,7 @@ def that_no_password_opens():
         ("an unknown key derivation without limits", text_of(KEY_A.record(b"Xx")), "UnsupportedEncryptionAlgorithm"),
         ("scrypt in another case", text_of(KEY_A.record(b"SC", too_high)), "UnsupportedEncryptionAlgorithm"),
     ):
-        yield opening(f"is rejected unasked: {name}", text, None, typed("p"), rejected(fault, typed_left=1))
+        yield opening(f"is rejected unasked: {name}", text, None, typed("p"), rejected(error, typed_left=1))
 
 
 def with_typed_passwords():
@@ -188,7 +188,7 @@ def with_typed_passwords():
 def with_other_limits():
     """The limits are tested once the password is there, and before the derivation. Key A's record that is not sealed
     restores no checksum."""
-    for name, limits, fault, told in (
+    for name, limits, error, told in (
         ("one byte of memory too many", Limits(MOST_MEMORY + 1), "ParametersTooHigh", DERIVING),
         ("the greatest number of bytes", Limits(GREATEST), "ParametersTooHigh", DERIVING),
         ("too many parts", Limits(0, TOO_MANY_OPERATIONS), "InvalidParameters", DERIVING),
@@ -197,8 +197,8 @@ def with_other_limits():
         ("small limits", SMALL, "WrongPassword", DONE),
     ):
         text = text_of(KEY_A.record(SCRYPT, limits))
-        yield opening(f"limits: {name}, typed", text, None, typed("p"), rejected(fault, stdout=told))
-        yield opening(f"limits: {name}, passed in", text, "p", typed("typed"), rejected(fault, typed_left=1))
+        yield opening(f"limits: {name}, typed", text, None, typed("p"), rejected(error, stdout=told))
+        yield opening(f"limits: {name}, passed in", text, "p", typed("typed"), rejected(error, typed_left=1))
 
 
 def never_sealed():

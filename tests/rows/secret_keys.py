@@ -73,7 +73,7 @@ def boxes():
     yield box("more lines", b"c\n" + LINE + b"\nmore\nlines", KEY_A)
     yield box("two carriage returns", b"c\n" + LINE + b"\r\r\n", NOT_BASE64)
     yield box("a carriage return at the end", b"c\n" + LINE + b"\r", NOT_BASE64)
-    yield box("a blank behind the key", b"c\n" + LINE + b" \n", NOT_BASE64)
+    yield box("a blank after the key", b"c\n" + LINE + b" \n", NOT_BASE64)
     yield box("a blank before the key", b"c\n " + LINE + b"\n", NOT_BASE64)
     yield box("an empty line before the key", b"c\n\n" + LINE + b"\n", TOO_SHORT)
     yield box("two line feeds before the key", b"\n\n" + LINE, TOO_SHORT)

@@ -113,10 +113,10 @@ def bones_have_no_text():
 
 
 def outcome_of_beginning(length):
-    """What comes of so many bytes of the worked text, of which the lines end behind 21, 122, 141 and 230."""
-    for end, fault in ((0, NO_FIRST), (21, NO_SECOND), (122, NO_THIRD), (141, NO_FOURTH)):
+    """What comes of so many bytes of the worked text, of which the lines end after 21, 122, 141 and 230."""
+    for end, error in ((0, NO_FIRST), (21, NO_SECOND), (122, NO_THIRD), (141, NO_FOURTH)):
         if length <= end:
-            return fault
+            return error
     if length >= 229:
         return ACCEPTED
     return COMMENT_REJECTED if (length - 141) % 4 == 0 else NOT_BASE64
@@ -137,7 +137,7 @@ def lines_in_their_order():
     """Lines that are missing come first, then the first line, the second, the third, and the fourth."""
     cut = base64.b64encode(PREHASHED_RECORD[:73])
     unknown = base64.b64encode(b"Ex" + PREHASHED_RECORD[2:])
-    for name, text, fault in (
+    for name, text, error in (
         ("nothing", b"", NO_FIRST),
         ("one line", b"a", NO_SECOND),
         ("three empty lines", b"\n\n\n", NO_FOURTH),
@@ -149,8 +149,8 @@ def lines_in_their_order():
         ("an unknown algorithm", FIRST + b"\n" + unknown + b"\ntrusted comment: t\n!", UNSUPPORTED),
         ("a wrong fourth line", FIRST + b"\n" + SECOND + b"\ntrusted comment: t\n!", NOT_BASE64),
     ):
-        yield read(f"lines: {name}, read", text, rejected(fault))
-        yield from judged(f"lines: {name}, verified", text, fault)
+        yield read(f"lines: {name}, read", text, rejected(error))
+        yield from judged(f"lines: {name}, verified", text, error)
 
 
 def odd_text(front="", end="\n", before="", fourth=FOURTH):
@@ -185,7 +185,7 @@ def odd_fourth_lines():
         ("longer", base64.b64encode(changed + b"\x07"), ACCEPTED),
         ("much longer", long, ACCEPTED),
         ("much longer, with a letter that is none", long[:74] + b"!" + long[75:], NOT_BASE64),
-        ("much longer, with a letter that is none behind its 64 bytes", long[:200] + b"!" + long[201:], NOT_BASE64),
+        ("much longer, with a letter that is none after its 64 bytes", long[:200] + b"!" + long[201:], NOT_BASE64),
         ("much longer, with padding inside", long[:86] + b"==" + long[88:], NOT_BASE64),
         ("empty", b"", COMMENT_REJECTED),
         ("blanks", " \u00a0".encode(), COMMENT_REJECTED),
@@ -194,7 +194,7 @@ def odd_fourth_lines():
 
 
 def a_longer_second_line():
-    """What stands behind a record is not read, and is not written again."""
+    """What stands after a record is not read, and is not written again."""
     for more in (1, 60):
         text = toy.lines(FIRST, base64.b64encode(PREHASHED_RECORD + bytes(range(more))), THIRD, FOURTH)
         yield from judged(f"a second line with {more} bytes more, verified", text, ACCEPTED)
@@ -270,7 +270,7 @@ def data_of_every_byte():
 
 
 def moments():
-    """The last second of 32 bits with a sign and the one behind it, the same without a sign, and the last of all."""
+    """The last second of 32 bits with a sign and the one after it, the same without a sign, and the last of all."""
     for moment in (2147483647, 2147483648, 4294967295, 4294967296, 18446744073709551615):
         dated = b"timestamp:%d" % moment
         text = toy.signature_text(b"abc", trusted=dated, untrusted=DEFAULT_COMMENT)

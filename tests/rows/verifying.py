@@ -29,7 +29,7 @@ LEGACY = "LegacyNotAccepted"
 UNREAD = "ReadingFailed"
 CHANGED = "DataChanged"
 
-# What comes once the data is read; each other fault of a key or of a signature comes before.
+# What comes once the data is read; each other error of a key or of a signature comes before.
 VERDICTS = (OTHER_KEY, LEGACY, REJECTED, COMMENT_REJECTED)
 OTHER_KEY_SAYS = "Signature key id: 0807060504030201 is different from public key: E7620F1842B4E81F"
 
@@ -100,7 +100,7 @@ class Verifying:
         return Row(name, self.asked(second=second), answer)
 
     def from_place(self, name, front):
-        """Rows of data that is copied, behind so many bytes that were read of it before."""
+        """Rows of data that is copied, after so many bytes that were read of it before."""
         for how, chunk in (("at once", PIECE), ("one byte a read", 1)):
             whole = replace(self, content=front + self.content)
             devices = {} if chunk == PIECE else {"chunk": chunk}
@@ -145,7 +145,7 @@ def bare_legacy_signatures():
 
 
 def records():
-    """Short records are rejected, before an unknown algorithm; what stands behind a record is not read."""
+    """Short records are rejected, before an unknown algorithm; what stands after a record is not read."""
     unknown = b"Ex" + PREHASHED_RECORD[2:]
     yield from bare(PREHASHED_RECORD[:73]).rows("bare: a short signature", "RecordTooShort")
     yield from bare(key=RECORD[:41]).rows("bare: a short key", "RecordTooShort")
@@ -179,7 +179,7 @@ def failing_data_of_bare_signatures():
     ):
         for read in (1, 2, 3, 4):
             yield asked.failing(f"bare: {name}, read {read} fails", read, UNREAD)
-        yield asked.failing(f"bare: {name}, a read behind the end would fail", 5, verdict)
+        yield asked.failing(f"bare: {name}, a read after the end would fail", 5, verdict)
 
 
 def a_quiet_run():

@@ -51,7 +51,7 @@ int clock_gettime(clockid_t clock, struct timespec *found)
     return 0;
 }
 
-/* A pipe with so many bytes that count up from 0, and nothing behind them. */
+/* A pipe with so many bytes that count up from 0, and nothing after them. */
 static int count_to(size_t length)
 {
     unsigned char bytes[256];

@@ -17,7 +17,7 @@ import time
 ROOT = os.path.dirname(os.path.dirname(os.path.dirname(os.path.realpath(__file__))))
 # The environment's name for the file of what `rt ci` says, beside which scripts run.
 SAID = "MINISIGN_RT_CI"
-# The line behind that, once `rt ci` has ended, and one once all has ended that runs beside it but the must-fail edits.
+# The line after that, once `rt ci` has ended, and one once all has ended that runs beside it but the must-fail edits.
 ENDED = "rt ci has ended"
 ALL_ENDED = "all else has ended"
 # What a static library is built for where it is to run in a page.
@@ -47,7 +47,7 @@ class Crate:
 
 @functools.lru_cache(maxsize=None)
 def crates():
-    """The crates of the repository by their names, each behind those below it."""
+    """The crates of the repository by their names, each after those below it."""
     with open(f"{ROOT}/crates.txt", encoding="utf-8") as it:
         left = [line for line in it.read().splitlines() if ":" in line.partition("#")[0]]
     found, names = {}, {line.partition(":")[0].split()[0] for line in left}

@@ -1,5 +1,5 @@
 /* Preloaded into a program, refuses its request for memory number REFUSE_AT, and where REFUSE_REST is
-   set each one behind it too. Says so by one byte on the descriptor REFUSE_SAYS. */
+   set each one after it too. Says so by one byte on the descriptor REFUSE_SAYS. */
 #define _GNU_SOURCE
 #include <dlfcn.h>
 #include <errno.h>

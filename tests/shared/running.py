@@ -183,7 +183,7 @@ class Case:
     stdin: object = b""
     stdout: object = None
     stderr: object = None
-    # Each of its allocations fails in turn; with `all`, all behind it too.
+    # Each of its allocations fails in turn; with `all`, all after it too.
     rejecting: str = ""
     # Each of its calls of the system of this name fails in turn.
     breaking: str = ""

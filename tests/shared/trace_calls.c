@@ -136,7 +136,7 @@ int openat(int directory, const char *path, int flags, ...)
     return say_open(directory, path, flags, mode);
 }
 
-/* Whether a number of two digits or more is written, behind the label of a field or alone. */
+/* Whether a number of two digits or more is written, after the label of a field or alone. */
 static int is_record(const char *bytes, size_t length)
 {
     const char *colon = length < 64 ? memchr(bytes, ':', length) : NULL;

@@ -251,7 +251,7 @@ def rejected_cases():
         ("a password and an empty one", b"a\n\n", TWICE + b"<empty>\n", DIFFERENT),
         ("passwords that differ by a space", b"a\na \n", TWICE, DIFFERENT),
         ("the end of the input at once", b"", ONCE, END_OF_INPUT),
-        ("the end behind the first password", b"a\n", TWICE, END_OF_INPUT),
+        ("the end after the first password", b"a\n", TWICE, END_OF_INPUT),
         ("a password that is too long", longer + b"\n", ONCE, TOO_LONG),
         ("a password that is too long, and the end", longer, ONCE, TOO_LONG),
         ("a second password that is too long", b"a\n" + longer + b"\n", TWICE, TOO_LONG),
@@ -301,7 +301,7 @@ def terminal_cases():
                typed=Typed((b"x" * 1025 + b"\n",)), output=ONCE),
         keygen("the end of the input at once at a terminal", 1, WARNING, END_OF_INPUT,
                typed=Typed((b"\x04",)), output=ONCE),
-        keygen("the end behind the first password at a terminal", 1, WARNING, END_OF_INPUT,
+        keygen("the end after the first password at a terminal", 1, WARNING, END_OF_INPUT,
                typed=Typed((b"a\n", b"\x04")), output=TWICE),
         made("letters and the end in place of a line feed at a terminal", b"p", typed=Typed((b"p\n", b"p\x04\x04"))),
     ]
@@ -439,7 +439,7 @@ def pipe_cases():
 
 def stream_cases():
     """Streams that are closed or full. No file gets the number of a closed stream, so that no prompt and no
-    line of a fault goes into one, and no password is read from one."""
+    line of an error goes into one, and no password is read from one."""
     older = {PK: b"older public", SK: b"older secret"}
     same = Left(older)
     rows = [

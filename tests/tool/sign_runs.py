@@ -223,7 +223,7 @@ def key_cases():
         ("a key that ends inside a letter", OPEN_KEY + b"\xc3", NOT_UTF8),
         ("a public key", toy.public_text(), TOO_SHORT),
         ("a signature", toy.signature_text(b"abc"), TOO_SHORT),
-        ("a key with a space behind it", OPEN_KEY.rstrip(b"\n") + b" \n", "error: invalid base64\n"),
+        ("a key with a space after it", OPEN_KEY.rstrip(b"\n") + b" \n", "error: invalid base64\n"),
         ("a key with a changed checksum", toy.secret_text(last=1), CORRUPTED),
         ("a key with an unknown key derivation", toy.secret_text(kdf=b"Xx"), UNSUPPORTED),
     ]

@@ -424,7 +424,7 @@ def cases(surviving):
             name = f"{task.name}, and a write fails by {errno.errorcode[number]}"
             yield name, lambda it=task, number=number: surviving.failing(it, "write", lambda at: 0, number)
             yield f"{name} half way", lambda it=task, number=number: surviving.failing(it, "write", lambda at: 0, number, BREAK_SHORT=1)
-        # Behind the files themselves their directory is synced, when all are replaced.
+        # After the files themselves their directory is synced, when all are replaced.
         yield f"{task.name}, and a sync fails", lambda it=task, n=count: surviving.failing(it, "fsync", lambda at: 0 if at <= n else n)
         yield (f"{task.name}, and a sync is of no use", lambda it=task, n=count:
                surviving.failing(it, "fsync", lambda at: 0 if at <= n else None, errno.EINVAL))

@@ -348,7 +348,7 @@ def changed_cases():
 
 
 def memory_cases(command):
-    """Each allocation fails. Of a copy that is reported behind the status."""
+    """Each allocation fails. Of a copy that is reported after the status."""
     lines = OneOf(([WARNING, OUT_OF_MEMORY], [WARNING, VERIFIED, OUT_OF_MEMORY]) if command is cat else ([WARNING, OUT_OF_MEMORY],))
     rows = [("a good signature", {}), ("other data", {FILE: b"abd"}), ("an empty key", {PK: b""})]
     return [

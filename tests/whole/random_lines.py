@@ -1,10 +1,10 @@
 #!/usr/bin/env python3
-"""Tries `c/minisign` on random command lines, built with what finds wrong use of memory and undefined behavior.
+"""Tries `c/minisign` on random command lines, built with what finds misuse of memory and undefined behavior.
 
     tests/whole/random_lines.py [SEED [NUMBER]]
 
 Each line has a command, most often with what it needs, and flags, names, comments and passwords of a kind that fits or not, in a
-directory of keys, signatures, texts of other kinds, links, directories and devices. It has to end with 0, 1 or 2 and without a word of
+directory of keys, signatures, texts of other kinds, links, directories and devices. It has to exit with status 0, 1 or 2 and without a word of
 AddressSanitizer or UndefinedBehaviorSanitizer; a file that it does not name stays as it was, no file is left half, no secret key is
 lost or given to others, and nothing is left beside them; what it signs Minisign's own program verifies, and of what it verifies both
 say the same. SEED is drawn where none is given, and printed; with NUMBER that line alone is tried. All 2,000 take a minute on four

@@ -147,7 +147,7 @@ class Breaking:
             raise Failure(f"the kills left {sorted(seen)} new files")
 
     def failing(self, task, number, **how):
-        """A run in which each call fails in turn: it ends with 2 and says why, or does all that it has to."""
+        """A run in which each call fails in turn: it exits with status 2 and says why, or does all that it has to."""
         count = len(task.judges)
 
         def judge(came, status, said, directory):
@@ -172,7 +172,7 @@ class Breaking:
             raise Failure("it writes nothing")
 
     def refused_allocations(self, task):
-        """A run with each of its allocations failing in turn ends with 2 and no new file, or does all that it has to."""
+        """A run with each of its allocations failing in turn exits with status 2 and no new file, or does all that it has to."""
         count = len(task.judges)
         for number in range(1, MOST_CALLS):
             with tempfile.TemporaryDirectory(dir=self.place) as directory:

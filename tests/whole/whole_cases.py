@@ -116,7 +116,7 @@ def says(words):
 
 
 def names(words):
-    """Ours says what Minisign says, and behind that these words, which name the text."""
+    """Ours says what Minisign says, and after that these words, which name the text."""
 
     def judge(theirs, ours):
         (one,), (other,) = theirs.ran, ours.ran
@@ -265,7 +265,7 @@ def signing(keys):
         ("of nothing", ("-s", OPEN, "-m", "empty")), ("of nothing, legacy", ("-s", OPEN, "-lm", "empty")),
         ("of files", (*key, "more", "empty")), ("of files with comments", (*key, "more", "-t", "t")),
         ("of files, legacy", (*key, "more", "-l")), ("of files into one", (*key, "-x", "sig", "more")),
-        ("of files, and the flags behind", ("-m", "data", "more", "-s", OPEN)), ("of a path", ("-s", OPEN, "-m", "./data")),
+        ("of files, and the flags after", ("-m", "data", "more", "-s", OPEN)), ("of a path", ("-s", OPEN, "-m", "./data")),
         ("with a public key", (*key, "-p", PUBLIC)), ("with a public key as text", (*key, "-P", keys[PUBLIC].split()[-1])),
         ("with no public key", (*key, "-p", "none.pub")), ("with two public keys", (*key, "-P", "x", "-p", PUBLIC)), ("with no data", ("-s", OPEN, "-m", "none")),
         ("of files, one of which is not there", (*key, "none", "more")), ("with no key", ("-s", "none.key", "-m", "data")),
@@ -296,8 +296,8 @@ def signing(keys):
                             ("a password and CR LF", PASSWORD + b"\r\n"), ("half of it", PASSWORD[:5] + b"\n"), ("a longer one", PASSWORD + b" \n")):
             if not (terminal and b"\r" in typed):
                 yield Case(f"signed with a sealed key and {what}{at}", (Step(("-S", "-s", CLOSED, "-m", "data", "more"), typed, at_terminal=terminal),), files)
-    for what, typed in (("no end", PASSWORD), ("nothing", b""), ("more lines", PASSWORD + b"\nmore\n"), ("a zero behind", PASSWORD + b"\0x\n"),
-                        ("a CR behind", PASSWORD + b"\rx\n")):
+    for what, typed in (("no end", PASSWORD), ("nothing", b""), ("more lines", PASSWORD + b"\nmore\n"), ("a zero after", PASSWORD + b"\0x\n"),
+                        ("a CR after", PASSWORD + b"\rx\n")):
         yield Case(f"signed with a sealed key, and {what} on the pipe", (Step(("-S", "-s", CLOSED, "-m", "data"), typed),), files)
     long = b"x" * 1023
     yield Case("signed with a key and the longest password", (Step(("-S", "-s", "long.key", "-m", "data"), long + b"\n"),),

@@ -42,7 +42,7 @@ def run_signatures(whole, cases):
         for case in cases:
             put_case(directory, case)
             theirs, ours = (run([program, *arguments_of(case)], directory) for program in (whole.theirs, whole.ours))
-            # (that the line behind the first one is right is tested in `whole_words.py`)
+            # (that the line after the first one is right is tested in `whole_words.py`)
             if theirs.status == ours.status == 2 and names_text(theirs.said, ours.said):
                 ours = Answer(ours.status, ours.output, theirs.said)
             wrong, _ = wrong_of(case, theirs, ours, None)

@@ -45,7 +45,7 @@ class Ran:
 
 
 def names_text(theirs, ours):
-    """Whether ours says what Minisign says of a text, and behind that one line more, which names the text."""
+    """Whether ours says what Minisign says of a text, and after that one line more, which names the text."""
     front, _, line = ours.partition(b"\n")
     return theirs == front + b"\n" and re.fullmatch(rb"[^\n]+: [^\n]+\n", line) is not None
 

@@ -148,7 +148,7 @@ class Safety:
                 raise Failure(f"it ended with {status}, and {secret!r} was found so: {found[-20:]}")
 
     def passwords_apart(self):
-        """Bytes behind the line of a password are left on the pipe."""
+        """Bytes after the line of a password are left on the pipe."""
         reader, writer = os.pipe()
         os.write(writer, PASSWORD + b"\nleft over")
         os.close(writer)
@@ -398,7 +398,7 @@ def cases(safety):
     yield "secrets are locked", safety.locked
     for number in (signal.SIGINT, signal.SIGTERM, signal.SIGHUP):
         yield f"secrets after {number.name}", lambda n=number: safety.cleared_by_signal(n)
-    yield "a password and what is behind it", safety.passwords_apart
+    yield "a password and what is after it", safety.passwords_apart
     yield "a key of default limits in little memory", safety.opens_in_little_memory
     yield "a key where memory is short", safety.opens_where_memory_is_short
     yield "a long derivation at a terminal", safety.shows_derivation

@@ -26,7 +26,7 @@ SIGNIFY_SECRET = b"untrusted comment: signify secret key\n" + base64.b64encode(b
 HTML = b"\n<!DOCTYPE html>\n<html><head><title>404</title></head></html>\n"
 GZIP = bytes.fromhex("1f8b0800000000000003") + bytes(range(60))
 
-# First lines of Minisign's and ours that rows of docs/DIFFERENCES.md tell apart: of texts that are no UTF-8, long lines, bytes behind a
+# First lines of Minisign's and ours that rows of docs/DIFFERENCES.md tell apart: of texts that are no UTF-8, long lines, bytes after a
 # record, and the order of the tests.
 NOT_UTF8 = b"stream did not contain valid UTF-8"
 START = b'Untrusted signature comment should start with "untrusted comment: "'
@@ -85,7 +85,7 @@ class Words(Safety):
         return directory
 
     def wrong_text(self, flag, text, words):
-        """A text in place of a public key, of a signature or of a secret key: Minisign's own first line, and behind it one that
+        """A text in place of a public key, of a signature or of a secret key: Minisign's own first line, and after it one that
         names the file and says these words."""
         directory = self.signed(wrong=text)
         arguments = {"-p": ("-Vm", "data", "-p", "wrong"), "-x": ("-Vm", "data", "-p", PUBLIC, "-x", "wrong"),

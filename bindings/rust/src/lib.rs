@@ -35,8 +35,8 @@ pub enum Error {
     UnsupportedAlgorithm,
     /// A signature is over the data itself, and cannot be verified in pieces.
     UnsupportedLegacyMode,
-    /// What `minisign-verify` has no name for: of signing, of keys, of wrong use.
-    Refused(Reason),
+    /// What `minisign-verify` has no name for: of signing, of keys, of usage errors.
+    Rejected(Reason),
 }
 
 impl From<Reason> for Error {
@@ -49,7 +49,7 @@ impl From<Reason> for Error {
             Reason::UNSUPPORTED_ALGORITHM => Error::UnsupportedAlgorithm,
             Reason::BARE_PUBLIC_KEY_LENGTH | Reason::BARE_PUBLIC_KEY_NOT_BASE64 => Error::InvalidEncoding,
             _ if is_of_text => Error::InvalidEncoding,
-            _ => Error::Refused(reason),
+            _ => Error::Rejected(reason),
         }
     }
 }
@@ -69,7 +69,7 @@ impl fmt::Display for Error {
             Error::UnexpectedAlgorithm | Error::UnsupportedLegacyMode => Reason::LEGACY_NOT_ACCEPTED.fmt(f),
             Error::UnexpectedKeyId => Reason::DIFFERENT_KEY_IDS.fmt(f),
             Error::UnsupportedAlgorithm => Reason::UNSUPPORTED_ALGORITHM.fmt(f),
-            Error::Refused(reason) => reason.fmt(f),
+            Error::Rejected(reason) => reason.fmt(f),
         }
     }
 }

@@ -35,9 +35,9 @@ fn verify_in_pieces(case: &[Vec<u8>], len: usize) -> Result<String, Error> {
     let mut verifier = key.verify_stream(&signature)?;
     let (mut rest, mut next) = (&case[1][..], len.max(1));
     while !rest.is_empty() {
-        let (piece, behind) = rest.split_at(next.min(rest.len()));
+        let (piece, later) = rest.split_at(next.min(rest.len()));
         verifier.update(piece);
-        rest = behind;
+        rest = later;
         next += usize::from(len == 0);
     }
     let verdict = verifier.finalize();

@@ -241,7 +241,7 @@ static void answers(void)
 }
 
 /* A copied state goes on by itself; data in pieces is data in one piece, whether asked about before, between or
- * behind. */
+ * after. */
 static void copies(void)
 {
     minisign_state one, two;
