@@ -55,10 +55,6 @@ pub uncounted : {D : Type 0} {P Q : Type 0} (r : Result Unit D) → P → Q → 
 uncounted (Ok x) p q = p
 uncounted (Err e) p q = q
 
-pub both : {D R : Type 0} (P Q : Type 0) (r : Result Unit D) → MatchResult r (λ _. P) (λ _. Q) → R → MatchResult r (λ _. P × R) (λ _. Q × R)
-both P Q (Ok x) fact more = (fact, more)
-both P Q (Err e) fact more = (fact, more)
-
 -- the directory alone was called
 pub alone : {D : Type 0} (P Q : Type 0) (a : Option (List ℕ)) (b : List ℕ) (r : Result Unit D) → MatchResult r (λ _. P) (λ _. Q) → MatchResult r (λ _. P × (a ≡ a) × (b ≡ b)) (λ _. Q × (a ≡ a) × (b ≡ b))
 alone P Q a b (Ok x) fact = (fact, refl, refl)

@@ -1,6 +1,6 @@
 -- What the parts of an installation come to.
-use Rattle.minisign_install.proofs.Common.{◌≡◌, ◌≤◌, ◌<◌, ◌^◌, inl, inr, ⊎_elim, ℕ, Bool, List, Option, Some, None, ap, sym, subst, ◌∙◌, true, arith, Verifier, InstallsLocked, MayBePublished, IsKeptNumber, MayBeInstalled, MayBeRecorded, IsUpdate, NeverFalls, RecordsFirst, PublishesInOrder, Terms, Numbering, Clears, HasStepped, IsFound, Moment, Finds, Run, Name, Place, Record, IsNumberFor, record_of, PublishesNothing, PublishesOnly, IsNumberFrom, RecordHolds, MayLead}
-use Rattle.minisign_install.proofs.Works.{lasting_keeps, HasRecorded, IsOnly, publishes_nothing, publishes_trans, publishes_weaken}
+use Rattle.minisign_install.proofs.Common.{◌≡◌, ◌≤◌, ◌<◌, ◌^◌, inl, inr, ⊎_elim, ℕ, Bool, List, Option, Some, None, sym, subst, ◌∙◌, true, arith, Verifier, InstallsLocked, MayBePublished, IsKeptNumber, MayBeInstalled, MayBeRecorded, IsUpdate, NeverFalls, RecordsFirst, PublishesInOrder, Terms, Numbering, ClearsAll, HasStepped, IsFound, Moment, Finds, Run, Name, Place, Record, IsNumberFor, record_of, PublishesNothing, PublishesOnly, IsNumberFrom, RecordHolds, MayLead}
+use Rattle.minisign_install.proofs.Works.{HasRecorded, IsOnly, publishes_nothing, publishes_trans, publishes_weaken}
 use Rattle.minisign_install.proofs.RecordTexts.{record_reads, same_number}
 use Rattle.std.proofs.lemmas.Option.{none-some}
 
@@ -49,7 +49,7 @@ module _ (accepts : Verifier) (terms : Terms) (kept : ℕ) where
   places_update n bytes old mid new locked to_record recorded is publishes =
       let placed = publishes_weaken (IsOnly Place bytes) (MayBeInstalled accepts terms kept n) mid new
       (λ name b only. (only.0, subst (λ u. IsUpdate accepts terms kept u n) (sym only.1) is)) publishes in
-      let keeps : RecordHolds terms.numbering n mid.now = lasting_keeps terms.numbering n mid.now (record_of terms.numbering n) recorded.lasts (number_from terms.numbering n n is.says.number.bound (omega arith)) in
+      let keeps : RecordHolds terms.numbering n mid.now = recorded.lasts terms.numbering n (number_from terms.numbering n n is.says.number.bound (omega arith)) in
       record {
         publishes = publishes_trans P old mid new (places_record old mid to_record).publishes
             (publishes_weaken (MayBeInstalled accepts terms kept n) P mid new (λ name b q. subst (λ x. MayBePublished accepts terms kept x b) (sym q.0) (n, q.1)) placed);
@@ -74,12 +74,12 @@ found_back m m' (Some bytes) leads holds (f, led, are) =
     let there : m.leads Record ≡ Some f = sym leads ∙ led in
     (f, there, sym (holds f (inl there)) ∙ are)
 
-pub found_first : (found : Option (List ℕ)) (old cleared read : Run) → old.locked ≡ true → HasStepped old cleared Clears → HasStepped cleared read (Finds Record found) → IsFound old.now Record found
+pub found_first : (found : Option (List ℕ)) (old cleared read : Run) → old.locked ≡ true → HasStepped old cleared ClearsAll → HasStepped cleared read (Finds Record found) → IsFound old.now Record found
 found_first found old cleared read locked clear s =
     let first = clear.others.record_left locked in
     let then = s.others.record_left (clear.locked locked) in
-    found_back old.now clear.before found first.leads first.holds (found_back clear.before cleared.now found (ap (λ l. l Record) clear.this.leads) (λ f led. ap (λ h. h f) clear.this.holds)
-    (found_back cleared.now s.before found then.leads then.holds s.this.found_there))
+    found_back old.now clear.before found first.leads first.holds (found_back clear.before cleared.now found (clear.this.only.leads Record) (λ f led. (clear.this.only.files f (λ no. no)).holds)
+    (found_back cleared.now s.before found then.leads then.holds s.this.seen))
 
 -- a number that was in the record is not above the one that was found there
 kept_least : (numbering : Numbering) (first : Bool) (found : Option (List ℕ)) (kept k : ℕ) (m : Moment) → IsFound m Record found → IsKeptNumber numbering first found kept → RecordHolds numbering k m → k ≤ kept

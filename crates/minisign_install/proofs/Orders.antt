@@ -1,9 +1,9 @@
 -- Whatever outcomes come, a run that makes each call as it is due installs only updates: what stands fast at each call
 -- that is due, and that each outcome leads from there to what stands fast at the next one.
-use Rattle.minisign_install.proofs.Common.{◌≡◌, ◌≢◌, ◌⊎◌, inl, inr, ⊎_elim, ℕ, List, [], ◌∷◌, ◌++◌, true, Option, ap, sym, subst, ◌∙◌, refl, append_assoc, append-nil, Consumes-nil, Consumes-trans, Consumes-whole, Consumes, concat, IsAhead, HasInstalled, InstallsLocked, MayBePublished, IsKeptNumber, MayBeRecorded, IsUpdate, PublishesInOrder, ClearsAll, HasLocked, HasRenamed, HasStepped, IsFound, IsStill, OwnsTheSame, OwnsLess, Perhaps, Moment, Removes, Renames, Run, Name, Place, Record, Calls, CallsNothing, Event, HasRun, Host, Makes, Setting, Writes, WritesInPart, next, Due, Lock, Clear, ReadRecord, Create, Copy, ReadBack, Answer, TakePermissions, Sync, CreateRecord, WriteRecord, SyncRecord, RenameRecord, SyncRecordName, Rename, SyncName, RemoveRecord, Remove, Installed, Outcome, Done, More, Number, Failed, record_of, PublishesNothing, PublishesOnly, HasCleared, HasReached, OwnsNoMore, ⊤, InstallsOnlyUpdates}
+use Rattle.minisign_install.proofs.Common.{◌≡◌, ◌≢◌, ◌⊎◌, inl, inr, ⊎_elim, ℕ, List, [], ◌∷◌, ◌++◌, true, false, Sets, Option, ap, sym, subst, ◌∙◌, refl, append_assoc, append-nil, Consumes-nil, Consumes-trans, Consumes-whole, Consumes, concat, IsAhead, HasInstalled, InstallsLocked, MayBePublished, IsKeptNumber, MayBeRecorded, IsUpdate, PublishesInOrder, ClearsAll, HasLocked, HasRenamed, HasStepped, IsFound, IsStill, OwnsTheSame, Perhaps, Moment, Removes, Renames, Run, Name, Place, Record, Calls, CallsNothing, Event, HasRun, Host, Makes, Setting, Writes, WritesInPart, next, Due, Lock, Clear, ReadRecord, Create, Copy, ReadBack, Answer, TakePermissions, Sync, CreateRecord, WriteRecord, SyncRecord, RenameRecord, SyncRecordName, Rename, SyncName, RemoveRecord, Remove, Installed, Outcome, Done, More, Number, Failed, record_of, PublishesNothing, PublishesOnly, HasCleared, HasReached, OwnsNoMore, ⊤, InstallsOnlyUpdates}
 use Rattle.minisign_install.specs.Order.{Refused}
 use Rattle.minisign_install.proofs.Installs.{found_first, installs, nothing_locked, places_more, places_nothing, places_record, places_update, record_brought}
-use Rattle.minisign_install.proofs.Works.{call_with, HasRecorded, HasStage, IsKept, IsOnly, WorksOn, appending, publishes_none, publishes_nothing, publishes_trans, cleared_step, cleared_then, clearing, created_publishes, created_keeps, created_stage, giving, kept_no_more, lasting, less_let_go, names_publish, names_keep, directory_synced, no_more_trans, perhaps, published, removed_publishes, renamed_publishes, renamed_keeps, resting_publishes, syncing, spoiling, works_none, works_trans}
+use Rattle.minisign_install.proofs.Works.{call_with, HasRecorded, HasStage, IsKept, IsOnly, WorksOn, publishes_none, publishes_nothing, publishes_trans, cleared_then, created_publishes, created_keeps, created_stage, kept_no_more, lasting, less_let_go, file_before, names_keep, no_more_trans, perhaps, published, quiet, renamed_publishes, renamed_keeps, resting_publishes, spoiling, works_none, works_trans}
 
 -- == What stands fast ==
 
@@ -113,20 +113,20 @@ writes_work : (name : List ℕ) (file : ℕ) (pieces : List (List ℕ)) (old new
 writes_work name file [] old new stage same =
     subst (λ r. WorksOn name file old r × (r.now.holds file ≡ old.now.holds file ++ [])) (sym same) (works_none name file old stage, sym (append-nil (old.now.holds file)))
 writes_work name file (piece ∷ more) old new stage (mid, (step, own), rest) =
-    let (first, grown) = appending name file piece old mid stage step own in
+    let first = spoiling stage step step.this.spoils own in
     let (then, more_grown) = writes_work name file more mid new first.stage rest in (
       works_trans name file old mid new first then,
-      more_grown ∙ ap (λ l. l ++ concat more) grown ∙ append_assoc (old.now.holds file) piece (concat more),
+      more_grown ∙ ap (λ l. l ++ concat more) (step.this.grown ∙ ap (λ h. h ++ piece) (file_before step stage).holds) ∙ append_assoc (old.now.holds file) piece (concat more),
     )
 
 quiet_part : (name : List ℕ) (file : ℕ) (old new : Run) → HasStage old name file → WritesInPart file old new → IsQuiet old new
 quiet_part name file old new stage (pieces, mid, writes, (inl same)) = subst (IsQuiet old) (sym same) (quiet_works (writes_work name file pieces old mid stage writes).0)
 quiet_part name file old new stage (pieces, mid, writes, (inr (step, own))) =
     let first = (writes_work name file pieces old mid stage writes).0 in
-    quiet_works (works_trans name file old mid new first (spoiling name file mid new first.stage step own))
+    quiet_works (works_trans name file old mid new first (spoiling first.stage step step.this own))
 
 pub removal_publishes : (name : List ℕ) (old new : Run) → HasStepped old new (Perhaps (Removes name)) → PublishesNothing old new
-removal_publishes name old new s = ⊎_elim (λ still. resting_publishes old new still) (λ removed. removed_publishes N name old new removed) (perhaps (Removes name) old new s)
+removal_publishes name old new s = ⊎_elim (λ still. resting_publishes old new still) (λ removed. quiet removed removed.this.only) (perhaps (Removes name) old new s)
 
 pub reached_more : {This : Moment → Type 0} {P : Name → List ℕ → Type 0} {old mid new : Run} → HasReached This old mid → PublishesOnly P mid new → HasReached This old new
 reached_more {old = old} r more = record {
@@ -189,7 +189,7 @@ module _ (s : Setting) (a : Host) where
   judged_more {kept = kept} {n = n} x stage holds = record { stage = stage; given = subst (IsAhead a.ahead) (sym holds) x.given; update = subst (λ b. IsUpdate s.accepts s.terms kept b n) (sym holds) x.update }
 
   staged_more : {now then : Run} {kept n : ℕ} → Staged s a now kept n → IsKept now then s.name s.file → Staged s a then kept n
-  staged_more x k = record { judged = judged_more x.judged k.stage k.holds; permissions = k.permissions ∙ x.permissions; on_disk = k.on_disk ∙ x.on_disk }
+  staged_more x k = record { judged = judged_more x.judged k.stage k.same.holds; permissions = k.same.permissions ∙ x.permissions; on_disk = k.same.on_disk ∙ x.on_disk }
 
   locked_so : {P : ℕ → Name → List ℕ → Type 0} {Of : List ℕ → Type 0} {now : Run} → (x : SoFar s a P Of now) → InstallsLocked s.accepts s.terms s.first x.base.locked now
   locked_so {now = now} x = installs s.accepts s.terms s.first x.base.found x.base.kept x.base.locked now x.base.lock.held x.base.there x.base.number x.places
@@ -209,33 +209,33 @@ module _ (s : Setting) (a : Host) where
 
   pub fails : {E : Type 0} (due : Due E) (e : E) (h h' : Host) → Holds s a due h → Makes s due (Failed e) h h' → Fails due h.run h'.run
   fails Lock e h h' x ((still, own), ahead', read') = (resting_publishes h.run h'.run still, kept_no_more h.run h'.run own)
-  fails Clear e h h' x ((clear, own), ahead', read') = (clearing h.run h'.run clear, kept_no_more h.run h'.run own)
+  fails Clear e h h' x ((clear, own), ahead', read') = (quiet clear clear.this, kept_no_more h.run h'.run own)
   fails ReadRecord e h h' x ((still, own), ahead', read') = (resting_publishes h.run h'.run still, kept_no_more h.run h'.run own)
   fails (Create kept) e h h' x (none, ahead', read') = quiet_none h.run h'.run none
   fails (Copy kept) e h h' (x, is, stage, more) part = quiet_part s.name s.file h.run h'.run stage part
   fails (ReadBack kept) e h h' x same = quiet_none h.run h'.run (inl same)
   fails (Answer kept) e h h' x same = quiet_none h.run h'.run (inl same)
-  fails (TakePermissions n) e h h' (x, judged) ((step, own), ahead', read') = quiet_works (spoiling s.name s.file h.run h'.run judged.stage step own)
-  fails (Sync n) e h h' (x, judged, permissions) ((step, own), ahead', read') = quiet_works (spoiling s.name s.file h.run h'.run judged.stage step own)
+  fails (TakePermissions n) e h h' (x, judged) ((step, own), ahead', read') = quiet_works (spoiling judged.stage step step.this own)
+  fails (Sync n) e h h' (x, judged, permissions) ((step, own), ahead', read') = quiet_works (spoiling judged.stage step step.this own)
   fails (CreateRecord n) e h h' x (none, ahead', read') = quiet_none h.run h'.run none
   fails (WriteRecord n) e h h' (x, staged, stage) (part, ahead', read') = quiet_part s.record_name s.record_file h.run h'.run stage.stage part
-  fails (SyncRecord n) e h h' (x, staged, stage) ((step, own), ahead', read') = quiet_works (spoiling s.record_name s.record_file h.run h'.run stage.stage step own)
+  fails (SyncRecord n) e h h' (x, staged, stage) ((step, own), ahead', read') = quiet_works (spoiling stage.stage step step.this own)
   fails (RenameRecord n) e h h' (x, staged, stage, on_disk) ((step, own), ahead', read') =
       ⊎_elim (λ still. stay x (resting_publishes h.run h'.run still, kept_no_more h.run h'.run own))
       (λ done. numbered h.run h'.run n x staged stage on_disk done (λ q e of. (of, sym (ap (λ o. o q) own.owns) ∙ e))) (perhaps (Renames s.record_name Record) h.run h'.run step)
-  fails (SyncRecordName n) e h h' x ((step, own), ahead', read') = (names_publish N h.run h'.run step, kept_no_more h.run h'.run own)
+  fails (SyncRecordName n) e h h' x ((step, own), ahead', read') = (quiet step step.this.only, kept_no_more h.run h'.run own)
   fails (Rename n) e h h' (x, staged, recorded) ((step, own), ahead', read') =
       ⊎_elim (λ still. at_most (stay x (resting_publishes h.run h'.run still, kept_no_more h.run h'.run own)))
       (λ done. placed h.run h'.run n x staged recorded done (λ q e of. (of, sym (ap (λ o. o q) own.owns) ∙ e))) (perhaps (Renames s.name Place) h.run h'.run step)
-  fails (SyncName n) e h h' x ((step, own), ahead', read') = (names_publish N h.run h'.run step, kept_no_more h.run h'.run own)
-  fails (RemoveRecord f) e h h' x ((step, less), ahead', read') = (removal_publishes s.record_name h.run h'.run step, record { only = λ q owned. (less_let_go s.record_name h.run h'.run less q owned).1 })
-  fails (Remove f) e h h' x ((step, less), ahead', read') = (removal_publishes s.name h.run h'.run step, record { only = λ q owned. (less_let_go s.name h.run h'.run less q owned).1 })
+  fails (SyncName n) e h h' x ((step, own), ahead', read') = (quiet step step.this.only, kept_no_more h.run h'.run own)
+  fails (RemoveRecord f) e h h' x (tried, ahead', read') = (removal_publishes s.record_name h.run h'.run tried.stepped, record { only = λ q owned. (less_let_go s.record_name h.run h'.run tried.own q owned).1 })
+  fails (Remove f) e h h' x (tried, ahead', read') = (removal_publishes s.name h.run h'.run tried.stepped, record { only = λ q owned. (less_let_go s.name h.run h'.run tried.own q owned).1 })
   fails due e h h' x never = absurd never
 
-  record_removed : (h h' : Host) → SoFar s a All (ButBoth s) h.run → PublishesNothing h.run h'.run → OwnsLess s.record_name h.run h'.run → SoFar s a All (But s) h'.run
+  record_removed : (h h' : Host) → SoFar s a All (ButBoth s) h.run → PublishesNothing h.run h'.run → Sets s.record_name false h.run.owns h'.run.owns → SoFar s a All (But s) h'.run
   record_removed h h' x none less = go_on x none (λ q e differs. let (other, mine) = less_let_go s.record_name h.run h'.run less q e in ((differs, other), mine))
 
-  removed : (h h' : Host) → SoFar s a All (But s) h.run → PublishesNothing h.run h'.run → OwnsLess s.name h.run h'.run → Refusing s a h'
+  removed : (h h' : Host) → SoFar s a All (But s) h.run → PublishesNothing h.run h'.run → Sets s.name false h.run.owns h'.run.owns → Refusing s a h'
   removed h h' x none less = stopped h' (go_on {Then = Any} x none (λ q e any. less_let_go s.name h.run h'.run less q e))
 
   so_safe : {P : ℕ → Name → List ℕ → Type 0} {Of : List ℕ → Type 0} {now : Run} → SoFar s a P Of now → (now ≡ a.run) ⊎ InstallsOnlyUpdates s.accepts s.terms s.first a.run now
@@ -253,9 +253,9 @@ module _ (s : Setting) (a : Host) where
         inr (h.run, lock, unread h.run h'.run lock none, no_more_trans a.run h.run h'.run (kept_no_more a.run h.run mine) own)
     from ReadRecord (Number n) h h' (l, lock, mine, clear, ahead) ((found, (reads, own), number), ahead', rest) =
         let still = resting_publishes h.run h'.run (call_with reads reads.this.still) in
-        let none = publishes_trans N l h.run h'.run (clearing l h.run (cleared_step l h.run clear.0)) still in (
+        let none = publishes_trans N l h.run h'.run (quiet clear.0 clear.0.this.only) still in (
           record {
-            base = record { locked = l; lock = lock; found = found; kept = n; there = found_first found l h.run h'.run lock.held (cleared_step l h.run clear.0) reads; number = number };
+            base = record { locked = l; lock = lock; found = found; kept = n; there = found_first found l h.run h'.run lock.held clear.0 reads; number = number };
             cleared = cleared_then N l h.run h'.run clear.0 still;
             publishes = none;
             places = places_nothing s.accepts s.terms n l h'.run none;
@@ -269,7 +269,7 @@ module _ (s : Setting) (a : Host) where
         inr (
           l,
           lock,
-          unread l h'.run lock (publishes_trans N l h.run h'.run (clearing l h.run (cleared_step l h.run clear.0)) none),
+          unread l h'.run lock (publishes_trans N l h.run h'.run (quiet clear.0 clear.0.this.only) none),
           no_more_trans a.run l h'.run (kept_no_more a.run l mine) (no_more_trans l h.run h'.run (kept_no_more l h.run clear.1) own),
         )
     from (Create kept) Done h h' (x, is, ahead) (made, ahead', rest) = (
@@ -293,11 +293,12 @@ module _ (s : Setting) (a : Host) where
         subst (λ r. Holds {E = E} s a (TakePermissions n) (record h' { run = r })) (sym run)
         (at_most_record x, record { stage = stage; given = given; update = subst (λ k. IsUpdate s.accepts s.terms k (h.run.now.holds s.file) n) (sym is) (subst (λ b. IsUpdate s.accepts s.terms kept b n) (sym all) update) })
     from (TakePermissions n) Done h h' (x, judged) ((step, own), ahead', read') =
-        let (works, holds, permissions) = giving s.name s.file h.run h'.run judged.stage step own in
-        (stay x (quiet_works works), judged_more judged works.stage holds, permissions)
+        let works = spoiling judged.stage step step.this.spoils own in
+        (stay x (quiet_works works), judged_more judged works.stage (step.this.same ∙ (file_before step judged.stage).holds), step.this.given)
     from (Sync n) Done h h' (x, judged, permissions) ((step, own), ahead', read') =
-        let (works, holds, on_disk, same) = syncing s.name s.file h.run h'.run judged.stage step own in
-        (stay x (quiet_works works), record { judged = judged_more judged works.stage holds; permissions = same ∙ permissions; on_disk = on_disk })
+        let works = spoiling judged.stage step step.this.spoils own in
+        let file = file_before step judged.stage in
+        (stay x (quiet_works works), record { judged = judged_more judged works.stage (step.this.same ∙ file.holds); permissions = step.this.permissions ∙ file.permissions ∙ permissions; on_disk = step.this.on_disk })
     from (CreateRecord n) Done h h' (x, staged) (made, ahead', read') =
         let stage = staged.judged.stage in
         let (names, files, kept) = created_keeps s.record_name s.record_file h.run h'.run made s.name s.file stage in (
@@ -312,11 +313,11 @@ module _ (s : Setting) (a : Host) where
           record { stage = works.stage; names = stage.names; files = stage.files; holds = grown ∙ ap (λ l. l ++ concat pieces) stage.holds ∙ all },
         )
     from (SyncRecord n) Done h h' (x, staged, stage) ((step, own), ahead', read') =
-        let (works, same, on_disk, permissions) = syncing s.record_name s.record_file h.run h'.run stage.stage step own in (
+        let works = spoiling stage.stage step step.this.spoils own in (
           stay x (quiet_works works),
           staged_more staged (works.kept s.name s.file staged.judged.stage stage.files),
-          record { stage = works.stage; names = stage.names; files = stage.files; holds = same ∙ stage.holds },
-          on_disk,
+          record { stage = works.stage; names = stage.names; files = stage.files; holds = step.this.same ∙ (file_before step stage.stage).holds ∙ stage.holds },
+          step.this.on_disk,
         )
     from (RenameRecord n) Done h h' (x, staged, stage, on_disk) (renamed, ahead', read') = (
       numbered h.run h'.run n x staged stage on_disk renamed.stepped (λ q e of. (of, sym (renamed.own.others q of.1) ∙ e)),
@@ -324,17 +325,16 @@ module _ (s : Setting) (a : Host) where
           (renamed_keeps s.record_name Record s.record_file h.run h'.run stage.stage renamed.stepped renamed.own.others s.name s.file staged.judged.stage stage.names stage.files),
       (h.run, stage, on_disk, renamed),
     )
-    from (SyncRecordName n) Done h h' (x, staged, (before, stage, on_disk, renamed)) ((step, own), ahead', read') =
-        let names = directory_synced h.run h'.run step in (
-          go_on x (names_publish N h.run h'.run names)
-              (λ q e differs. let mine = sym (ap (λ o. o q) own.owns) ∙ e in ((differs, (less_let_go s.record_name before h.run renamed.own q mine).0), mine)),
-          staged_more staged (names_keep h.run h'.run names own s.name s.file staged.judged.stage),
-          subst (λ b. HasRecorded b h'.run) stage.holds (record {
-            earlier = before.steps;
-            published = (published s.record_name Record before h.run h'.run renamed.stepped step s.record_file stage.stage on_disk).0;
-            lasts = lasting s.record_name before h.run h'.run renamed.stepped step s.record_file stage.stage on_disk;
-          }),
-        )
+    from (SyncRecordName n) Done h h' (x, staged, (before, stage, on_disk, renamed)) ((step, own), ahead', read') = (
+      go_on x (quiet step step.this.same.only)
+          (λ q e differs. let mine = sym (ap (λ o. o q) own.owns) ∙ e in ((differs, (less_let_go s.record_name before h.run renamed.own q mine).0), mine)),
+      staged_more staged (names_keep h.run h'.run step own s.name s.file staged.judged.stage),
+      subst (λ b. HasRecorded b h'.run) stage.holds (record {
+        earlier = before.steps;
+        published = (published s.record_name Record before h.run h'.run renamed.stepped step s.record_file stage.stage on_disk).0;
+        lasts = lasting s.record_name before h.run h'.run renamed.stepped step s.record_file stage.stage on_disk;
+      }),
+    )
     from (Rename n) Done h h' (x, staged, recorded) (renamed, ahead', read') = (
       placed h.run h'.run n x staged recorded renamed.stepped (λ q e differs. (differs, sym (renamed.own.others q differs) ∙ e)),
       (h.run, x.publishes, staged, recorded, renamed),
@@ -342,7 +342,7 @@ module _ (s : Setting) (a : Host) where
     from (SyncName n) Done h h' (x, (before, publishes, staged, recorded, renamed)) ((step, own), ahead', read') =
         let (published_so, permissions) = published s.name Place before h.run h'.run renamed.stepped step s.file staged.judged.stage staged.on_disk in
         let y : SoFar s a All Any h'.run =
-        go_on x (names_publish N h.run h'.run (directory_synced h.run h'.run step))
+        go_on x (quiet step step.this.same.only)
         (λ q e any. let mine = sym (ap (λ o. o q) own.owns) ∙ e in ((less_let_go s.name before h.run renamed.own q mine).0, mine)) in (
           y.base.locked,
           y.base.lock,
@@ -365,10 +365,10 @@ module _ (s : Setting) (a : Host) where
           },
           record { only = λ q e. y.own q e tt },
         )
-    from (RemoveRecord f) Done h h' x ((step, less), ahead', read') = record_removed h h' x (removed_publishes N s.record_name h.run h'.run step) less
-    from (RemoveRecord f) (Failed e) h h' x made = record_removed h h' x (fails (RemoveRecord f) e h h' x made).0 made.0.1
-    from (Remove f) Done h h' x ((step, less), ahead', read') = removed h h' x (removed_publishes N s.name h.run h'.run step) less
-    from (Remove f) (Failed e) h h' x made = removed h h' x (fails (Remove f) e h h' x made).0 made.0.1
+    from (RemoveRecord f) Done h h' x (done, ahead', read') = record_removed h h' x (quiet done.stepped done.stepped.this.only) done.own
+    from (RemoveRecord f) (Failed e) h h' x made = record_removed h h' x (fails (RemoveRecord f) e h h' x made).0 made.0.own
+    from (Remove f) Done h h' x (done, ahead', read') = removed h h' x (quiet done.stepped done.stepped.this.only) done.own
+    from (Remove f) (Failed e) h h' x made = removed h h' x (fails (Remove f) e h h' x made).0 made.0.own
     from (RenameRecord n) (Failed e) h h' x made = at_most (fails (RenameRecord n) e h h' x made)
     from (Rename n) (Failed e) h h' x made = fails (Rename n) e h h' x made
     from Installed (Failed e) h h' x never = absurd never
@@ -385,7 +385,7 @@ module _ (s : Setting) (a : Host) where
     pub safe : (due : Due E) (h : Host) → Holds s a due h → (h.run ≡ a.run) ⊎ InstallsOnlyUpdates s.accepts s.terms s.first a.run h.run
     safe Lock h (run, ahead) = inl run
     safe Clear h (lock, mine, ahead) = inr (inr (h.run, lock, unread h.run h.run lock (publishes_none N h.run)))
-    safe ReadRecord h (l, lock, mine, clear, ahead) = inr (inr (l, lock, unread l h.run lock (clearing l h.run (cleared_step l h.run clear.0))))
+    safe ReadRecord h (l, lock, mine, clear, ahead) = inr (inr (l, lock, unread l h.run lock (quiet clear.0 clear.0.this.only)))
     safe (RemoveRecord e) h x = so_safe x
     safe (Remove e) h x = so_safe x
     safe Installed h (locked, lock, so, has, own) = inr (inr (locked, lock, so))

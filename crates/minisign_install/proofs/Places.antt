@@ -123,7 +123,7 @@ module _ (accepts : Verifier) (terms : Terms) (first again : Bool) (old locked :
     known_on = on.nothing.known ∙ known_locked
 
     locks_again : (again : Run) → HasLocked mid again → HasLooked locked again
-    locks_again again got = looked_then locked mid again on (looked_by _ mid again got.stepped got.stepped.this.0)
+    locks_again again got = looked_then locked mid again on (looked_by _ mid again got.stepped got.stepped.this.still)
 
     pub goes_only : Known mid (InstallsOnlyUpdates accepts terms first mid new) → InstallsOnlyUpdates accepts terms first old new
     goes_only i = elim (i known_on) [

@@ -1,7 +1,7 @@
 -- Where each failing call says why it failed, a run that is rejected says the first reason; and where memory ran out, nothing
 -- was published.
 use Rattle.minisign_install.proofs.Common.{◌≡◌, inl, inr, ℕ, true, List, [], ◌∷◌, Option, ap, sym, subst, ◌∙◌, refl, ⊎_elim, Verifier, MayBePublished, MayBeRecorded, Terms, HasStepped, Run, Counts, HasCleared, HasPublishedUpdate, IsDataRefusal, IsDataRefused, IsRefusal, PublishesNothing, InstallFault, IsAhead, Rose, IsBusy, IsStill, DeviceFails, Event, Explains, HasRun, Host, IsExplained, Makes, Setting, next, Due, Lock, Clear, ReadRecord, Create, Copy, ReadBack, Answer, RenameRecord, Rename, SyncName, RemoveRecord, Remove, Installed, Outcome, Done, Failed, IsCallFault, IsLibraryFault, Place, Named, OutOfMemory, Library, WantsNoMemory, OnlyLocked}
-use Rattle.minisign_install.proofs.Works.{step, publishes_nothing, publishes_trans, renamed_stands, cleared_step, cleared_then, clearing, removed_publishes}
+use Rattle.minisign_install.proofs.Works.{step, publishes_nothing, publishes_trans, renamed_stands, cleared_then, quiet}
 use Rattle.minisign_install.specs.Order.{Refused}
 use Rattle.minisign_install.proofs.Installs.{found_first}
 use Rattle.minisign_install.proofs.Orders.{Found, Holds, N, Nothing, SoFar, at_most_record, fails, from, reached_more, stay}
@@ -63,14 +63,14 @@ module _ (M : Type 0) (s : Setting) (a : Host) (known : a.run.known ≡ true) wh
   why Clear (Failed e) h h' x made blamed wants same = (inr (inr (h.run, x.0, inl ((fails s a Clear e h h' x made).0, device h h' e same blamed))), λ m is. absurd (wants m refl is))
   why ReadRecord (Failed e) h h' (l, lock, mine, clear, ahead) made blamed wants same =
       let rested = (fails s a ReadRecord e h h' (l, lock, mine, clear, ahead) made).0 in
-      let none = publishes_trans N l h.run h'.run (clearing l h.run (cleared_step l h.run clear.0)) rested in (
+      let none = publishes_trans N l h.run h'.run (quiet clear.0 clear.0.this.only) rested in (
         inr (inr (
           l,
           lock,
           ⊎_elim
               (λ refused.
               let (found, read_so, why_so) = refused.1 (clear.0.known ∙ lock.stepped.known ∙ known) in
-              inr (inl (cleared_then N l h.run h'.run clear.0 rested, none, (found, found_first found l h.run h'.run lock.held (cleared_step l h.run clear.0) read_so, why_so))))
+              inr (inl (cleared_then N l h.run h'.run clear.0 rested, none, (found, found_first found l h.run h'.run lock.held clear.0 read_so, why_so))))
               (λ fails. inl (none, device h h' e same fails)) blamed,
         )),
         λ m is. absurd (wants m refl is),
@@ -102,9 +102,9 @@ module _ (M : Type 0) (s : Setting) (a : Host) (known : a.run.known ≡ true) wh
         this = (before.now.holds s.file, n, judged.update, renamed_stands s.name Place s.file before h.run judged.stage staged.on_disk first);
       } in
       ((y.base, y.cleared, inr (inr (y.publishes, rising h h' same rose, inr (directory, reached_more reached quiet.0)))), λ m is. absurd (wants m refl is))
-  why (RemoveRecord f) Done h h' x ((step, less), ahead', read') same wants unfit = more_unfit h h' f (removed_publishes N s.record_name h.run h'.run step) same unfit
+  why (RemoveRecord f) Done h h' x (done, ahead', read') same wants unfit = more_unfit h h' f (quiet done.stepped done.stepped.this.only) same unfit
   why (RemoveRecord f) (Failed e) h h' x made same wants unfit = more_unfit h h' f (fails s a (RemoveRecord f) e h h' x made).0 same unfit
-  why (Remove f) Done h h' x ((step, less), ahead', read') same wants unfit = refused_so h' f (more_unfit h h' f (removed_publishes N s.name h.run h'.run step) same unfit)
+  why (Remove f) Done h h' x (done, ahead', read') same wants unfit = refused_so h' f (more_unfit h h' f (quiet done.stepped done.stepped.this.only) same unfit)
   why (Remove f) (Failed e) h h' x made same wants unfit = refused_so h' f (more_unfit h h' f (fails s a (Remove f) e h h' x made).0 same unfit)
   why (RemoveRecord f) o h h' x never same wants unfit = absurd never
   why (Remove f) o h h' x never same wants unfit = absurd never

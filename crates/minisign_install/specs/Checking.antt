@@ -4,10 +4,9 @@ use Rattle.minisign_install.specs.Common.{IsUtf8, accepts_comments, judge_answer
 use Rattle.minisign_install.specs.Faults.{Rose, Fault, Named, NotUtf8, OutOfMemory, ReadingFailed, InstallFault, Library, install_number}
 use Rattle.minisign_install.specs.Installing.{IsKeptOrNone, Verifier, Terms}
 use Rattle.minisign_install.specs.Comments.{Says, Numbering}
-use Rattle.minisign_install.specs.Directories.{Finds, IsStill, Known, Run, Record}
+use Rattle.minisign_install.specs.Directories.{Calls, Finds, IsStill, Known, Run, Record}
 use Rattle.minisign_install.specs.HostNumbers.{numbering_number, offer_number}
 use Rattle.minisign_install.specs.Hosted.{wanted_by}
-use Rattle.minisign_install.specs.Hosts.{Calls}
 use Rattle.minisign_install.specs.Refusals.{IsCommentRefused, IsRecordRefused}
 
 -- the signature is accepted for the digest, where one is given

@@ -1,7 +1,8 @@
 -- A directory that processes share, one layer below bytes: names that lead to files, what the files hold, and what a
 -- crash leaves of both. Files are numbered, and no number comes twice. The definitions say what one call of the
 -- system does from one moment to the next, and what other processes may do between two calls.
-use Rattle.std.specs.Prelude.{◌≡◌, ◌≢◌, ◌⊎◌, ℕ, ◌<◌, ◌≤◌, Bool, true, false, List, [], ◌∷◌, ◌++◌, length, take, drop, Option, Some, None, Result, IfOk, MatchResult, OnOk, OnErr}
+use Rattle.std.specs.Prelude.{◌≡◌, ◌≢◌, ◌⊎◌, ℕ, ◌<◌, ◌≤◌, Bool, true, false, List, [], ◌∷◌, ◌++◌, length, take, drop, Option, Some, None, Result, IfOk, MatchResult, OnOk, OnErr, not}
+use Rattle.minisign_install.specs.Common.{StageName}
 use Rattle.minisign_install.specs.Faults.{Rose}
 pub use Rattle.minisign_install.specs.declared.directories.Name.{Name}
 pub use Rattle.minisign_install.specs.declared.directories.Name.TheVariants.{Place, Record}
@@ -24,6 +25,10 @@ pub record Moment : Type 0 where
   pub fixed : List ℕ → Bool
   -- whether another run holds the lock on the place
   pub busy : Bool
+
+-- the bytes that were drawn for the name of a stage
+abbrev pub drawn_bytes : StageName → List ℕ
+drawn_bytes name = name.bytes
 
 -- one call of this run: the moments before and after it
 pub record RunStep : Type 0 where
@@ -70,6 +75,19 @@ pub record HasOnDisk (m : Moment) (name : Name) (bytes : List ℕ) : Type 0 wher
   pub holds : m.holds file ≡ bytes
   pub on_disk : m.on_disk file ≡ true
 
+-- == What stays ==
+
+-- the file holds what it held, after a crash too where it did so before, and has its permissions
+pub record FileStays (file : ℕ) (old new : Moment) : Type 0 where
+  pub holds : new.holds file ≡ old.holds file
+  pub on_disk : new.on_disk file ≡ old.on_disk file
+  pub permissions : new.permissions file ≡ old.permissions file
+
+-- what this key has is set to the value, and what all others have stays
+pub record Sets {K A : Type 0} (key : K) (value : A) (old new : K → A) : Type 0 where
+  pub set : new key ≡ value
+  pub others : (k : K) → k ≢ key → new k ≡ old k
+
 -- == What other processes may do ==
 
 -- The record leads to the file that it led to, and a crash leaves it leading to no more files than before. All of
@@ -87,36 +105,36 @@ pub record RecordUnchanged (old new : Moment) : Type 0 where
 -- lock, or a stage that is not its own, nothing is said.
 pub record OtherProcesses (locked : Bool) (owns : List ℕ → Bool) (old new : Moment) : Type 0 where
   pub stages : (s : List ℕ) → owns s ≡ true → new.stages s ≡ old.stages s
-  pub holds : (s : List ℕ) (f : ℕ) → owns s ≡ true → old.stages s ≡ Some f → new.holds f ≡ old.holds f
-  pub on_disk : (s : List ℕ) (f : ℕ) → owns s ≡ true → old.stages s ≡ Some f → new.on_disk f ≡ old.on_disk f
-  pub permissions : (s : List ℕ) (f : ℕ) → owns s ≡ true → old.stages s ≡ Some f → new.permissions f ≡ old.permissions f
+  pub files : (s : List ℕ) (f : ℕ) → owns s ≡ true → old.stages s ≡ Some f → FileStays f old new
   pub apart : (s : List ℕ) (f : ℕ) → owns s ≡ true → old.stages s ≡ Some f → IsApart old f → IsApart new f
   pub record_left : locked ≡ true → RecordUnchanged old new
 
 -- == What one call does ==
 
--- no name and no other file changed
-pub record TouchesOnly (file : ℕ) (old new : Moment) : Type 0 where
-  pub leads : new.leads ≡ old.leads
-  pub left : new.left ≡ old.left
-  pub holds : (f : ℕ) → f ≢ file → new.holds f ≡ old.holds f
-  pub on_disk : (f : ℕ) → f ≢ file → new.on_disk f ≡ old.on_disk f
-  pub permissions : (f : ℕ) → f ≢ file → new.permissions f ≡ old.permissions f
+-- The lasting names lead where they led, and a crash leaves them leading to no more files than before. All files stay
+-- as they were but those that are touched.
+pub record TouchesOnly (touched : ℕ → Type 0) (old new : Moment) : Type 0 where
+  pub leads : (n : Name) → new.leads n ≡ old.leads n
+  pub left : (n : Name) (f : ℕ) → new.left n f ≡ true → MayLead old n f
+  pub files : (f : ℕ) → ¬ (touched f) → FileStays f old new
+
+-- no more than names of stages changed
+abbrev pub TouchesStages : Moment → Moment → Type 0
+TouchesStages = TouchesOnly (λ _. ⊥)
 
 -- a new, empty file is made under a stage's name that led to none
 pub record Creates (name : List ℕ) (file : ℕ) (old new : Moment) : Type 0 where
-  pub only : TouchesOnly file old new
+  pub only : TouchesOnly (λ f. f ≡ file) old new
   pub apart : IsApart old file
   pub fresh : (s : List ℕ) → old.stages s ≢ Some file
   pub free : old.stages name ≡ None
-  pub made : new.stages name ≡ Some file
-  pub others : (s : List ℕ) → s ≢ name → new.stages s ≡ old.stages s
+  pub stages : Sets name (Some file) old.stages new.stages
   pub empty : new.holds file ≡ []
 
 -- the file is changed somehow, and may hold anything after a crash
 pub record Spoils (file : ℕ) (old new : Moment) : Type 0 where
-  pub only : TouchesOnly file old new
-  pub stages : new.stages ≡ old.stages
+  pub only : TouchesOnly (λ f. f ≡ file) old new
+  pub stages : (s : List ℕ) → new.stages s ≡ old.stages s
 
 -- the file grows by these bytes; after a crash it may hold anything
 pub record Appends (file : ℕ) (bytes : List ℕ) (old new : Moment) : Type 0 where
@@ -139,24 +157,15 @@ pub record Syncs (file : ℕ) (old new : Moment) : Type 0 where
 -- The file of a stage's name, whichever it is at this moment, gets the lasting name, in one step. Until the directory
 -- is synced a crash may leave what the name led to before.
 pub record Renames (name : List ℕ) (to : Name) (old new : Moment) : Type 0 where
-  pub leads : new.leads to ≡ old.stages name
-  pub other_leads : (n : Name) → n ≢ to → new.leads n ≡ old.leads n
-  pub left : (f : ℕ) → new.left to f ≡ true → MayLead old to f
-  pub other_left : (n : Name) → n ≢ to → (f : ℕ) → new.left n f ≡ old.left n f
-  pub holds : new.holds ≡ old.holds
-  pub on_disk : new.on_disk ≡ old.on_disk
-  pub permissions : new.permissions ≡ old.permissions
-  pub gone : new.stages name ≡ None
-  pub stages : (s : List ℕ) → s ≢ name → new.stages s ≡ old.stages s
+  pub leads : Sets to (old.stages name) old.leads new.leads
+  pub left : (n : Name) (f : ℕ) → new.left n f ≡ true → MayLead old n f
+  pub files : (f : ℕ) → FileStays f old new
+  pub stages : Sets name None old.stages new.stages
 
 -- names and files stay, and a crash leaves no more than before
 pub record MaySyncDirectory (old new : Moment) : Type 0 where
-  pub leads : new.leads ≡ old.leads
-  pub left : (n : Name) (f : ℕ) → new.left n f ≡ true → MayLead old n f
-  pub holds : new.holds ≡ old.holds
-  pub on_disk : new.on_disk ≡ old.on_disk
-  pub permissions : new.permissions ≡ old.permissions
-  pub stages : new.stages ≡ old.stages
+  pub only : TouchesStages old new
+  pub stages : (s : List ℕ) → new.stages s ≡ old.stages s
 
 -- the directory is synced: a crash leaves them leading where they lead
 pub record SyncsDirectory (old new : Moment) : Type 0 where
@@ -165,21 +174,8 @@ pub record SyncsDirectory (old new : Moment) : Type 0 where
 
 -- a stage's name is removed
 pub record Removes (name : List ℕ) (old new : Moment) : Type 0 where
-  pub gone : new.stages name ≡ None
-  pub leads : new.leads ≡ old.leads
-  pub left : new.left ≡ old.left
-  pub holds : new.holds ≡ old.holds
-  pub on_disk : new.on_disk ≡ old.on_disk
-  pub permissions : new.permissions ≡ old.permissions
-  pub stages : (s : List ℕ) → s ≢ name → new.stages s ≡ old.stages s
-
--- names of stages are removed, and nothing else is touched
-pub record Clears (old new : Moment) : Type 0 where
-  pub leads : new.leads ≡ old.leads
-  pub left : new.left ≡ old.left
-  pub holds : new.holds ≡ old.holds
-  pub on_disk : new.on_disk ≡ old.on_disk
-  pub permissions : new.permissions ≡ old.permissions
+  pub only : TouchesStages old new
+  pub stages : Sets name None old.stages new.stages
 
 -- no stage is left that could be removed
 abbrev pub IsClear : Moment → Type 0
@@ -187,29 +183,29 @@ IsClear m = (s : List ℕ) → m.fixed s ≡ false → m.stages s ≡ None
 
 -- all stages' names are removed that can be
 pub record ClearsAll (old new : Moment) : Type 0 where
-  pub clears : Clears old new
+  pub only : TouchesStages old new
   pub clear : IsClear new
+
+-- it was done or it was not: so much is known after an error
+abbrev pub Perhaps : (Moment → Moment → Type 0) → Moment → Moment → Type 0
+Perhaps step old new = (new ≡ old) ⊎ step old new
 
 -- nothing changed
 abbrev pub IsStill : Moment → Moment → Type 0
 IsStill old new = new ≡ old
 
--- nothing changed, and no other run holds the lock
-abbrev pub IsFree : Moment → Moment → Type 0
-IsFree old new = (new ≡ old) × (old.busy ≡ false)
+-- nothing changed, and this was so
+pub record Sees (fact : Moment → Type 0) (old new : Moment) : Type 0 where
+  pub still : new ≡ old
+  pub seen : fact old
 
--- nothing changed, and another run holds the lock
-abbrev pub IsBusy : Moment → Moment → Type 0
-IsBusy old new = (new ≡ old) × (old.busy ≡ true)
-
--- the lock was asked for, and got or not
+-- the lock was asked for, which changed nothing, and got unless another run holds it
 abbrev pub IsAsked : Bool → Moment → Moment → Type 0
-IsAsked true = IsFree
-IsAsked false = IsBusy
+IsAsked got = Sees (λ m. m.busy ≡ not got)
 
--- it was done or it was not: so much is known after an error
-abbrev pub Perhaps : (Moment → Moment → Type 0) → Moment → Moment → Type 0
-Perhaps step old new = (new ≡ old) ⊎ step old new
+-- it was not got
+abbrev pub IsBusy : Moment → Moment → Type 0
+IsBusy = IsAsked false
 
 -- == A call of a run ==
 
@@ -226,48 +222,36 @@ pub record HasStepped (old new : Run) (call : Moment → Moment → Type 0) : Ty
 pub record OwnsTheSame (old new : Run) : Type 0 where
   pub owns : new.owns ≡ old.owns
 
--- one more name is the run's own
-pub record OwnsMore (name : List ℕ) (old new : Run) : Type 0 where
-  pub more : new.owns name ≡ true
-  pub others : (s : List ℕ) → s ≢ name → new.owns s ≡ old.owns s
+-- the call went so, and nothing became or ceased to be the run's own
+abbrev pub Calls : (Moment → Moment → Type 0) → Run → Run → Type 0
+Calls call old new = HasStepped old new call × OwnsTheSame old new
 
--- the name is the run's own no longer: it got a lasting name, or its removal was tried
-pub record OwnsLess (name : List ℕ) (old new : Run) : Type 0 where
-  pub less : new.owns name ≡ false
-  pub others : (s : List ℕ) → s ≢ name → new.owns s ≡ old.owns s
+-- the call went so, and the stage of this name became the run's own, or ceased to be
+pub record CallsOwning (name : List ℕ) (is : Bool) (call : Moment → Moment → Type 0) (old new : Run) : Type 0 where
+  pub stepped : HasStepped old new call
+  pub own : Sets name is old.owns new.owns
 
--- the call did this, or failed and perhaps did that; nothing became or ceased to be the run's own
-abbrev pub HasTried : {A E : Type 0} → (A → Moment → Moment → Type 0) → (Moment → Moment → Type 0) → Run → Run
-    → Result A E → Type 0
-HasTried done failed old new answer =
-    MatchResult answer (λ a. HasStepped old new (done a) × OwnsTheSame old new)
-    (λ _. HasStepped old new failed × OwnsTheSame old new)
-
--- the lock was asked for, which changed nothing, and got, since no other run held it
+-- the lock was asked for and got
 pub record HasLocked (old new : Run) : Type 0 where
-  pub stepped : HasStepped old new IsFree
+  pub stepped : HasStepped old new (IsAsked true)
   pub held : new.locked ≡ true
+
+-- a stage was created, whose name and file are the run's own from now on
+abbrev pub HasCreated : List ℕ → ℕ → Run → Run → Type 0
+HasCreated name file = CallsOwning name true (Creates name file)
+
+-- a stage's file got a lasting name, and the stage is the run's own no longer
+abbrev pub HasRenamed : List ℕ → Name → Run → Run → Type 0
+HasRenamed name to = CallsOwning name false (Renames name to)
+
+-- the call did this, or failed and did that
+abbrev pub HasTried : {A E : Type 0} → (A → Run → Run → Type 0) → (Run → Run → Type 0) → Run → Run → Result A E → Type 0
+HasTried done failed old new answer = MatchResult answer (λ a. done a old new) (λ _. failed old new)
 
 -- the call left the count of the directory's errors, or failed, and it rose
 pub record HasCounted {A E : Type 0} (old new : ℕ) (answer : Result A E) : Type 0 where
   pub no_new_fault : OnOk answer (new ≡ old)
   pub fault : OnErr answer (Rose old new)
-
--- a stage was created, whose name and file are the run's own from now on
-pub record HasCreated (name : List ℕ) (file : ℕ) (old new : Run) : Type 0 where
-  pub stepped : HasStepped old new (Creates name file)
-  pub own : OwnsMore name old new
-
--- a stage's file got a lasting name
-pub record HasRenamed (name : List ℕ) (to : Name) (old new : Run) : Type 0 where
-  pub stepped : HasStepped old new (Renames name to)
-  pub own : OwnsLess name old new
-
--- a stage was removed, or its removal failed and was perhaps done; it is the run's own no longer
-pub record HasRemoved {A E : Type 0} (name : List ℕ) (old new : Run) (answer : Result A E) : Type 0 where
-  pub stepped : MatchResult answer (λ _. HasStepped old new (Removes name))
-      (λ _. HasStepped old new (Perhaps (Removes name)))
-  pub own : OwnsLess name old new
 
 -- these are the bytes of a file from an offset on, at least one where there are any and there is room
 pub record HasReadAt {E : Type 0} (held : List ℕ) (at : ℕ) (buffer : List ℕ) (answer : Result ℕ E) : Type 0 where
@@ -280,15 +264,9 @@ abbrev pub IsFound : Moment → Name → Option (List ℕ) → Type 0
 IsFound m name None = m.leads name ≡ None
 IsFound m name (Some bytes) = (f : ℕ) × (m.leads name ≡ Some f) × (m.holds f ≡ bytes)
 
--- nothing changed, and this was found
-pub record Finds (name : Name) (found : Option (List ℕ)) (old new : Moment) : Type 0 where
-  pub still : new ≡ old
-  pub found_there : IsFound old name found
-
--- nothing changed, and the name was found to lead to this file, or to none
-pub record Leads (name : Name) (file : Option ℕ) (old new : Moment) : Type 0 where
-  pub still : new ≡ old
-  pub leads : old.leads name ≡ file
+-- nothing changed, and the name was found to lead to this
+abbrev pub Finds : Name → Option (List ℕ) → Moment → Moment → Type 0
+Finds name found = Sees (λ m. IsFound m name found)
 
 -- the run of a directory of which nothing is known
 abbrev pub unknown : Run

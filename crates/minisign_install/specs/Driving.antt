@@ -3,9 +3,8 @@ use Rattle.std.specs.Prelude.{◌≡◌, ◌≢◌, ◌-◌, ⊤, ℕ, Bool, tru
 use Rattle.minisign_install.specs.Common.{IsFedState, Stage, Work}
 use Rattle.minisign_install.specs.Faults.{Named, OutOfMemory, InstallFault, Library}
 use Rattle.minisign_install.specs.Installing.{Verifier, IsVouched, Terms}
-use Rattle.minisign_install.specs.Directories.{Run}
+use Rattle.minisign_install.specs.Directories.{drawn_bytes, Run}
 use Rattle.minisign_install.specs.Hosts.{Explains, Host, Makes, Setting}
-use Rattle.minisign_install.specs.Names.{drawn_bytes}
 use Rattle.minisign_install.specs.Order.{due_number, next, Due, Lock, Clear, ReadRecord, Create, Copy, ReadBack, Answer, TakePermissions, Sync, CreateRecord, WriteRecord, SyncRecord, RenameRecord, SyncRecordName, Rename, SyncName, RemoveRecord, Remove, Installed, Refused, Outcome, Done, Number, Failed}
 use Rattle.minisign_install.specs.Refusals.{Counts}
 

@@ -5,9 +5,9 @@ use Rattle.std.specs.Prelude.{◌≡◌, ◌==◌, ◌⊎◌, ◌++◌, ℕ, Boo
 use Rattle.minisign_install.specs.Common.{blake2b_digest, SignatureTextRecord, AnswersTexts, IsKeyText, read_under, AreQuestions, IsFedState, PublicKeyValue, Questions, Installation}
 use Rattle.minisign_install.specs.Installing.{Verifier, Terms}
 use Rattle.minisign_external.specs.declared.state.Refusal.TheVariants.{Refused}
-use Rattle.minisign_install.specs.Directories.{Finds, Record}
+use Rattle.minisign_install.specs.Directories.{Calls, Finds, Record}
 use Rattle.minisign_install.specs.Hosted.{CallHasFailed, GivesUpdateNumber, HasReadBack, HasReadRecord, IsAskRefusal, IsAsking, IsDue, WasDone, due_of, failure, numbering_of, wanted_by}
-use Rattle.minisign_install.specs.Hosts.{Calls, Host, Makes, OnDirectory, Setting}
+use Rattle.minisign_install.specs.Hosts.{Host, Makes, OnDirectory, Setting}
 use Rattle.minisign_install.specs.Comments.{Numbering}
 use Rattle.minisign_install.specs.Faults.{InstallFault}
 use Rattle.minisign_install.specs.Order.{Answer, Lock, Outcome, Done, Failed, More}

@@ -1,10 +1,10 @@
 -- A host that installs an update by making each call as it is due, and saying how it went: what one such call does to
 -- the directory, and what all of them do, one after another.
-use Rattle.std.specs.Prelude.{◌≡◌, ◌⊎◌, ℕ, List, [], ◌∷◌, ◌++◌, Bool, Option, ⊤}
+use Rattle.std.specs.Prelude.{◌≡◌, ◌⊎◌, ℕ, List, [], ◌∷◌, ◌++◌, Bool, false, Option, ⊤}
 use Rattle.minisign_install.specs.Common.{Consumes, IsAtEnd, concat}
 use Rattle.minisign_install.specs.Faults.{Rose, Named, WritingFailed, InstallFault, DirectoryNotSynced, Library, PlaceInUse}
 use Rattle.minisign_install.specs.Installing.{Verifier, IsKeptNumber, IsUpdate, Terms}
-use Rattle.minisign_install.specs.Directories.{Appends, Clears, ClearsAll, GivesPermissions, HasCreated, HasLocked, HasRenamed, HasStepped, IsBusy, IsStill, MaySyncDirectory, OwnsTheSame, Moment, OwnsLess, Perhaps, Finds, Removes, Renames, Run, Syncs, SyncsDirectory, Spoils, Known, Place, Record}
+use Rattle.minisign_install.specs.Directories.{Appends, Calls, CallsOwning, ClearsAll, GivesPermissions, HasCreated, HasLocked, HasRenamed, HasStepped, IsBusy, IsStill, MaySyncDirectory, OwnsTheSame, Perhaps, Finds, Removes, Renames, Run, Syncs, SyncsDirectory, Spoils, TouchesStages, Known, Place, Record}
 use Rattle.minisign_install.specs.Order.{next, Due, Lock, Clear, ReadRecord, Create, Copy, ReadBack, Answer, TakePermissions, Sync, CreateRecord, WriteRecord, SyncRecord, RenameRecord, SyncRecordName, Rename, SyncName, RemoveRecord, Remove, Outcome, Done, More, Number, Failed}
 use Rattle.minisign_install.specs.Refusals.{Counts, IsDataRefused, IsCallFault, IsLibraryFault, IsReadRefusal}
 use Rattle.minisign_install.specs.RecordTexts.{record_of}
@@ -32,10 +32,6 @@ pub record Host : Type 0 where
 abbrev pub OnDirectory : (Run → Run → Type 0) → Host → Host → Type 0
 OnDirectory call h h' = call h.run h'.run × (h'.ahead ≡ h.ahead) × (h'.read ≡ h.read)
 
--- one call, with which no stage became or ceased to be the run's own
-abbrev pub Calls : (Moment → Moment → Type 0) → Run → Run → Type 0
-Calls call old new = HasStepped old new call × OwnsTheSame old new
-
 -- one call that changed nothing, or none
 abbrev pub CallsNothing : Run → Run → Type 0
 CallsNothing old new = (new ≡ old) ⊎ Calls IsStill old new
@@ -50,10 +46,6 @@ abbrev pub WritesInPart : ℕ → Run → Run → Type 0
 WritesInPart file old new =
     (pieces : List (List ℕ)) × (mid : Run) × Writes file pieces old mid × ((new ≡ mid) ⊎ Calls (Spoils file) mid new)
 
--- a stage's name was removed, or this was tried
-abbrev pub CallsRemove : List ℕ → (Moment → Moment → Type 0) → Run → Run → Type 0
-CallsRemove name call old new = HasStepped old new call × OwnsLess name old new
-
 -- a call of the directory was done so, or failed so
 abbrev pub Goes : {E : Type 0} → (Run → Run → Type 0) → (Run → Run → Type 0) → Outcome E → Host → Host → Type 0
 Goes done failed Done h h' = OnDirectory done h h'
@@ -63,7 +55,7 @@ Goes done failed outcome h h' = ⊥
 -- The call that was due was made as it was told, and went so.
 abbrev pub Makes : {E : Type 0} → Setting → Due E → Outcome E → Host → Host → Type 0
 Makes s Lock o h h' = Goes (λ old new. HasLocked old new × OwnsTheSame old new) (Calls IsStill) o h h'
-Makes s Clear o h h' = Goes (Calls ClearsAll) (Calls Clears) o h h'
+Makes s Clear o h h' = Goes (Calls ClearsAll) (Calls TouchesStages) o h h'
 Makes s ReadRecord (Number kept) h h' =
     OnDirectory (λ old new. (found : Option (List ℕ)) × Calls (Finds Record found) old new
     × IsKeptNumber s.terms.numbering s.first found kept) h h'
@@ -94,10 +86,10 @@ Makes s (SyncRecordName n) o h h' = Goes (Calls SyncsDirectory) (Calls MaySyncDi
 Makes s (Rename n) o h h' = Goes (HasRenamed s.name Place) (Calls (Perhaps (Renames s.name Place))) o h h'
 Makes s (SyncName n) o h h' = Goes (Calls SyncsDirectory) (Calls MaySyncDirectory) o h h'
 Makes s (RemoveRecord first) o h h' =
-    Goes (CallsRemove s.record_name (Removes s.record_name))
-    (CallsRemove s.record_name (Perhaps (Removes s.record_name))) o h h'
+    Goes (CallsOwning s.record_name false (Removes s.record_name))
+    (CallsOwning s.record_name false (Perhaps (Removes s.record_name))) o h h'
 Makes s (Remove first) o h h' =
-    Goes (CallsRemove s.name (Removes s.name)) (CallsRemove s.name (Perhaps (Removes s.name))) o h h'
+    Goes (CallsOwning s.name false (Removes s.name)) (CallsOwning s.name false (Perhaps (Removes s.name))) o h h'
 Makes s due o h h' = ⊥
 
 -- what was said of a call, and the host after it

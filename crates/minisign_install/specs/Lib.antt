@@ -9,7 +9,6 @@ pub mod Hosted
 pub mod Hosting
 pub mod Hosts
 pub mod Installing
-pub mod Names
 pub mod Order
 pub mod RecordTexts
 pub mod Refusals

@@ -3,8 +3,8 @@ use Rattle.std.specs.Prelude.{◌≡◌, ◌≢◌, ◌⊎◌, ℕ, Bool, true, 
 use Rattle.minisign_install.specs.Common.{Fault, Verifier, TextsVouchWith, Offer, Same, InstallFault, PlaceInUse, SameNumber, Place, Already, Now}
 use Rattle.minisign_install.specs.Checking.{AnswersByRecord, signed_comment}
 use Rattle.minisign_install.specs.Comments.{Says}
-use Rattle.minisign_install.specs.Directories.{Finds, HasLocked, HasStepped, IsBusy, IsStill, Run}
-use Rattle.minisign_install.specs.Hosts.{Calls, CallsNothing}
+use Rattle.minisign_install.specs.Directories.{Calls, Finds, HasLocked, HasStepped, IsBusy, IsStill, Run}
+use Rattle.minisign_install.specs.Hosts.{CallsNothing}
 use Rattle.minisign_install.specs.Installing.{Terms}
 use Rattle.minisign_install.specs.Refusals.{Counts, InstallsExactly, IsCallFault, IsCause, IsLibraryFault, IsRefusal}
 use Rattle.minisign_install.specs.Runs.{OwnsNoMore}

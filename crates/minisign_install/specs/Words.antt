@@ -6,15 +6,14 @@ pub use Rattle.minisign_external.specs.States.{HasEnded}
 pub use Rattle.minisign_install.specs.Checking.{AnswersByRecord, ChecksSo, CommentChecksSo, IsOffered, accepts_digest, digest_verdict, judge_digest, offer_beside, signed_comment}
 pub use Rattle.minisign_install.specs.Comments.{ExpiresAt, HasNumber, IsExpiryRefused, IsNumberText, IsUnexpired, Numbering, Says, Timestamp, Version, expiry_label, fields, file_label, first_of, number_label, value_of, values_in, values_of}
 pub use Rattle.minisign_install.specs.Common.{AnswersTexts, AreQuestions, CommentsRecord, Consumes, HasAsked, Installation, IsAskFedRefusal, IsAtEnd, IsBlank, IsFedState, IsKeyText, IsMarkedTold, IsUtf8, Misuse, PublicKeyRecord, PublicKeyValue, Questions, Refusal, Same, SignatureBoxRecord, SignatureTextRecord, Stage, Work, WrongUse, accepts_comments, and_then, blake2b_digest, box_of, concat, judge_answers, judge_key, read_public_key, read_signature, read_signature_box, read_under, verdict}
-pub use Rattle.minisign_install.specs.Directories.{Appends, Clears, ClearsAll, Creates, Finds, GivesPermissions, HasCounted, HasCreated, HasLocked, HasOnDisk, HasReadAt, HasRemoved, HasRenamed, HasStepped, HasTried, Held, IsApart, IsAsked, IsBusy, IsFound, IsStill, Known, Leads, MayFind, MayLead, MaySyncDirectory, Moment, Name, OtherProcesses, OwnsLess, OwnsMore, OwnsTheSame, Perhaps, Place, Record, RecordUnchanged, Removes, Renames, Run, RunStep, Spoils, Syncs, SyncsDirectory, TouchesOnly}
+pub use Rattle.minisign_install.specs.Directories.{Appends, Calls, CallsOwning, ClearsAll, FileStays, Finds, GivesPermissions, HasCounted, HasCreated, HasLocked, HasOnDisk, HasReadAt, HasRenamed, HasStepped, HasTried, Held, IsApart, IsAsked, IsBusy, IsFound, IsStill, Known, MayFind, MayLead, MaySyncDirectory, Moment, Name, OtherProcesses, OwnsTheSame, Perhaps, Place, Record, RecordUnchanged, Removes, Renames, Run, RunStep, Sees, Sets, Spoils, Syncs, SyncsDirectory, TouchesOnly, TouchesStages, drawn_bytes}
 pub use Rattle.minisign_install.specs.Driving.{AreNamed, HasCalled, HasMade, IsNamed, Knows, MayCall, Names, WantsNoMemory, Went, calls_left, done_or, host, made_or, number_or, setting}
 pub use Rattle.minisign_install.specs.Faults.{BadExpiry, Expired, Fault, InstallFault, IsOwn, Library, Named, NoNumber, NotUtf8, OlderUpdate, OtherFile, OutOfMemory, PlaceInUse, RandomSourceFailed, ReadingFailed, Rose, SameNumber, WritingFailed, install_number, install_row}
 pub use Rattle.minisign_install.specs.HostNumbers.{IsHostMeaning, numbering_number, offer_number}
 pub use Rattle.minisign_install.specs.Hosted.{CallHasFailed, CannotBeFed, CannotFail, CannotGo, GivesUpdate, HasGone, HasReadBack, HasReadRecord, IsAnswerRefusal, IsAskRefusal, IsAsking, IsCommentFault, IsDue, IsJudged, IsNotDue, IsUnused, RestUnchanged, WasDone, due_from, due_number, due_of, failure, is_device_error, is_read_back, numbering_of, wanted_by}
 pub use Rattle.minisign_install.specs.Hosting.{HasBegun, HasObeyed, Obeys, TellsAnswers, TellsFailure, TellsOutcome, TellsRecord, TellsRefusal, Told, by_field}
-pub use Rattle.minisign_install.specs.Hosts.{Blames, Calls, CallsNothing, CallsRemove, DeviceFails, Event, Explains, HasRun, Host, IsExplained, Makes, Setting, Writes, WritesInPart}
+pub use Rattle.minisign_install.specs.Hosts.{Blames, CallsNothing, DeviceFails, Event, Explains, HasRun, Host, IsExplained, Makes, Setting, Writes, WritesInPart}
 pub use Rattle.minisign_install.specs.Installing.{HasInstalled, InstallsLocked, InstallsOnlyUpdates, IsAhead, IsKeptNumber, IsKeptOrNone, IsUpdate, IsVouched, MayBeInstalled, MayBePublished, MayBeRecorded, NeverFalls, PublishesInOrder, RecordsFirst, Terms, TextsVouchWith, Verifier, terms_of}
-pub use Rattle.minisign_install.specs.Names.{drawn_bytes}
 pub use Rattle.minisign_install.specs.Order.{Answer, Clear, Copy, Create, CreateRecord, Done, Due, Failed, Lock, More, Number, Outcome, ReadBack, ReadRecord, Remove, RemoveRecord, Rename, RenameRecord, Sync, SyncName, SyncRecord, SyncRecordName, TakePermissions, WriteRecord, fits, has_ended, next}
 pub use Rattle.minisign_install.specs.RecordTexts.{HasNoNumber, IsFieldText, IsNumberFor, IsUnfit, kept_by, other_field, record_of, record_text}
 pub use Rattle.minisign_install.specs.Refusals.{CanBeInstalled, CannotBeInstalled, Counts, HasFailed, HasPublishedUpdate, InstallsExactly, IsCallFault, IsCause, IsCommentRefused, IsDataRefusal, IsDataRefused, IsLibraryFault, IsLockedRefusal, IsReadRefusal, IsReadingFault, IsRecordFault, IsRecordRefused, IsRefusal, OnlyLocked, counts}

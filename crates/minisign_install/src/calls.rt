@@ -1,7 +1,7 @@
 //! The calls of an installation over a directory: each is made as it is due, and says how it went.
 
 ghost use Rattle.std.specs.Prelude.{◌≡◌, ◌⊎◌, ◌<◌, ℕ, List, Some, false, IfErr, IsSome, IsSomeAnd, OnOk, OnErr, MatchResult};
-ghost use Rattle.minisign_install.specs.Words.{concat, HasCalled, HasMade, calls_left, done_or, host, made_or, number_or, Library, Named, PlaceInUse, RandomSourceFailed, ReadingFailed, Rose, WritingFailed, Clears, ClearsAll, GivesPermissions, HasCounted, HasCreated, HasLocked, HasRemoved, HasStepped, HasTried, Held, IsBusy, IsStill, OwnsTheSame, Known, Spoils, Calls, CallsNothing, Writes, WritesInPart, terms_of, drawn_bytes, has_ended, next, record_of, counts};
+ghost use Rattle.minisign_install.specs.Words.{concat, HasCalled, HasMade, calls_left, done_or, host, made_or, number_or, Library, Named, PlaceInUse, RandomSourceFailed, ReadingFailed, Rose, WritingFailed, CallsOwning, ClearsAll, GivesPermissions, HasCounted, HasCreated, HasLocked, HasStepped, HasTried, Held, IsBusy, IsStill, OwnsTheSame, Known, Perhaps, Removes, Spoils, TouchesStages, Calls, CallsNothing, Writes, WritesInPart, terms_of, drawn_bytes, has_ended, next, record_of, counts};
 
 use crate::comments::Numbering;
 use crate::directories::{Directory, Handle, Name};
@@ -174,7 +174,7 @@ pub(crate) fn lock<F: Directory>(directory: &mut F) -> Result<(), InstallFault>
 
 // Removes the stages that killed runs have left.
 fn clear<F: Directory>(directory: &mut F) -> Result<(), DeviceFault>
-    ensures cleared { Held (F.run directory.old) (HasTried (λ _. ClearsAll) Clears (F.run directory.old) (F.run directory.new) result) }
+    ensures cleared { Held (F.run directory.old) (HasTried (λ _. Calls ClearsAll) (Calls TouchesStages) (F.run directory.old) (F.run directory.new) result) }
     ensures counted { HasCounted (F.directory_faults directory.old) (F.directory_faults directory.new) result }
 {
     directory.clear()
@@ -185,7 +185,7 @@ fn take_permissions<F: Directory>(
     directory: &mut F,
     stage: &Stage<F::Handle>,
 ) -> Result<(), DeviceFault>
-    ensures given { Known (F.run directory.old) (HasTried (λ _. GivesPermissions (F.Handle.file stage.now.handle)) (Spoils (F.Handle.file stage.now.handle)) (F.run directory.old) (F.run directory.new) result) }
+    ensures given { Known (F.run directory.old) (HasTried (λ _. Calls (GivesPermissions (F.Handle.file stage.now.handle))) (Calls (Spoils (F.Handle.file stage.now.handle))) (F.run directory.old) (F.run directory.new) result) }
     ensures counted { HasCounted (F.directory_faults directory.old) (F.directory_faults directory.new) result }
 {
     directory.take_permissions(&stage.handle)
@@ -193,7 +193,7 @@ fn take_permissions<F: Directory>(
 
 // Removes the stage's name. Where that fails, it is left to a later run.
 fn remove<F: Directory>(directory: &mut F, stage: &Stage<F::Handle>) -> Result<(), DeviceFault>
-    ensures removed { Held (F.run directory.old) (HasRemoved (drawn_bytes stage.now.name) (F.run directory.old) (F.run directory.new) result) }
+    ensures removed { Held (F.run directory.old) (HasTried (λ _. CallsOwning (drawn_bytes stage.now.name) false (Removes (drawn_bytes stage.now.name))) (CallsOwning (drawn_bytes stage.now.name) false (Perhaps (Removes (drawn_bytes stage.now.name)))) (F.run directory.old) (F.run directory.new) result) }
     ensures uncounted { F.directory_faults directory.new ≡ F.directory_faults directory.old }
 {
     directory.remove(&stage.name)

@@ -4,7 +4,7 @@ use Rattle.std.proofs.lemmas.Bool.{cases_Bool, cond-true, cond-false, eq-eqb, ne
 use Rattle.std.proofs.lemmas.Slice.Eq.{bytes_eq-Decides}
 use Rattle.std.specs.declared.alloc.Global.{Global}
 use Rattle.std.specs.Prelude.{◌==◌, ◌||◌, bytes_eq}
-use Rattle.minisign_install.specs.Directories.{GivesPermissions, HasCreated, HasStepped, OwnsTheSame, OtherProcesses, Moment}
+use Rattle.minisign_install.specs.Directories.{FileStays, GivesPermissions, HasCreated, HasStepped, OwnsTheSame, OtherProcesses, Moment}
 use Rattle.minisign_vectors.specs.Memory.{Past, after, beginning, is_file, is_same, past, past_from, count_of, owned_by, past_of, rested, run_of, known_run, with_own}
 use Rattle.minisign_install.specs.declared.directories.Name.{Name}
 use Rattle.minisign_vectors.specs.declared.memory.calls.Call.{Call}
@@ -110,13 +110,14 @@ all_permissions directory = (plain directory).permissions
 pub alone : (directory : MemoryDirectory) → (past_of directory).now.busy ≡ false
 alone directory = (plain directory).alone
 
+stays : (f : ℕ) (m : Moment) → FileStays f m m
+stays f m = record { holds = refl; on_disk = refl; permissions = refl }
+
 -- nobody else does anything
 pub nobody : (owns : List ℕ → Bool) (m : Moment) → OtherProcesses true owns m m
 nobody owns m = record {
   stages = λ s o. refl;
-  holds = λ s f o e. refl;
-  on_disk = λ s f o e. refl;
-  permissions = λ s f o e. refl;
+  files = λ s f o e. stays f m;
   apart = λ s f o e a. a;
   record_left = λ l. record { leads = refl; left = λ f e. inr e; holds = λ f lead. refl; on_disk = λ f lead e. e };
 }
@@ -150,8 +151,8 @@ rested_step directory new call is own this =
 pub permissions_given : (directory : MemoryDirectory) (file : ℕ) → GivesPermissions file (past_of directory).now (past_of directory).now
 permissions_given directory file = record {
   spoils = record {
-    only = record { leads = refl; left = refl; holds = λ f other. refl; on_disk = λ f other. refl; permissions = λ f other. refl };
-    stages = refl;
+    only = record { leads = λ n. refl; left = λ n f e. inr e; files = λ f other. stays f (past_of directory).now };
+    stages = λ s. refl;
   };
   same = refl;
   given = all_permissions directory file;
@@ -165,17 +166,21 @@ made_at p owns v b free = record {
     others = nobody owns p.now;
     this = record {
       only = record {
-        leads = refl;
-        left = refl;
-        holds = λ f other. cond-false (f == p.made) [] (p.now.holds f) (ne_eqb f p.made other);
-        on_disk = λ f other. cond-false (f == p.made) false (p.now.on_disk f) (ne_eqb f p.made other);
-        permissions = λ f other. refl;
+        leads = λ n. refl;
+        left = λ n f e. inr e;
+        files = λ f other. record {
+          holds = cond-false (f == p.made) [] (p.now.holds f) (ne_eqb f p.made other);
+          on_disk = cond-false (f == p.made) false (p.now.on_disk f) (ne_eqb f p.made other);
+          permissions = refl;
+        };
       };
       apart = λ n lead. ⊎_elim (λ e. not_itself p.made (b.leads n p.made e)) (λ e. not_itself p.made (b.left n p.made e)) lead;
       fresh = λ s e. not_itself p.made (b.stages s p.made e);
       free = free;
-      made = cond-true (bytes_eq v.items v.items) (Some p.made) (p.now.stages v.items) (same_bytes v.items v.items refl);
-      others = λ s other. cond-false (bytes_eq s v.items) (Some p.made) (p.now.stages s) (other_bytes s v.items other);
+      stages = record {
+        set = cond-true (bytes_eq v.items v.items) (Some p.made) (p.now.stages v.items) (same_bytes v.items v.items refl);
+        others = λ s other. cond-false (bytes_eq s v.items) (Some p.made) (p.now.stages s) (other_bytes s v.items other);
+      };
       empty = cond-true (p.made == p.made) [] (p.now.holds p.made) (eq-eqb p.made p.made refl);
     };
     noted = refl;
@@ -183,7 +188,7 @@ made_at p owns v b free = record {
     locked = λ l. l;
   };
   own = record {
-    more = cond-true (bytes_eq v.items v.items) true (owns v.items) (same_bytes v.items v.items refl);
+    set = cond-true (bytes_eq v.items v.items) true (owns v.items) (same_bytes v.items v.items refl);
     others = λ s other. cond-false (bytes_eq s v.items) true (owns s) (other_bytes s v.items other);
   };
 }

@@ -23,13 +23,12 @@ found_before m m' (Some bytes) leaves (f, leads, holds) =
 found_at_lock : (found : Option (List ℕ)) (old locked : Run) → old.locked ≡ true → HasLocked old locked → IsFound locked.now Record found → IsFound old.now Record found
 found_at_lock found old locked held got there =
     let s = got.stepped in
-    found_before old.now s.before found (s.others.record_left held) (subst (λ m. IsFound m Record found) s.this.0 there)
+    found_before old.now s.before found (s.others.record_left held) (subst (λ m. IsFound m Record found) s.this.still there)
 
 -- the lock is not held by another run
 never_in_use : (old : Run) (new : MemoryDirectory) → HasStepped old (run_of new) IsBusy → ⊥
 never_in_use old new s =
-    let (same, busy) = s.this in
-    true≢false (sym busy ∙ sym (ap (λ m. m.busy) same) ∙ alone new)
+    true≢false (sym s.this.seen ∙ sym (ap (λ m. m.busy) s.this.still) ∙ alone new)
 
 pub installs_at : {T : Type 0} (accepts : Verifier) (terms : Terms) (first : Bool) (ahead : Option (List ℕ)) (before after : Counts) (old new : MemoryDirectory) (r : Result T InstallFault)
     → InstallsExactly accepts terms first ahead before after (run_of old) (run_of new) r → InstallsAt accepts terms first ahead before after (past_of old).now r

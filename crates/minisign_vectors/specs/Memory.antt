@@ -13,7 +13,7 @@ use Rattle.minisign_vectors.specs.declared.memory.tally.Tally.TheVariants.{Nothi
 use Rattle.minisign_vectors.specs.declared.memory.owned.Owned.{Owned}
 use Rattle.minisign_vectors.specs.declared.memory.owned.Owned.TheVariants.{Nothing as NoneMade, Made' as MadeMore, LetGo'}
 use Rattle.minisign_vectors.specs.declared.memory.MemoryDirectory.{MemoryDirectory}
-use Rattle.minisign_install.specs.Names.{drawn_bytes}
+use Rattle.minisign_install.specs.Directories.{drawn_bytes}
 
 -- a run of a directory in memory, and how many files it made: the next one has that number
 pub record Past : Type 0 where

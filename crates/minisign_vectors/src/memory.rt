@@ -10,7 +10,7 @@ ghost use Rattle.minisign_install.specs.Directories.{HasCounted, HasLocked, IsFo
 ghost use Rattle.minisign_vectors.specs.InMemory.{InstallsAt, faults_of};
 ghost use Rattle.minisign_install.specs.Installing.{HasInstalled, InstallsOnlyUpdates, terms_of};
 ghost use Rattle.minisign_vectors.specs.Memory.{after, beginning, count_of, past_of, rested, run_of};
-ghost use Rattle.minisign_install.specs.Names.{drawn_bytes};
+ghost use Rattle.minisign_install.specs.Directories.{drawn_bytes};
 ghost use Rattle.minisign_install.specs.Refusals.{IsRefusal, counts};
 ghost use Rattle.minisign_install.specs.Runs.{OwnsNoMore};
 

@@ -2,7 +2,7 @@
 
 ghost use Rattle.std.specs.Prelude.{◌≡◌};
 ghost use Rattle.minisign_vectors.specs.Memory.{owned_by, with_own, without_own};
-ghost use Rattle.minisign_install.specs.Names.{drawn_bytes};
+ghost use Rattle.minisign_install.specs.Directories.{drawn_bytes};
 
 use minisign_install::StageName;
 use std::snapshot::Snapshot;

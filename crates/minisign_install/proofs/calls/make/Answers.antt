@@ -1,5 +1,5 @@
 use Rattle.minisign_install.proofs.Common.{refl, ap, counts}
-use Rattle.minisign_install.proofs.Driving.{same_counts, alone, answer_goes, at_record, at_update, both, called, copy_goes, create_goes, create_record_goes, drawn, lock_goes, map_ok, read_back_goes, read_goes, so_counted, uncounted, untouched, writing_fails, writing_wants}
+use Rattle.minisign_install.proofs.Driving.{same_counts, alone, answer_goes, at_record, at_update, called, copy_goes, create_goes, create_record_goes, drawn, lock_goes, map_ok, read_back_goes, read_goes, so_counted, uncounted, untouched, writing_fails, writing_wants}
 use Rattle.minisign_install.proofs.calls.make.Goals as goal
 
 pub returns-in-Lock-clause-went : goal.returns-in-Lock-clause-went
@@ -80,10 +80,10 @@ returns-in-SyncName-clause-went g c = rw (c.in-SyncName.is, c.made_or.ensures) (
 
 pub returns-in-RemoveRecord-clause-went : goal.returns-in-RemoveRecord-clause-went
 returns-in-RemoveRecord-clause-went g c = rw (c.in-RemoveRecord.is, c.writing_or-in-RemoveRecord.ensures) (λ going read has knows.
-    called _ _ _ _ _ _ _ _ _ _ c.remove.result ((has.0, tt), tt) ((has.0, tt), tt) (at_record _ _ c.args.work.now c.made-in-RemoveRecord.result.now c.made-in-RemoveRecord.ensures (λ names known may. alone _ _ _ _ c.remove.result (both _ _ c.remove.result (c.remove.ensures.removed known may).stepped (c.remove.ensures.removed known may).own)))
+    called _ _ _ _ _ _ _ _ _ _ c.remove.result ((has.0, tt), tt) ((has.0, tt), tt) (at_record _ _ c.args.work.now c.made-in-RemoveRecord.result.now c.made-in-RemoveRecord.ensures (λ names known may. alone _ _ _ _ c.remove.result (c.remove.ensures.removed known may)))
     (uncounted c.remove.result (ap (counts _ _) c.remove.ensures.uncounted) (λ names. ap (counts _ _) c.remove.ensures.uncounted)) writing_wants)
 
 pub returns-in-Remove-clause-went : goal.returns-in-Remove-clause-went
 returns-in-Remove-clause-went g c = rw (c.in-Remove.is, c.writing_or-in-Remove.ensures) (λ going read has knows.
-    called _ _ _ _ _ _ _ _ _ _ c.remove-in-Remove.result ((tt, tt), tt) ((tt, tt), tt) (at_update _ _ c.args.work.now c.made-in-Remove.result.now c.made-in-Remove.ensures (λ names known may. alone _ _ _ _ c.remove-in-Remove.result (both _ _ c.remove-in-Remove.result (c.remove-in-Remove.ensures.removed known may).stepped (c.remove-in-Remove.ensures.removed known may).own)))
+    called _ _ _ _ _ _ _ _ _ _ c.remove-in-Remove.result ((tt, tt), tt) ((tt, tt), tt) (at_update _ _ c.args.work.now c.made-in-Remove.result.now c.made-in-Remove.ensures (λ names known may. alone _ _ _ _ c.remove-in-Remove.result (c.remove-in-Remove.ensures.removed known may)))
     (uncounted c.remove-in-Remove.result (ap (counts _ _) c.remove-in-Remove.ensures.uncounted) (λ names. ap (counts _ _) c.remove-in-Remove.ensures.uncounted)) writing_wants)

@@ -1,6 +1,6 @@
 use Rattle.std.proofs.Common.{rules, ◌≡◌, sym}
 use Rattle.minisign_vectors.specs.Memory.{past_of, owned_by}
-use Rattle.minisign_install.specs.Names.{drawn_bytes}
+use Rattle.minisign_install.specs.Directories.{drawn_bytes}
 use Rattle.minisign_vectors.proofs.Bounds.{created}
 use Rattle.minisign_vectors.proofs.memory.MemoryDirectoryDirectory.create.Goals as goal
 
