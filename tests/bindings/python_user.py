@@ -190,7 +190,7 @@ def keys(room: str) -> None:
     check(minisign.verify(data, key.public_key, progress=lambda done, size: seen.append((done, size))) == "by Python \u00e9", "our own signature")
     check(seen == [(14, 14)], f"progress: {seen}")
     default = key.public_key.verify(b"what is signed", key.sign(data))
-    check(default.startswith("timestamp:") and default.endswith("\tfile:data\thashed"), f"the comment by default: {default}")
+    check(default.startswith("timestamp:") and default.endswith("\tfile:data\thashed"), f"the default comment: {default}")
     check(made.text.startswith(b"untrusted comment: another comment\n"), "the untrusted comment")
     for kind, comment in ((minisign.BadComment, "a\nb"), (minisign.BadComment, " a"), (minisign.UnreadableComment, "a\0b"),
                           (minisign.UnreadableComment, "x" * 9000), (minisign.NotUtf8, "\udcff")):

@@ -218,13 +218,13 @@ def signing_cases(programs, minisign):
 
 
 def by_default(signing):
-    """The comments by default, as Minisign writes them."""
+    """The default comments, as Minisign writes them."""
     write(signing.directory, "data", b"some data\n")
     _, text = signing.ours("first.key")
     wanted = rb"untrusted comment: signature from minisign secret key\n[^\n]*\n" \
         rb"trusted comment: timestamp:[0-9]+\tfile:data\thashed\n[^\n]*\n"
-    signing.case("comments by default", "" if text is not None and re.fullmatch(wanted, text) else f"{text!r}")
-    signing.case("comments by default, accepted", ", ".join(signing.accepted("first.pub")))
+    signing.case("default comments", "" if text is not None and re.fullmatch(wanted, text) else f"{text!r}")
+    signing.case("default comments, accepted", ", ".join(signing.accepted("first.pub")))
 
 
 def sealed(signing):

@@ -159,7 +159,7 @@ def signature_record(message):
 
 
 def signature_text(message):
-    """The text of that signature at the moment 0, with the comments by default."""
+    """The text of that signature at the moment 0, with the default comments."""
     record = signature_record(message)
     trusted = b"timestamp:0"
     return toy.signature_text(message, record, trusted, b"signature from rsign secret key",
@@ -174,7 +174,7 @@ def signed(message):
 
 
 def signing(name, record, source, answer):
-    """Signs at the moment 0 with the key of a record, the comments by default and random bytes that count up from 0."""
+    """Signs at the moment 0 with the key of a record, the default comments and random bytes that count up from 0."""
     return Row(name, ask("sign", None, record, source, None, None, counting(0), 0), answer)
 
 

@@ -65,7 +65,7 @@ def halves():
         yield Row(f"public half: key derivation {name}", ask("pk_from_secret_key", secret), KEY_A)
 
 
-def beginnings():
+def prefixes():
     """Where a text ends decides what is missing: the first line has 57 bytes, and the key 56."""
     text = toy.public_text()
     for length in range(len(text) + 1):
@@ -115,7 +115,7 @@ def rows(directory):
     """Yields all rows; none needs a directory."""
     yield from written_and_read_back()
     yield from halves()
-    yield from beginnings()
+    yield from prefixes()
     yield from boxes()
     yield from bare_keys()
     yield from comments()

@@ -47,14 +47,14 @@ def both_ways(name, comment):
 
 
 def written_and_read_back():
-    """Key A is written and read back, with the comment by default and with another one."""
+    """Key A is written and read back, with the default comment and with another one."""
     text = toy.secret_text()
     yield Row("secret key: written", ask("sk_to_box", RECORD, None), gives(text=text))
     yield Row("secret key: read", ask("sk_plain", text), KEY_A)
     yield from both_ways("another comment", b"mine")
 
 
-def beginnings():
+def prefixes():
     """Where a text ends decides what is missing: the first line has 46 bytes, and the base64 in groups of 4 up to the
     258th."""
     text = toy.secret_text()
@@ -103,7 +103,7 @@ def comments():
 def rows(directory):
     """Yields all rows; none needs a directory."""
     yield from written_and_read_back()
-    yield from beginnings()
+    yield from prefixes()
     yield from boxes()
     yield from not_unsealed()
     yield from comments()

@@ -112,7 +112,7 @@ def bones_have_no_text():
         yield Row(f"{request}: short, unknown algorithm", ask(request, unknown[:73]), rejected(TOO_SHORT))
 
 
-def outcome_of_beginning(length):
+def outcome_of_prefix(length):
     """What comes of so many bytes of the worked text, of which the lines end after 21, 122, 141 and 230."""
     for end, error in ((0, NO_FIRST), (21, NO_SECOND), (122, NO_THIRD), (141, NO_FOURTH)):
         if length <= end:
@@ -122,15 +122,15 @@ def outcome_of_beginning(length):
     return COMMENT_REJECTED if (length - 141) % 4 == 0 else NOT_BASE64
 
 
-def beginnings():
-    """Each beginning of a text, read and verified."""
+def prefixes():
+    """Each prefix of a text, read and verified."""
     for length in range(len(PREHASHED_TEXT) + 1):
         text = PREHASHED_TEXT[:length]
-        outcome = outcome_of_beginning(length)
+        outcome = outcome_of_prefix(length)
         answer = rejected(outcome) if outcome not in (ACCEPTED, COMMENT_REJECTED) else holds(
             PREHASHED_RECORD, text.rstrip(b"\n") + b"\n")
-        yield read(f"beginning: {length} bytes, read", text, answer)
-        yield from judged(f"beginning: {length} bytes, verified", text, outcome)
+        yield read(f"prefix: {length} bytes, read", text, answer)
+        yield from judged(f"prefix: {length} bytes, verified", text, outcome)
 
 
 def lines_in_their_order():
@@ -299,7 +299,7 @@ def rows(directory):
     yield from written_and_read_back()
     yield from blanks()
     yield from bones_have_no_text()
-    yield from beginnings()
+    yield from prefixes()
     yield from lines_in_their_order()
     yield from odd_texts()
     yield from odd_fourth_lines()

@@ -160,8 +160,8 @@ class OneOf:
 
 
 @dataclass(frozen=True)
-class BeginningOf:
-    """A beginning of this output."""
+class PrefixOf:
+    """A prefix of this output."""
 
     whole: bytes
 
@@ -597,9 +597,9 @@ def compare(case, status, streams):
         raise Failure(f"it ended with {ended} in place of status {case.status}, and said {writes}")
     if writes not in (case.lines.choices if isinstance(case.lines, OneOf) else (case.lines,)):
         raise Failure(f"it said {writes} in place of {case.lines}")
-    if isinstance(case.output, BeginningOf):
+    if isinstance(case.output, PrefixOf):
         if not case.output.whole.startswith(output):
-            raise Failure(f"it wrote {output[:200]}, which is no beginning of {case.output.whole[:200]}")
+            raise Failure(f"it wrote {output[:200]}, which is no prefix of {case.output.whole[:200]}")
     elif output != case.output:
         raise Failure(f"it wrote {output[:200]} in place of {case.output[:200]}")
 

@@ -12,7 +12,7 @@ from running import (
     FULL,
     LOCKED,
     WRITE_ONLY,
-    BeginningOf,
+    PrefixOf,
     Case,
     Failure,
     FromFile,
@@ -327,7 +327,7 @@ def file_cases():
              left=Pair(b"p", 0o200, 0o200)),
         made("a mask of nothing", umask=0, left=Pair(b"p", 0o666, 0o600)),
         made("a mask of all but the owner", umask=0o077, left=Pair(b"p", 0o600, 0o600)),
-        made("a mask that leaves no right to write", umask=0o222, left=Pair(b"p", 0o444, 0o400)),
+        made("a mask that leaves no permission to write", umask=0o222, left=Pair(b"p", 0o444, 0o400)),
         made("names that lead through the directory itself", arguments=("./" + PK, "././" + SK)),
     ]
 
@@ -469,7 +469,7 @@ def memory_cases():
     write. No file is touched."""
     older = {PK: b"older public", SK: b"older secret"}
     lines = OneOf(([WARNING, OUT_OF_MEMORY], [WARNING, WRITING_FAILED]))
-    case = replace(keygen("", 1, files=older, left=Left(older)), lines=lines, output=BeginningOf(MADE))
+    case = replace(keygen("", 1, files=older, left=Left(older)), lines=lines, output=PrefixOf(MADE))
     return [
         replace(case, name=f"{many} failing", rejecting=rejecting)
         for rejecting, many in (("one", "one allocation"), ("all", "each allocation from one on"))

@@ -15,7 +15,7 @@ from running import (
     MISSING,
     NO_READER,
     WRITE_ONLY,
-    BeginningOf,
+    PrefixOf,
     Case,
     Failure,
     FedPipe,
@@ -69,7 +69,7 @@ DRAWN_BEFORE = set()
 
 class Signed:
     """Looks at the directory that a run leaves: the signature's file, in which the data is signed with the
-    comments by default, and nothing else beside the files that it was given."""
+    default comments, and nothing else beside the files that it was given."""
 
     def __init__(self, data=b"abc", name=SIG, mode=0o644):
         self.data = data
@@ -353,7 +353,7 @@ def memory_cases():
     lines = OneOf(([WARNING, OUT_OF_MEMORY], [WARNING, WRITING_FAILED]))
     rows = [
         ("a key that was never sealed", sign("", 1, files=older, left=Left(b"older"))),
-        ("a sealed key", sealed("", 1, files=older, left=Left(b"older"), output=BeginningOf(OPENED))),
+        ("a sealed key", sealed("", 1, files=older, left=Left(b"older"), output=PrefixOf(OPENED))),
         ("an empty key", sign("", 1, files={SK: b"", **older}, left=Left(b"older"))),
     ]
     return [

@@ -10,7 +10,7 @@ from running import (
     FULL,
     MISSING,
     NO_READER,
-    BeginningOf,
+    PrefixOf,
     Case,
     Failure,
     FedPipe,
@@ -353,7 +353,7 @@ def memory_cases(command):
     rows = [("a good signature", {}), ("other data", {FILE: b"abd"}), ("an empty key", {PK: b""})]
     return [
         replace(command(f"{name}, and {many} failing", 1, files=files, rejecting=rejecting),
-                lines=lines, output=BeginningOf(b"abc"))
+                lines=lines, output=PrefixOf(b"abc"))
         for name, files in rows
         for rejecting, many in (("one", "one allocation"), ("all", "each allocation from one on"))
     ]

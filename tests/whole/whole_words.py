@@ -127,7 +127,7 @@ class Words(Safety):
             raise Failure(f"{ran}")
 
     def names_of_comments(self):
-        """A name of a file that cannot stand in the trusted comment by default is not told as a comment that was given; with one that
+        """A name of a file that cannot stand in the default trusted comment is not told as a comment that was given; with one that
         is given it signs."""
         for name, flags, words in (
             (b"caf\xe9", (), b"caf\\xe9: a name that is not UTF-8"), (b"end ", ("-l",), b"end : a name that ends with white space"),

@@ -29,7 +29,7 @@ class Wanted(Structure):
 
 
 class Installing(Structure):
-    """The beginning of `struct installing`, and of its directory: what could not be used, if anything."""
+    """The first fields of `struct installing`, and of its directory: what could not be used, if anything."""
 
     _fields_ = [("machine", h.Installation), ("error", c_uint), ("is_there", c_bool), ("is_too_long", c_bool), ("work", c_uint), ("done", c_uint64),
                 ("size", c_uint64), ("shown", c_char_p), ("cause", c_char_p), ("number", c_int)]
