@@ -15,8 +15,8 @@ from timing import TOOL, run, toy
 LENGTHS = [length * 2**20 for length in (8, 16, 32)]
 ROUNDS = 3
 # Beside the program itself, which takes less than 2 MiB.
-MOST_MEMORY, LEAST_ROOM = 4.0, 4.0
-MOST_GROWTH, LEAST_SECONDS = 3.0, 0.02
+MAX_MEMORY, MIN_ROOM = 4.0, 4.0
+MAX_GROWTH, MIN_SECONDS = 3.0, 0.02
 DATA = b"abc"
 
 # One line, and no other.
@@ -136,10 +136,10 @@ def main():
         shown = "  ".join(f"{seconds:5.2f} s {memory:6.1f} MiB" for _, seconds, memory in row)
         print(f"{name:48} {shown}", flush=True)
         for length, _, memory in row:
-            if memory > MOST_MEMORY * length / 2**20 + LEAST_ROOM:
+            if memory > MAX_MEMORY * length / 2**20 + MIN_ROOM:
                 worst.append(f"{name}: {memory:.1f} MiB for a text of {length} bytes")
         for (_, before, _), (_, after, _) in zip(row, row[1:]):
-            if after > MOST_GROWTH * max(before, LEAST_SECONDS):
+            if after > MAX_GROWTH * max(before, MIN_SECONDS):
                 worst.append(f"{name}: {before:.2f} s, and {after:.2f} s for twice the length")
     if worst:
         raise SystemExit("\n".join(worst))

@@ -39,7 +39,7 @@ from installers import EXPIRED, FAILED, IN_USE, LOCK, MISUSED, NOT_ON_DISK, OLDE
 from owners import owner_cases
 from permissions import permission_cases
 from running import NOBODY, SECONDS, Failure, Skip, build_preload, set_list
-from surviving import MEMORY, MOST_CALLS, SmallDisk, content
+from surviving import MEMORY, MAX_CALLS, SmallDisk, content
 
 PROGRAM = os.path.join(HERE, "..", "..", "crates", "minisign_updater", "out", "minisign_updater")
 STAGE = ".place.stage-"
@@ -800,7 +800,7 @@ class Installing:
     # == Hurt ==
 
     def break_each(self, judge, prepare=None, **how):
-        for number in range(1, MOST_CALLS):
+        for number in range(1, MAX_CALLS):
             self.broken_at = number
             with self.directory() as path:
                 directory = Directory(path, self.kind)
@@ -821,7 +821,7 @@ class Installing:
                     raise Failure(f"at call {number}: {why}") from why
             if not came:
                 return number - 1
-        raise Failure(f"it made {MOST_CALLS} calls")
+        raise Failure(f"it made {MAX_CALLS} calls")
 
     def killed(self):
         """The place holds the old or the new one; the record is never behind it; the next run finishes and cleans up."""
@@ -933,7 +933,7 @@ class Installing:
     def refused_memory(self):
         """Each allocation fails in turn: nothing is installed, and nothing left."""
         preload = build_preload(self.room, "refuse_memory")
-        for number in range(1, MOST_CALLS):
+        for number in range(1, MAX_CALLS):
             with self.directory() as path:
                 directory = Directory(path, self.kind)
                 directory.offer("new", NEW, 6)
@@ -1192,7 +1192,7 @@ class Installing:
             with Disk(fresh) as path:
                 Directory(path, self.kind).offer("new", NEW, 6)
             seen = set()
-            for number in range(1, MOST_CALLS):
+            for number in range(1, MAX_CALLS):
                 shutil.copyfile(fresh, image)
                 with Disk(image) as path:
                     process, came = self.stopped(Directory.there(path, self.kind), number)

@@ -2,7 +2,7 @@
 differ enough, and a narrow screen."""
 
 # Pairs of a text and its ground that differ by less than this are hard to read (WCAG 2, level AA).
-LEAST_CONTRAST = 4.5
+MIN_CONTRAST = 4.5
 NARROW = 320
 
 # The least contrast of each text that is seen, with the text.
@@ -56,7 +56,7 @@ def contrasts_wrong(browser):
         browser.command("Emulation.setEmulatedMedia", features=[{"name": "prefers-color-scheme", "value": scheme}])
         found = browser.run(CONTRASTS)
         grounds = browser.run("return getComputedStyle(document.body).backgroundColor")
-        wrong += [f"{scheme}: {text!r} has contrast {value:.1f}" for value, text in found if value < LEAST_CONTRAST]
+        wrong += [f"{scheme}: {text!r} has contrast {value:.1f}" for value, text in found if value < MIN_CONTRAST]
         if not found or (scheme == "dark") != (grounds != "rgb(255, 255, 255)"):
             wrong.append(f"{scheme}: the page's ground is {grounds}")
     browser.command("Emulation.setEmulatedMedia", features=[])
@@ -67,7 +67,7 @@ def forced_contrasts_wrong(browser):
     """The texts that are hard to read in colours that the system forces on the page, and the rows that have no border then."""
     browser.command("Emulation.setEmulatedMedia", features=[{"name": "forced-colors", "value": "active"}])
     wrong = [] if browser.run("return matchMedia('(forced-colors: active)').matches") else ["no colours are forced"]
-    wrong += [f"forced: {text!r} has contrast {value:.1f}" for value, text in browser.run(CONTRASTS) if value < LEAST_CONTRAST]
+    wrong += [f"forced: {text!r} has contrast {value:.1f}" for value, text in browser.run(CONTRASTS) if value < MIN_CONTRAST]
     widths = browser.run("return Array.from(document.querySelectorAll('#verdicts > li, .caution'), it => getComputedStyle(it).borderLeftWidth)")
     wrong += [f"forced: a border is {width} wide" for width in widths if width == "0px"]
     browser.command("Emulation.setEmulatedMedia", features=[])

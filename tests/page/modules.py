@@ -14,7 +14,7 @@ from minisign_cases import random_cases
 
 HERE = os.path.dirname(os.path.realpath(__file__))
 TEXTS = 500
-LEAST_CASES = 550
+MIN_CASES = 550
 CALLS = f"{build.PACKAGE}/calls.js"
 
 
@@ -22,7 +22,7 @@ def check_modules(person, minisign, wide, narrow):
     """What both answer in Chromium, and the one for 32 bits in Node."""
     browser, checks = person.browser, person.checks
     texts = texts_of(minisign)
-    checks.check(len(texts) >= LEAST_CASES, f"the modules are asked about {len(texts)} texts")
+    checks.check(len(texts) >= MIN_CASES, f"the modules are asked about {len(texts)} texts")
     browser.go("about:blank")
     in_node = answers_in_node(person, narrow, texts)
     for what, module in (("the module for 32 bits in Chromium", narrow), ("the module for 64 bits in Chromium", wide)):

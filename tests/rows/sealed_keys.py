@@ -26,7 +26,7 @@ DONE = DERIVING + b"done\n"
 MARKED = ASKED + b"<empty>\n" + TOLD + b"done\n"
 
 # The greatest limit of memory, and one of operations that leads to more parts than scrypt takes.
-MOST_MEMORY = 1 << 30
+MAX_MEMORY = 1 << 30
 TOO_MANY_OPERATIONS = 1 << 40
 GREATEST = (1 << 64) - 1
 
@@ -151,7 +151,7 @@ def written_as_they_stand():
 def that_no_password_opens():
     """What no password opens is rejected before one is asked for. Other key derivations than the one that opens come
     before the limits, which are too high here."""
-    too_high = Limits(MOST_MEMORY + 1)
+    too_high = Limits(MAX_MEMORY + 1)
     for name, text, error in (
         ("nothing", b"", "MissingSecretKeyComment"),
         ("a comment alone", b"c\n", "MissingEncodedSecretKey"),
@@ -189,10 +189,10 @@ def with_other_limits():
     """The limits are tested once the password is there, and before the derivation. Key A's record that is not sealed
     restores no checksum."""
     for name, limits, error, told in (
-        ("one byte of memory too many", Limits(MOST_MEMORY + 1), "ParametersTooHigh", DERIVING),
+        ("one byte of memory too many", Limits(MAX_MEMORY + 1), "ParametersTooHigh", DERIVING),
         ("the greatest number of bytes", Limits(GREATEST), "ParametersTooHigh", DERIVING),
         ("too many parts", Limits(0, TOO_MANY_OPERATIONS), "InvalidParameters", DERIVING),
-        ("all bytes that are allowed, and no operations", Limits(MOST_MEMORY), "WrongPassword", DONE),
+        ("all bytes that are allowed, and no operations", Limits(MAX_MEMORY), "WrongPassword", DONE),
         ("no limits", NO_LIMITS, "WrongPassword", DONE),
         ("small limits", SMALL, "WrongPassword", DONE),
     ):

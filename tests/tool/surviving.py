@@ -36,7 +36,7 @@ STAGE = ".minisign_tool-"
 PUBLIC_FRONT, SECRET_FRONT = b"untrusted comment: minisign", b"untrusted comment: rsign"
 MEMORY = "/dev/shm"
 TYPED = b"p\np\n"
-MOST_CALLS = 500
+MAX_CALLS = 500
 
 
 class Task:
@@ -177,7 +177,7 @@ class Surviving:
 
     def break_each(self, task, judge, **how):
         """Breaks each of the calls in turn, and hands to `judge` what each run left; answers how many there were."""
-        for number in range(1, MOST_CALLS):
+        for number in range(1, MAX_CALLS):
             with tempfile.TemporaryDirectory(dir=self.place) as directory:
                 task.make(directory)
                 status, said, came = self.run_broken(directory, task, BREAK_AT=number, **how)
@@ -187,7 +187,7 @@ class Surviving:
                     raise Failure(f"at call {number}: {why}") from why
             if not came:
                 return number - 1
-        raise Failure(f"it made {MOST_CALLS} calls")
+        raise Failure(f"it made {MAX_CALLS} calls")
 
     def killed(self, task):
         """A run that is killed before each of its calls. The secret key is replaced last."""

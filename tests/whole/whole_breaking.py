@@ -17,7 +17,7 @@ from surviving import SmallDisk
 from whole_running import SECONDS, files_in, put_files, record_of
 
 MEMORY = "/dev/shm"
-MOST_CALLS = 400
+MAX_CALLS = 400
 STAGE = ".minisign-"
 
 
@@ -109,7 +109,7 @@ class Breaking:
 
     def break_each(self, task, judge, **how):
         """Breaks each of the calls in turn, and hands to `judge` what each run left: how many calls there were."""
-        for number in range(1, MOST_CALLS):
+        for number in range(1, MAX_CALLS):
             with tempfile.TemporaryDirectory(dir=self.place) as directory:
                 put_files(directory, task.files)
                 told, says = os.pipe()
@@ -127,7 +127,7 @@ class Breaking:
                     raise Failure(f"at call {number}: {why}") from why
             if not came:
                 return number - 1
-        raise Failure(f"it made {MOST_CALLS} calls")
+        raise Failure(f"it made {MAX_CALLS} calls")
 
     def killed(self, task):
         """A run that is killed before each of its calls leaves each number of new files, the public key before the
@@ -174,7 +174,7 @@ class Breaking:
     def refused_allocations(self, task):
         """A run with each of its allocations failing in turn exits with status 2 and no new file, or does all that it has to."""
         count = len(task.judges)
-        for number in range(1, MOST_CALLS):
+        for number in range(1, MAX_CALLS):
             with tempfile.TemporaryDirectory(dir=self.place) as directory:
                 put_files(directory, task.files)
                 told, says = os.pipe()
@@ -190,7 +190,7 @@ class Breaking:
                     raise Failure(f"request {number}: it ended with {status} and {new} new files, and said {said}")
             if not came:
                 return
-        raise Failure(f"it made {MOST_CALLS} requests")
+        raise Failure(f"it made {MAX_CALLS} requests")
 
     def on_full_disk(self, task):
         """A run on a file system without room: nothing is new, and it says so."""

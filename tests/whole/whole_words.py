@@ -34,7 +34,7 @@ ROWS_OF_FIRST_LINES = {b"Signature too long": (b"Trusted comment not present",),
                        START: (b"Error while reading the signature file", NOT_UTF8)}
 
 # A key of more than so much work, N times p of scrypt, is rejected.
-MOST_WORK = 16 << 20
+MAX_WORK = 16 << 20
 # A rejection comes within so many seconds, where such work takes twenty and more.
 AT_ONCE = 10
 
@@ -159,7 +159,7 @@ class Words(Safety):
 
     def dear_key_is_rejected(self):
         """A key of more than 16 times the work of a usual one is rejected at once, whatever its p, and the words say what allows it."""
-        for rows, times in ((FEW_ROWS, MOST_WORK // FEW_ROWS + 1), (1 << 20, 17), (1 << 15, 513)):
+        for rows, times in ((FEW_ROWS, MAX_WORK // FEW_ROWS + 1), (1 << 20, 17), (1 << 15, 513)):
             directory = self.directory(**{"dear.key": sealed_for(self.keys[OPEN], PASSWORD, times, rows)})
             start = time.monotonic()
             ran = self.ours(directory, "-Sm", "data", "-s", "dear.key", typed=PASSWORD + b"\n")
