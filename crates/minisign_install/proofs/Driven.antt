@@ -1,7 +1,7 @@
 -- An installation over a directory, from call to call: what stands fast between two of them, and what that says at the end.
 use Rattle.minisign_install.proofs.Common.{◌≡◌, inl, inr, ⊎_elim, ℕ, List, [], Option, Some, None, Bool, true, false, ap, sym, subst, ◌∙◌, refl, true≢false, Verifier, HasInstalled, InstallsOnlyUpdates, Terms, Rose, InstallFault, AreNamed, HasMade, IsNamed, Knows, MayCall, Names, setting, HasLocked, Run, DeviceFails, Explains, Host, Setting, drawn_bytes, has_ended, next, Due, Lock, Clear, ReadRecord, Answer, Rename, SyncName, RemoveRecord, Remove, Installed, Outcome, Done, Failed, Counts, IsCause, IsCallFault, IsLibraryFault, IsRefusal, OwnsNoMore, Stage, Work, Went, Library, Named, OutOfMemory, OnlyLocked, ⊤}
 use Rattle.minisign_install.specs.Order.{Refused}
-use Rattle.minisign_install.proofs.Orders.{Holds, from, refusing_own}
+use Rattle.minisign_install.proofs.Orders.{Holds, from}
 use Rattle.minisign_install.proofs.Reasons.{Reason, why}
 
 -- a call that is due can be made: the run is still known, and the lock is held
@@ -9,8 +9,6 @@ ready : (s : Setting) (a : Host) (due : Due InstallFault) (h : Host) → a.run.k
 ready s a Lock h known going (run, same) = (ap (λ r. r.known) run ∙ known, tt)
 ready s a Clear h known going (lock, mine, same) = (lock.stepped.known ∙ known, lock.held)
 ready s a ReadRecord h known going (l, lock, mine, clear, same) = (clear.0.known ∙ lock.stepped.known ∙ known, clear.0.locked lock.held)
-ready s a (RemoveRecord e) h known going x = (x.publishes.known ∙ x.base.lock.stepped.known ∙ known, x.publishes.locked x.base.lock.held)
-ready s a (Remove e) h known going x = (x.publishes.known ∙ x.base.lock.stepped.known ∙ known, x.publishes.locked x.base.lock.held)
 ready s a Installed h known going x = absurd (true≢false going)
 ready s a (Refused e) h known going x = absurd (true≢false going)
 ready s a due h known going x = (x.0.publishes.known ∙ x.0.base.lock.stepped.known ∙ known, x.0.publishes.locked x.0.base.lock.held)
@@ -81,7 +79,7 @@ module _ (accepts : Verifier) (terms : Terms) (first : Bool) where
           let (held, reason) = holds known names before in
           let (is_known, may) = ready s a due h known going held in
           let makes = so.made is_known may in
-          (from s a known due o h h' held makes, why ⊤ s a known due o h h' held makes so.explained (λ _. so.memory) reason),
+          (from s a h h' known due o held makes, why ⊤ s a known h h' due o held makes so.explained (λ _. so.memory) reason),
     )
 
     pub begin : (w : Work H) → HasMade {E = InstallFault} Lock w → Driven Lock w a
@@ -92,14 +90,12 @@ module _ (accepts : Verifier) (terms : Terms) (first : Bool) where
     pub installed_runs : (w : Work H) (h : Host) → Driven Installed w h → a.run.known ≡ true
         → InstallsOnlyUpdates accepts terms first a.run h.run × ((locked : Run) × HasLocked a.run locked × HasInstalled accepts terms first a.ahead locked h.run) × OwnsNoMore a.run h.run
     installed_runs w h (has, knows, counted, holds) known =
-        let (locked, lock, so, installs, own) = (holds known (names_of w).0 (names_of w).1).0 in
-        (inr (locked, lock, so), (locked, lock, installs), own)
+        let (ended, installs) = (holds known (names_of w).0 (names_of w).1).0 in (ended.0, installs, ended.1)
 
     pub refused_runs : (e : InstallFault) (w : Work H) (h : Host) → Driven (Refused e) w h → a.run.known ≡ true
         → InstallsOnlyUpdates accepts terms first a.run h.run × IsRefusal accepts terms first a.ahead a.faults h.faults a.run h.run e × OwnsNoMore a.run h.run × (e ≡ Library (Named OutOfMemory) → OnlyLocked a.run h.run)
     refused_runs e w h (has, knows, counted, holds) known =
-        let (refusing, (reason, spares)) = holds known (names_of w).0 (names_of w).1 in
-        (⊎_elim (λ still. inl still.0) (λ locked. inr (locked.0, locked.1, locked.2)) refusing, reason, refusing_own (setting accepts terms first (names_of w).0) a h refusing, spares tt)
+        let (ended, (reason, spares)) = holds known (names_of w).0 (names_of w).1 in (ended.0.0, reason, ended.0.1, spares tt)
 
 -- what is due where the run has not ended
 pub goes_on : (due : Due InstallFault) → ¬ (due ≡ Installed) → ((e : InstallFault) → ¬ (due ≡ Refused e)) → has_ended due ≡ false

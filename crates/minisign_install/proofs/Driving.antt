@@ -187,7 +187,7 @@ module _ (accepts : Verifier) (terms : Terms) (first : Bool) {H : Type 0} (file_
       → MatchResult r (IsUpdate accepts terms kept read) (λ e. IsLibraryFault (λ fault. (fault ≡ Named OutOfMemory) × (state ≡ w.state)) e ⊎ IsDataRefused accepts terms kept read e)
       → Called (Answer kept) (number_or r) w (record w { state = state }) (host run ahead faults read) (host run ahead faults)
   answer_goes kept w run ahead faults read state (Ok n) has judged =
-      goes _ _ w (record w { state = state }) _ _ read has (read, judged.comment, n, judged.vouched, judged.says) (λ names named. named) (λ names named known may. (refl, judged)) (λ names. refl) tt
+      goes _ _ w (record w { state = state }) _ _ read has (read, n, record { comment = judged.comment; vouched = judged.vouched; says = judged.says; newer = omega (arith) }) (λ names named. named) (λ names named known may. (refl, judged)) (λ names. refl) tt
   answer_goes kept w run ahead faults read state (Err e) has judged =
       goes _ _ w (record w { state = state }) _ _ read (has.0, tt) tt (λ names named. named) (λ names named known may. refl)
       (λ names. ⊎_elim (λ (fault, is, memory). inr (fault, is, inl (memory.0, refl))) (λ refused. inl refused) judged) (λ no. absurd (true≢false no))

@@ -1,5 +1,5 @@
 -- What the parts of an installation come to.
-use Rattle.minisign_install.proofs.Common.{◌≡◌, ◌≤◌, ◌<◌, ◌^◌, inl, inr, ⊎_elim, ℕ, Bool, List, Option, Some, None, sym, subst, ◌∙◌, true, arith, Verifier, InstallsLocked, MayBePublished, IsKeptNumber, MayBeInstalled, MayBeRecorded, IsUpdate, NeverFalls, RecordsFirst, PublishesInOrder, Terms, Numbering, ClearsAll, HasStepped, IsFound, Moment, Finds, Run, Name, Place, Record, IsNumberFor, record_of, PublishesNothing, PublishesOnly, IsNumberFrom, RecordHolds, MayLead}
+use Rattle.minisign_install.proofs.Common.{◌≡◌, ◌≤◌, ◌<◌, ◌^◌, inl, inr, ⊎_elim, ℕ, Bool, List, Option, Some, None, sym, subst, ◌∙◌, true, arith, Verifier, HasKept, InstallsLocked, MayBePublished, IsKeptNumber, MayBeInstalled, MayBeRecorded, IsUpdate, RecordsFirst, PublishesInOrder, Terms, Numbering, ClearsAll, HasStepped, IsFound, Moment, Finds, Run, Name, Place, Record, IsNumberFor, record_of, PublishesNothing, PublishesOnly, IsNumberFrom, RecordHolds, MayLead}
 use Rattle.minisign_install.proofs.Works.{HasRecorded, IsOnly, publishes_nothing, publishes_trans, publishes_weaken}
 use Rattle.minisign_install.proofs.RecordTexts.{record_reads, same_number}
 use Rattle.std.proofs.lemmas.Option.{none-some}
@@ -28,43 +28,41 @@ module _ (accepts : Verifier) (terms : Terms) (kept : ℕ) where
   record_brought update n old new is brings =
       publishes_weaken (IsOnly Record (record_of terms.numbering n)) (MayBeRecorded accepts terms kept) old new (λ name b only. (only.0, (n, update, is, only.1))) brings
 
-  pub places_record : (old new : Run) → PublishesOnly (MayBeRecorded accepts terms kept) old new → PublishesInOrder accepts terms kept old new
-  places_record old new brings = record {
-    publishes = publishes_weaken (MayBeRecorded accepts terms kept) P old new (λ name b is. subst (λ x. MayBePublished accepts terms kept x b) (sym is.0) is.1) brings;
-    order = inl brings;
-  }
+  recorded_publishes : {old new : Run} → PublishesOnly (MayBeRecorded accepts terms kept) old new → PublishesOnly P old new
+  recorded_publishes = publishes_weaken (MayBeRecorded accepts terms kept) P _ _ (λ name b is. subst (λ x. MayBePublished accepts terms kept x b) (sym is.0) is.1)
 
-  pub places_nothing : (old new : Run) → PublishesNothing old new → PublishesInOrder accepts terms kept old new
-  places_nothing old new none = places_record old new (publishes_nothing (MayBeRecorded accepts terms kept) old new none)
+  -- what is published in order is what may be
+  pub ordered : {old new : Run} → PublishesInOrder accepts terms kept old new → PublishesOnly P old new
+  ordered (inl recorded) = recorded_publishes recorded
+  ordered (inr first) =
+      publishes_trans P _ _ _ (recorded_publishes first.recorded)
+      (publishes_weaken (MayBeInstalled accepts terms kept first.n) P _ _ (λ name b is. subst (λ x. MayBePublished accepts terms kept x b) (sym is.0) (first.n, is.1)) first.placed)
 
   places_behind : (n : ℕ) (old point new : Run) → PublishesOnly (MayBeRecorded accepts terms kept) old point → point.locked ≡ true → RecordHolds terms.numbering n point.now → PublishesOnly (MayBeInstalled accepts terms kept n) point new
       → RecordsFirst accepts terms kept old new
-  places_behind n old point new recorded locked there placed =
-      let (number, lasts) = placed.numbers locked terms.numbering n (λ bytes no. absurd (no_record no.0)) there in
-      record { n = n; point = point; recorded = recorded; locked = locked; there = there; placed = placed; number = number; lasts = lasts }
+  places_behind n old point new recorded locked there placed = record {
+    n = n;
+    point = point;
+    recorded = recorded;
+    locked = locked;
+    there = there;
+    placed = placed;
+    stays = placed.numbers locked terms.numbering n (λ bytes no. absurd (no_record no.0)) there;
+  }
 
   -- the number was kept, and then the update was published
   pub places_update : (n : ℕ) (bytes : List ℕ) (old mid new : Run) → mid.locked ≡ true → PublishesOnly (MayBeRecorded accepts terms kept) old mid → HasRecorded (record_of terms.numbering n) mid
-      → IsUpdate accepts terms kept bytes n → PublishesOnly (IsOnly Place bytes) mid new → PublishesInOrder accepts terms kept old new
+      → IsUpdate accepts terms kept bytes n → PublishesOnly (IsOnly Place bytes) mid new → RecordsFirst accepts terms kept old new
   places_update n bytes old mid new locked to_record recorded is publishes =
-      let placed = publishes_weaken (IsOnly Place bytes) (MayBeInstalled accepts terms kept n) mid new
-      (λ name b only. (only.0, subst (λ u. IsUpdate accepts terms kept u n) (sym only.1) is)) publishes in
-      let keeps : RecordHolds terms.numbering n mid.now = recorded.lasts terms.numbering n (number_from terms.numbering n n is.says.number.bound (omega arith)) in
-      record {
-        publishes = publishes_trans P old mid new (places_record old mid to_record).publishes
-            (publishes_weaken (MayBeInstalled accepts terms kept n) P mid new (λ name b q. subst (λ x. MayBePublished accepts terms kept x b) (sym q.0) (n, q.1)) placed);
-        order = inr (places_behind n old mid new to_record locked keeps placed);
-      }
+      places_behind n old mid new to_record locked
+      (recorded.lasts terms.numbering n (number_from terms.numbering n n is.says.number.bound (omega arith)))
+      (publishes_weaken (IsOnly Place bytes) (MayBeInstalled accepts terms kept n) mid new (λ name b only. (only.0, subst (λ u. IsUpdate accepts terms kept u n) (sym only.1) is)) publishes)
 
   pub places_more : (old mid new : Run) → PublishesNothing mid new → PublishesInOrder accepts terms kept old mid → PublishesInOrder accepts terms kept old new
-  places_more old mid new more places = record {
-    publishes = publishes_trans P old mid new places.publishes (publishes_nothing P mid new more);
-    order = ⊎_elim
-        (λ recorded. inl (publishes_trans (MayBeRecorded accepts terms kept) old mid new recorded (publishes_nothing (MayBeRecorded accepts terms kept) mid new more)))
-        (λ behind. inr (places_behind behind.n old behind.point new behind.recorded behind.locked behind.there
-        (publishes_trans (MayBeInstalled accepts terms kept behind.n) behind.point mid new behind.placed (publishes_nothing (MayBeInstalled accepts terms kept behind.n) mid new more))))
-        places.order;
-  }
+  places_more old mid new more (inl recorded) = inl (publishes_trans (MayBeRecorded accepts terms kept) old mid new recorded (publishes_nothing (MayBeRecorded accepts terms kept) mid new more))
+  places_more old mid new more (inr first) =
+      let placed = publishes_trans (MayBeInstalled accepts terms kept first.n) first.point mid new first.placed (publishes_nothing (MayBeInstalled accepts terms kept first.n) mid new more) in
+      inr (places_behind first.n old first.point new first.recorded first.locked first.there placed)
 
 -- == The record was found when the lock was got ==
 
@@ -88,14 +86,6 @@ kept_least numbering first (Some bytes) kept k m (f, leads, holds) number keeps 
     let (n, is, least) = keeps.numbers bytes (record { file = f; lead = inl leads; holds = λ kept. sym holds }) in
     number_least numbering first bytes kept k n is least number
 
-never_falls_newer : (accepts : Verifier) (terms : Terms) (first : Bool) (found : Option (List ℕ)) (kept : ℕ) (old new : Run) → old.locked ≡ true → IsFound old.now Record found → IsKeptNumber terms.numbering first found kept
-    → PublishesOnly (MayBePublished accepts terms kept) old new → NeverFalls terms.numbering old new
-never_falls_newer accepts terms first found kept old new locked there number brings k keeps =
-    let least : k ≤ kept = kept_least terms.numbering first found kept k old.now there number keeps in
-    let (each, last) = brings.numbers locked terms.numbering k
-    (λ bytes (n, update, is, same). subst (IsNumberFrom terms.numbering k) (sym same) (number_from terms.numbering k n is.says.number.bound (omega (arith, least, is.newer)))) keeps in
-    (brings.since, brings.noted, each, last)
-
 pub nothing_locked : (accepts : Verifier) (terms : Terms) (first : Bool) (old new : Run) → old.locked ≡ true → PublishesNothing old new → InstallsLocked accepts terms first old new
 nothing_locked accepts terms first old new locked none = record {
   only = inl none;
@@ -103,9 +93,14 @@ nothing_locked accepts terms first old new locked none = record {
 }
 
 -- what is not older than the number that was found was published
-pub installs : (accepts : Verifier) (terms : Terms) (first : Bool) (found : Option (List ℕ)) (kept : ℕ) (old new : Run) → old.locked ≡ true → IsFound old.now Record found
-    → IsKeptNumber terms.numbering first found kept → PublishesInOrder accepts terms kept old new → InstallsLocked accepts terms first old new
-installs accepts terms first found kept old new locked there number places = record {
-  only = inr (record { found = found; kept = kept; there = there; number = number; places = places });
-  never_falls = never_falls_newer accepts terms first found kept old new locked there number places.publishes;
+pub installs : (accepts : Verifier) (terms : Terms) (first : Bool) (old new : Run) → old.locked ≡ true → (kept : HasKept terms first old.now) → PublishesInOrder accepts terms kept.number old new
+    → InstallsLocked accepts terms first old new
+installs accepts terms first old new locked kept places = record {
+  only = inr (kept, places);
+  never_falls = λ k keeps.
+      let least : k ≤ kept.number = kept_least terms.numbering first kept.found kept.number k old.now kept.there kept.held keeps in
+      let brings = ordered accepts terms kept.number places in
+      let (each, last) = brings.numbers locked terms.numbering k
+      (λ bytes (n, update, is, same). subst (IsNumberFrom terms.numbering k) (sym same) (number_from terms.numbering k n is.says.number.bound (omega (arith, least, is.newer)))) keeps in
+      (brings.since, brings.noted, each, last);
 }

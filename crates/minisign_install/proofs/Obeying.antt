@@ -146,7 +146,7 @@ module _ (s : Setting) (i i' : Installation) (h h' : Host) where
 -- == All calls ==
 
 run_from : (s : Setting) (d : Due ℕ) (i : Installation) (h : Host) (told : List Told) (i' : Installation) (h' : Host) → KnownAt s d i h → HasObeyed s i h told i' h'
-    → (events : List (Event ℕ)) × (due : Due ℕ) × IsDue i' due × HasRun s d h events due h'
+    → (events : List (Event ℕ)) × (due : Due ℕ) × IsDue i' due × HasRun (Makes s) d h events due h'
 run_from s d i h [] i' h' x (same, host) = ([], d, subst (λ (j : Installation). IsDue j d) (sym same) x.due, (refl, host))
 run_from s d i h (told ∷ more) i' h' x (call, rest) =
     let (o, made, y) = obeys s i told.installation h told.host d x call in
@@ -154,5 +154,5 @@ run_from s d i h (told ∷ more) i' h' x (call, rest) =
     (record { outcome = o; host = told.host } ∷ events, due, is, (made, run))
 
 pub makes_run : (s : Setting) (i i' : Installation) (h h' : Host) (told : List Told) → HasBegun s i h → HasObeyed s i h told i' h'
-    → (events : List (Event ℕ)) × (due : Due ℕ) × IsDue i' due × HasRun s Lock h events due h'
+    → (events : List (Event ℕ)) × (due : Due ℕ) × IsDue i' due × HasRun (Makes s) Lock h events due h'
 makes_run s i i' h h' told b obeyed = run_from s Lock i h told i' h' (record { due = b.due; chosen = (b.first, b.field); fed = λ e. rw b.read b.fed }) obeyed

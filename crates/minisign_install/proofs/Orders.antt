@@ -1,9 +1,86 @@
 -- Whatever outcomes come, a run that makes each call as it is due installs only updates: what stands fast at each call
 -- that is due, and that each outcome leads from there to what stands fast at the next one.
-use Rattle.minisign_install.proofs.Common.{◌≡◌, ◌≢◌, ◌⊎◌, inl, inr, ⊎_elim, ℕ, List, [], ◌∷◌, ◌++◌, true, false, Sets, Option, ap, sym, subst, ◌∙◌, refl, append_assoc, append-nil, Consumes-nil, Consumes-trans, Consumes-whole, Consumes, concat, IsAhead, HasInstalled, InstallsLocked, MayBePublished, IsKeptNumber, MayBeRecorded, IsUpdate, PublishesInOrder, ClearsAll, HasLocked, HasRenamed, HasStepped, IsFound, IsStill, OwnsTheSame, Perhaps, Moment, Removes, Renames, Run, Name, Place, Record, Calls, CallsNothing, Event, HasRun, Host, Makes, Setting, Writes, WritesInPart, next, Due, Lock, Clear, ReadRecord, Create, Copy, ReadBack, Answer, TakePermissions, Sync, CreateRecord, WriteRecord, SyncRecord, RenameRecord, SyncRecordName, Rename, SyncName, RemoveRecord, Remove, Installed, Outcome, Done, More, Number, Failed, record_of, PublishesNothing, PublishesOnly, HasCleared, HasReached, OwnsNoMore, ⊤, InstallsOnlyUpdates}
+use Rattle.minisign_install.proofs.Common.{◌≡◌, ◌≢◌, ◌⊎◌, inl, inr, ⊎_elim, ℕ, List, [], ◌∷◌, ◌++◌, true, false, true≢false, ap, sym, subst, ◌∙◌, refl, append_assoc, append-nil, Consumes-nil, Consumes-trans, Consumes-whole, Consumes, concat, IsAhead, HasInstalled, HasKept, MayBePublished, MayBeRecorded, IsUpdate, PublishesInOrder, ClearsAll, HasLocked, HasRenamed, HasStepped, IsStill, Perhaps, Moment, Removes, Renames, Run, Name, Place, Record, Calls, CallsNothing, CallsOwning, Sets, TouchesStages, Spoils, Event, HasRun, Host, Makes, Setting, Writes, WritesInPart, next, Due, Lock, Clear, ReadRecord, Create, Copy, ReadBack, Answer, TakePermissions, Sync, CreateRecord, WriteRecord, SyncRecord, RenameRecord, SyncRecordName, Rename, SyncName, RemoveRecord, Remove, Installed, Outcome, Done, More, Number, Failed, record_of, PublishesNothing, PublishesOnly, HasCleared, HasReached, OwnsNoMore, ⊤, InstallsOnlyUpdates}
 use Rattle.minisign_install.specs.Order.{Refused}
-use Rattle.minisign_install.proofs.Installs.{found_first, installs, nothing_locked, places_more, places_nothing, places_record, places_update, record_brought}
-use Rattle.minisign_install.proofs.Works.{call_with, HasRecorded, HasStage, IsKept, IsOnly, WorksOn, publishes_none, publishes_nothing, publishes_trans, cleared_then, created_publishes, created_keeps, created_stage, kept_no_more, lasting, less_let_go, file_before, names_keep, no_more_trans, perhaps, published, quiet, renamed_publishes, renamed_keeps, resting_publishes, spoiling, works_none, works_trans}
+use Rattle.minisign_install.proofs.Installs.{found_first, installs, nothing_locked, ordered, places_more, places_update, record_brought}
+use Rattle.minisign_install.proofs.Works.{call_with, HasRecorded, HasStage, IsKept, IsOnly, WorksOn, publishes_none, publishes_nothing, publishes_trans, step, created_publishes, created_keeps, created_stage, kept_no_more, lasting, less_let_go, file_before, names_keep, no_more_trans, perhaps, published, quiet, renamed_publishes, renamed_keeps, resting_publishes, spoiling, works_none, works_trans}
+
+-- == Calls together ==
+
+abbrev pub Nothing : ℕ → Name → List ℕ → Type 0
+Nothing kept name bytes = ⊥
+
+-- nothing was published, and no more stages are the run's own
+abbrev pub IsQuiet : Run → Run → Type 0
+IsQuiet old new = PublishesNothing old new × OwnsNoMore old new
+
+-- with this call it came to that
+pub reached : {This : Moment → Type 0} {P : Name → List ℕ → Type 0} {C : Moment → Moment → Type 0} {old mid new : Run} → PublishesOnly P old mid → HasStepped mid new C → This new.now → HasReached This old new
+reached {new = new} before s this =
+    record { later = []; call = step s.before new.now; earlier = before.since; noted = s.noted ∙ ap (λ l. step s.before new.now ∷ l) before.noted; this = this }
+
+pub reached_more : {This : Moment → Type 0} {P : Name → List ℕ → Type 0} {old mid new : Run} → HasReached This old mid → PublishesOnly P mid new → HasReached This old new
+reached_more {old = old} r more = record {
+  later = more.since ++ r.later;
+  call = r.call;
+  earlier = r.earlier;
+  noted = more.noted ∙ ap (λ l. more.since ++ l) r.noted ∙ sym (append_assoc more.since r.later (r.call ∷ (r.earlier ++ old.steps)));
+  this = r.this;
+}
+
+-- the directory was cleared, and then nothing more was published
+pub cleared_since : {old mid new : Run} → Calls ClearsAll old mid → PublishesNothing mid new → HasCleared old new
+cleared_since {old = old} (clear, own) more = reached_more (reached (publishes_none (Nothing 0) old) clear clear.this.clear) more
+
+pub quiet_trans : {old mid new : Run} → IsQuiet old mid → IsQuiet mid new → IsQuiet old new
+quiet_trans (none, own) (more, then) = (publishes_trans _ _ _ _ none more, no_more_trans _ _ _ own then)
+
+module _ {old new : Run} where
+  calm : {C : Moment → Moment → Type 0} → (call : Calls C old new) → TouchesStages call.0.before new.now → IsQuiet old new
+  calm call only = (quiet call.0 only, kept_no_more old new call.1)
+
+  pub quiet_still : Calls IsStill old new → IsQuiet old new
+  quiet_still (still, own) = (resting_publishes old new still, kept_no_more old new own)
+
+  pub quiet_clear : Calls ClearsAll old new → IsQuiet old new
+  quiet_clear clear = calm clear clear.0.this.only
+
+  quiet_none : CallsNothing old new → IsQuiet old new
+  quiet_none (inl same) = subst (IsQuiet old) (sym same) (publishes_none _ old, record { only = λ q e. e })
+  quiet_none (inr still) = quiet_still still
+
+  quiet_works : {name : List ℕ} {file : ℕ} → WorksOn name file old new → IsQuiet old new
+  quiet_works works = (works.publishes, kept_no_more old new works.own)
+
+  quiet_spoiled : {name : List ℕ} {file : ℕ} → HasStage old name file → Calls (Spoils file) old new → IsQuiet old new
+  quiet_spoiled stage (step, own) = quiet_works (spoiling stage step step.this own)
+
+  -- a stage's name was let go
+  less_no_more : {name : List ℕ} → Sets name false old.owns new.owns → OwnsNoMore old new
+  less_no_more {name = name} less = record { only = λ q owned. (less_let_go name old new less q owned).1 }
+
+  pub removed : {name : List ℕ} → CallsOwning name false (Removes name) old new → IsQuiet old new
+  removed done = (quiet done.stepped done.stepped.this.only, less_no_more done.own)
+
+  perhaps_removed : {name : List ℕ} → CallsOwning name false (Perhaps (Removes name)) old new → IsQuiet old new
+  perhaps_removed {name = name} tried =
+      (⊎_elim (resting_publishes old new) (λ done. quiet done done.this.only) (perhaps (Removes name) old new tried.stepped), less_no_more tried.own)
+
+writes_work : (name : List ℕ) (file : ℕ) (pieces : List (List ℕ)) (old new : Run) → HasStage old name file → Writes file pieces old new
+    → WorksOn name file old new × (new.now.holds file ≡ old.now.holds file ++ concat pieces)
+writes_work name file [] old new stage same =
+    subst (λ r. WorksOn name file old r × (r.now.holds file ≡ old.now.holds file ++ [])) (sym same) (works_none name file old stage, sym (append-nil (old.now.holds file)))
+writes_work name file (piece ∷ more) old new stage (mid, (step, own), rest) =
+    let first = spoiling stage step step.this.spoils own in
+    let (then, more_grown) = writes_work name file more mid new first.stage rest in (
+      works_trans name file old mid new first then,
+      more_grown ∙ ap (λ l. l ++ concat more) (step.this.grown ∙ ap (λ h. h ++ piece) (file_before step stage).holds) ∙ append_assoc (old.now.holds file) piece (concat more),
+    )
+
+quiet_part : {name : List ℕ} {file : ℕ} {old new : Run} → HasStage old name file → WritesInPart file old new → IsQuiet old new
+quiet_part {name = name} {file = file} {old = old} {new = new} stage (pieces, mid, writes, then) =
+    let works = (writes_work name file pieces old mid stage writes).0 in
+    quiet_trans (quiet_works works) (⊎_elim (λ same. quiet_none (inl same)) (quiet_spoiled works.stage) then)
 
 -- == What stands fast ==
 
@@ -11,32 +88,21 @@ use Rattle.minisign_install.proofs.Works.{call_with, HasRecorded, HasStage, IsKe
 pub record Found (s : Setting) (a : Host) : Type 0 where
   pub locked : Run
   pub lock : HasLocked a.run locked
-  pub found : Option (List ℕ)
-  pub kept : ℕ
-  pub there : IsFound locked.now Record found
-  pub number : IsKeptNumber s.terms.numbering s.first found kept
+  pub kept : HasKept s.terms s.first locked.now
 
--- Then leftovers were removed, and only what is as P says was published, in order. A stage whose name is as Of says is the
--- run's own only if it was so before.
-pub record SoFar (s : Setting) (a : Host) (P : ℕ → Name → List ℕ → Type 0) (Of : List ℕ → Type 0) (now : Run) : Type 0 where
+-- it is none of these names
+abbrev pub NoneOf : List (List ℕ) → List ℕ → Type 0
+NoneOf [] q = ⊤
+NoneOf (name ∷ more) q = (q ≢ name) × NoneOf more q
+
+-- Then leftovers were removed, and only what is as P says was published, in order. A stage whose name is none of these is
+-- the run's own only if it was so before.
+pub record SoFar (s : Setting) (a : Host) (P : ℕ → Name → List ℕ → Type 0) (names : List (List ℕ)) (now : Run) : Type 0 where
   pub base : Found s a
   pub cleared : HasCleared base.locked now
-  pub publishes : PublishesOnly (P base.kept) base.locked now
-  pub places : PublishesInOrder s.accepts s.terms base.kept base.locked now
-  pub own : (q : List ℕ) → now.owns q ≡ true → Of q → a.run.owns q ≡ true
-
-abbrev pub Nothing : ℕ → Name → List ℕ → Type 0
-Nothing kept name bytes = ⊥
-
--- all names, all but that of the stage, and all but those of both stages
-abbrev pub Any : List ℕ → Type 0
-Any q = ⊤
-
-abbrev pub But : Setting → List ℕ → Type 0
-But s q = q ≢ s.name
-
-abbrev pub ButBoth : Setting → List ℕ → Type 0
-ButBoth s q = (q ≢ s.name) × (q ≢ s.record_name)
+  pub publishes : PublishesOnly (P base.kept.number) base.locked now
+  pub places : PublishesInOrder s.accepts s.terms base.kept.number base.locked now
+  pub own : (q : List ℕ) → now.owns q ≡ true → NoneOf names q → a.run.owns q ≡ true
 
 -- the stage holds an update, which is all the data that was ahead
 pub record Judged (s : Setting) (a : Host) (now : Run) (kept n : ℕ) : Type 0 where
@@ -57,85 +123,9 @@ pub record RecordStage (s : Setting) (now : Run) (bytes : List ℕ) : Type 0 whe
   pub files : s.file ≢ s.record_file
   pub holds : now.now.holds s.record_file ≡ bytes
 
-abbrev pub Refusing : Setting → Host → Host → Type 0
-Refusing s a h =
-    (HasStepped a.run h.run IsStill × OwnsTheSame a.run h.run)
-    ⊎ ((locked : Run) × HasLocked a.run locked × InstallsLocked s.accepts s.terms s.first locked h.run × OwnsNoMore a.run h.run)
-
-abbrev pub Holds : {E : Type 0} → Setting → Host → Due E → Host → Type 0
-Holds s a Lock h = (h.run ≡ a.run) × (h.ahead ≡ a.ahead)
-Holds s a Clear h = HasLocked a.run h.run × OwnsTheSame a.run h.run × (h.ahead ≡ a.ahead)
-Holds s a ReadRecord h = (l : Run) × HasLocked a.run l × OwnsTheSame a.run l × Calls ClearsAll l h.run × (h.ahead ≡ a.ahead)
-Holds s a (Create kept) h = (x : SoFar s a Nothing Any h.run) × (x.base.kept ≡ kept) × (h.ahead ≡ a.ahead)
-Holds s a (Copy kept) h = (x : SoFar s a Nothing (But s) h.run) × (x.base.kept ≡ kept) × HasStage h.run s.name s.file × Consumes a.ahead h.ahead (h.run.now.holds s.file)
-Holds s a (ReadBack kept) h = (x : SoFar s a Nothing (But s) h.run) × (x.base.kept ≡ kept) × HasStage h.run s.name s.file × IsAhead a.ahead (h.run.now.holds s.file)
-Holds s a (Answer kept) h =
-    (x : SoFar s a Nothing (But s) h.run) × (x.base.kept ≡ kept) × HasStage h.run s.name s.file × IsAhead a.ahead (h.run.now.holds s.file) × (h.run.now.holds s.file ≡ h.read)
-Holds s a (TakePermissions n) h = (x : SoFar s a (MayBeRecorded s.accepts s.terms) (But s) h.run) × Judged s a h.run x.base.kept n
-Holds s a (Sync n) h = (x : SoFar s a (MayBeRecorded s.accepts s.terms) (But s) h.run) × Judged s a h.run x.base.kept n × (h.run.now.permissions s.file ≡ true)
-Holds s a (CreateRecord n) h = (x : SoFar s a (MayBeRecorded s.accepts s.terms) (But s) h.run) × Staged s a h.run x.base.kept n
-Holds s a (WriteRecord n) h = (x : SoFar s a (MayBeRecorded s.accepts s.terms) (ButBoth s) h.run) × Staged s a h.run x.base.kept n × RecordStage s h.run []
-Holds s a (SyncRecord n) h = (x : SoFar s a (MayBeRecorded s.accepts s.terms) (ButBoth s) h.run) × Staged s a h.run x.base.kept n × RecordStage s h.run (record_of s.terms.numbering n)
-Holds s a (RenameRecord n) h =
-    (x : SoFar s a (MayBeRecorded s.accepts s.terms) (ButBoth s) h.run) × Staged s a h.run x.base.kept n × RecordStage s h.run (record_of s.terms.numbering n) × (h.run.now.on_disk s.record_file ≡ true)
-Holds s a (SyncRecordName n) h =
-    (x : SoFar s a (MayBeRecorded s.accepts s.terms) (ButBoth s) h.run) × Staged s a h.run x.base.kept n
-    × ((before : Run) × RecordStage s before (record_of s.terms.numbering n) × (before.now.on_disk s.record_file ≡ true) × HasRenamed s.record_name Record before h.run)
-Holds s a (Rename n) h = (x : SoFar s a (MayBeRecorded s.accepts s.terms) (But s) h.run) × Staged s a h.run x.base.kept n × HasRecorded (record_of s.terms.numbering n) h.run
-Holds s a (SyncName n) h =
-    (x : SoFar s a (MayBePublished s.accepts s.terms) (But s) h.run) × ((before : Run) × PublishesOnly (MayBeRecorded s.accepts s.terms x.base.kept) x.base.locked before
-    × Staged s a before x.base.kept n × HasRecorded (record_of s.terms.numbering n) before × HasRenamed s.name Place before h.run)
-Holds s a (RemoveRecord e) h = SoFar s a (MayBePublished s.accepts s.terms) (ButBoth s) h.run
-Holds s a (Remove e) h = SoFar s a (MayBePublished s.accepts s.terms) (But s) h.run
-Holds s a Installed h =
-    (locked : Run) × HasLocked a.run locked × InstallsLocked s.accepts s.terms s.first locked h.run
-    × HasInstalled s.accepts s.terms s.first a.ahead locked h.run × OwnsNoMore a.run h.run
-Holds s a (Refused e) h = Refusing s a h
-
--- == Calls together ==
-
-abbrev pub N : Name → List ℕ → Type 0
-N = λ _ _. ⊥
-
--- nothing was published, and no more stages are the run's own
-abbrev pub IsQuiet : Run → Run → Type 0
-IsQuiet old new = PublishesNothing old new × OwnsNoMore old new
-
-quiet_none : (old new : Run) → CallsNothing old new → IsQuiet old new
-quiet_none old new (inl same) = subst (IsQuiet old) (sym same) (publishes_none N old, record { only = λ q e. e })
-quiet_none old new (inr (still, own)) = (resting_publishes old new still, kept_no_more old new own)
-
-quiet_works : {name : List ℕ} {file : ℕ} {old new : Run} → WorksOn name file old new → IsQuiet old new
-quiet_works {old = old} {new = new} works = (works.publishes, kept_no_more old new works.own)
-
-writes_work : (name : List ℕ) (file : ℕ) (pieces : List (List ℕ)) (old new : Run) → HasStage old name file → Writes file pieces old new
-    → WorksOn name file old new × (new.now.holds file ≡ old.now.holds file ++ concat pieces)
-writes_work name file [] old new stage same =
-    subst (λ r. WorksOn name file old r × (r.now.holds file ≡ old.now.holds file ++ [])) (sym same) (works_none name file old stage, sym (append-nil (old.now.holds file)))
-writes_work name file (piece ∷ more) old new stage (mid, (step, own), rest) =
-    let first = spoiling stage step step.this.spoils own in
-    let (then, more_grown) = writes_work name file more mid new first.stage rest in (
-      works_trans name file old mid new first then,
-      more_grown ∙ ap (λ l. l ++ concat more) (step.this.grown ∙ ap (λ h. h ++ piece) (file_before step stage).holds) ∙ append_assoc (old.now.holds file) piece (concat more),
-    )
-
-quiet_part : (name : List ℕ) (file : ℕ) (old new : Run) → HasStage old name file → WritesInPart file old new → IsQuiet old new
-quiet_part name file old new stage (pieces, mid, writes, (inl same)) = subst (IsQuiet old) (sym same) (quiet_works (writes_work name file pieces old mid stage writes).0)
-quiet_part name file old new stage (pieces, mid, writes, (inr (step, own))) =
-    let first = (writes_work name file pieces old mid stage writes).0 in
-    quiet_works (works_trans name file old mid new first (spoiling first.stage step step.this own))
-
-pub removal_publishes : (name : List ℕ) (old new : Run) → HasStepped old new (Perhaps (Removes name)) → PublishesNothing old new
-removal_publishes name old new s = ⊎_elim (λ still. resting_publishes old new still) (λ removed. quiet removed removed.this.only) (perhaps (Removes name) old new s)
-
-pub reached_more : {This : Moment → Type 0} {P : Name → List ℕ → Type 0} {old mid new : Run} → HasReached This old mid → PublishesOnly P mid new → HasReached This old new
-reached_more {old = old} r more = record {
-  later = more.since ++ r.later;
-  call = r.call;
-  earlier = r.earlier;
-  noted = more.noted ∙ ap (λ l. more.since ++ l) r.noted ∙ sym (append_assoc more.since r.later (r.call ∷ (r.earlier ++ old.steps)));
-  this = r.this;
-}
+-- only updates were installed, and no more stages are the run's own
+abbrev pub Ended : Setting → Host → Run → Type 0
+Ended s a now = InstallsOnlyUpdates s.accepts s.terms s.first a.run now × OwnsNoMore a.run now
 
 module _ (s : Setting) (a : Host) where
   abbrev pub Q : ℕ → Name → List ℕ → Type 0
@@ -144,46 +134,87 @@ module _ (s : Setting) (a : Host) where
   abbrev pub All : ℕ → Name → List ℕ → Type 0
   All = MayBePublished s.accepts s.terms
 
-  -- a stage that is the run's own then was so before
-  abbrev pub Keeps : (List ℕ → Type 0) → (List ℕ → Type 0) → Run → Run → Type 0
-  Keeps Of Then now then = (q : List ℕ) → then.owns q ≡ true → Then q → Of q × (now.owns q ≡ true)
+  -- the names of the stages
+  abbrev pub One : List (List ℕ)
+  One = s.name ∷ []
 
-  abbrev pub extend : {P P' : ℕ → Name → List ℕ → Type 0} {Of Then : List ℕ → Type 0} {R : Name → List ℕ → Type 0} {now then : Run} → (x : SoFar s a P Of now) → PublishesOnly R now then
-      → PublishesOnly (P' x.base.kept) x.base.locked then → PublishesInOrder s.accepts s.terms x.base.kept x.base.locked then → Keeps Of Then now then → SoFar s a P' Then then
+  abbrev pub Two : List (List ℕ)
+  Two = s.record_name ∷ s.name ∷ []
+
+  abbrev pub number : ℕ → List ℕ
+  number = record_of s.terms.numbering
+
+  abbrev pub Holds : {E : Type 0} → Due E → Host → Type 0
+  Holds Lock h = (h.run ≡ a.run) × (h.ahead ≡ a.ahead)
+  Holds Clear h = HasLocked a.run h.run × OwnsNoMore a.run h.run × (h.ahead ≡ a.ahead)
+  Holds ReadRecord h = (l : Run) × HasLocked a.run l × OwnsNoMore a.run l × Calls ClearsAll l h.run × (h.ahead ≡ a.ahead)
+  Holds (Create kept) h = (x : SoFar s a Nothing [] h.run) × (x.base.kept.number ≡ kept) × (h.ahead ≡ a.ahead)
+  Holds (Copy kept) h = (x : SoFar s a Nothing One h.run) × (x.base.kept.number ≡ kept) × HasStage h.run s.name s.file × Consumes a.ahead h.ahead (h.run.now.holds s.file)
+  Holds (ReadBack kept) h = (x : SoFar s a Nothing One h.run) × (x.base.kept.number ≡ kept) × HasStage h.run s.name s.file × IsAhead a.ahead (h.run.now.holds s.file)
+  Holds (Answer kept) h =
+      (x : SoFar s a Nothing One h.run) × (x.base.kept.number ≡ kept) × HasStage h.run s.name s.file × IsAhead a.ahead (h.run.now.holds s.file) × (h.run.now.holds s.file ≡ h.read)
+  Holds (TakePermissions n) h = (x : SoFar s a Q One h.run) × Judged s a h.run x.base.kept.number n
+  Holds (Sync n) h = (x : SoFar s a Q One h.run) × Judged s a h.run x.base.kept.number n × (h.run.now.permissions s.file ≡ true)
+  Holds (CreateRecord n) h = (x : SoFar s a Q One h.run) × Staged s a h.run x.base.kept.number n
+  Holds (WriteRecord n) h = (x : SoFar s a Q Two h.run) × Staged s a h.run x.base.kept.number n × RecordStage s h.run []
+  Holds (SyncRecord n) h = (x : SoFar s a Q Two h.run) × Staged s a h.run x.base.kept.number n × RecordStage s h.run (number n)
+  Holds (RenameRecord n) h = (x : SoFar s a Q Two h.run) × Staged s a h.run x.base.kept.number n × RecordStage s h.run (number n) × (h.run.now.on_disk s.record_file ≡ true)
+  Holds (SyncRecordName n) h =
+      (x : SoFar s a Q Two h.run) × Staged s a h.run x.base.kept.number n
+      × ((before : Run) × RecordStage s before (number n) × (before.now.on_disk s.record_file ≡ true) × HasRenamed s.record_name Record before h.run)
+  Holds (Rename n) h = (x : SoFar s a Q One h.run) × Staged s a h.run x.base.kept.number n × HasRecorded (number n) h.run
+  Holds (SyncName n) h =
+      (x : SoFar s a All One h.run) × ((before : Run) × PublishesOnly (Q x.base.kept.number) x.base.locked before
+      × Staged s a before x.base.kept.number n × HasRecorded (number n) before × HasRenamed s.name Place before h.run)
+  Holds (RemoveRecord e) h = SoFar s a All Two h.run × ⊤
+  Holds (Remove e) h = SoFar s a All One h.run × ⊤
+  Holds Installed h = Ended s a h.run × ((locked : Run) × HasLocked a.run locked × HasInstalled s.accepts s.terms s.first a.ahead locked h.run)
+  Holds (Refused e) h = Ended s a h.run × ⊤
+
+
+  -- == From one moment to the next ==
+
+  abbrev pub extend : {P P' : ℕ → Name → List ℕ → Type 0} {R : Name → List ℕ → Type 0} {names names' : List (List ℕ)} {now then : Run} → (x : SoFar s a P names now) → PublishesOnly R now then
+      → PublishesOnly (P' x.base.kept.number) x.base.locked then → PublishesInOrder s.accepts s.terms x.base.kept.number x.base.locked then
+      → ((q : List ℕ) → then.owns q ≡ true → NoneOf names' q → NoneOf names q × (now.owns q ≡ true)) → SoFar s a P' names' then
   extend x more publishes places own =
       record { base = x.base; cleared = reached_more x.cleared more; publishes = publishes; places = places; own = λ q e of. let (before, mine) = own q e of in x.own q mine before }
 
-  abbrev pub go_on : {P : ℕ → Name → List ℕ → Type 0} {Of Then : List ℕ → Type 0} {now then : Run} → SoFar s a P Of now → PublishesNothing now then → Keeps Of Then now then → SoFar s a P Then then
+  abbrev pub go_on : {P : ℕ → Name → List ℕ → Type 0} {names names' : List (List ℕ)} {now then : Run} → SoFar s a P names now → PublishesNothing now then
+      → ((q : List ℕ) → then.owns q ≡ true → NoneOf names' q → NoneOf names q × (now.owns q ≡ true)) → SoFar s a P names' then
   go_on {P = P} {now = now} {then = then} x none own =
-      extend x none (publishes_trans (P x.base.kept) x.base.locked now then x.publishes (publishes_nothing (P x.base.kept) now then none)) (places_more s.accepts s.terms x.base.kept x.base.locked now then none x.places) own
+      extend x none (publishes_trans (P x.base.kept.number) x.base.locked now then x.publishes (publishes_nothing (P x.base.kept.number) now then none)) (places_more s.accepts s.terms x.base.kept.number x.base.locked now then none x.places) own
 
-  abbrev pub stay : {P : ℕ → Name → List ℕ → Type 0} {Of : List ℕ → Type 0} {now then : Run} → SoFar s a P Of now → IsQuiet now then → SoFar s a P Of then
+  abbrev pub stay : {P : ℕ → Name → List ℕ → Type 0} {names : List (List ℕ)} {now then : Run} → SoFar s a P names now → IsQuiet now then → SoFar s a P names then
   stay x (none, own) = go_on x none (λ q e of. (of, own.only q e))
 
-  abbrev pub at_most : {P : ℕ → Name → List ℕ → Type 0} {Of : List ℕ → Type 0} {now : Run} → SoFar s a P Of now → SoFar s a All Of now
-  at_most x = record { base = x.base; cleared = x.cleared; publishes = x.places.publishes; places = x.places; own = x.own }
+  -- the stage of this name is not the run's own any more
+  abbrev pub let_go : {P : ℕ → Name → List ℕ → Type 0} {name : List ℕ} {names : List (List ℕ)} {now : Run} → SoFar s a P (name ∷ names) now → now.owns name ≡ false → SoFar s a P names now
+  let_go {now = now} x less =
+      record { base = x.base; cleared = x.cleared; publishes = x.publishes; places = x.places; own = λ q e of. x.own q e ((λ same. true≢false (sym e ∙ ap (λ t. now.owns t) same ∙ less)), of) }
 
-  abbrev pub at_most_record : {Of : List ℕ → Type 0} {now : Run} → SoFar s a Nothing Of now → SoFar s a Q Of now
-  at_most_record {now = now} x = record { base = x.base; cleared = x.cleared; publishes = publishes_nothing (Q x.base.kept) x.base.locked now x.publishes; places = x.places; own = x.own }
+  abbrev pub at_most : {P : ℕ → Name → List ℕ → Type 0} {names : List (List ℕ)} {now : Run} → SoFar s a P names now → SoFar s a All names now
+  at_most x = record { base = x.base; cleared = x.cleared; publishes = ordered s.accepts s.terms x.base.kept.number x.places; places = x.places; own = x.own }
+
+  abbrev pub at_most_record : {names : List (List ℕ)} {now : Run} → SoFar s a Nothing names now → SoFar s a Q names now
+  at_most_record {now = now} x = record { base = x.base; cleared = x.cleared; publishes = publishes_nothing (Q x.base.kept.number) x.base.locked now x.publishes; places = x.places; own = x.own }
 
   -- the stage of the record gets the record's name
-  abbrev pub numbered : {Of Then : List ℕ → Type 0} (now then : Run) (n : ℕ) → (x : SoFar s a Q Of now) → Staged s a now x.base.kept n → RecordStage s now (record_of s.terms.numbering n) → now.now.on_disk s.record_file ≡ true
-      → HasStepped now then (Renames s.record_name Record) → Keeps Of Then now then → SoFar s a Q Then then
-  numbered now then n x staged stage on_disk renamed own =
-      let brought : PublishesOnly (Q x.base.kept) now then =
-      record_brought s.accepts s.terms x.base.kept (now.now.holds s.file) n now then staged.judged.update
+  abbrev pub numbered : {now then : Run} {n : ℕ} → (x : SoFar s a Q Two now) → Staged s a now x.base.kept.number n → RecordStage s now (number n) → now.now.on_disk s.record_file ≡ true
+      → HasStepped now then (Renames s.record_name Record) → OwnsNoMore now then → SoFar s a Q Two then
+  numbered {now = now} {then = then} {n = n} x staged stage on_disk renamed own =
+      let brought = record_brought s.accepts s.terms x.base.kept.number (now.now.holds s.file) n now then staged.judged.update
       (subst (λ b. PublishesOnly (IsOnly Record b) now then) stage.holds (renamed_publishes s.record_name Record s.record_file now then stage.stage on_disk renamed)) in
-      let all = publishes_trans (Q x.base.kept) x.base.locked now then x.publishes brought in
-      extend x brought all (places_record s.accepts s.terms x.base.kept x.base.locked then all) own
+      let all = publishes_trans (Q x.base.kept.number) x.base.locked now then x.publishes brought in
+      extend x brought all (inl all) (λ q e of. (of, own.only q e))
 
   -- the stage gets the place's name
-  abbrev pub placed : {Of Then : List ℕ → Type 0} (now then : Run) (n : ℕ) → (x : SoFar s a Q Of now) → Staged s a now x.base.kept n → HasRecorded (record_of s.terms.numbering n) now → HasStepped now then (Renames s.name Place)
-      → Keeps Of Then now then → SoFar s a All Then then
-  placed now then n x staged recorded renamed own =
+  abbrev pub placed : {now then : Run} {n : ℕ} → (x : SoFar s a Q One now) → Staged s a now x.base.kept.number n → HasRecorded (number n) now → HasStepped now then (Renames s.name Place) → OwnsNoMore now then → SoFar s a All One then
+  placed {now = now} {then = then} {n = n} x staged recorded renamed own =
       let stage = staged.judged.stage in
       let brought = renamed_publishes s.name Place s.file now then stage staged.on_disk renamed in
-      let places = places_update s.accepts s.terms x.base.kept n (now.now.holds s.file) x.base.locked now then stage.locked x.publishes recorded staged.judged.update brought in
-      extend x brought places.publishes places own
+      let places = inr (places_update s.accepts s.terms x.base.kept.number n (now.now.holds s.file) x.base.locked now then stage.locked x.publishes recorded staged.judged.update brought) in
+      extend x brought (ordered s.accepts s.terms x.base.kept.number places) places (λ q e of. (of, own.only q e))
 
   judged_more : {now then : Run} {kept n : ℕ} → Judged s a now kept n → HasStage then s.name s.file → then.now.holds s.file ≡ now.now.holds s.file → Judged s a then kept n
   judged_more {kept = kept} {n = n} x stage holds = record { stage = stage; given = subst (IsAhead a.ahead) (sym holds) x.given; update = subst (λ b. IsUpdate s.accepts s.terms kept b n) (sym holds) x.update }
@@ -191,214 +222,176 @@ module _ (s : Setting) (a : Host) where
   staged_more : {now then : Run} {kept n : ℕ} → Staged s a now kept n → IsKept now then s.name s.file → Staged s a then kept n
   staged_more x k = record { judged = judged_more x.judged k.stage k.same.holds; permissions = k.same.permissions ∙ x.permissions; on_disk = k.same.on_disk ∙ x.on_disk }
 
-  locked_so : {P : ℕ → Name → List ℕ → Type 0} {Of : List ℕ → Type 0} {now : Run} → (x : SoFar s a P Of now) → InstallsLocked s.accepts s.terms s.first x.base.locked now
-  locked_so {now = now} x = installs s.accepts s.terms s.first x.base.found x.base.kept x.base.locked now x.base.lock.held x.base.there x.base.number x.places
+  only_updates : {P : ℕ → Name → List ℕ → Type 0} {names : List (List ℕ)} {now : Run} → SoFar s a P names now → InstallsOnlyUpdates s.accepts s.terms s.first a.run now
+  only_updates {now = now} x = inr (x.base.locked, x.base.lock, installs s.accepts s.terms s.first x.base.locked now x.base.lock.held x.base.kept x.places)
 
-  stopped : {P : ℕ → Name → List ℕ → Type 0} (h : Host) → SoFar s a P Any h.run → Refusing s a h
-  stopped h x = inr (x.base.locked, x.base.lock, locked_so x, record { only = λ q e. x.own q e tt })
+  stopped : {P : ℕ → Name → List ℕ → Type 0} {now : Run} → SoFar s a P [] now → Ended s a now
+  stopped x = (only_updates x, record { only = λ q e. x.own q e tt })
 
   -- nothing was published since the lock was got
-  unread : (l now : Run) → HasLocked a.run l → PublishesNothing l now → InstallsLocked s.accepts s.terms s.first l now
-  unread l now lock none = nothing_locked s.accepts s.terms s.first l now lock.held none
-
-  -- A call that fails publishes nothing; or it may have given a stage its lasting name.
-  abbrev pub Fails : {E : Type 0} → Due E → Run → Run → Type 0
-  Fails (RenameRecord n) old new = SoFar s a Q (ButBoth s) new
-  Fails (Rename n) old new = SoFar s a All (But s) new
-  Fails due old new = IsQuiet old new
-
-  pub fails : {E : Type 0} (due : Due E) (e : E) (h h' : Host) → Holds s a due h → Makes s due (Failed e) h h' → Fails due h.run h'.run
-  fails Lock e h h' x ((still, own), ahead', read') = (resting_publishes h.run h'.run still, kept_no_more h.run h'.run own)
-  fails Clear e h h' x ((clear, own), ahead', read') = (quiet clear clear.this, kept_no_more h.run h'.run own)
-  fails ReadRecord e h h' x ((still, own), ahead', read') = (resting_publishes h.run h'.run still, kept_no_more h.run h'.run own)
-  fails (Create kept) e h h' x (none, ahead', read') = quiet_none h.run h'.run none
-  fails (Copy kept) e h h' (x, is, stage, more) part = quiet_part s.name s.file h.run h'.run stage part
-  fails (ReadBack kept) e h h' x same = quiet_none h.run h'.run (inl same)
-  fails (Answer kept) e h h' x same = quiet_none h.run h'.run (inl same)
-  fails (TakePermissions n) e h h' (x, judged) ((step, own), ahead', read') = quiet_works (spoiling judged.stage step step.this own)
-  fails (Sync n) e h h' (x, judged, permissions) ((step, own), ahead', read') = quiet_works (spoiling judged.stage step step.this own)
-  fails (CreateRecord n) e h h' x (none, ahead', read') = quiet_none h.run h'.run none
-  fails (WriteRecord n) e h h' (x, staged, stage) (part, ahead', read') = quiet_part s.record_name s.record_file h.run h'.run stage.stage part
-  fails (SyncRecord n) e h h' (x, staged, stage) ((step, own), ahead', read') = quiet_works (spoiling stage.stage step step.this own)
-  fails (RenameRecord n) e h h' (x, staged, stage, on_disk) ((step, own), ahead', read') =
-      ⊎_elim (λ still. stay x (resting_publishes h.run h'.run still, kept_no_more h.run h'.run own))
-      (λ done. numbered h.run h'.run n x staged stage on_disk done (λ q e of. (of, sym (ap (λ o. o q) own.owns) ∙ e))) (perhaps (Renames s.record_name Record) h.run h'.run step)
-  fails (SyncRecordName n) e h h' x ((step, own), ahead', read') = (quiet step step.this.only, kept_no_more h.run h'.run own)
-  fails (Rename n) e h h' (x, staged, recorded) ((step, own), ahead', read') =
-      ⊎_elim (λ still. at_most (stay x (resting_publishes h.run h'.run still, kept_no_more h.run h'.run own)))
-      (λ done. placed h.run h'.run n x staged recorded done (λ q e of. (of, sym (ap (λ o. o q) own.owns) ∙ e))) (perhaps (Renames s.name Place) h.run h'.run step)
-  fails (SyncName n) e h h' x ((step, own), ahead', read') = (quiet step step.this.only, kept_no_more h.run h'.run own)
-  fails (RemoveRecord f) e h h' x (tried, ahead', read') = (removal_publishes s.record_name h.run h'.run tried.stepped, record { only = λ q owned. (less_let_go s.record_name h.run h'.run tried.own q owned).1 })
-  fails (Remove f) e h h' x (tried, ahead', read') = (removal_publishes s.name h.run h'.run tried.stepped, record { only = λ q owned. (less_let_go s.name h.run h'.run tried.own q owned).1 })
-  fails due e h h' x never = absurd never
-
-  record_removed : (h h' : Host) → SoFar s a All (ButBoth s) h.run → PublishesNothing h.run h'.run → Sets s.record_name false h.run.owns h'.run.owns → SoFar s a All (But s) h'.run
-  record_removed h h' x none less = go_on x none (λ q e differs. let (other, mine) = less_let_go s.record_name h.run h'.run less q e in ((differs, other), mine))
-
-  removed : (h h' : Host) → SoFar s a All (But s) h.run → PublishesNothing h.run h'.run → Sets s.name false h.run.owns h'.run.owns → Refusing s a h'
-  removed h h' x none less = stopped h' (go_on {Then = Any} x none (λ q e any. less_let_go s.name h.run h'.run less q e))
-
-  so_safe : {P : ℕ → Name → List ℕ → Type 0} {Of : List ℕ → Type 0} {now : Run} → SoFar s a P Of now → (now ≡ a.run) ⊎ InstallsOnlyUpdates s.accepts s.terms s.first a.run now
-  so_safe x = inr (inr (x.base.locked, x.base.lock, locked_so x))
+  unread : {l now : Run} → HasLocked a.run l → OwnsNoMore a.run l → IsQuiet l now → Ended s a now
+  unread {l = l} {now = now} lock mine (none, own) = (inr (l, lock, nothing_locked s.accepts s.terms s.first l now lock.held none), no_more_trans a.run l now mine own)
 
   -- == From each call that is due to the next one ==
 
-  module _ {E : Type 0} (known : a.run.known ≡ true) where
-    pub from : (due : Due E) (o : Outcome E) (h h' : Host) → Holds s a due h → Makes s due o h h' → Holds s a (next due o) h'
-    from Lock Done h h' (run, ahead) ((lock, own), ahead', rest) = (subst (λ r. HasLocked r h'.run) run lock, subst (λ r. OwnsTheSame r h'.run) run own, ahead' ∙ ahead)
-    from Lock (Failed e) h h' (run, ahead) ((still, own), ahead', read') = inl (subst (λ r. HasStepped r h'.run IsStill) run still, subst (λ r. OwnsTheSame r h'.run) run own)
-    from Clear Done h h' (lock, mine, ahead) (clear, ahead', rest) = (h.run, lock, mine, clear, ahead' ∙ ahead)
-    from Clear (Failed e) h h' (lock, mine, ahead) made =
-        let (none, own) = fails Clear e h h' (lock, mine, ahead) made in
-        inr (h.run, lock, unread h.run h'.run lock none, no_more_trans a.run h.run h'.run (kept_no_more a.run h.run mine) own)
-    from ReadRecord (Number n) h h' (l, lock, mine, clear, ahead) ((found, (reads, own), number), ahead', rest) =
-        let still = resting_publishes h.run h'.run (call_with reads reads.this.still) in
-        let none = publishes_trans N l h.run h'.run (quiet clear.0 clear.0.this.only) still in (
-          record {
-            base = record { locked = l; lock = lock; found = found; kept = n; there = found_first found l h.run h'.run lock.held clear.0 reads; number = number };
-            cleared = cleared_then N l h.run h'.run clear.0 still;
-            publishes = none;
-            places = places_nothing s.accepts s.terms n l h'.run none;
-            own = λ q e any. (kept_no_more a.run l mine).only q ((kept_no_more l h.run clear.1).only q ((kept_no_more h.run h'.run own).only q e));
-          },
-          refl,
-          ahead' ∙ ahead,
-        )
-    from ReadRecord (Failed e) h h' (l, lock, mine, clear, ahead) made =
-        let (none, own) = fails ReadRecord e h h' (l, lock, mine, clear, ahead) made in
-        inr (
-          l,
-          lock,
-          unread l h'.run lock (publishes_trans N l h.run h'.run (quiet clear.0 clear.0.this.only) none),
-          no_more_trans a.run l h'.run (kept_no_more a.run l mine) (no_more_trans l h.run h'.run (kept_no_more l h.run clear.1) own),
-        )
-    from (Create kept) Done h h' (x, is, ahead) (made, ahead', rest) = (
-      go_on x (created_publishes s.name s.file h.run h'.run made) (λ q e differs. (tt, sym (made.own.others q differs) ∙ e)),
-      is,
-      created_stage s.name s.file h.run h'.run (x.publishes.known ∙ x.base.lock.stepped.known ∙ known) (x.publishes.locked x.base.lock.held) made,
-      subst (Consumes a.ahead h'.ahead) (sym made.stepped.this.empty) (subst (λ y. Consumes a.ahead y []) (sym (ahead' ∙ ahead)) (Consumes-nil a.ahead)),
-    )
-    from (Create kept) (Failed e) h h' x made = stopped h' (stay x.0 (fails (Create kept) e h h' x made))
-    from (Copy kept) More h h' (x, is, stage, consumed) (pieces, writes, given, read) =
-        let (works, grown) = writes_work s.name s.file pieces h.run h'.run stage writes in
-        (stay x (quiet_works works), is, works.stage, subst (Consumes a.ahead h'.ahead) (sym grown) (Consumes-trans a.ahead h.ahead h'.ahead (h.run.now.holds s.file) (concat pieces) consumed given))
-    from (Copy kept) Done h h' (x, is, stage, consumed) (pieces, writes, given, end, read) =
-        let (works, grown) = writes_work s.name s.file pieces h.run h'.run stage writes in
-        let held = h'.run.now.holds s.file in
-        let all : Consumes a.ahead h'.ahead held = subst (Consumes a.ahead h'.ahead) (sym grown) (Consumes-trans a.ahead h.ahead h'.ahead (h.run.now.holds s.file) (concat pieces) consumed given) in
-        (stay x (quiet_works works), is, works.stage, Consumes-whole a.ahead h'.ahead held (λ xs. xs ≡ held) all end refl)
-    from (ReadBack kept) More h h' x (run, read) = subst (λ r. Holds {E = E} s a (ReadBack kept) (record h' { run = r })) (sym run) x
-    from (ReadBack kept) Done h h' (x, is, stage, given) (run, all) = subst (λ r. Holds {E = E} s a (Answer kept) (record h' { run = r })) (sym run) (x, is, stage, given, all)
-    from (Answer kept) (Number n) h h' (x, is, stage, given, all) (run, update) =
-        subst (λ r. Holds {E = E} s a (TakePermissions n) (record h' { run = r })) (sym run)
-        (at_most_record x, record { stage = stage; given = given; update = subst (λ k. IsUpdate s.accepts s.terms k (h.run.now.holds s.file) n) (sym is) (subst (λ b. IsUpdate s.accepts s.terms kept b n) (sym all) update) })
-    from (TakePermissions n) Done h h' (x, judged) ((step, own), ahead', read') =
-        let works = spoiling judged.stage step step.this.spoils own in
-        (stay x (quiet_works works), judged_more judged works.stage (step.this.same ∙ (file_before step judged.stage).holds), step.this.given)
-    from (Sync n) Done h h' (x, judged, permissions) ((step, own), ahead', read') =
-        let works = spoiling judged.stage step step.this.spoils own in
-        let file = file_before step judged.stage in
-        (stay x (quiet_works works), record { judged = judged_more judged works.stage (step.this.same ∙ file.holds); permissions = step.this.permissions ∙ file.permissions ∙ permissions; on_disk = step.this.on_disk })
-    from (CreateRecord n) Done h h' (x, staged) (made, ahead', read') =
-        let stage = staged.judged.stage in
-        let (names, files, kept) = created_keeps s.record_name s.record_file h.run h'.run made s.name s.file stage in (
-          go_on x (created_publishes s.record_name s.record_file h.run h'.run made) (λ q e differs. (differs.0, sym (made.own.others q differs.1) ∙ e)),
-          staged_more staged kept,
-          record { stage = created_stage s.record_name s.record_file h.run h'.run stage.known stage.locked made; names = names; files = files; holds = made.stepped.this.empty },
-        )
-    from (WriteRecord n) Done h h' (x, staged, stage) ((pieces, writes, all), ahead', read') =
-        let (works, grown) = writes_work s.record_name s.record_file pieces h.run h'.run stage.stage writes in (
-          stay x (quiet_works works),
-          staged_more staged (works.kept s.name s.file staged.judged.stage stage.files),
-          record { stage = works.stage; names = stage.names; files = stage.files; holds = grown ∙ ap (λ l. l ++ concat pieces) stage.holds ∙ all },
-        )
-    from (SyncRecord n) Done h h' (x, staged, stage) ((step, own), ahead', read') =
-        let works = spoiling stage.stage step step.this.spoils own in (
-          stay x (quiet_works works),
-          staged_more staged (works.kept s.name s.file staged.judged.stage stage.files),
-          record { stage = works.stage; names = stage.names; files = stage.files; holds = step.this.same ∙ (file_before step stage.stage).holds ∙ stage.holds },
-          step.this.on_disk,
-        )
-    from (RenameRecord n) Done h h' (x, staged, stage, on_disk) (renamed, ahead', read') = (
-      numbered h.run h'.run n x staged stage on_disk renamed.stepped (λ q e of. (of, sym (renamed.own.others q of.1) ∙ e)),
-      staged_more staged
-          (renamed_keeps s.record_name Record s.record_file h.run h'.run stage.stage renamed.stepped renamed.own.others s.name s.file staged.judged.stage stage.names stage.files),
-      (h.run, stage, on_disk, renamed),
-    )
-    from (SyncRecordName n) Done h h' (x, staged, (before, stage, on_disk, renamed)) ((step, own), ahead', read') = (
-      go_on x (quiet step step.this.same.only)
-          (λ q e differs. let mine = sym (ap (λ o. o q) own.owns) ∙ e in ((differs, (less_let_go s.record_name before h.run renamed.own q mine).0), mine)),
-      staged_more staged (names_keep h.run h'.run step own s.name s.file staged.judged.stage),
-      subst (λ b. HasRecorded b h'.run) stage.holds (record {
-        earlier = before.steps;
-        published = (published s.record_name Record before h.run h'.run renamed.stepped step s.record_file stage.stage on_disk).0;
-        lasts = lasting s.record_name before h.run h'.run renamed.stepped step s.record_file stage.stage on_disk;
-      }),
-    )
-    from (Rename n) Done h h' (x, staged, recorded) (renamed, ahead', read') = (
-      placed h.run h'.run n x staged recorded renamed.stepped (λ q e differs. (differs, sym (renamed.own.others q differs) ∙ e)),
-      (h.run, x.publishes, staged, recorded, renamed),
-    )
-    from (SyncName n) Done h h' (x, (before, publishes, staged, recorded, renamed)) ((step, own), ahead', read') =
-        let (published_so, permissions) = published s.name Place before h.run h'.run renamed.stepped step s.file staged.judged.stage staged.on_disk in
-        let y : SoFar s a All Any h'.run =
-        go_on x (quiet step step.this.same.only)
-        (λ q e any. let mine = sym (ap (λ o. o q) own.owns) ∙ e in ((less_let_go s.name before h.run renamed.own q mine).0, mine)) in (
-          y.base.locked,
-          y.base.lock,
-          locked_so y,
-          record {
-            found = y.base.found;
-            kept = y.base.kept;
-            there = y.base.there;
-            number = y.base.number;
-            cleared = y.cleared;
-            bytes = before.now.holds s.file;
-            n = n;
-            read = staged.judged.given;
-            update = staged.judged.update;
-            earlier = recorded.earlier;
-            recorded = before.steps;
-            number_first = recorded.published;
-            published = published_so;
-            permissions = permissions ∙ staged.permissions;
-          },
-          record { only = λ q e. y.own q e tt },
-        )
-    from (RemoveRecord f) Done h h' x (done, ahead', read') = record_removed h h' x (quiet done.stepped done.stepped.this.only) done.own
-    from (RemoveRecord f) (Failed e) h h' x made = record_removed h h' x (fails (RemoveRecord f) e h h' x made).0 made.0.own
-    from (Remove f) Done h h' x (done, ahead', read') = removed h h' x (quiet done.stepped done.stepped.this.only) done.own
-    from (Remove f) (Failed e) h h' x made = removed h h' x (fails (Remove f) e h h' x made).0 made.0.own
-    from (RenameRecord n) (Failed e) h h' x made = at_most (fails (RenameRecord n) e h h' x made)
-    from (Rename n) (Failed e) h h' x made = fails (Rename n) e h h' x made
-    from Installed (Failed e) h h' x never = absurd never
-    from (Refused f) (Failed e) h h' x never = absurd never
-    from due (Failed e) h h' x made = at_most (stay x.0 (fails due e h h' x made))
-    from due o h h' x never = absurd never
+  module _ (h h' : Host) where
+    -- A call that fails publishes nothing; or it may have given a stage its lasting name.
+    abbrev pub Fails : {E : Type 0} → Due E → Type 0
+    Fails (RenameRecord n) = SoFar s a Q Two h'.run
+    Fails (Rename n) = SoFar s a All One h'.run
+    Fails due = IsQuiet h.run h'.run
 
-    pub runs : (due : Due E) (h : Host) (events : List (Event E)) (due' : Due E) (h' : Host) → Holds s a due h → HasRun s due h events due' h' → Holds s a due' h'
-    runs due h [] due' h' x (is, same) = subst (λ d. Holds s a d h') (sym is) (subst (λ k. Holds s a due k) (sym same) x)
-    runs due h (e ∷ more) due' h' x (made, rest) = runs (next due e.outcome) e.host more due' h' (from due e.outcome h e.host x made) rest
+    pub fails : {E : Type 0} (due : Due E) (e : E) → Holds due h → Makes s due (Failed e) h h' → Fails due
+    fails Lock e x (still, ahead', read') = quiet_still still
+    fails Clear e x (clear, ahead', read') = calm clear clear.0.this
+    fails ReadRecord e x (still, ahead', read') = quiet_still still
+    fails (Create kept) e x (none, ahead', read') = quiet_none none
+    fails (Copy kept) e (x, is, stage, more) part = quiet_part stage part
+    fails (ReadBack kept) e x same = quiet_none (inl same)
+    fails (Answer kept) e x same = quiet_none (inl same)
+    fails (TakePermissions n) e (x, judged) (spoiled, ahead', read') = quiet_spoiled judged.stage spoiled
+    fails (Sync n) e (x, judged, permissions) (spoiled, ahead', read') = quiet_spoiled judged.stage spoiled
+    fails (CreateRecord n) e x (none, ahead', read') = quiet_none none
+    fails (WriteRecord n) e (x, staged, stage) (part, ahead', read') = quiet_part stage.stage part
+    fails (SyncRecord n) e (x, staged, stage) (spoiled, ahead', read') = quiet_spoiled stage.stage spoiled
+    fails (RenameRecord n) e (x, staged, stage, on_disk) ((step, own), ahead', read') =
+        ⊎_elim (λ still. stay x (quiet_still (still, own))) (λ done. numbered x staged stage on_disk done (kept_no_more h.run h'.run own)) (perhaps (Renames s.record_name Record) h.run h'.run step)
+    fails (SyncRecordName n) e x (synced, ahead', read') = calm synced synced.0.this.only
+    fails (Rename n) e (x, staged, recorded) ((step, own), ahead', read') =
+        ⊎_elim (λ still. at_most (stay x (quiet_still (still, own)))) (λ done. placed x staged recorded done (kept_no_more h.run h'.run own)) (perhaps (Renames s.name Place) h.run h'.run step)
+    fails (SyncName n) e x (synced, ahead', read') = calm synced synced.0.this.only
+    fails (RemoveRecord f) e x (removal, ahead', read') = perhaps_removed removal
+    fails (Remove f) e x (removal, ahead', read') = perhaps_removed removal
+    fails due e x never = absurd never
 
-    -- == What that says of a run that is cut off there ==
+    module _ {E : Type 0} (known : a.run.known ≡ true) where
+      pub from : (due : Due E) (o : Outcome E) → Holds due h → Makes s due o h h' → Holds (next due o) h'
+      from Lock Done (run, ahead) ((lock, own), ahead', read') = (subst (λ r. HasLocked r h'.run) run lock, subst (λ r. OwnsNoMore r h'.run) run (kept_no_more h.run h'.run own), ahead' ∙ ahead)
+      from Lock (Failed e) (run, ahead) ((still, own), ahead', read') = ((inl (subst (λ r. HasStepped r h'.run IsStill) run still), subst (λ r. OwnsNoMore r h'.run) run (kept_no_more h.run h'.run own)), tt)
+      from Clear Done (lock, mine, ahead) (clear, ahead', read') = (h.run, lock, mine, clear, ahead' ∙ ahead)
+      from Clear (Failed e) (lock, mine, ahead) made = (unread lock mine (fails Clear e (lock, mine, ahead) made), tt)
+      from ReadRecord (Number n) (l, lock, mine, clear, ahead) ((found, (reads, own), number), ahead', read') =
+          let still = quiet_still (call_with reads reads.this.still, own) in
+          let (none, more) = quiet_trans (quiet_clear clear) still in (
+            record {
+              base = record { locked = l; lock = lock; kept = record { found = found; there = found_first found l h.run h'.run lock.held clear.0 reads; number = n; held = number } };
+              cleared = cleared_since clear still.0;
+              publishes = none;
+              places = inl (publishes_nothing (Q n) l h'.run none);
+              own = λ q e any. mine.only q (more.only q e);
+            },
+            refl,
+            ahead' ∙ ahead,
+          )
+      from ReadRecord (Failed e) (l, lock, mine, clear, ahead) made = (unread lock mine (quiet_trans (quiet_clear clear) (fails ReadRecord e (l, lock, mine, clear, ahead) made)), tt)
+      from (Create kept) Done (x, is, ahead) (made, ahead', read') = (
+        go_on x (created_publishes s.name s.file h.run h'.run made) (λ q e (differs, none). (none, sym (made.own.others q differs) ∙ e)),
+        is,
+        created_stage s.name s.file h.run h'.run (x.publishes.known ∙ x.base.lock.stepped.known ∙ known) (x.publishes.locked x.base.lock.held) made,
+        subst (Consumes a.ahead h'.ahead) (sym made.stepped.this.empty) (subst (λ y. Consumes a.ahead y []) (sym (ahead' ∙ ahead)) (Consumes-nil a.ahead)),
+      )
+      from (Create kept) (Failed e) x made = (stopped (stay x.0 (fails (Create kept) e x made)), tt)
+      from (Copy kept) More (x, is, stage, consumed) (pieces, writes, given, read) =
+          let (works, grown) = writes_work s.name s.file pieces h.run h'.run stage writes in
+          (stay x (quiet_works works), is, works.stage, subst (Consumes a.ahead h'.ahead) (sym grown) (Consumes-trans a.ahead h.ahead h'.ahead (h.run.now.holds s.file) (concat pieces) consumed given))
+      from (Copy kept) Done (x, is, stage, consumed) (pieces, writes, given, end, read) =
+          let (works, grown) = writes_work s.name s.file pieces h.run h'.run stage writes in
+          let held = h'.run.now.holds s.file in
+          let all : Consumes a.ahead h'.ahead held = subst (Consumes a.ahead h'.ahead) (sym grown) (Consumes-trans a.ahead h.ahead h'.ahead (h.run.now.holds s.file) (concat pieces) consumed given) in
+          (stay x (quiet_works works), is, works.stage, Consumes-whole a.ahead h'.ahead held (λ xs. xs ≡ held) all end refl)
+      from (ReadBack kept) More x (run, read) = subst (λ r. Holds {E = E} (ReadBack kept) (record h' { run = r })) (sym run) x
+      from (ReadBack kept) Done (x, is, stage, given) (run, all) = subst (λ r. Holds {E = E} (Answer kept) (record h' { run = r })) (sym run) (x, is, stage, given, all)
+      from (Answer kept) (Number n) (x, is, stage, given, all) (run, update) =
+          subst (λ r. Holds {E = E} (TakePermissions n) (record h' { run = r })) (sym run)
+          (at_most_record x, record { stage = stage; given = given; update = subst (λ k. IsUpdate s.accepts s.terms k (h.run.now.holds s.file) n) (sym is) (subst (λ b. IsUpdate s.accepts s.terms kept b n) (sym all) update) })
+      from (TakePermissions n) Done (x, judged) ((step, own), ahead', read') =
+          let works = spoiling judged.stage step step.this.spoils own in
+          (stay x (quiet_works works), judged_more judged works.stage (step.this.same ∙ (file_before step judged.stage).holds), step.this.given)
+      from (Sync n) Done (x, judged, permissions) ((step, own), ahead', read') =
+          let works = spoiling judged.stage step step.this.spoils own in
+          let file = file_before step judged.stage in
+          (stay x (quiet_works works), record { judged = judged_more judged works.stage (step.this.same ∙ file.holds); permissions = step.this.permissions ∙ file.permissions ∙ permissions; on_disk = step.this.on_disk })
+      from (CreateRecord n) Done (x, staged) (made, ahead', read') =
+          let stage = staged.judged.stage in
+          let (names, files, kept) = created_keeps s.record_name s.record_file h.run h'.run made s.name s.file stage in (
+            go_on x (created_publishes s.record_name s.record_file h.run h'.run made) (λ q e (differs, none). (none, sym (made.own.others q differs) ∙ e)),
+            staged_more staged kept,
+            record { stage = created_stage s.record_name s.record_file h.run h'.run stage.known stage.locked made; names = names; files = files; holds = made.stepped.this.empty },
+          )
+      from (WriteRecord n) Done (x, staged, stage) ((pieces, writes, all), ahead', read') =
+          let (works, grown) = writes_work s.record_name s.record_file pieces h.run h'.run stage.stage writes in (
+            stay x (quiet_works works),
+            staged_more staged (works.kept s.name s.file staged.judged.stage stage.files),
+            record { stage = works.stage; names = stage.names; files = stage.files; holds = grown ∙ ap (λ l. l ++ concat pieces) stage.holds ∙ all },
+          )
+      from (SyncRecord n) Done (x, staged, stage) ((step, own), ahead', read') =
+          let works = spoiling stage.stage step step.this.spoils own in (
+            stay x (quiet_works works),
+            staged_more staged (works.kept s.name s.file staged.judged.stage stage.files),
+            record { stage = works.stage; names = stage.names; files = stage.files; holds = step.this.same ∙ (file_before step stage.stage).holds ∙ stage.holds },
+            step.this.on_disk,
+          )
+      from (RenameRecord n) Done (x, staged, stage, on_disk) (renamed, ahead', read') = (
+        numbered x staged stage on_disk renamed.stepped (less_no_more renamed.own),
+        staged_more staged
+            (renamed_keeps s.record_name Record s.record_file h.run h'.run stage.stage renamed.stepped renamed.own.others s.name s.file staged.judged.stage stage.names stage.files),
+        (h.run, stage, on_disk, renamed),
+      )
+      from (SyncRecordName n) Done (x, staged, (before, stage, on_disk, renamed)) ((step, own), ahead', read') = (
+            let_go (stay x (calm (step, own) step.this.same.only)) (ap (λ o. o s.record_name) own.owns ∙ renamed.own.set),
+            staged_more staged (names_keep h.run h'.run step own s.name s.file staged.judged.stage),
+            subst (λ b. HasRecorded b h'.run) stage.holds (record {
+              earlier = before.steps;
+              published = (published s.record_name Record before h.run h'.run renamed.stepped step s.record_file stage.stage on_disk).0;
+              lasts = lasting s.record_name before h.run h'.run renamed.stepped step s.record_file stage.stage on_disk;
+            }),
+          )
+      from (Rename n) Done (x, staged, recorded) (renamed, ahead', read') = (placed x staged recorded renamed.stepped (less_no_more renamed.own), (h.run, x.publishes, staged, recorded, renamed))
+      from (SyncName n) Done (x, (before, publishes, staged, recorded, renamed)) ((step, own), ahead', read') =
+          let (published_so, permissions) = published s.name Place before h.run h'.run renamed.stepped step s.file staged.judged.stage staged.on_disk in
+          let y = let_go (stay x (calm (step, own) step.this.same.only)) (ap (λ o. o s.name) own.owns ∙ renamed.own.set) in (
+            stopped y,
+            (y.base.locked, y.base.lock, record {
+              kept = y.base.kept;
+              cleared = y.cleared;
+              bytes = before.now.holds s.file;
+              n = n;
+              read = staged.judged.given;
+              update = staged.judged.update;
+              earlier = recorded.earlier;
+              recorded = before.steps;
+              number_first = recorded.published;
+              published = published_so;
+              permissions = permissions ∙ staged.permissions;
+            }),
+          )
+      from (RemoveRecord f) Done x (removal, ahead', read') = (let_go (stay x.0 (removed removal)) removal.own.set, tt)
+      from (RemoveRecord f) (Failed e) x (removal, ahead', read') = (let_go (stay x.0 (perhaps_removed removal)) removal.own.set, tt)
+      from (Remove f) Done x (removal, ahead', read') = (stopped (let_go (stay x.0 (removed removal)) removal.own.set), tt)
+      from (Remove f) (Failed e) x (removal, ahead', read') = (stopped (let_go (stay x.0 (perhaps_removed removal)) removal.own.set), tt)
+      from (RenameRecord n) (Failed e) x made = (at_most (fails (RenameRecord n) e x made), tt)
+      from (Rename n) (Failed e) x made = (fails (Rename n) e x made, tt)
+      from Installed (Failed e) x never = absurd never
+      from (Refused f) (Failed e) x never = absurd never
+      from due (Failed e) x made = (at_most (stay x.0 (fails due e x made)), tt)
+      from due o x never = absurd never
 
-    pub safe : (due : Due E) (h : Host) → Holds s a due h → (h.run ≡ a.run) ⊎ InstallsOnlyUpdates s.accepts s.terms s.first a.run h.run
-    safe Lock h (run, ahead) = inl run
-    safe Clear h (lock, mine, ahead) = inr (inr (h.run, lock, unread h.run h.run lock (publishes_none N h.run)))
-    safe ReadRecord h (l, lock, mine, clear, ahead) = inr (inr (l, lock, unread l h.run lock (quiet clear.0 clear.0.this.only)))
-    safe (RemoveRecord e) h x = so_safe x
-    safe (Remove e) h x = so_safe x
-    safe Installed h (locked, lock, so, has, own) = inr (inr (locked, lock, so))
-    safe (Refused e) h (inl (still, own)) = inr (inl still)
-    safe (Refused e) h (inr (locked, lock, so, own)) = inr (inr (locked, lock, so))
-    safe due h x = so_safe x.0
+  -- == What that says of a run that is cut off there ==
 
--- == At the end ==
+  pub safe : {E : Type 0} (due : Due E) (h : Host) → Holds due h → (h.run ≡ a.run) ⊎ InstallsOnlyUpdates s.accepts s.terms s.first a.run h.run
+  safe Lock h (run, ahead) = inl run
+  safe Clear h (lock, mine, ahead) = inr (unread lock mine (quiet_none (inl refl))).0
+  safe ReadRecord h (l, lock, mine, clear, ahead) = inr (unread lock mine (quiet_clear clear)).0
+  safe Installed h x = inr x.0.0
+  safe (Refused e) h x = inr x.0.0
+  safe due h x = inr (only_updates x.0)
 
-pub refusing_own : (s : Setting) (a h : Host) → Refusing s a h → OwnsNoMore a.run h.run
-refusing_own s a h (inl (still, own)) = kept_no_more a.run h.run own
-refusing_own s a h (inr (locked, lock, so, own)) = own
+  pub ended_own : {E : Type 0} (due : Due E) (h : Host) → Holds due h → (due ≡ Installed) ⊎ ((e : E) × (due ≡ Refused e)) → OwnsNoMore a.run h.run
+  ended_own due h x (inl is) = (subst (λ d. Holds d h) is x).0.1
+  ended_own due h x (inr (e, is)) = (subst (λ d. Holds d h) is x).0.1
 
-pub ended_own : {E : Type 0} (s : Setting) (a h : Host) (due : Due E) → Holds s a due h → (due ≡ Installed) ⊎ ((e : E) × (due ≡ Refused e)) → OwnsNoMore a.run h.run
-ended_own s a h due x (inl is) = let (locked, lock, so, has, own) = subst (λ d. Holds s a d h) is x in own
-ended_own s a h due x (inr (e, is)) = refusing_own s a h (subst (λ d. Holds s a d h) is x)
+-- what each call leads to, a run does
+pub runs : {E : Type 0} {call : Due E → Outcome E → Host → Host → Type 0} (P : Due E → Host → Type 0) → ((due : Due E) (o : Outcome E) (h h' : Host) → P due h → call due o h h' → P (next due o) h')
+    → (due : Due E) (h : Host) (events : List (Event E)) (due' : Due E) (h' : Host) → P due h → HasRun call due h events due' h' → P due' h'
+runs P goes due h [] due' h' x (is, same) = subst (λ d. P d h') (sym is) (subst (P due) (sym same) x)
+runs P goes due h (e ∷ more) due' h' x (made, rest) = runs P goes (next due e.outcome) e.host more due' h' (goes due e.outcome h e.host x made) rest

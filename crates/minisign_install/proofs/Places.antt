@@ -1,6 +1,6 @@
 -- Whether an update stands at the place already: what was found there, what the texts say of it, and what comes of a run
 -- that asked.
-use Rattle.minisign_install.proofs.Common.{AnswersByRecord, Bool, Calls, CallsNothing, Counts, Err, Fault, Finds, HasCleared, HasInstalled, HasLocked, HasStepped, InstallFault, InstallsLocked, InstallsOnlyUpdates, IsCallFault, IsFound, IsLibraryFault, IsReadingFault, IsStill, IsVouched, Known, List, MayBePublished, MayBeRecorded, Moment, Name, None, Ok, OnlyLocked, Option, Place, PublishesInOrder, PublishesNothing, PublishesOnly, Record, Result, Run, Same, SameNumber, Says, Some, Terms, Verifier, ap, append_assoc, counts, false, inl, inr, refused_unvouched, subst, sym, true, verdict, ℕ, ⊎_elim, ◌++◌, ◌∙◌, ◌∷◌, ◌≡◌, ◌⊎◌}
+use Rattle.minisign_install.proofs.Common.{AnswersByRecord, Bool, Calls, CallsNothing, Counts, Err, Fault, Finds, HasCleared, HasInstalled, HasKept, HasLocked, HasStepped, InstallFault, InstallsLocked, InstallsOnlyUpdates, IsCallFault, IsFound, IsLibraryFault, IsReadingFault, IsStill, IsVouched, Known, List, MayBeRecorded, Moment, Name, None, Ok, OnlyLocked, Option, Place, PublishesInOrder, PublishesNothing, PublishesOnly, Record, Result, Run, Same, SameNumber, Says, Some, Terms, Verifier, ap, append_assoc, counts, false, inl, inr, refused_unvouched, subst, sym, true, verdict, ℕ, ⊎_elim, ◌++◌, ◌∙◌, ◌∷◌, ◌≡◌, ◌⊎◌}
 use Rattle.minisign_install.specs.There.{FindsSame, GoesOn, InstallsFrom, InstallsUnlessThere, IsOther, IsSigned, IsThere, IsVouchedFor, LooksInPart}
 use Rattle.minisign_install.specs.declared.there.Installed.{Installed}
 use Rattle.minisign_install.proofs.Installs.{found_back, installs, nothing_locked}
@@ -15,7 +15,7 @@ module _ (accepts : Verifier) (terms : Terms) where
   -- what is vouched for at the place is then an update that was wanted
   pub is_vouched : (m : List ℕ) → IsVouchedFor accepts terms m → IsSigned accepts terms → IsVouched accepts terms
   is_vouched m (c, vouched) (comment, n, signed, says) =
-      (m, c, n, vouched, subst (λ t. Says t terms.file terms.numbering terms.moment n) (signed_is accepts terms m c comment vouched signed) says)
+      (m, n, record { comment = c; vouched = vouched; says = subst (λ t. Says t terms.file terms.numbering terms.moment n) (signed_is accepts terms m c comment vouched signed) says; newer = omega (arith) })
 
   -- data of which the texts say no is not vouched for
   pub unvouched : (m : List ℕ) (f : Fault) → verdict accepts terms.pk_text terms.sig_text m false ≡ Err f → ¬ (IsVouchedFor accepts terms m)
@@ -77,13 +77,10 @@ cleared_after old mid new none c = record {
 places_after : (accepts : Verifier) (terms : Terms) (kept : ℕ) (old mid new : Run) → PublishesNothing old mid → PublishesInOrder accepts terms kept mid new → PublishesInOrder accepts terms kept old new
 places_after accepts terms kept old mid new none p =
     let before : (P : Name → List ℕ → Type 0) (to : Run) → PublishesOnly P mid to → PublishesOnly P old to = λ P to. publishes_trans P old mid to (publishes_nothing P old mid none) in
-    record {
-      publishes = before (MayBePublished accepts terms kept) new p.publishes;
-      order = ⊎_elim
-          (λ recorded. inl (before (MayBeRecorded accepts terms kept) new recorded))
-          (λ b. inr (record { n = b.n; point = b.point; recorded = before (MayBeRecorded accepts terms kept) b.point b.recorded; locked = b.locked; there = b.there; placed = b.placed; number = b.number; lasts = b.lasts }))
-          p.order;
-    }
+    ⊎_elim
+    (λ recorded. inl (before (MayBeRecorded accepts terms kept) new recorded))
+    (λ b. inr (record { n = b.n; point = b.point; recorded = before (MayBeRecorded accepts terms kept) b.point b.recorded; locked = b.locked; there = b.there; placed = b.placed; stays = b.stays }))
+    p
 
 module _ (accepts : Verifier) (terms : Terms) (first again : Bool) (old locked : Run) (known : old.known ≡ true) (lock : HasLocked old locked) where
   known_locked : locked.known ≡ true
@@ -101,10 +98,14 @@ module _ (accepts : Verifier) (terms : Terms) (first again : Bool) (old locked :
   looks mid (inr (inr (inl none))) = looked_same None mid none
   looks mid (inr (inr (inr (asked, (m, found, other))))) = looked_same (Some m) mid found
 
+  -- what the record was found to hold it held when the lock was got
+  kept_before : (again : Run) → HasLooked locked again → HasKept terms first again.now → HasKept terms first locked.now
+  kept_before again l kept = record { found = kept.found; there = l.back kept.found lock.held kept.there; number = kept.number; held = kept.held }
+
   from_locked : (again new : Run) → HasLooked locked again → InstallsLocked accepts terms first again new → InstallsLocked accepts terms first locked new
   from_locked again new l i = elim i.only [
     | inl nothing ↦ nothing_locked accepts terms first locked new lock.held (publishes_trans (λ _ _. ⊥) locked again new l.nothing nothing)
-    | inr only ↦ installs accepts terms first only.found only.kept locked new lock.held (l.back only.found lock.held only.there) only.number (places_after accepts terms only.kept locked again new l.nothing only.places)
+    | inr (kept, places) ↦ installs accepts terms first locked new lock.held (kept_before again l kept) (places_after accepts terms kept.number locked again new l.nothing places)
   ]
 
   -- where the run ends with looking, nothing was brought
@@ -136,7 +137,7 @@ module _ (accepts : Verifier) (terms : Terms) (first again : Bool) (old locked :
     goes_installed ahead i =
         let (again, got, is) = i known_on in
         let l = locks_again again got in
-        (locked, lock, record { found = is.found; kept = is.kept; there = l.back is.found lock.held is.there; number = is.number; cleared = cleared_after locked again new l.nothing is.cleared; bytes = is.bytes; n = is.n; read = is.read; update = is.update; earlier = is.earlier; recorded = is.recorded; number_first = is.number_first; published = is.published; permissions = is.permissions })
+        (locked, lock, record { kept = kept_before again l is.kept; cleared = cleared_after locked again new l.nothing is.cleared; bytes = is.bytes; n = is.n; read = is.read; update = is.update; earlier = is.earlier; recorded = is.recorded; number_first = is.number_first; published = is.published; permissions = is.permissions })
 
     pub goes_memory : Known mid (OnlyLocked mid new) → OnlyLocked old new
     goes_memory i =

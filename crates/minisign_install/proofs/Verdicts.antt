@@ -74,10 +74,10 @@ module _ (accepts : Verifier) (terms : Terms) (first : Bool) where
   locked_verdict ahead before after locked new e memory no_new_fault (inr (inl (cleared, none, (found, there, why)))) =
       let (message, given) = some_ahead ahead in
       (found, there, (message, given, record { reason = inl why; not_so = λ (kept, n, number, update). record_unfit terms.numbering first found kept e why number }))
-  locked_verdict ahead before after locked new e memory no_new_fault (inr (inr (cleared, (found, kept, there, number, (inl (none, (message, given, why))))))) =
-      (found, there, (message, given, record { reason = inr (kept, number, why); not_so = data_unfit found kept message e number why }))
-  locked_verdict ahead before after locked new e memory no_new_fault (inr (inr (cleared, (found, kept, there, number, (inr (inl (publishes, device))))))) = memory_only before after e (Verdict ahead locked e) memory no_new_fault device
-  locked_verdict ahead before after locked new e memory no_new_fault (inr (inr (cleared, (found, kept, there, number, (inr (inr (publishes, rose, why))))))) = absurd (no_new_fault (inr (inr rose)))
+  locked_verdict ahead before after locked new e memory no_new_fault (inr (inr (cleared, (kept, (inl (none, (message, given, why))))))) =
+      (kept.found, kept.there, (message, given, record { reason = inr (kept.number, kept.held, why); not_so = data_unfit kept.found kept.number message e kept.held why }))
+  locked_verdict ahead before after locked new e memory no_new_fault (inr (inr (cleared, (kept, (inr (inl (publishes, device))))))) = memory_only before after e (Verdict ahead locked e) memory no_new_fault device
+  locked_verdict ahead before after locked new e memory no_new_fault (inr (inr (cleared, (kept, (inr (inr (publishes, rose, why))))))) = absurd (no_new_fault (inr (inr rose)))
 
   pub refused_exactly : (A : Type 0) (ahead : Option (List ℕ)) (before after : Counts) (old new : Run) (e : InstallFault) → IsRefusal accepts terms first ahead before after old new e
       → InstallsExactly {T = A} accepts terms first ahead before after old new (Err e)
@@ -91,5 +91,5 @@ module _ (accepts : Verifier) (terms : Terms) (first : Bool) where
       → IfErr r (λ e. old.known ≡ true → IsRefusal accepts terms first ahead before after old new e) → old.known ≡ true → InstallsExactly accepts terms first ahead before after old new r
   exactly ahead before after old new A (Ok a) installed refused = λ known memory no_new_fault.
       let (locked, got, is) = installed known in
-      inr (locked, got, (is.found, is.there, (is.bytes, is.read, (is.kept, is.n, is.number, is.update))))
+      inr (locked, got, (is.kept.found, is.kept.there, (is.bytes, is.read, (is.kept.number, is.n, is.kept.held, is.update))))
   exactly ahead before after old new A (Err e) installed refused = λ known. refused_exactly A ahead before after old new e (refused known)

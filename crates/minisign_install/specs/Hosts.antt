@@ -1,6 +1,6 @@
 -- A host that installs an update by making each call as it is due, and saying how it went: what one such call does to
 -- the directory, and what all of them do, one after another.
-use Rattle.std.specs.Prelude.{◌≡◌, ◌⊎◌, ℕ, List, [], ◌∷◌, ◌++◌, Bool, false, Option, ⊤}
+use Rattle.std.specs.Prelude.{◌≡◌, ◌⊎◌, ℕ, List, [], ◌∷◌, ◌++◌, Bool, false, Option}
 use Rattle.minisign_install.specs.Common.{Consumes, IsAtEnd, concat}
 use Rattle.minisign_install.specs.Faults.{Rose, Named, WritingFailed, InstallFault, DirectoryNotSynced, Library, PlaceInUse}
 use Rattle.minisign_install.specs.Installing.{Verifier, IsKeptNumber, IsUpdate, Terms}
@@ -97,11 +97,12 @@ pub record Event (E : Type 0) : Type 0 where
   pub outcome : Outcome E
   pub host : Host
 
--- Each call was made as it was due, from when this was due to when that is.
-abbrev pub HasRun : {E : Type 0} → Setting → Due E → Host → List (Event E) → Due E → Host → Type 0
-HasRun s due h [] due' h' = (due' ≡ due) × (h' ≡ h)
-HasRun s due h (event ∷ more) due' h' =
-    Makes s due event.outcome h event.host × HasRun s (next due event.outcome) event.host more due' h'
+-- Each call was as it was due, and as this says, from when this was due to when that is.
+abbrev pub HasRun : {E : Type 0} → (Due E → Outcome E → Host → Host → Type 0) → Due E → Host → List (Event E)
+    → Due E → Host → Type 0
+HasRun call due h [] due' h' = (due' ≡ due) × (h' ≡ h)
+HasRun call due h (event ∷ more) due' h' =
+    call due event.outcome h event.host × HasRun call (next due event.outcome) event.host more due' h'
 
 -- == Why a call failed ==
 
@@ -125,9 +126,3 @@ Blames s due e h h' = DeviceFails e h h'
 abbrev pub Explains : Setting → Due InstallFault → Outcome InstallFault → Host → Host → Type 0
 Explains s due (Failed e) h h' = Blames s due e h h'
 Explains s due outcome h h' = h'.faults ≡ h.faults
-
--- that is so of each call
-abbrev pub IsExplained : Setting → Due InstallFault → Host → List (Event InstallFault) → Type 0
-IsExplained s due h [] = ⊤
-IsExplained s due h (event ∷ more) =
-    Explains s due event.outcome h event.host × IsExplained s (next due event.outcome) event.host more

@@ -5,7 +5,7 @@ pub use Rattle.minisign.specs.Acceptance.{Verifier}
 pub use Rattle.minisign.specs.Calls.{TextsVouchWith}
 use Rattle.minisign_install.specs.Comments.{Says, Numbering}
 pub use Rattle.minisign.specs.Reading.{IsAhead}
-use Rattle.minisign_install.specs.Directories.{HasLocked, HasStepped, IsFound, IsStill, Run, RunStep, Name, Place, Record}
+use Rattle.minisign_install.specs.Directories.{HasLocked, HasStepped, IsFound, IsStill, Moment, Run, RunStep, Name, Place, Record}
 use Rattle.minisign_install.specs.RecordTexts.{HasNoNumber, IsNumberFor, record_of}
 use Rattle.minisign_install.specs.Runs.{PublishesNothing, PublishesOnly, HasCleared, IsPublished, RecordHolds, RecordHoldsAt, permissions_of}
 
@@ -61,6 +61,13 @@ abbrev pub IsKeptNumber : Numbering → Bool → Option (List ℕ) → ℕ → T
 IsKeptNumber numbering first found kept =
     IsKeptOrNone numbering first found (Some kept) ⊎ ((kept ≡ 0) × IsKeptOrNone numbering first found None)
 
+-- What the record holds for the field at that moment: this number; or none, where 0 counts at the first installation.
+pub record HasKept (terms : Terms) (first : Bool) (m : Moment) : Type 0 where
+  pub found : Option (List ℕ)
+  pub there : IsFound m Record found
+  pub number : ℕ
+  pub held : IsKeptNumber terms.numbering first found number
+
 -- The number goes first. Up to some point of the run nothing was brought to the place. From there on only updates of
 -- one number are, while the record has that number or a greater one, at each moment and after a crash at any.
 pub record RecordsFirst (accepts : Verifier) (terms : Terms) (kept : ℕ) (old new : Run) : Type 0 where
@@ -70,8 +77,12 @@ pub record RecordsFirst (accepts : Verifier) (terms : Terms) (kept : ℕ) (old n
   pub locked : point.locked ≡ true
   pub there : RecordHolds terms.numbering n point.now
   pub placed : PublishesOnly (MayBeInstalled accepts terms kept n) point new
-  pub number : All (RecordHoldsAt terms.numbering n) placed.since
-  pub lasts : RecordHolds terms.numbering n new.now
+  pub stays : All (RecordHoldsAt terms.numbering n) placed.since × RecordHolds terms.numbering n new.now
+
+-- only numbers were brought, and to the record; or an update to the place too, and its number went first
+abbrev pub PublishesInOrder : Verifier → Terms → ℕ → Run → Run → Type 0
+PublishesInOrder accepts terms kept old new =
+    PublishesOnly (MayBeRecorded accepts terms kept) old new ⊎ RecordsFirst accepts terms kept old new
 
 -- A number that the record has for the field stays there until a greater one or the same takes its place, at each
 -- moment since and after a crash at any.
@@ -80,26 +91,13 @@ NeverFalls numbering old new =
     (k : ℕ) → RecordHolds numbering k old.now → (since : List RunStep) × (new.steps ≡ since ++ old.steps)
     × All (RecordHoldsAt numbering k) since × RecordHolds numbering k new.now
 
--- Only what is to be installed was brought, and the number went first.
-pub record PublishesInOrder (accepts : Verifier) (terms : Terms) (kept : ℕ) (old new : Run) : Type 0 where
-  pub publishes : PublishesOnly (MayBePublished accepts terms kept) old new
-  pub order : PublishesOnly (MayBeRecorded accepts terms kept) old new ⊎ RecordsFirst accepts terms kept old new
-
--- Whatever who opens the place or the record finds there after any call of this run, at once or after a crash, could be
--- found there just before that call, or is an update, or the number of one, that is not older than the number that the
--- record held for its field when this run got the lock. The number of an update is in the record before the update is
--- at the place.
-pub record InstallsOnly (accepts : Verifier) (terms : Terms) (first : Bool) (old new : Run) : Type 0 where
-  pub found : Option (List ℕ)
-  pub kept : ℕ
-  pub there : IsFound old.now Record found
-  pub number : IsKeptNumber terms.numbering first found kept
-  pub places : PublishesInOrder accepts terms kept old new
-
--- From when the lock was got: nothing was brought to the place or to the record, or only what is to be installed. And
--- the number that the record has for the field never falls.
+-- From when the lock was got. Whatever who opens the place or the record finds there after any call of this run, at
+-- once or after a crash, could be found there just before that call, or is an update, or the number of one, that is not
+-- older than the number that the record held for its field then. The number of an update is in the record before the
+-- update is at the place. And the number that the record has for the field never falls.
 pub record InstallsLocked (accepts : Verifier) (terms : Terms) (first : Bool) (old new : Run) : Type 0 where
-  pub only : PublishesNothing old new ⊎ InstallsOnly accepts terms first old new
+  pub only : PublishesNothing old new
+      ⊎ ((kept : HasKept terms first old.now) × PublishesInOrder accepts terms kept.number old new)
   pub never_falls : NeverFalls terms.numbering old new
 
 -- The lock was asked for and not got, and that was all. Or it was got, and from then on only what is to be installed
@@ -114,25 +112,18 @@ InstallsOnlyUpdates accepts terms first old new =
 -- name.
 pub record HasInstalled (accepts : Verifier) (terms : Terms) (first : Bool) (ahead : Option (List ℕ))
     (old new : Run) : Type 0 where
-  pub found : Option (List ℕ)
-  pub kept : ℕ
-  pub there : IsFound old.now Record found
-  pub number : IsKeptNumber terms.numbering first found kept
+  pub kept : HasKept terms first old.now
   pub cleared : HasCleared old new
   pub bytes : List ℕ
   pub n : ℕ
   pub read : IsAhead ahead bytes
-  pub update : IsUpdate accepts terms kept bytes n
+  pub update : IsUpdate accepts terms kept.number bytes n
   pub earlier : List RunStep
   pub recorded : List RunStep
   pub number_first : IsPublished Record (record_of terms.numbering n) earlier recorded
   pub published : IsPublished Place bytes recorded new.steps
   pub permissions : permissions_of published ≡ true
 
--- the texts vouch for some data, and the comment that was signed with it names the file, has not expired, and has a
--- number
+-- the texts vouch for some data as for an update, whichever number is kept
 abbrev pub IsVouched : Verifier → Terms → Type 0
-IsVouched accepts terms =
-    (message : List ℕ) × (comment : List ℕ) × (n : ℕ)
-    × TextsVouchWith accepts terms.pk_text terms.sig_text message false comment
-    × Says comment terms.file terms.numbering terms.moment n
+IsVouched accepts terms = (message : List ℕ) × (n : ℕ) × IsUpdate accepts terms 0 message n

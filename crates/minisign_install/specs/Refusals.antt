@@ -3,7 +3,7 @@
 use Rattle.std.specs.Prelude.{◌≡◌, ◌≢◌, ◌⊎◌, ℕ, ◌<◌, Bool, false, List, Option, Some, None, Err, IfErr, IsErrAnd, MatchResult, Result}
 use Rattle.minisign_install.specs.Common.{verdict}
 use Rattle.minisign_install.specs.Faults.{Rose, Fault, Named, OutOfMemory, RandomSourceFailed, ReadingFailed, WritingFailed, InstallFault, Library, PlaceInUse, NoRecord, DamagedRecord, KeptByTimestamp, KeptByVersion, OtherFile, NoNumber, OlderUpdate, DirectoryNotSynced}
-use Rattle.minisign_install.specs.Installing.{Verifier, TextsVouchWith, IsAhead, MayBePublished, IsKeptNumber, MayBeRecorded, IsUpdate, Terms}
+use Rattle.minisign_install.specs.Installing.{Verifier, TextsVouchWith, IsAhead, HasKept, MayBePublished, IsKeptNumber, MayBeRecorded, IsUpdate, Terms}
 use Rattle.minisign_install.specs.Comments.{HasNumber, IsExpiryRefused, Says, file_label, value_of, Numbering}
 use Rattle.minisign_install.specs.Directories.{Finds, Known, HasLocked, HasStepped, IsBusy, IsFound, IsStill, Run, HasOnDisk, Place, Record}
 use Rattle.minisign_install.specs.RecordTexts.{HasNoNumber, IsUnfit}
@@ -94,9 +94,8 @@ IsLockedRefusal accepts terms first ahead before after old new e =
     (PublishesNothing old new × IsLibraryFault (IsCallFault before after) e)
     ⊎ (HasCleared old new × PublishesNothing old new
     × ((found : Option (List ℕ)) × IsFound old.now Record found × IsRecordRefused terms.numbering first found e))
-    ⊎ (HasCleared old new × ((found : Option (List ℕ)) × (kept : ℕ) × IsFound old.now Record found
-    × IsKeptNumber terms.numbering first found kept
-    × IsDataRefusal accepts terms kept ahead before after old new e))
+    ⊎ (HasCleared old new × ((kept : HasKept terms first old.now)
+    × IsDataRefusal accepts terms kept.number ahead before after old new e))
 
 -- Why an installation is rejected, and what it publishes then. Another run holds the lock, or it could not be asked
 -- for: nothing, and this was the only call.

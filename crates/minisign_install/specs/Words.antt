@@ -12,8 +12,8 @@ pub use Rattle.minisign_install.specs.Faults.{BadExpiry, Expired, Fault, Install
 pub use Rattle.minisign_install.specs.HostNumbers.{IsHostMeaning, numbering_number, offer_number}
 pub use Rattle.minisign_install.specs.Hosted.{CallHasFailed, CannotBeFed, CannotFail, CannotGo, GivesUpdate, HasGone, HasReadBack, HasReadRecord, IsAnswerRefusal, IsAskRefusal, IsAsking, IsCommentFault, IsDue, IsJudged, IsNotDue, IsUnused, RestUnchanged, WasDone, due_from, due_number, due_of, failure, is_device_error, is_read_back, numbering_of, wanted_by}
 pub use Rattle.minisign_install.specs.Hosting.{HasBegun, HasObeyed, Obeys, TellsAnswers, TellsFailure, TellsOutcome, TellsRecord, TellsRefusal, Told, by_field}
-pub use Rattle.minisign_install.specs.Hosts.{Blames, CallsNothing, DeviceFails, Event, Explains, HasRun, Host, IsExplained, Makes, Setting, Writes, WritesInPart}
-pub use Rattle.minisign_install.specs.Installing.{HasInstalled, InstallsLocked, InstallsOnlyUpdates, IsAhead, IsKeptNumber, IsKeptOrNone, IsUpdate, IsVouched, MayBeInstalled, MayBePublished, MayBeRecorded, NeverFalls, PublishesInOrder, RecordsFirst, Terms, TextsVouchWith, Verifier, terms_of}
+pub use Rattle.minisign_install.specs.Hosts.{Blames, CallsNothing, DeviceFails, Event, Explains, HasRun, Host, Makes, Setting, Writes, WritesInPart}
+pub use Rattle.minisign_install.specs.Installing.{HasInstalled, HasKept, InstallsLocked, InstallsOnlyUpdates, IsAhead, IsKeptNumber, IsKeptOrNone, IsUpdate, IsVouched, MayBeInstalled, MayBePublished, MayBeRecorded, NeverFalls, PublishesInOrder, RecordsFirst, Terms, TextsVouchWith, Verifier, terms_of}
 pub use Rattle.minisign_install.specs.Order.{Answer, Clear, Copy, Create, CreateRecord, Done, Due, Failed, Lock, More, Number, Outcome, ReadBack, ReadRecord, Remove, RemoveRecord, Rename, RenameRecord, Sync, SyncName, SyncRecord, SyncRecordName, TakePermissions, WriteRecord, fits, has_ended, next}
 pub use Rattle.minisign_install.specs.RecordTexts.{HasNoNumber, IsFieldText, IsNumberFor, IsUnfit, kept_by, other_field, record_of, record_text}
 pub use Rattle.minisign_install.specs.Refusals.{CanBeInstalled, CannotBeInstalled, Counts, HasFailed, HasPublishedUpdate, InstallsExactly, IsCallFault, IsCause, IsCommentRefused, IsDataRefusal, IsDataRefused, IsLibraryFault, IsLockedRefusal, IsReadRefusal, IsReadingFault, IsRecordFault, IsRecordRefused, IsRefusal, OnlyLocked, counts}

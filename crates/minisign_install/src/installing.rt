@@ -55,8 +55,8 @@ pub fn install_update<S: Scheme, Z: RandomSource, R: Source, F: Directory>(
     // the moment that was passed, and has a number not below the kept one; and to the record only the
     // number of such an update, behind the label
     // of its field; through any crash, and whatever other processes do that leave the run's own
-    // stages alone, and the record while this run holds the lock (`InstallsOnly`, `IsUpdate`,
-    // `OtherProcesses`).
+    // stages alone, and the record while this run holds the lock (`InstallsLocked`, `PublishesInOrder`,
+    // `IsUpdate`, `OtherProcesses`).
     //
     // Nothing is done without the lock; from when it is got, a number that the record has for the
     // wanted field stays or is followed by a greater one, and whenever the run has brought an update
