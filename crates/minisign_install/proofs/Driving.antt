@@ -1,5 +1,5 @@
 -- An installation over a directory makes each call as it is due: what each call that went does to what is held between two.
-use Rattle.minisign_install.proofs.Common.{◌≡◌, inl, inr, ℕ, Fault, Named, OutOfMemory, Counts, HasFailed, IsCallFault, counts, ◌≢◌, ◌⊎◌, ⊎_elim, List, Option, Some, None, Bool, true, ap, subst, refl, OnOk, OnErr, IfErr, IfOk, IsNone, IsSomeAnd, MatchResult, Result, Ok, Err, true≢false, Consumes, IsAtEnd, concat, IsFedState, State, AreNamed, HasMade, IsNamed, Knows, MayCall, Names, Went, done_or, host, made_or, number_or, setting, InstallFault, Library, PlaceInUse, RandomSourceFailed, ReadingFailed, Rose, WritingFailed, Finds, HasCounted, HasCreated, HasLocked, HasStepped, IsBusy, IsStill, OwnsTheSame, Record, Run, Blames, Calls, CallsNothing, Host, Makes, Writes, WritesInPart, IsKeptNumber, IsUpdate, IsVouched, Terms, Verifier, drawn_bytes, Answer, Copy, Create, CreateRecord, Done, Due, Failed, Lock, Outcome, ReadBack, ReadRecord, next, IsDataRefused, IsLibraryFault, IsReadingFault, IsRecordFault, IsRecordRefused, Stage, Work, WantsNoMemory, Explains}
+use Rattle.minisign_install.proofs.Common.{◌≡◌, inl, inr, ℕ, Fault, Named, OutOfMemory, Counts, HasFailed, IsCallFault, counts, ◌≢◌, ◌⊎◌, ⊎_elim, List, Option, Some, None, Bool, true, ap, arith, subst, refl, OnOk, OnErr, IfErr, IfOk, IsNone, IsSomeAnd, MatchResult, Result, Ok, Err, true≢false, Consumes, IsAtEnd, concat, IsFedState, State, AreNamed, HasMade, IsNamed, Knows, MayCall, Names, Went, done_or, host, made_or, number_or, setting, InstallFault, Library, PlaceInUse, RandomSourceFailed, ReadingFailed, Rose, WritingFailed, Finds, HasCounted, HasCreated, HasLocked, HasStepped, IsBusy, IsStill, OwnsTheSame, Record, Run, Blames, Calls, CallsNothing, Host, Makes, Writes, WritesInPart, IsKeptNumber, IsUpdate, IsVouched, Terms, Verifier, drawn_bytes, Answer, Copy, Create, CreateRecord, Done, Due, Failed, Lock, Outcome, ReadBack, ReadRecord, next, IsDataRefused, IsLibraryFault, IsReadingFault, IsRecordFault, IsRecordRefused, Stage, Work, WantsNoMemory, Explains}
 
 pub not_failed : (before after : Counts) (e : Fault) → ¬ (HasFailed before after) → IsCallFault before after e → e ≡ Named OutOfMemory
 not_failed before after e no_new_fault (inl (memory, same)) = memory

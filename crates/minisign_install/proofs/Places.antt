@@ -1,6 +1,6 @@
 -- Whether an update stands at the place already: what was found there, what the texts say of it, and what comes of a run
 -- that asked.
-use Rattle.minisign_install.proofs.Common.{AnswersByRecord, Bool, Calls, CallsNothing, Counts, Err, Fault, Finds, HasCleared, HasInstalled, HasKept, HasLocked, HasStepped, InstallFault, InstallsLocked, InstallsOnlyUpdates, IsCallFault, IsFound, IsLibraryFault, IsReadingFault, IsStill, IsVouched, Known, List, MayBeRecorded, Moment, Name, None, Ok, OnlyLocked, Option, Place, PublishesInOrder, PublishesNothing, PublishesOnly, Record, Result, Run, Same, SameNumber, Says, Some, Terms, Verifier, ap, append_assoc, counts, false, inl, inr, refused_unvouched, subst, sym, true, verdict, ℕ, ⊎_elim, ◌++◌, ◌∙◌, ◌∷◌, ◌≡◌, ◌⊎◌}
+use Rattle.minisign_install.proofs.Common.{AnswersByRecord, Bool, Calls, CallsNothing, Counts, Err, Fault, Finds, HasCleared, HasInstalled, HasKept, HasLocked, HasStepped, InstallFault, InstallsLocked, InstallsOnlyUpdates, IsCallFault, IsFound, IsLibraryFault, IsReadingFault, IsStill, IsVouched, Known, List, MayBeRecorded, Moment, Name, None, Ok, OnlyLocked, Option, Place, PublishesInOrder, PublishesNothing, PublishesOnly, Record, Result, Run, Same, SameNumber, Says, Some, Terms, Verifier, ap, append_assoc, arith, counts, false, inl, inr, refused_unvouched, subst, sym, true, verdict, ℕ, ⊎_elim, ◌++◌, ◌∙◌, ◌∷◌, ◌≡◌, ◌⊎◌}
 use Rattle.minisign_install.specs.There.{FindsSame, GoesOn, InstallsFrom, InstallsUnlessThere, IsOther, IsSigned, IsThere, IsVouchedFor, LooksInPart}
 use Rattle.minisign_install.specs.declared.there.Installed.{Installed}
 use Rattle.minisign_install.proofs.Installs.{found_back, installs, nothing_locked}
@@ -99,7 +99,7 @@ module _ (accepts : Verifier) (terms : Terms) (first again : Bool) (old locked :
   looks mid (inr (inr (inr (asked, (m, found, other))))) = looked_same (Some m) mid found
 
   -- what the record was found to hold it held when the lock was got
-  kept_before : (again : Run) → HasLooked locked again → HasKept terms first again.now → HasKept terms first locked.now
+  abbrev kept_before : (again : Run) → HasLooked locked again → HasKept terms first again.now → HasKept terms first locked.now
   kept_before again l kept = record { found = kept.found; there = l.back kept.found lock.held kept.there; number = kept.number; held = kept.held }
 
   from_locked : (again new : Run) → HasLooked locked again → InstallsLocked accepts terms first again new → InstallsLocked accepts terms first locked new
