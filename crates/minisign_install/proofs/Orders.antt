@@ -171,7 +171,6 @@ module _ (s : Setting) (a : Host) where
   Holds Installed h = Ended s a h.run × ((locked : Run) × HasLocked a.run locked × HasInstalled s.accepts s.terms s.first a.ahead locked h.run)
   Holds (Refused e) h = Ended s a h.run × ⊤
 
-
   -- == From one moment to the next ==
 
   abbrev pub extend : {P P' : ℕ → Name → List ℕ → Type 0} {R : Name → List ℕ → Type 0} {names names' : List (List ℕ)} {now then : Run} → (x : SoFar s a P names now) → PublishesOnly R now then
@@ -338,32 +337,36 @@ module _ (s : Setting) (a : Host) where
         (h.run, stage, on_disk, renamed),
       )
       from (SyncRecordName n) Done (x, staged, (before, stage, on_disk, renamed)) ((step, own), ahead', read') = (
-            let_go (stay x (calm (step, own) step.this.same.only)) (ap (λ o. o s.record_name) own.owns ∙ renamed.own.set),
-            staged_more staged (names_keep h.run h'.run step own s.name s.file staged.judged.stage),
-            subst (λ b. HasRecorded b h'.run) stage.holds (record {
-              earlier = before.steps;
-              published = (published s.record_name Record before h.run h'.run renamed.stepped step s.record_file stage.stage on_disk).0;
-              lasts = lasting s.record_name before h.run h'.run renamed.stepped step s.record_file stage.stage on_disk;
-            }),
-          )
+        let_go (stay x (calm (step, own) step.this.same.only)) (ap (λ o. o s.record_name) own.owns ∙ renamed.own.set),
+        staged_more staged (names_keep h.run h'.run step own s.name s.file staged.judged.stage),
+        subst (λ b. HasRecorded b h'.run) stage.holds (record {
+          earlier = before.steps;
+          published = (published s.record_name Record before h.run h'.run renamed.stepped step s.record_file stage.stage on_disk).0;
+          lasts = lasting s.record_name before h.run h'.run renamed.stepped step s.record_file stage.stage on_disk;
+        }),
+      )
       from (Rename n) Done (x, staged, recorded) (renamed, ahead', read') = (placed x staged recorded renamed.stepped (less_no_more renamed.own), (h.run, x.publishes, staged, recorded, renamed))
       from (SyncName n) Done (x, (before, publishes, staged, recorded, renamed)) ((step, own), ahead', read') =
           let (published_so, permissions) = published s.name Place before h.run h'.run renamed.stepped step s.file staged.judged.stage staged.on_disk in
           let y = let_go (stay x (calm (step, own) step.this.same.only)) (ap (λ o. o s.name) own.owns ∙ renamed.own.set) in (
             stopped y,
-            (y.base.locked, y.base.lock, record {
-              kept = y.base.kept;
-              cleared = y.cleared;
-              bytes = before.now.holds s.file;
-              n = n;
-              read = staged.judged.given;
-              update = staged.judged.update;
-              earlier = recorded.earlier;
-              recorded = before.steps;
-              number_first = recorded.published;
-              published = published_so;
-              permissions = permissions ∙ staged.permissions;
-            }),
+            (
+              y.base.locked,
+              y.base.lock,
+              record {
+                kept = y.base.kept;
+                cleared = y.cleared;
+                bytes = before.now.holds s.file;
+                n = n;
+                read = staged.judged.given;
+                update = staged.judged.update;
+                earlier = recorded.earlier;
+                recorded = before.steps;
+                number_first = recorded.published;
+                published = published_so;
+                permissions = permissions ∙ staged.permissions;
+              },
+            ),
           )
       from (RemoveRecord f) Done x (removal, ahead', read') = (let_go (stay x.0 (removed removal)) removal.own.set, tt)
       from (RemoveRecord f) (Failed e) x (removal, ahead', read') = (let_go (stay x.0 (perhaps_removed removal)) removal.own.set, tt)

@@ -1,6 +1,6 @@
 -- The stages of a run, what one call publishes, and calls one after another.
 use Rattle.std.proofs.lemmas.Option.{none-some, same_Some}
-use Rattle.minisign_install.proofs.Common.{◌≡◌, ◌≢◌, ℕ, List, Some, true, false, IsApart, OwnsTheSame, Moment, Run, RunStep, HasOnDisk, Name, Record, PublishesNothing, PublishesOnly, IsPublished, ◌⊎◌, inl, inr, ⊎_elim, ap, sym, subst, ◌∙◌, refl, RecordUnchanged, MayLead, MayFind, Renames, TouchesOnly, TouchesStages, FileStays, Sets, Place, Numbering, Publishes, IsNumberFrom, RecordHolds, true≢false, [], ◌∷◌, ◌++◌, append_assoc, All-cons, All-nil, All-append, ClearsAll, HasCreated, HasStepped, IsStill, Perhaps, SyncsDirectory, Spoils, HasCleared, RecordHoldsAt, OwnsNoMore, permissions_of}
+use Rattle.minisign_install.proofs.Common.{◌≡◌, ◌≢◌, ℕ, List, Some, true, false, IsApart, OwnsTheSame, Moment, Run, RunStep, HasOnDisk, Name, Record, PublishesNothing, PublishesOnly, IsPublished, ◌⊎◌, inl, inr, ⊎_elim, ap, sym, subst, ◌∙◌, refl, RecordUnchanged, MayLead, MayFind, Renames, TouchesOnly, TouchesStages, FileStays, Sets, Place, Numbering, Publishes, IsNumberFrom, RecordHolds, true≢false, [], ◌∷◌, ◌++◌, append_assoc, All-cons, All-nil, All-append, HasCreated, HasStepped, IsStill, Perhaps, SyncsDirectory, Spoils, RecordHoldsAt, OwnsNoMore, permissions_of}
 
 -- the run holds the lock, and the name of a stage is its own and leads to this file, and neither lasting name does or
 -- may after a crash
@@ -148,15 +148,6 @@ resting_publishes old new s =
 
 pub perhaps : (call : Moment → Moment → Type 0) (old new : Run) → HasStepped old new (Perhaps call) → HasStepped old new IsStill ⊎ HasStepped old new call
 perhaps call old new s = ⊎_elim (λ still. inl (call_with s still)) (λ done. inr (call_with s done)) s.this
-
-pub cleared_then : (P : Name → List ℕ → Type 0) (old mid new : Run) → HasStepped old mid ClearsAll → PublishesOnly P mid new → HasCleared old new
-cleared_then P old mid new s more = record {
-  later = more.since;
-  call = step s.before mid.now;
-  earlier = [];
-  noted = more.noted ∙ ap (λ l. more.since ++ l) s.noted;
-  this = s.this.clear;
-}
 
 -- == What one call leaves of a stage ==
 
