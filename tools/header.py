@@ -29,7 +29,7 @@ FAULTS = "crates/minisign_base/src/faults.rt"
 FAULT_ROWS = "crates/minisign_base/specs/Faults.antt"
 NUMBERS = "crates/minisign_external/src/numbers.rt"
 INSTALL = "crates/minisign_install"
-INSTALL_NUMBERS = f"{INSTALL}/specs/HostNumbers.antt"
+INSTALL_NUMBERS = f"{INSTALL}/specs/Hosted.antt"
 
 # Named errors with this number or a greater one are answered by no call of the header, but for those that a host may tell.
 UNANSWERED = 46

@@ -3,7 +3,7 @@
 
 #![tactic(auto)]
 
-ghost use Rattle.std.specs.Prelude.{◌≡◌, ◌==◌, ◌⊎◌, ◌<◌, ◌≤◌, ◌+◌, ◌++◌, ℕ, Bool, List, [], Some, None, Ok, true, false, MatchOption, length, take};
+ghost use Rattle.std.specs.Prelude.{◌≡◌, ◌==◌, ◌⊎◌, ◌<◌, ◌≤◌, ◌+◌, ◌++◌, ℕ, Bool, List, [], Some, None, Ok, IfErr, true, false, MatchOption, length, take};
 ghost use Rattle.std.specs.Option.{option_map};
 ghost use Rattle.std.specs.Str.{IsUtf8};
 ghost use Rattle.minisign_hash.specs.Blake2b.{blake2b_digest};
@@ -19,14 +19,15 @@ ghost use Rattle.minisign_external.specs.Making.{HoldsPublicKey, HoldsSecretKey,
 ghost use Rattle.minisign_external.specs.SecretKeys.{HoldsKey, IsOpeningNumber, OpensAs, is_opened, is_read, open_read_key, passed_in, public_value_of, read_value, reading_number, unopened_record, taken_key, told_public_key};
 ghost use Rattle.minisign_external.specs.Signing.{AreReadByMinisign, HoldsText, IsWritingNumber, comments_of};
 ghost use Rattle.minisign_external.specs.declared.public_keys.PublicKeyValue.{PublicKeyValue};
-ghost use Rattle.minisign_external.specs.declared.state.Misuse.TheVariants.{BadFirstFlag, BadNumbering, BadPasswordFlag, NoRoom, NotDue};
+ghost use Rattle.minisign_external.specs.declared.state.Misuse.TheVariants.{BadAnswer, BadFirstFlag, BadNumbering, BadPasswordFlag, NoRoom, NotDue};
 ghost use Rattle.minisign_install.specs.Checking.{HasChecked, IsCheckNumber};
 ghost use Rattle.minisign_install.specs.Comments.{Says};
-ghost use Rattle.minisign_install.specs.HostNumbers.{IsHostMeaning, numbering_number};
-ghost use Rattle.minisign_install.specs.Hosted.{CannotBeFed, CannotFail, CannotGo, GivesUpdateNumber, CallHasFailed, HasReadRecord, HasReadBack, IsAnswerNumber, IsAskNumber, IsAsking, IsCommentNumber, IsDue, IsUnused, WasDone, due_number, due_of, numbering_of, wanted_by};
+ghost use Rattle.minisign_install.specs.Faults.{install_number};
+ghost use Rattle.minisign_install.specs.Hosted.{CannotBeFed, CannotFail, CannotGo, GivesUpdate, CallHasFailed, HasReadRecord, HasReadBack, IsAnswerRefusal, IsAskRefusal, IsAsking, IsBegun, IsCommentFault, IsDue, IsHostMeaning, IsNumberOf, IsUnused, WasDone, due_number, due_of, numbering_number, numbering_of, wanted_by};
 ghost use Rattle.minisign_install.specs.Installing.{Terms};
 ghost use Rattle.minisign_install.specs.RecordTexts.{record_of};
-ghost use Rattle.minisign_install.specs.declared.order.Due.TheVariants.{Answer, Lock, ReadRecord, TakePermissions, WriteRecord};
+ghost use Rattle.minisign_install.specs.declared.faults.InstallFault.{InstallFault};
+ghost use Rattle.minisign_install.specs.declared.order.Due.TheVariants.{Answer, ReadRecord, TakePermissions, WriteRecord};
 ghost use Rattle.minisign_install.specs.declared.order.Due.TheVariants as ended;
 ghost use Rattle.minisign_install.specs.declared.order.Outcome.TheVariants.{Done, More};
 ghost use Rattle.minisign_external.specs.States.{AnswersTextsBy, AreQuestions, GivesNumber, HasAsked, HasEnded, HasToldDigest, IsAnswered, IsBlank, IsCommentVerdictNumber, IsFedState, IsMarkedFed, IsMarkedTold, IsVerdictNumber, KeepsAsked, asking_number, feeding_misuse, is_asked, is_begun, questions_of, verdict_number};
@@ -41,8 +42,7 @@ use minisign_external::state::{Misuse, Questions, Refusal, State};
 use minisign_external::unopened_keys::{UnopenedKeyValue, open_secret_key, read_unopened_key};
 use minisign_install::Numbering;
 use minisign_install::checking::check_comment_offer;
-use minisign_install::host_numbers::write_error_text;
-use minisign_install::hosted::Installation;
+use minisign_install::hosted::{Installation, write_error_text};
 use minisign_install::hosted_judging::judge_comment;
 use std::alloc::Global;
 
@@ -458,9 +458,8 @@ pub extern "C" fn minisign_install_init(
 ) -> u32
     // The lock is due, nothing was read back, and whether this is the first installation and which field has the number
     // are kept. Of each a number that is neither 0 nor 1 is rejected, that of the former first, and nothing is written.
-    ensures due { result ≡ 0 → IsDue installation.new Lock × IsFedState installation.new.state [] }
-    ensures first { result ≡ 0 → (is_first < 2) × ((installation.new.chosen.is_first == 1) ≡ (is_first == 1)) }
-    ensures numbering { result ≡ 0 → numbering ≡ numbering_number (numbering_of installation.new) }
+    ensures begun { result ≡ 0 → (is_first < 2) × (field : Numbering) × (numbering ≡ numbering_number field)
+        × IsBegun (is_first == 1) field installation.new }
     ensures unused { result ≡ 0 → IsUnused installation.new }
     ensures refused { 0 < result → (((result ≡ misuse_number BadFirstFlag) × (1 < is_first))
         ⊎ ((result ≡ misuse_number BadNumbering) × (is_first < 2) × (1 < numbering))) × (installation.new ≡ installation.old) }
@@ -516,7 +515,7 @@ pub extern "C" fn minisign_install_more(installation: &mut Installation) -> u32
 pub extern "C" fn minisign_install_failed(installation: &mut Installation, why: u32) -> u32
     // What is due next is what the table says, where the call that was due can fail so. Otherwise it is not due, and
     // nothing changes.
-    ensures failed { result ≡ 0 → CallHasFailed why installation.old installation.new }
+    ensures failed { result ≡ 0 → (rejected : ℕ) × CallHasFailed why rejected installation.old installation.new }
     ensures refused { 0 < result → (result ≡ misuse_number NotDue) × (installation.new ≡ installation.old) × CannotFail why installation.old }
 {
     match installation.failed(why) {
@@ -557,7 +556,6 @@ pub extern "C" fn minisign_install_no_record(installation: &mut Installation) ->
 pub extern "C" fn minisign_install_piece(installation: &mut Installation, piece: &[u8]) -> u32
     // Each piece appends to what was read back, and at the end the answers are due. Where no stage is read back, the
     // wrong use has its number, and nothing changes.
-    ensures fed { result ≡ 0 → (m : List ℕ) → IsFedState installation.old.state m → IsFedState installation.new.state (m ++ piece.now) }
     ensures read { result ≡ 0 → HasReadBack piece.now installation.old installation.new }
     ensures refused { 0 < result → (installation.new ≡ installation.old) × (m : Misuse) × (result ≡ misuse_number m) × CannotBeFed installation.old m }
 {
@@ -593,7 +591,7 @@ pub extern "C" fn minisign_install_ask(
 
     // The number is that of the first reason of `Installation::ask`: a wrong use changes nothing, and for any other
     // reason the stage is to be removed. The message buffer is as it was.
-    ensures refused { 0 < result → IsAskNumber installation.old installation.new key.now sig_text.now file.now (length message.old) result }
+    ensures refused { 0 < result → IsNumberOf (λ r. IfErr r (IsAskRefusal installation.old installation.new key.now sig_text.now file.now (length message.old))) result }
     ensures kept { 0 < result → message.new ≡ message.old }
 
     // Where the answers are not due the questions stay.
@@ -619,13 +617,14 @@ pub extern "C" fn minisign_install_answer(
     // answered.**
     ensures answer { (terms : Terms) (kept : ℕ) (message : List ℕ) (accepts : Verifier)
         → IsAsking installation.old terms kept → AnswersTextsBy accepts terms.pk_text terms.sig_text message first second
-        → GivesUpdateNumber accepts terms kept message installation.new result }
+        → IsNumberOf (GivesUpdate accepts terms kept message installation.new) result }
 
     // An answer is 7955827 for yes or 28271 for no, and no other number is taken; the permissions are due only where
     // the answers were, and a wrong use has its number and changes nothing.
     ensures due { result ≡ 0 → ((kept : ℕ) × IsDue installation.old (Answer kept)) × ((n : ℕ) × IsDue installation.new (TakePermissions n))
         × HasEnded installation.old.state installation.new.state × IsAnswer first × IsAnswer second }
-    ensures refused { 0 < result → IsAnswerNumber installation.old installation.new first second result }
+    ensures refused { 0 < result → ((result ≡ misuse_number BadAnswer) × (¬ (IsAnswer first) ⊎ ¬ (IsAnswer second)) × (installation.new ≡ installation.old))
+        ⊎ (IsAnswer first × IsAnswer second × IsNumberOf (λ r. IfErr r (IsAnswerRefusal installation.old installation.new)) result) }
 
     // What the host has chosen stays.
     ensures chosen { installation.new.chosen ≡ installation.old.chosen }
@@ -681,7 +680,9 @@ pub extern "C" fn minisign_judge_comment(
     // reason, and nothing is written.
     ensures says { result ≡ 0 → (k : Numbering) × (numbering ≡ numbering_number k) × IsUtf8 comment.now × IsUtf8 file.now
         × Says comment.now file.now k moment number.new × (kept ≤ number.new) }
-    ensures refused { 0 < result → IsCommentNumber comment.now file.now numbering moment kept result }
+    ensures refused { 0 < result → ((result ≡ misuse_number BadNumbering) × (1 < numbering))
+        ⊎ ((k : Numbering) × (numbering ≡ numbering_number k) × (e : InstallFault) × (result ≡ install_number e)
+        × IsCommentFault comment.now (wanted_by [] [] file.now k moment) kept e) }
     ensures kept { 0 < result → number.new ≡ number.old }
 {
     let Some(numbering) = Numbering::of_number(numbering) else {

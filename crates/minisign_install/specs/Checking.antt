@@ -5,8 +5,7 @@ use Rattle.minisign_install.specs.Faults.{Rose, Fault, Named, NotUtf8, OutOfMemo
 use Rattle.minisign_install.specs.Installing.{IsKeptOrNone, Verifier, Terms}
 use Rattle.minisign_install.specs.Comments.{Says, Numbering}
 use Rattle.minisign_install.specs.Directories.{Calls, Finds, IsStill, Known, Run, Record}
-use Rattle.minisign_install.specs.HostNumbers.{numbering_number, offer_number}
-use Rattle.minisign_install.specs.Hosted.{wanted_by}
+use Rattle.minisign_install.specs.Hosted.{wanted_by, numbering_number, offer_number}
 use Rattle.minisign_install.specs.Refusals.{IsCommentRefused, IsRecordRefused}
 
 -- the signature is accepted for the digest, where one is given

@@ -28,7 +28,6 @@ pub use Rattle.minisign_install.specs.declared.faults.InstallFault.{InstallFault
 pub use Rattle.minisign_install.specs.declared.faults.InstallFault.TheVariants.{PlaceInUse, SameNumber}
 pub use Rattle.minisign_install.specs.declared.hosted.Installation.{Installation}
 pub use Rattle.minisign_install.specs.declared.hosted.Judged.{Judged}
-pub use Rattle.minisign_install.specs.declared.hosted.StoredDue.{StoredDue}
 pub use Rattle.minisign_install.specs.declared.stage_names.StageName.{StageName}
 pub use Rattle.minisign_install.specs.declared.there.Installed.TheVariants.{Already, Now}
 pub use Rattle.minisign_install.specs.declared.wanted.Wanted.{Wanted}

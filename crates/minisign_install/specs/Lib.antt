@@ -4,7 +4,6 @@ pub mod Common
 pub mod Directories
 pub mod Driving
 pub mod Faults
-pub mod HostNumbers
 pub mod Hosted
 pub mod Hosting
 pub mod Hosts

@@ -9,9 +9,8 @@ pub use Rattle.minisign_install.specs.Common.{AnswersTexts, AreQuestions, Commen
 pub use Rattle.minisign_install.specs.Directories.{Appends, Calls, CallsOwning, ClearsAll, FileStays, Finds, GivesPermissions, HasCounted, HasCreated, HasLocked, HasOnDisk, HasReadAt, HasRenamed, HasStepped, HasTried, Held, IsApart, IsAsked, IsBusy, IsFound, IsStill, Known, MayFind, MayLead, MaySyncDirectory, Moment, Name, OtherProcesses, OwnsTheSame, Perhaps, Place, Record, RecordUnchanged, Removes, Renames, Run, RunStep, Sees, Sets, Spoils, Syncs, SyncsDirectory, TouchesOnly, TouchesStages, drawn_bytes}
 pub use Rattle.minisign_install.specs.Driving.{AreNamed, HasCalled, HasMade, IsNamed, Knows, MayCall, Names, WantsNoMemory, Went, calls_left, done_or, host, made_or, number_or, setting}
 pub use Rattle.minisign_install.specs.Faults.{BadExpiry, Expired, Fault, InstallFault, IsOwn, Library, Named, NoNumber, NotUtf8, OlderUpdate, OtherFile, OutOfMemory, PlaceInUse, RandomSourceFailed, ReadingFailed, Rose, SameNumber, WritingFailed, install_number, install_row}
-pub use Rattle.minisign_install.specs.HostNumbers.{IsHostMeaning, numbering_number, offer_number}
-pub use Rattle.minisign_install.specs.Hosted.{CallHasFailed, CannotBeFed, CannotFail, CannotGo, GivesUpdate, HasGone, HasReadBack, HasReadRecord, IsAnswerRefusal, IsAskRefusal, IsAsking, IsCommentFault, IsDue, IsJudged, IsNotDue, IsUnused, RestUnchanged, WasDone, due_from, due_number, due_of, failure, is_device_error, is_read_back, numbering_of, wanted_by}
-pub use Rattle.minisign_install.specs.Hosting.{HasBegun, HasObeyed, Obeys, TellsAnswers, TellsFailure, TellsOutcome, TellsRecord, TellsRefusal, Told, by_field}
+pub use Rattle.minisign_install.specs.Hosted.{CallHasFailed, CannotBeFed, CannotFail, CannotGo, GivesUpdate, HasGone, HasReadBack, HasReadRecord, IsAnswerRefusal, IsAskRefusal, IsAsking, IsCommentFault, IsDue, IsJudged, IsNotDue, IsUnused, RestUnchanged, WasDone, due_number, due_of, failure, is_device_error, numbering_of, wanted_by, IsBegun, IsHostMeaning, call_of, numbering_number, offer_number, piece_outcome}
+pub use Rattle.minisign_install.specs.Hosting.{HasBegun, HasObeyed, Obeys, TellsAnswers, TellsRecord, by_field, MakesDue}
 pub use Rattle.minisign_install.specs.Hosts.{Blames, CallsNothing, DeviceFails, Event, Explains, HasRun, Host, Makes, Setting, Writes, WritesInPart}
 pub use Rattle.minisign_install.specs.Installing.{HasInstalled, HasKept, InstallsLocked, InstallsOnlyUpdates, IsAhead, IsKeptNumber, IsKeptOrNone, IsUpdate, IsVouched, MayBeInstalled, MayBePublished, MayBeRecorded, NeverFalls, PublishesInOrder, RecordsFirst, Terms, TextsVouchWith, Verifier, terms_of}
 pub use Rattle.minisign_install.specs.Order.{Answer, Clear, Copy, Create, CreateRecord, Done, Due, Failed, Lock, More, Number, Outcome, ReadBack, ReadRecord, Remove, RemoveRecord, Rename, RenameRecord, Sync, SyncName, SyncRecord, SyncRecordName, TakePermissions, WriteRecord, fits, has_ended, next}
@@ -19,4 +18,3 @@ pub use Rattle.minisign_install.specs.RecordTexts.{HasNoNumber, IsFieldText, IsN
 pub use Rattle.minisign_install.specs.Refusals.{CanBeInstalled, CannotBeInstalled, Counts, HasFailed, HasPublishedUpdate, InstallsExactly, IsCallFault, IsCause, IsCommentRefused, IsDataRefusal, IsDataRefused, IsLibraryFault, IsLockedRefusal, IsReadRefusal, IsReadingFault, IsRecordFault, IsRecordRefused, IsRefusal, OnlyLocked, counts}
 pub use Rattle.minisign_install.specs.Runs.{HasCleared, HasReached, IsNumberFrom, IsPublished, OwnsNoMore, Publishes, PublishesNothing, PublishesOnly, RecordHolds, RecordHoldsAt, permissions_of}
 pub use Rattle.minisign_install.specs.There.{FindsAnother, GoesOn, InstallsUnlessThere, IsCauseUnlessThere, IsOther, IsSigned, IsThere, IsUnsigned, IsVouchedFor, LooksInPart}
-pub use Rattle.minisign_install.specs.declared.hosted.Chosen.{Chosen}

@@ -1,16 +1,18 @@
 //! An installation of fixed size that a host in another language holds: it is told which call is due, says how the call
-//! went, and hands over what it reads back. None of it allocates.
+//! went, and hands over what it reads back; and the numbers by which the host knows errors and choices. None of it
+//! allocates.
 
-ghost use Rattle.std.specs.Prelude.{◌≡◌, ◌==◌, ◌<◌, ◌≤◌, ◌++◌, ℕ, Bool, List, [], false, true, Some, None, option_map, if◌then◌else◌, OnOk, IfErr, IfSome, MatchOption, length, take};
-ghost use Rattle.minisign_install.specs.Words.{IsBlank, IsFedState, CallHasFailed, CannotBeFed, CannotFail, CannotGo, HasGone, HasReadBack, HasReadRecord, IsDue, IsNotDue, IsUnused, RestUnchanged, WasDone, due_from, due_number, due_of, failure, is_device_error, numbering_of, fits, Due, Lock, ReadBack, ReadRecord, WriteRecord, Done, More, record_of};
+ghost use Rattle.std.specs.Prelude.{◌≡◌, ◌<◌, ◌≤◌, ℕ, Bool, List, true, Some, option_map, if◌then◌else◌, OnOk, IfErr, IfSome, MatchOption, length, take};
+ghost use Rattle.minisign_install.specs.Words.{CallHasFailed, CannotBeFed, CannotFail, CannotGo, HasReadBack, HasReadRecord, IsBegun, IsDue, IsHostMeaning, IsNotDue, IsUnused, RestUnchanged, WasDone, WritesCut, call_of, due_number, due_of, failure, is_device_error, numbering_number, numbering_of, offer_number, Due, ReadRecord, WriteRecord, Done, More, record_of};
 ghost use Rattle.minisign_install.specs.declared.order.Due.TheVariants as ended;
 
+use crate::checking::Offer;
 use crate::comments::Numbering;
 use crate::faults::InstallFault;
 use crate::order::{Due, Outcome};
 use crate::recording::{kept_number, write_record};
 use minisign_base::NamedFault;
-use minisign_external::numbers::Numbered;
+use minisign_external::numbers::{self, Numbered};
 use minisign_external::state::{Misuse, State};
 
 // An installation that was begun begins with the letters `minstall`.
@@ -21,21 +23,15 @@ const BEGUN: u64 = 7812726606361684333;
 #[derive(Clone, Copy)]
 pub struct Installation {
     mark: u64,
-    due: StoredDue,
+    // What is due: the number of the call, in the order of `Due` from 1 on, and the error and the number that come with it.
+    call: u32,
+    error: u32,
+    number: u64,
     pub(crate) chosen: Chosen,
     pub(crate) judged: Judged,
     // What was read back, and asked of it.
     pub(crate) state: State,
     reserved: [u64; 10],
-}
-
-// What is due: the number of the call, in the order of `Due` from 1 on, and the error and the number that come with it.
-#[repr(C)]
-#[derive(Clone, Copy, Default)]
-struct StoredDue {
-    call: u32,
-    error: u32,
-    number: u64,
 }
 
 // What the host has chosen.
@@ -66,19 +62,15 @@ impl Installation {
     pub fn new(is_first: bool, numbering: Numbering) -> Installation
         // The lock is due, the state was fed nothing, and whether this is the first installation and which field has the
         // number are kept.
-        ensures due { IsDue result Lock }
-        ensures fed { IsFedState result.state [] }
-        ensures first { (result.chosen.is_first == 1) ≡ is_first }
-        ensures numbering { numbering_of result ≡ numbering }
+        ensures begun { IsBegun is_first numbering result }
         // No number, no error and no signed comment is kept yet.
         ensures unused { IsUnused result }
     {
         Installation {
             mark: BEGUN,
-            due: StoredDue {
-                call: 1,
-                ..StoredDue::default()
-            },
+            call: 1,
+            error: 0,
+            number: 0,
             chosen: Chosen {
                 is_first: u32::from(is_first),
                 numbering: numbering.number(),
@@ -94,10 +86,34 @@ impl Installation {
         // What is due is what the stored form says.
         ensures { result ≡ due_of self.now }
     {
+        use Due::*;
         if self.mark != BEGUN {
             return None;
         }
-        self.due.read()
+        let (number, error) = (self.number, self.error);
+        Some(match self.call {
+            1 => Lock,
+            2 => Clear,
+            3 => ReadRecord,
+            4 => Create(number),
+            5 => Copy(number),
+            6 => ReadBack(number),
+            7 => Answer(number),
+            8 => TakePermissions(number),
+            9 => Sync(number),
+            10 => CreateRecord(number),
+            11 => WriteRecord(number),
+            12 => SyncRecord(number),
+            13 => RenameRecord(number),
+            14 => SyncRecordName(number),
+            15 => Rename(number),
+            16 => SyncName(number),
+            17 => RemoveRecord(error),
+            18 => Remove(error),
+            19 => Installed,
+            20 => Refused(error),
+            _ => return None,
+        })
     }
 
     /// The number of the call that is due, in the order of `Due` from 1 on; 0 of an installation
@@ -107,7 +123,7 @@ impl Installation {
         ensures { MatchOption (due_of self.now) (result ≡ 0) (λ due. result ≡ due_number due) }
     {
         match self.due() {
-            Some(due) => due.stored().call,
+            Some(due) => stored(&due).0,
             None => 0,
         }
     }
@@ -133,26 +149,13 @@ impl Installation {
         ensures gone { OnOk result (WasDone (if more then More else Done) self.old self.new) }
         ensures refused { IfErr result (IsNotDue (CannotGo (if more then More else Done) self.old) self.old self.new) }
     {
-        if more {
-            self.go(Outcome::More)
-        } else {
-            self.go(Outcome::Done)
+        let outcome = if more { Outcome::More } else { Outcome::Done };
+        let due = self.due().ok_or(Misuse::NotDue)?;
+        if matches!(due, Due::ReadBack(_)) || !due.fits(&outcome) {
+            return Err(Misuse::NotDue);
         }
-    }
-
-    // The call that was due went so.
-    fn go(&mut self, outcome: Outcome<u32>) -> Result<(), Misuse>
-        ensures gone { OnOk result (WasDone outcome self.old self.new) }
-        ensures refused { IfErr result (IsNotDue (CannotGo outcome self.old) self.old self.new) }
-    {
-        match self.due() {
-            None | Some(Due::ReadBack(_)) => Err(Misuse::NotDue),
-            Some(due) if due.fits(&outcome) => {
-                self.set(due.next(outcome));
-                Ok(())
-            }
-            Some(_) => Err(Misuse::NotDue),
-        }
+        self.set(due.next(outcome));
+        Ok(())
     }
 
     /// The call that is due failed for this error: out of memory, reading, writing or the random
@@ -160,19 +163,13 @@ impl Installation {
     /// synced, that is the error.
     pub fn failed(&mut self, error: u32) -> Result<(), Misuse>
         // What is due next is what the table says. Otherwise nothing changes, and no call was due that can fail so.
-        ensures failed { OnOk result (CallHasFailed error self.old self.new) }
+        ensures failed { OnOk result ((why : ℕ) × CallHasFailed error why self.old self.new) }
         ensures refused { IfErr result (IsNotDue (CannotFail error self.old) self.old self.new) }
     {
-        let Some(due) = self.due() else {
-            return Err(Misuse::NotDue);
-        };
-        match failure(&due, error) {
-            Some(why) => {
-                self.set(due.next(Outcome::Failed(why)));
-                Ok(())
-            }
-            None => Err(Misuse::NotDue),
-        }
+        let due = self.due().ok_or(Misuse::NotDue)?;
+        let why = failure(&due, error).ok_or(Misuse::NotDue)?;
+        self.set(due.next(Outcome::Failed(why)));
+        Ok(())
     }
 
     /// The record was found to hold these bytes, or there is none: the number behind the label of its field, as
@@ -198,20 +195,17 @@ impl Installation {
     pub fn piece(&mut self, piece: &[u8]) -> Result<(), Misuse>
         // Each piece appends to what was read back, and is not told apart from what was fed. At the end the answers of the
         // scheme are due. Otherwise nothing changes, and no stage was to be read back.
-        ensures fed { OnOk result ((m : List ℕ) → IsFedState self.old.state m → IsFedState self.new.state (m ++ piece.now)) }
         ensures read { OnOk result (HasReadBack piece.now self.old self.new) }
         ensures refused { IfErr result (λ m. (self.new ≡ self.old) × CannotBeFed self.old m) }
     {
-        match self.due() {
-            Some(Due::ReadBack(kept)) => {
-                if piece.is_empty() {
-                    self.set(Due::Answer(kept));
-                    return Ok(());
-                }
-                self.state.update(piece)
-            }
-            _ => Err(Misuse::NotDue),
+        let Some(Due::ReadBack(kept)) = self.due() else {
+            return Err(Misuse::NotDue);
+        };
+        if piece.is_empty() {
+            self.set(Due::Answer(kept));
+            return Ok(());
         }
+        self.state.update(piece)
     }
 
     /// Writes the number as it is to be written into the record to the front of `to`: the label of its
@@ -245,82 +239,41 @@ impl Installation {
         ensures due { IsDue self.new due }
         ensures rest { RestUnchanged self.old self.new }
     {
+        let (call, number, error) = stored(&due);
         self.mark = BEGUN;
-        self.due = due.stored();
+        self.call = call;
+        self.number = number;
+        self.error = error;
     }
 }
 
-impl Due<u32> {
-    // The stored form.
-    fn stored(&self) -> StoredDue
-        ensures number { result.call ≡ due_number self.now }
-        ensures due { due_from result ≡ Some self.now }
-    {
-        use Due::*;
-        let (call, number, error) = match self {
-            Lock => (1, 0, 0),
-            Clear => (2, 0, 0),
-            ReadRecord => (3, 0, 0),
-            Create(kept) => (4, *kept, 0),
-            Copy(kept) => (5, *kept, 0),
-            ReadBack(kept) => (6, *kept, 0),
-            Answer(kept) => (7, *kept, 0),
-            TakePermissions(number) => (8, *number, 0),
-            Sync(number) => (9, *number, 0),
-            CreateRecord(number) => (10, *number, 0),
-            WriteRecord(number) => (11, *number, 0),
-            SyncRecord(number) => (12, *number, 0),
-            RenameRecord(number) => (13, *number, 0),
-            SyncRecordName(number) => (14, *number, 0),
-            Rename(number) => (15, *number, 0),
-            SyncName(number) => (16, *number, 0),
-            RemoveRecord(error) => (17, 0, *error),
-            Remove(error) => (18, 0, *error),
-            Installed => (19, 0, 0),
-            Refused(error) => (20, 0, *error),
-        };
-        StoredDue {
-            call,
-            error,
-            number,
-        }
-    }
-}
-
-impl StoredDue {
-    // What is due by the stored form.
-    fn read(&self) -> Option<Due<u32>>
-        ensures { result ≡ due_from self.now }
-    {
-        use Due::*;
-        let StoredDue {
-            call,
-            error,
-            number,
-        } = *self;
-        match call {
-            1 => Some(Lock),
-            2 => Some(Clear),
-            3 => Some(ReadRecord),
-            4 => Some(Create(number)),
-            5 => Some(Copy(number)),
-            6 => Some(ReadBack(number)),
-            7 => Some(Answer(number)),
-            8 => Some(TakePermissions(number)),
-            9 => Some(Sync(number)),
-            10 => Some(CreateRecord(number)),
-            11 => Some(WriteRecord(number)),
-            12 => Some(SyncRecord(number)),
-            13 => Some(RenameRecord(number)),
-            14 => Some(SyncRecordName(number)),
-            15 => Some(Rename(number)),
-            16 => Some(SyncName(number)),
-            17 => Some(RemoveRecord(error)),
-            18 => Some(Remove(error)),
-            19 => Some(Installed),
-            20 => Some(Refused(error)),
-            _ => None,
-        }
+// What is due in stored form: the number of the call, and the number and the error that come with it.
+fn stored(due: &Due<u32>) -> (u32, u64, u32)
+    ensures number { result.0 ≡ due_number due.now }
+    ensures due { call_of result.0 result.1 result.2 ≡ Some due.now }
+{
+    use Due::*;
+    match due {
+        Lock => (1, 0, 0),
+        Clear => (2, 0, 0),
+        ReadRecord => (3, 0, 0),
+        Create(kept) => (4, *kept, 0),
+        Copy(kept) => (5, *kept, 0),
+        ReadBack(kept) => (6, *kept, 0),
+        Answer(kept) => (7, *kept, 0),
+        TakePermissions(number) => (8, *number, 0),
+        Sync(number) => (9, *number, 0),
+        CreateRecord(number) => (10, *number, 0),
+        WriteRecord(number) => (11, *number, 0),
+        SyncRecord(number) => (12, *number, 0),
+        RenameRecord(number) => (13, *number, 0),
+        SyncRecordName(number) => (14, *number, 0),
+        Rename(number) => (15, *number, 0),
+        SyncName(number) => (16, *number, 0),
+        RemoveRecord(error) => (17, 0, *error),
+        Remove(error) => (18, 0, *error),
+        Installed => (19, 0, 0),
+        Refused(error) => (20, 0, *error),
     }
 }
 
@@ -349,4 +302,62 @@ fn is_device_error(error: u32) -> bool
     ]
     .iter()
     .any(|fault| fault.number() == error)
+}
+
+/// What a number means, in English: of an error of the library what it says without its identifiers.
+pub fn error_text(number: u32) -> &'static str
+    // The text of a number is that of the wrong use, of the error of installing, or what the error of the library says
+    // without its identifiers; it has less than 128 bytes.
+    ensures meaning { IsHostMeaning number result.now }
+    ensures room { length result.now < 128 }
+{
+    if let Some(fault) = InstallFault::of_number(number) {
+        if let Ok((_, _, text)) = fault.row() {
+            return text;
+        }
+    }
+    numbers::error_text(number)
+}
+
+/// Writes what a number means, in English, to the front of `to`, ended by a 0 and cut where there
+/// is no room for more: returns the length of the whole text, which is at most 127 bytes. Where
+/// `to` has no byte nothing is written.
+pub fn write_error_text(number: u32, to: &mut [u8]) -> usize
+    // The text is that of `error_text`, cut to its room and ended by a 0.
+    ensures written { (text : List ℕ) × IsHostMeaning number text × (result ≡ length text) × WritesCut text to.old to.new }
+    ensures room { result < 128 }
+{
+    numbers::write_cut(error_text(number), to)
+}
+
+impl Numbering {
+    /// The number of the numbering: 0 for the timestamp, 1 for the version.
+    pub fn number(self) -> u32
+        // The timestamp has the number 0, and the version 1.
+        ensures { result ≡ numbering_number self }
+    {
+        self as u32
+    }
+
+    /// The numbering of this number: 0 for the timestamp, 1 for the version.
+    pub fn of_number(number: u32) -> Option<Numbering>
+        // 0 is the timestamp and 1 the version, and no other number is one.
+        ensures { MatchOption result (1 < number) (λ numbering. number ≡ numbering_number numbering) }
+    {
+        match number {
+            0 => Some(Numbering::Timestamp),
+            1 => Some(Numbering::Version),
+            _ => None,
+        }
+    }
+}
+
+impl Offer {
+    /// The number of what an update is beside the kept number.
+    pub fn number(self) -> u32
+        // A newer update has the number 1, the kept one 2, and an older one 3.
+        ensures { result ≡ offer_number self }
+    {
+        self as u32 + 1
+    }
 }

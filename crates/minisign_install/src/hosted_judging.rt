@@ -38,17 +38,14 @@ impl Installation {
             × ((pk_text : List ℕ) → IsKeyText pk_text key.now
             → IsAsking self.new (wanted_by pk_text sig_text.now file.now (numbering_of self.old) moment) kept)) }
 
-        // What the host has chosen stays.
-        ensures chosen { self.new.chosen ≡ self.old.chosen }
-
         // The reasons of a rejection come in one order: answers that are not due; a name that is not UTF-8; what
         // `State::ask_fed` rejects, in its order. A wrong use and a buffer without room leave the installation as it was.
-        // For any other the stage is to be removed, and the run is rejected for that. The message buffer is as it was.
+        // For any other the stage is to be removed, and the run is rejected for that. The message buffer is as it was; where
+        // the answers are not due, the questions are too; and what the host has chosen stays in any case.
         ensures refused { IfErr result (IsAskRefusal self.old self.new key.now sig_text.now file.now (length message.old)) }
         ensures kept { OnErr result (message.new ≡ message.old) }
-
-        // Where the answers are not due the questions stay.
         ensures unasked { (questions.new ≡ questions.old) ⊎ ((kept : ℕ) × IsDue self.old (Answer kept)) }
+        ensures chosen { self.new.chosen ≡ self.old.chosen }
     {
         let Some(Due::Answer(kept)) = self.due() else {
             return Err(Refusal::WrongUse(Misuse::NotDue));
@@ -79,12 +76,10 @@ impl Installation {
             → GivesUpdate accepts terms kept message self.new result }
 
         // The permissions are due only where the answers were, and what was asked is ended then. A wrong use changes
-        // nothing.
+        // nothing. What the host has chosen stays.
         ensures due { OnOk result (((kept : ℕ) × IsDue self.old (Answer kept)) × ((n : ℕ) × IsDue self.new (TakePermissions n))
             × HasEnded self.old.state self.new.state) }
         ensures refused { IfErr result (IsAnswerRefusal self.old self.new) }
-
-        // What the host has chosen stays.
         ensures chosen { self.new.chosen ≡ self.old.chosen }
     {
         let Some(Due::Answer(_)) = self.due() else {
@@ -144,10 +139,7 @@ impl Judged {
         if self.verdict == IS_UPDATE {
             return Ok(self.number);
         }
-        match InstallFault::of_number(self.verdict) {
-            Some(fault) => Err(fault),
-            None => Err(InstallFault::OtherFile),
-        }
+        Err(InstallFault::of_number(self.verdict).unwrap_or(InstallFault::OtherFile))
     }
 }
 
@@ -165,12 +157,8 @@ pub fn judge_comment(
     ensures says { IfOk result (λ n. IsUtf8 comment.now × IsUtf8 file.now × Says comment.now file.now numbering moment n × (kept ≤ n)) }
     ensures refused { IfErr result (IsCommentFault comment.now (wanted_by [] [] file.now numbering moment) kept) }
 {
-    let Ok(comment) = str::from_utf8(comment) else {
-        return Err(NamedFault::NotUtf8.into());
-    };
-    let Ok(file) = str::from_utf8(file) else {
-        return Err(NamedFault::NotUtf8.into());
-    };
+    let comment = str::from_utf8(comment).map_err(|_| NamedFault::NotUtf8)?;
+    let file = str::from_utf8(file).map_err(|_| NamedFault::NotUtf8)?;
     match check_comment(comment, file, numbering, moment, kept) {
         Ok(number) => Ok(number),
         Err(fault) => Err(fault),

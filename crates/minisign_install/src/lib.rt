@@ -7,7 +7,6 @@ pub mod checking;
 pub mod comments;
 pub mod directories;
 pub mod faults;
-pub mod host_numbers;
 pub mod hosted;
 pub mod hosted_judging;
 pub mod hosting;

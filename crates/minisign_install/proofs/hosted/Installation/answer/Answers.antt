@@ -1,34 +1,31 @@
-use Rattle.minisign_install.proofs.Common.{◌≡◌, inl, inr, subst, sym, false, Err, IsFaultOf}
-use Rattle.minisign.specs.Headline.{verdict}
-use Rattle.minisign_install.specs.Hosted.{IsUpdateRefusal}
-use Rattle.minisign_install.proofs.Judgements.{vouched_with}
+use Rattle.minisign_install.proofs.Common.{◌≡◌, List, ℕ, inl, inr, refl, Err, false, Installation, IsAsking, IsFaultOf, IsJudged, Terms, TextsVouchWith, Verifier, subst}
+use Rattle.minisign.specs.Headline.{TextsVouchFor, verdict}
 use Rattle.minisign_install.proofs.SignatureComments.{comments_in}
 use Rattle.minisign_install.proofs.hosted.Installation.answer.Goals as goal
+
+-- texts that vouch for what was read back do so with the comment that was judged
+judged_with : (accepts : Verifier) (terms : Terms) (kept : ℕ) (message : List ℕ) (i : Installation) → IsAsking i terms kept
+    → TextsVouchFor accepts terms.pk_text terms.sig_text message false
+    → (comment : List ℕ) × TextsVouchWith accepts terms.pk_text terms.sig_text message false comment × IsJudged i.judged terms kept comment
+judged_with accepts terms kept message i asking v =
+    let (comments, both) = comments_in terms.sig_text v.box v.box_read in
+    (comments.trusted, record { vouched = v; comments = comments; both = both; trusted = refl }, asking.judged v.box comments v.box_read both)
 
 pub returns-in-Ok-update-clause-answer : goal.returns-in-Ok-update-clause-answer
 returns-in-Ok-update-clause-answer c = λ terms kept message accepts asking answers.
     let v = c.in-Ok.ensures.texts asking.key terms.pk_text terms.sig_text message false accepts asking.asked asking.told asking.keyed (answers asking.key asking.keyed) in
-    let (comments, both) = comments_in terms.sig_text v.box v.box_read in
-    let (says, newer) = c.in-Ok-update.ensures terms kept comments.trusted (asking.judged v.box comments v.box_read both) in
-    (c.in-Ok-update.number, c.set.ensures.due, record { comment = comments.trusted; vouched = vouched_with accepts terms.pk_text terms.sig_text message v; says = says; newer = newer })
+    let (comment, vouched, judged) = judged_with accepts terms kept message c.args.self.now asking v in
+    let (says, newer) = c.in-Ok-update.ensures terms kept comment judged in
+    (c.in-Ok-update.number, c.set.ensures.due, record { comment = comment; vouched = vouched; says = says; newer = newer })
 
 pub returns-in-Err-clause-answer : goal.returns-in-Err-clause-answer
 returns-in-Err-clause-answer c = λ terms kept message accepts asking answers.
     let v = c.in-Ok.ensures.texts asking.key terms.pk_text terms.sig_text message false accepts asking.asked asking.told asking.keyed (answers asking.key asking.keyed) in
-    let (comments, both) = comments_in terms.sig_text v.box v.box_read in
-    let refused = c.in-Err.ensures terms kept comments.trusted (asking.judged v.box comments v.box_read both) in
-    subst (IsUpdateRefusal accepts terms kept message c.remove_for.new.self) (sym c.remove_for.ensures.refusal)
-    (c.remove_for.ensures.due, inr (comments.trusted, vouched_with accepts terms.pk_text terms.sig_text message v, refused))
+    let (comment, vouched, judged) = judged_with accepts terms kept message c.args.self.now asking v in
+    rw c.remove_for.ensures.refusal (c.remove_for.ensures.due, inr (comment, vouched, c.in-Err.ensures terms kept comment judged))
 
 pub returns-in-Err-Refused-clause-answer : goal.returns-in-Err-Refused-clause-answer
 returns-in-Err-Refused-clause-answer c = λ terms kept message accepts asking answers.
-    let r = c.remove_for-in-Err-Refused in
-    subst (IsUpdateRefusal accepts terms kept message r.new.self) (sym r.ensures.refusal) (
-      r.ensures.due,
-      inl (
-        _,
-        c.into.ensures,
-        subst (IsFaultOf (λ f. verdict accepts terms.pk_text terms.sig_text message false ≡ Err f)) c.in-Err-Refused.field-0-is
-            (c.in-Err-Refused.ensures.texts asking.key terms.pk_text terms.sig_text message false accepts asking.asked asking.told asking.keyed (answers asking.key asking.keyed)),
-      ),
-    )
+    let r = c.remove_for-in-Err-Refused.ensures in
+    let refused = c.in-Err-Refused.ensures.texts asking.key terms.pk_text terms.sig_text message false accepts asking.asked asking.told asking.keyed (answers asking.key asking.keyed) in
+    rw r.refusal (r.due, inl (_, c.into.ensures, rw c.in-Err-Refused.field-0-is at refused))
