@@ -1,12 +1,12 @@
 -- What the texts of a key and of a signature decide of data, of its digest, and of the comment alone.
-use Rattle.minisign_install.proofs.Common.{◌≡◌, ◌||◌, ◌∙◌, ℕ, Bool, true, false, List, Option, Some, None, take, ap, sym, refl, cond, MatchResult, Result, Ok, Err, blake2b_digest, Fault, NamedFault, Verifier, TextsVouchWith, Terms, signed_bytes, read_public_key, CommentsRecord, PublicKeyRecord, is_prehashed, SignatureTextRecord, box_of, read_signature, Answers, AnswersTexts, IsKeyText, has_whole_signature, read_under, told_signature, AreQuestions, PublicKeyValue, Questions, accepts_comments, and_then, require, signed_comment, ⊤}
+use Rattle.minisign_install.proofs.Common.{◌≡◌, ◌||◌, ◌∙◌, ℕ, Bool, true, false, List, Option, Some, None, take, ap, sym, refl, cond, MatchResult, Result, Ok, Err, blake2b_digest, Fault, NamedFault, Verifier, TextsVouchWith, Terms, read_public_key, PublicKeyRecord, is_prehashed, SignatureTextRecord, box_of, read_signature, AnswersTexts, IsKeyText, read_under, AreQuestions, PublicKeyValue, Questions, accepts_comments, and_then, require, signed_comment, ⊤}
 use Rattle.minisign.specs.Acceptance.{judge, judge_answers}
-use Rattle.minisign.specs.Headline.{TextsVouchFor, verdict}
+use Rattle.minisign.specs.Headline.{verdict}
 use Rattle.minisign.specs.Texts.{map_ok}
 use Rattle.minisign.proofs.Laws.{vouched, vouched_verdict}
 use Rattle.minisign_external.specs.PublicKeys.{value_of}
 use Rattle.minisign_install.specs.Checking.{digest_verdict, judge_digest}
-use Rattle.minisign_install.proofs.SignatureComments.{comments_in, opened, over_digest}
+use Rattle.minisign_install.proofs.SignatureComments.{opened}
 
 -- == What the scheme answers ==
 

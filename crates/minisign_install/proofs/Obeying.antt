@@ -1,5 +1,5 @@
 -- A host that does what the header says makes a run of the law: each of its calls is one that was due.
-use Rattle.minisign_install.proofs.Common.{◌≡◌, ◌==◌, inl, inr, ◌∙◌, ℕ, Bool, true, List, [], ◌∷◌, sym, subst, refl, nat_le, install_number, IsAsking, IsDue, IsFedState, numbering_of, piece_outcome, wanted_by, HasBegun, HasGone, HasObeyed, MakesDue, Obeys, TellsAnswers, TellsRecord, by_field, Event, HasRun, Host, Makes, Setting, due_number, next, Due, Lock, ReadRecord, ReadBack, Answer, Outcome, Done, More, Number, Failed, Numbering, Installation, InstallFault, GivesUpdate, Result, Ok, Err, Refusal, WrongUse, ⊤}
+use Rattle.minisign_install.proofs.Common.{◌≡◌, ◌==◌, inl, inr, ◌∙◌, ℕ, Bool, true, List, [], ◌∷◌, sym, refl, nat_le, install_number, IsDue, IsFedState, numbering_of, piece_outcome, HasBegun, HasGone, HasObeyed, MakesDue, Obeys, TellsAnswers, TellsRecord, Event, HasRun, Host, Makes, Setting, due_number, next, Due, Lock, ReadRecord, ReadBack, Answer, Outcome, Done, More, Number, Failed, Installation, InstallFault, GivesUpdate, Result, Ok, Err, Refusal, WrongUse, ⊤}
 use Rattle.minisign_external.specs.declared.state.Refusal.TheVariants.{Refused}
 use Rattle.minisign_install.proofs.Judgements.{answers_texts}
 use Rattle.minisign_install.proofs.Works.{call_with}
@@ -42,7 +42,7 @@ module _ (s : Setting) (i i' : Installation) (h h' : Host) where
   fails d x e made due chosen = goes d x (Failed e) made due chosen (judged d e)
 
   made : (d : Due ℕ) → KnownAt s d i h → (o : Outcome ℕ) → MakesDue o s i h h' → Makes s d o h h'
-  made d x o call = subst (λ (f : Numbering). Makes (by_field s f) d o h h') x.chosen.1 (rw x.due at call)
+  made d x o call = rw x.chosen.1 at (rw x.due at call)
 
   tells : (d : Due ℕ) → KnownAt s d i h → (o : Outcome ℕ) → HasGone o i i' → MakesDue o s i h h'
       → (is_unjudged (next d o) ≡ true → (is_unjudged d ≡ true) × (h'.read ≡ h.read)) → MakesCall s d i' h h'
@@ -67,15 +67,14 @@ module _ (s : Setting) (i i' : Installation) (h h' : Host) where
   tells_answers t x =
       let (kept, due, asking) = t.asking in
       let (signed, opens, are) = t.signed in
-      let asked : IsAsking t.asked s.terms kept =
-      subst (λ (f : Numbering). IsAsking t.asked (wanted_by s.terms.pk_text s.terms.sig_text s.terms.file f s.terms.moment) kept) x.chosen.1 (asking s.terms.pk_text t.keyed) in
+      let asked = rw x.chosen.1 at (asking s.terms.pk_text t.keyed) in
       let answers = answers_texts s.accepts t.key s.terms.pk_text s.terms.sig_text h.read signed t.questions t.message t.keyed opens are (t.digest h.read (x.fed refl)) in
       answered kept x t.chosen t.still t.answer (t.told kept h.read asked answers)
 
   at_due : (d e : Due ℕ) → KnownAt s d i h → IsDue i e → (KnownAt s e i h → MakesCall s e i' h h') → MakesCall s d i' h h'
   at_due d e x due goes =
       let same = same_due d e i x.due due in
-      subst (λ (w : Due ℕ). MakesCall s w i' h h') (sym same) (goes (subst (λ (w : Due ℕ). KnownAt s w i h) same x))
+      rw same (goes (rw same at x))
 
   obeys : (d : Due ℕ) → KnownAt s d i h → Obeys s i i' h h' → MakesCall s d i' h h'
   obeys d x (inl ((may, gone), call, read)) = tells d x Done gone call (λ e. (unjudged_before d e, read))

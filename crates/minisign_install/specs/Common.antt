@@ -9,12 +9,12 @@ pub use Rattle.minisign.specs.Texts.{and_then}
 pub use Rattle.minisign_base.specs.Fault.{Fault, kind_of, text_of}
 pub use Rattle.minisign_base.specs.Faults.{FaultRow, fault_row, row}
 pub use Rattle.minisign_base.specs.declared.errors.ErrorKind.TheVariants.{Io, Verify}
-pub use Rattle.minisign_external.specs.Numbers.{IsAnswer, IsMeaning, fault_number, misuse_number, refusal_number}
+pub use Rattle.minisign_external.specs.Numbers.{IsMeaning, fault_number, misuse_number, refusal_number}
 pub use Rattle.minisign_external.specs.Questions.{AnswersTexts, IsKeyText, read_under}
 pub use Rattle.minisign_external.specs.States.{AreQuestions, HasAsked, IsAskFedRefusal, IsBlank, IsFedState, IsMarkedTold, IsNotFed, verdict_misuse}
 pub use Rattle.minisign_external.specs.declared.public_keys.PublicKeyValue.{PublicKeyValue}
 pub use Rattle.minisign_external.specs.declared.state.Misuse.{Misuse}
-pub use Rattle.minisign_external.specs.declared.state.Misuse.TheVariants.{BadAnswer, BadFirstFlag, BadNumbering, NotDue}
+pub use Rattle.minisign_external.specs.declared.state.Misuse.TheVariants.{BadFirstFlag, BadNumbering, NotDue}
 pub use Rattle.minisign_external.specs.declared.state.Questions.{Questions}
 pub use Rattle.minisign_external.specs.declared.state.Refusal.{Refusal}
 pub use Rattle.minisign_external.specs.declared.state.Refusal.TheVariants.{WrongUse}

@@ -5,7 +5,7 @@ pub use Rattle.minisign_external.specs.Numbers.{WritesCut}
 pub use Rattle.minisign_external.specs.States.{HasEnded}
 pub use Rattle.minisign_install.specs.Checking.{AnswersByRecord, ChecksSo, CommentChecksSo, IsOffered, accepts_digest, digest_verdict, judge_digest, offer_beside, signed_comment}
 pub use Rattle.minisign_install.specs.Comments.{ExpiresAt, HasNumber, IsExpiryRefused, IsNumberText, IsUnexpired, Numbering, Says, Timestamp, Version, expiry_label, fields, file_label, first_of, number_label, value_of, values_in, values_of}
-pub use Rattle.minisign_install.specs.Common.{AnswersTexts, AreQuestions, CommentsRecord, Consumes, HasAsked, Installation, IsAskFedRefusal, IsAtEnd, IsBlank, IsFedState, IsKeyText, IsMarkedTold, IsUtf8, Misuse, PublicKeyRecord, PublicKeyValue, Questions, Refusal, Same, SignatureBoxRecord, SignatureTextRecord, Stage, Work, WrongUse, accepts_comments, and_then, blake2b_digest, box_of, concat, judge_answers, judge_key, read_public_key, read_signature, read_signature_box, read_under, verdict}
+pub use Rattle.minisign_install.specs.Common.{AnswersTexts, AreQuestions, CommentsRecord, Consumes, HasAsked, Installation, IsAskFedRefusal, IsAtEnd, IsFedState, IsKeyText, IsMarkedTold, IsUtf8, Misuse, PublicKeyRecord, PublicKeyValue, Questions, Refusal, Same, SignatureBoxRecord, SignatureTextRecord, Stage, Work, WrongUse, accepts_comments, and_then, blake2b_digest, box_of, concat, judge_answers, judge_key, read_public_key, read_signature, read_signature_box, read_under, verdict}
 pub use Rattle.minisign_install.specs.Directories.{Appends, Calls, CallsOwning, ClearsAll, FileStays, Finds, GivesPermissions, HasCounted, HasCreated, HasLocked, HasOnDisk, HasReadAt, HasRenamed, HasStepped, HasTried, Held, IsApart, IsAsked, IsBusy, IsFound, IsStill, Known, MayFind, MayLead, MaySyncDirectory, Moment, Name, OtherProcesses, OwnsTheSame, Perhaps, Place, Record, RecordUnchanged, Removes, Renames, Run, RunStep, Sees, Sets, Spoils, Syncs, SyncsDirectory, TouchesOnly, TouchesStages, drawn_bytes}
 pub use Rattle.minisign_install.specs.Driving.{AreNamed, HasCalled, HasMade, IsNamed, Knows, MayCall, Names, WantsNoMemory, Went, calls_left, done_or, host, made_or, number_or, setting}
 pub use Rattle.minisign_install.specs.Faults.{BadExpiry, Expired, Fault, InstallFault, IsOwn, Library, Named, NoNumber, NotUtf8, OlderUpdate, OtherFile, OutOfMemory, PlaceInUse, RandomSourceFailed, ReadingFailed, Rose, SameNumber, WritingFailed, install_number, install_row}

@@ -2,7 +2,7 @@
 //! went, and hands over what it reads back; and the numbers by which the host knows errors and choices. None of it
 //! allocates.
 
-ghost use Rattle.std.specs.Prelude.{◌≡◌, ◌<◌, ◌≤◌, ℕ, Bool, List, true, Some, option_map, if◌then◌else◌, OnOk, IfErr, IfSome, MatchOption, length, take};
+ghost use Rattle.std.specs.Prelude.{◌≡◌, ◌<◌, ◌≤◌, ℕ, List, Some, option_map, if◌then◌else◌, OnOk, IfErr, MatchOption, length, take};
 ghost use Rattle.minisign_install.specs.Words.{CallHasFailed, CannotBeFed, CannotFail, CannotGo, HasReadBack, HasReadRecord, IsBegun, IsDue, IsHostMeaning, IsNotDue, IsUnused, RestUnchanged, WasDone, WritesCut, call_of, due_number, due_of, failure, is_device_error, numbering_number, numbering_of, offer_number, Due, ReadRecord, WriteRecord, Done, More, record_of};
 ghost use Rattle.minisign_install.specs.declared.order.Due.TheVariants as ended;
 
@@ -122,10 +122,7 @@ impl Installation {
         // The number is that of the call that is due, and 0 where nothing is.
         ensures { MatchOption (due_of self.now) (result ≡ 0) (λ due. result ≡ due_number due) }
     {
-        match self.due() {
-            Some(due) => stored(&due).0,
-            None => 0,
-        }
+        self.due().map_or(0, |due| stored(&due).0)
     }
 
     /// Why the run was rejected: the number of the error; 0 before its end, and where the update is
@@ -239,11 +236,8 @@ impl Installation {
         ensures due { IsDue self.new due }
         ensures rest { RestUnchanged self.old self.new }
     {
-        let (call, number, error) = stored(&due);
         self.mark = BEGUN;
-        self.call = call;
-        self.number = number;
-        self.error = error;
+        (self.call, self.number, self.error) = stored(&due);
     }
 }
 

@@ -1,6 +1,6 @@
 //! Asking a signature scheme about what a host has read back, and judging the signed comment. None of it allocates.
 
-ghost use Rattle.std.specs.Prelude.{◌≡◌, ◌⊎◌, ◌≤◌, ℕ, Bool, List, false, OnOk, OnErr, IfErr, IfOk, MatchResult, [], Ok, length};
+ghost use Rattle.std.specs.Prelude.{◌≡◌, ◌⊎◌, ◌≤◌, ℕ, List, false, OnOk, OnErr, IfErr, IfOk, MatchResult, [], Ok, length};
 ghost use Rattle.minisign_install.specs.Words.{IsUtf8, blake2b_digest, Verifier, Terms, SignatureTextRecord, AnswersTexts, IsKeyText, read_under, AreQuestions, HasEnded, IsFedState, Says, install_number, GivesUpdate, IsAnswerRefusal, IsAskRefusal, IsAsking, IsCommentFault, IsJudged, RestUnchanged, IsDue, numbering_of, wanted_by, IsCommentRefused, Answer, Remove, TakePermissions};
 ghost use Rattle.minisign_external.specs.declared.state.Refusal.TheVariants.{Refused};
 
@@ -117,17 +117,12 @@ impl Judged {
     fn of(comment: &str, file: &str, numbering: Numbering, moment: u64, kept: u64) -> Judged
         ensures { (pk_text sig_text : List ℕ) → IsJudged result (wanted_by pk_text sig_text file.now numbering moment) kept comment.now }
     {
+        let mut judged = Judged::default();
         match check_comment(comment, file, numbering, moment, kept) {
-            Ok(number) => Judged {
-                verdict: IS_UPDATE,
-                number,
-                ..Judged::default()
-            },
-            Err(fault) => Judged {
-                verdict: fault.number(),
-                ..Judged::default()
-            },
+            Ok(number) => (judged.verdict, judged.number) = (IS_UPDATE, number),
+            Err(fault) => judged.verdict = fault.number(),
         }
+        judged
     }
 
     // The number of the update, where the comment says that this is one. A verdict that none has is there only where a

@@ -1,5 +1,5 @@
-use Rattle.minisign_install.proofs.Common.{◌≡◌, List, ℕ, inl, inr, refl, Err, false, Installation, IsAsking, IsFaultOf, IsJudged, Terms, TextsVouchWith, Verifier, subst}
-use Rattle.minisign.specs.Headline.{TextsVouchFor, verdict}
+use Rattle.minisign_install.proofs.Common.{List, ℕ, inl, inr, refl, false, Installation, IsAsking, IsJudged, Terms, TextsVouchWith, Verifier}
+use Rattle.minisign.specs.Headline.{TextsVouchFor}
 use Rattle.minisign_install.proofs.SignatureComments.{comments_in}
 use Rattle.minisign_install.proofs.hosted.Installation.answer.Goals as goal
 
