@@ -1,8 +1,9 @@
 -- An installation over a directory, from call to call: what stands fast between two of them, and what that says at the end.
-use Rattle.minisign_install.proofs.Common.{◌≡◌, inl, inr, ⊎_elim, ℕ, List, [], Option, Some, None, Bool, true, false, ap, sym, subst, ◌∙◌, refl, true≢false, Verifier, HasInstalled, InstallsOnlyUpdates, Terms, Rose, InstallFault, AreNamed, HasMade, IsNamed, Knows, MayCall, Names, setting, HasLocked, Run, DeviceFails, Explains, Host, Setting, drawn_bytes, has_ended, next, Due, Lock, Clear, ReadRecord, Answer, Rename, SyncName, RemoveRecord, Remove, Installed, Outcome, Done, Failed, Counts, IsCause, IsCallFault, IsLibraryFault, IsRefusal, OwnsNoMore, Stage, Work, Went, Library, Named, OutOfMemory, OnlyLocked, ⊤}
+use Rattle.minisign_install.proofs.Common.{◌≡◌, inl, inr, ⊎_elim, ℕ, List, [], Option, Some, None, Ok, Err, Bool, true, false, ap, ◌∙◌, refl, true≢false, Verifier, HasInstalled, InstallsExactly, InstallsOnlyUpdates, Terms, InstallFault, AreNamed, HasMade, IsNamed, Knows, MayCall, setting, HasLocked, Run, Explains, Host, Setting, drawn_bytes, has_ended, next, Due, Lock, Clear, ReadRecord, Answer, Rename, SyncName, RemoveRecord, Remove, Installed, Outcome, Done, Failed, Counts, IsCause, IsRefusal, OwnsNoMore, Stage, Work, Went, Library, Named, OutOfMemory, OnlyLocked, ⊤}
 use Rattle.minisign_install.specs.Order.{Refused}
 use Rattle.minisign_install.proofs.Orders.{Holds, from}
 use Rattle.minisign_install.proofs.Reasons.{Reason, why}
+use Rattle.minisign_install.proofs.Verdicts.{exactly, refused_exactly}
 
 -- a call that is due can be made: the run is still known, and the lock is held
 ready : (s : Setting) (a : Host) (due : Due InstallFault) (h : Host) → a.run.known ≡ true → has_ended due ≡ false → Holds s a due h → (h.run.known ≡ true) × MayCall due h.run
@@ -21,81 +22,85 @@ module _ (accepts : Verifier) (terms : Terms) (first : Bool) where
   Counted before (Refused e) after = IsCause accepts terms first before after e
   Counted before due after = after ≡ before
 
-  device : (before : Counts) (h h' : Host) (e : InstallFault) → h.faults ≡ before → DeviceFails e h h' → IsCause accepts terms first before h'.faults e
-  device before h h' e same fails = inr (inr (inl (subst (λ f. IsLibraryFault (IsCallFault f h'.faults) e) same fails)))
-
-  same_cause : (before : Counts) (h h' : Host) (e : InstallFault) → h'.faults ≡ h.faults → IsCause accepts terms first before h.faults e → IsCause accepts terms first before h'.faults e
-  same_cause before h h' e same cause = subst (λ c. IsCause accepts terms first before c e) (sym same) cause
-
   -- from each call that is due to the next one
-  count : (before : Counts) (names : Names) (due : Due InstallFault) (o : Outcome InstallFault) (h h' : Host) → has_ended due ≡ false → Explains (setting accepts terms first names) due o h h'
+  count : (before : Counts) (named : Setting) (due : Due InstallFault) (o : Outcome InstallFault) (h h' : Host) → has_ended due ≡ false → Explains (setting accepts terms first named) due o h h'
       → Counted before due h.faults → Counted before (next due o) h'.faults
-  count before names Lock (Failed e) h h' going why same = ⊎_elim (λ busy. inl busy.0) (λ fails. device before h h' e same fails) why
-  count before names ReadRecord (Failed e) h h' going why same = ⊎_elim (λ refused. inr (inl refused.0)) (λ fails. device before h h' e same fails) why
-  count before names (Answer kept) (Failed e) h h' going why same = ⊎_elim (λ refused. inr (inr (inr (inl (h.read, kept, refused))))) (λ fails. device before h h' e same fails) why
-  count before names (Rename n) (Failed e) h h' going (writing, rose) same = inr (inr (inl (_, writing, inr (inr (inl (refl, subst (λ f. Rose f.directory h'.faults.directory) same rose))))))
-  count before names (SyncName n) (Failed e) h h' going (directory, rose) same = inr (inr (inr (inr (directory, subst (λ f. Rose f.directory h'.faults.directory) same rose))))
-  count before names (RemoveRecord f) Done h h' going why cause = same_cause before h h' f why cause
-  count before names (RemoveRecord f) o h h' going why cause = same_cause before h h' f why cause
-  count before names (Remove f) Done h h' going why cause = same_cause before h h' f why cause
-  count before names (Remove f) o h h' going why cause = same_cause before h h' f why cause
-  count before names Installed o h h' going why same = absurd (true≢false going)
-  count before names (Refused f) o h h' going why same = absurd (true≢false going)
-  count before names due (Failed e) h h' going why same = device before h h' e same why
-  count before names due o h h' going why same = why ∙ same
+  count before named Lock (Failed e) h h' going why same = ⊎_elim (λ busy. inl busy.0) (λ fails. inr (inr (inl (rw same at fails)))) why
+  count before named ReadRecord (Failed e) h h' going why same = ⊎_elim (λ refused. inr (inl refused.0)) (λ fails. inr (inr (inl (rw same at fails)))) why
+  count before named (Answer kept) (Failed e) h h' going why same = ⊎_elim (λ refused. inr (inr (inr (inl (h.read, kept, refused))))) (λ fails. inr (inr (inl (rw same at fails)))) why
+  count before named (Rename n) (Failed e) h h' going (writing, rose) same = inr (inr (inl (_, writing, inr (inr (inl (refl, rw same at rose))))))
+  count before named (SyncName n) (Failed e) h h' going (directory, rose) same = inr (inr (inr (inr (directory, rw same at rose))))
+  count before named (RemoveRecord f) Done h h' going why cause = rw why cause
+  count before named (RemoveRecord f) o h h' going why cause = rw why cause
+  count before named (Remove f) Done h h' going why cause = rw why cause
+  count before named (Remove f) o h h' going why cause = rw why cause
+  count before named Installed o h h' going why same = absurd (true≢false going)
+  count before named (Refused f) o h h' going why same = absurd (true≢false going)
+  count before named due (Failed e) h h' going why same = inr (inr (inl (rw same at why)))
+  count before named due o h h' going why same = why ∙ same
 
   module _ {H : Type 0} (file_of : H → ℕ) (a : Host) where
+    -- of a directory whose run is known, with what is held: it goes on so
+    abbrev Goes : Due InstallFault → Work H → Host → Type 0
+    Goes due w h = a.run.known ≡ true → (named : Setting) → AreNamed file_of w named → Holds (setting accepts terms first named) a due h × Reason ⊤ (setting accepts terms first named) a due h
+
+    -- or it has ended so
+    abbrev Ends : Due InstallFault → Work H → Host → Type 0
+    Ends Installed w h = a.run.known ≡ true
+        → InstallsOnlyUpdates accepts terms first a.run h.run × ((locked : Run) × HasLocked a.run locked × HasInstalled accepts terms first a.ahead locked h.run)
+        × InstallsExactly {T = Unit} accepts terms first a.ahead a.faults h.faults a.run h.run (Ok tt) × OwnsNoMore a.run h.run
+    Ends (Refused e) w h = a.run.known ≡ true
+        → InstallsOnlyUpdates accepts terms first a.run h.run × IsRefusal accepts terms first a.ahead a.faults h.faults a.run h.run e
+        × InstallsExactly {T = Unit} accepts terms first a.ahead a.faults h.faults a.run h.run (Err e) × OwnsNoMore a.run h.run × (e ≡ Library (Named OutOfMemory) → OnlyLocked a.run h.run)
+    Ends due w h = Goes due w h
+
     -- between two calls
     abbrev pub Driven : Due InstallFault → Work H → Host → Type 0
-    Driven due w h =
-        HasMade due w × Knows accepts terms due w h.read × Counted a.faults due h.faults
-        × (a.run.known ≡ true → (names : Names) → AreNamed file_of w names → Holds (setting accepts terms first names) a due h × Reason ⊤ (setting accepts terms first names) a due h)
+    Driven due w h = HasMade due w × Knows accepts terms due w h.read × Counted a.faults due h.faults × Ends due w h
 
-    some_name : (made : Option (Stage H)) → (name : List ℕ) × ((file : ℕ) × IsNamed file_of made name file)
-    some_name None = ([], (0, tt))
-    some_name (Some stage) = (drawn_bytes stage.name, (file_of stage.handle, (refl, refl)))
+    some_named : (made : Option (Stage H)) → (name : List ℕ) × ((file : ℕ) × IsNamed file_of made name file)
+    some_named None = ([], (0, tt))
+    some_named (Some stage) = (drawn_bytes stage.name, (file_of stage.handle, (refl, refl)))
 
-    names_of : (w : Work H) → (names : Names) × AreNamed file_of w names
-    names_of w =
-        let (name, (file, is)) = some_name w.stage in
-        let (record_name, (record_file, record_is)) = some_name w.record_stage in
-        (record { name = name; file = file; record_name = record_name; record_file = record_file }, (is, record_is))
+    named_by : (w : Work H) → (named : Setting) × AreNamed file_of w named
+    named_by w =
+        let (name, (file, is)) = some_named w.stage in
+        let (record_name, (record_file, record_is)) = some_named w.record_stage in
+        (record { accepts = accepts; terms = terms; first = first; name = name; file = file; record_name = record_name; record_file = record_file }, (is, record_is))
 
-    -- the call that was due went, with what is held before and after it
-    abbrev Called : Due InstallFault → Outcome InstallFault → Work H → Work H → Host → Host → Type 0
-    Called due o old new h h' =
-        HasMade (next due o) new × Knows accepts terms (next due o) new h'.read
-        × ((names : Names) → AreNamed file_of new names → AreNamed file_of old names × Went (setting accepts terms first names) due o h h')
+    ends : (due : Due InstallFault) (w : Work H) (h : Host) → Goes due w h → Ends due w h
+    ends Installed w h goes = λ known.
+        let (named, is) = named_by w in
+        let (ended, installs) = (goes known named is).0 in
+        (ended.0, installs, exactly accepts terms first a.ahead a.faults h.faults a.run h.run Unit (Ok tt) (λ k. installs) tt known, ended.1)
+    ends (Refused e) w h goes = λ known.
+        let (named, is) = named_by w in
+        let (ended, (reason, spares)) = goes known named is in
+        (ended.0.0, reason, refused_exactly accepts terms first Unit a.ahead a.faults h.faults a.run h.run e reason, ended.0.1, spares tt)
+    ends due w h goes = goes
 
-    pub drive : (due : Due InstallFault) (o : Outcome InstallFault) (old new : Work H) (h h' : Host) → has_ended due ≡ false → Called due o old new h h' → Driven due old h
-        → Driven (next due o) new h'
-    drive due o old new h h' going (made, knows, went) (has, vouched, counted, holds) = (
+    -- what has not ended goes on
+    goes_so : (due : Due InstallFault) (w : Work H) (h : Host) → has_ended due ≡ false → Ends due w h → Goes due w h
+    goes_so Installed w h going so = absurd (true≢false going)
+    goes_so (Refused e) w h going so = absurd (true≢false going)
+    goes_so due w h going so = so
+
+    pub drive : (due : Due InstallFault) (o : Outcome InstallFault) (old new : Work H) (h h' : Host) → has_ended due ≡ false
+        → ((named : Setting) → AreNamed file_of new named → AreNamed file_of old named)
+        → HasMade (next due o) new × Knows accepts terms (next due o) new h'.read × ((named : Setting) → AreNamed file_of new named → Went (setting accepts terms first named) due o h h')
+        → Driven due old h → Driven (next due o) new h'
+    drive due o old new h h' going stays (made, knows, went) (has, known_so, counted, so) = (
       made,
       knows,
-      count a.faults (names_of new).0 due o h h' going (went (names_of new).0 (names_of new).1).1.explained counted,
-      λ known names named.
-          let s = setting accepts terms first names in
-          let (before, so) = went names named in
-          let (held, reason) = holds known names before in
+      count a.faults (named_by new).0 due o h h' going (went (named_by new).0 (named_by new).1).explained counted,
+      ends (next due o) new h' (λ known named is.
+          let s = setting accepts terms first named in
+          let call = went named is in
+          let (held, reason) = goes_so due old h going so known named (stays named is) in
           let (is_known, may) = ready s a due h known going held in
-          let makes = so.made is_known may in
-          (from s a h h' known due o held makes, why ⊤ s a known h h' due o held makes so.explained (λ _. so.memory) reason),
+          let makes = call.made is_known may in
+          (from s a h h' known due o held makes, why ⊤ s a known h h' due o held makes call.explained (λ _. call.memory) reason)),
     )
-
-    pub begin : (w : Work H) → HasMade {E = InstallFault} Lock w → Driven Lock w a
-    begin w made = (made, tt, refl, λ known names named. ((refl, refl), refl))
-
-    -- == At the end ==
-
-    pub installed_runs : (w : Work H) (h : Host) → Driven Installed w h → a.run.known ≡ true
-        → InstallsOnlyUpdates accepts terms first a.run h.run × ((locked : Run) × HasLocked a.run locked × HasInstalled accepts terms first a.ahead locked h.run) × OwnsNoMore a.run h.run
-    installed_runs w h (has, knows, counted, holds) known =
-        let (ended, installs) = (holds known (names_of w).0 (names_of w).1).0 in (ended.0, installs, ended.1)
-
-    pub refused_runs : (e : InstallFault) (w : Work H) (h : Host) → Driven (Refused e) w h → a.run.known ≡ true
-        → InstallsOnlyUpdates accepts terms first a.run h.run × IsRefusal accepts terms first a.ahead a.faults h.faults a.run h.run e × OwnsNoMore a.run h.run × (e ≡ Library (Named OutOfMemory) → OnlyLocked a.run h.run)
-    refused_runs e w h (has, knows, counted, holds) known =
-        let (ended, (reason, spares)) = holds known (names_of w).0 (names_of w).1 in (ended.0.0, reason, ended.0.1, spares tt)
 
 -- what is due where the run has not ended
 pub goes_on : (due : Due InstallFault) → ¬ (due ≡ Installed) → ((e : InstallFault) → ¬ (due ≡ Refused e)) → has_ended due ≡ false

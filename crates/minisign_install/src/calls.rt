@@ -1,7 +1,7 @@
 //! The calls of an installation over a directory: each is made as it is due, and says how it went.
 
 ghost use Rattle.std.specs.Prelude.{◌≡◌, ◌⊎◌, ◌<◌, ℕ, List, Some, false, IfErr, IsSome, IsSomeAnd, OnOk, OnErr, MatchResult};
-ghost use Rattle.minisign_install.specs.Words.{concat, HasCalled, HasMade, calls_left, done_or, host, made_or, number_or, Library, Named, PlaceInUse, RandomSourceFailed, ReadingFailed, Rose, WritingFailed, CallsOwning, ClearsAll, GivesPermissions, HasCounted, HasCreated, HasLocked, HasStepped, HasTried, Held, IsBusy, IsStill, OwnsTheSame, Known, Perhaps, Removes, Spoils, TouchesStages, Calls, CallsNothing, Writes, WritesInPart, terms_of, drawn_bytes, has_ended, next, record_of, counts};
+ghost use Rattle.minisign_install.specs.Words.{concat, HasCalled, HasMade, calls_left, host, made_or, outcome_by, Done, Number, Library, Named, PlaceInUse, RandomSourceFailed, ReadingFailed, Rose, WritingFailed, CallsOwning, ClearsAll, GivesPermissions, HasCounted, HasCreated, HasLocked, HasStepped, HasTried, Held, IsBusy, IsStill, OwnsTheSame, Known, Perhaps, Removes, Spoils, TouchesStages, Calls, CallsNothing, Writes, WritesInPart, terms_of, drawn_bytes, has_ended, next, record_of, counts};
 
 use crate::comments::Numbering;
 use crate::directories::{Directory, Handle, Name};
@@ -31,25 +31,11 @@ pub(crate) struct Stage<H: Drop> {
 #[derive(Drop)]
 pub(crate) struct Work<H: Drop> {
     // The stage of the update, once it was made.
-    stage: Option<Stage<H>>,
+    pub(crate) stage: Option<Stage<H>>,
     // The stage of the record, once it was made.
-    record_stage: Option<Stage<H>>,
+    pub(crate) record_stage: Option<Stage<H>>,
     // What was read back of the former.
-    state: State,
-}
-
-impl<H: Drop> Work<H> {
-    // Nothing was made or read back.
-    pub(crate) fn new() -> Work<H>
-        ensures stage { result.stage ≡ None }
-        ensures record_stage { result.record_stage ≡ None }
-    {
-        Work {
-            stage: None,
-            record_stage: None,
-            state: State::new(),
-        }
-    }
+    pub(crate) state: State,
 }
 
 // Makes the call that is due, and says how it went. Nothing is due of a run that has ended.
@@ -121,7 +107,7 @@ fn made<H: Drop>(stage: &Option<Stage<H>>) -> &Stage<H>
 
 // What was done, or failed.
 fn done_or(answer: Result<(), InstallFault>) -> Outcome<InstallFault>
-    ensures { result ≡ done_or answer }
+    ensures { result ≡ outcome_by (λ _. Done) answer }
 {
     match answer {
         Ok(()) => Outcome::Done,
@@ -148,7 +134,7 @@ fn writing_or(answer: Result<(), DeviceFault>) -> Outcome<InstallFault>
 
 // What gave a number, or failed.
 fn number_or(answer: Result<u64, InstallFault>) -> Outcome<InstallFault>
-    ensures { result ≡ number_or answer }
+    ensures { result ≡ outcome_by Number answer }
 {
     match answer {
         Ok(number) => Outcome::Number(number),
@@ -158,9 +144,9 @@ fn number_or(answer: Result<u64, InstallFault>) -> Outcome<InstallFault>
 
 // Locks the place. It does not wait for another run.
 pub(crate) fn lock<F: Directory>(directory: &mut F) -> Result<(), InstallFault>
-    ensures locked { Known (F.run directory.old) (MatchResult result
-        (λ _. HasLocked (F.run directory.old) (F.run directory.new) × OwnsTheSame (F.run directory.old) (F.run directory.new))
-        (λ _. Calls IsStill (F.run directory.old) (F.run directory.new))) }
+    ensures locked { MatchResult result
+        (λ _. Known (F.run directory.old) (HasLocked (F.run directory.old) (F.run directory.new) × OwnsTheSame (F.run directory.old) (F.run directory.new)))
+        (λ _. Known (F.run directory.old) (Calls IsStill (F.run directory.old) (F.run directory.new))) }
     ensures refused { IfErr result (λ e. ((e ≡ PlaceInUse) × Known (F.run directory.old) (HasStepped (F.run directory.old) (F.run directory.new) IsBusy))
         ⊎ ((e ≡ Library (Named ReadingFailed)) × Rose (F.directory_faults directory.old) (F.directory_faults directory.new))) }
     ensures no_new_fault { OnOk result (F.directory_faults directory.new ≡ F.directory_faults directory.old) }
@@ -224,6 +210,7 @@ fn create<Z: RandomSource, F: Directory>(
 }
 
 // Writes the number, behind the label of its field, into the stage of the record, which is empty.
+#[tactic(auto, using(crate::proofs::RecordTexts::all_written))]
 fn write_number<F: Directory>(
     directory: &mut F,
     handle: &F::Handle,

@@ -13,7 +13,8 @@ use std::alloc::{AllocError, Global};
 // The size of the pieces in which data is copied.
 pub(crate) const PIECE: usize = 65536;
 
-// Copies all the data ahead behind what the stage holds. Memory runs out only before anything is read or written.
+// Copies all the data ahead behind what the stage holds, in pieces. Memory runs out only before anything is read or
+// written.
 pub(crate) fn fill<F: Directory, R: Source>(
     alloc: Global,
     directory: &mut F,
@@ -28,34 +29,10 @@ pub(crate) fn fill<F: Directory, R: Source>(
         ⊎ ((e ≡ Library (Named ReadingFailed)) × Rose (R.faults update.old) (R.faults update.new))
         ⊎ ((e ≡ Library (Named WritingFailed)) × Rose (F.directory_faults directory.old) (F.directory_faults directory.new))) }
 {
-    let Ok(mut buf) = zeros(alloc, PIECE) else {
+    let Ok(mut buffer) = zeros(alloc, PIECE) else {
         return Err(NamedFault::OutOfMemory.into());
     };
-    copy(directory, handle, update, &mut buf)
-}
-
-// A buffer of so many zeros.
-pub(crate) fn zeros(alloc: Global, len: usize) -> Result<Vec<u8>, AllocError>
-    ensures { IfOk result (λ v. vec_len v ≡ len) }
-{
-    vec![in alloc; 0u8; len]
-}
-
-// Copies all the data ahead in pieces.
-fn copy<F: Directory, R: Source>(
-    directory: &mut F,
-    handle: &F::Handle,
-    update: &mut R,
-    buf: &mut [u8],
-) -> Result<(), InstallFault>
-    requires { 0 < length buf.old }
-    ensures copied { OnOk result (Known (F.run directory.old) ((pieces : List (List ℕ)) × Writes (F.Handle.file handle.now) pieces (F.run directory.old) (F.run directory.new)
-        × Consumes (R.ahead update.old) (R.ahead update.new) (concat pieces) × IsAtEnd (R.ahead update.new))) }
-    ensures broken { OnErr result (Known (F.run directory.old) (WritesInPart (F.Handle.file handle.now) (F.run directory.old) (F.run directory.new))) }
-    ensures no_new_fault { OnOk result ((R.faults update.new ≡ R.faults update.old) × (F.directory_faults directory.new ≡ F.directory_faults directory.old)) }
-    ensures refused { IfErr result (λ e. ((e ≡ Library (Named ReadingFailed)) × Rose (R.faults update.old) (R.faults update.new))
-        ⊎ ((e ≡ Library (Named WritingFailed)) × Rose (F.directory_faults directory.old) (F.directory_faults directory.new))) }
-{
+    let buf = buffer.as_mut_slice();
     'pieces: loop {
         let Ok(n) = update.read(buf) else {
             return Err(NamedFault::ReadingFailed.into());
@@ -67,6 +44,13 @@ fn copy<F: Directory, R: Source>(
             return Err(NamedFault::WritingFailed.into());
         };
     }
+}
+
+// A buffer of so many zeros.
+pub(crate) fn zeros(alloc: Global, len: usize) -> Result<Vec<u8>, AllocError>
+    ensures { IfOk result (λ v. vec_len v ≡ len) }
+{
+    vec![in alloc; 0u8; len]
 }
 
 // Writes all of `bytes` behind what the stage holds.

@@ -3,9 +3,6 @@ use Rattle.std.proofs.lemmas.List.Folds.{concat-append}
 use Rattle.minisign_install.proofs.Pieces.{part_after, writes_both, writes_told}
 use Rattle.minisign_install.proofs.staging.write_all.Goals as goal
 
-pub rest-init : goal.rest-init
-rest-init g c = (omega arith, refl, λ known. ([], refl, refl))
-
 pub rest-preserved : goal.rest-preserved
 rest-preserved g c =
     let at = c.rest.at in

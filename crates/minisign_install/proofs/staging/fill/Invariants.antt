@@ -1,5 +1,5 @@
 use Rattle.minisign_install.proofs.Common.{◌≡◌, ℕ, List, true, Consumes, concat, Writes}
-use Rattle.minisign_install.proofs.staging.copy.Given as goal
+use Rattle.minisign_install.proofs.staging.fill.Given as goal
 
 abbrev pub invariant-pieces : goal.invariant-pieces
 invariant-pieces g l = (g.R.Source.faults l.update ≡ g.R.Source.faults l.fn.update)
