@@ -1,9 +1,9 @@
 //! An installation of fixed size that a host in another language holds: it is told which call is due, says how the call
-//! went, and hands over what it reads back; and the numbers by which the host knows errors and choices. None of it
-//! allocates.
+//! went, and hands over what it reads back; the numbers by which the host knows errors and choices; and the law that such a
+//! host makes a run of the law on runs. None of it allocates.
 
 ghost use Rattle.std.specs.Prelude.{◌≡◌, ◌<◌, ◌≤◌, ℕ, List, Some, option_map, if◌then◌else◌, OnOk, IfErr, MatchOption, length, take};
-ghost use Rattle.minisign_install.specs.Words.{CallHasFailed, CannotBeFed, CannotFail, CannotGo, HasReadBack, HasReadRecord, IsBegun, IsDue, IsHostMeaning, IsNotDue, IsUnused, RestUnchanged, WasDone, WritesCut, call_of, due_number, due_of, failure, is_device_error, numbering_number, numbering_of, offer_number, Due, ReadRecord, WriteRecord, Done, More, record_of};
+ghost use Rattle.minisign_install.specs.Words.{CallHasFailed, CannotBeFed, CannotFail, CannotGo, Event, HasBegun, HasObeyed, HasReadBack, HasReadRecord, HasRun, Host, IsBegun, IsDue, IsHostMeaning, IsNotDue, IsUnused, RestUnchanged, WasDone, WritesCut, call_of, due_number, due_of, failure, is_device_error, numbering_number, numbering_of, offer_number, Due, Lock, Makes, ReadRecord, Setting, WriteRecord, Done, More, record_of};
 ghost use Rattle.minisign_install.specs.declared.order.Due.TheVariants as ended;
 
 use crate::checking::Offer;
@@ -355,3 +355,15 @@ impl Offer {
         self as u32 + 1
     }
 }
+
+/// A law, for which nothing is done: a host of another language that makes each call as it is due,
+/// and tells how it went by the calls of the header, installs only updates, whatever comes of its
+/// calls.
+#[tactic(auto, using(crate::proofs::Obeying::makes_run))]
+pub fn any_host_installs_only_updates()
+    // Such a host makes a run of `any_run_installs_only_updates`, in which the same call is due at the end: so `safe` of
+    // that law holds of it wherever it is cut off, `installed` where the installation says that the update is installed,
+    // and `lets_go` however it has ended.
+    ensures run { (s : Setting) (i i' : Installation) (h h' : Host) (told : List (Installation × Host))
+        → HasBegun s i h → HasObeyed s i h told i' h' → (events : List (Event ℕ)) × (due : Due ℕ) × IsDue i' due × HasRun (Makes s) Lock h events due h' }
+{}

@@ -9,7 +9,6 @@ pub mod directories;
 pub mod faults;
 pub mod hosted;
 pub mod hosted_judging;
-pub mod hosting;
 pub mod installing;
 mod judging;
 pub mod order;
