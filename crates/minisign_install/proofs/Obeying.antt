@@ -23,9 +23,6 @@ record KnownAt (s : Setting) (d : Due ℕ) (i : Installation) (h : Host) : Type 
   pub chosen : ((i.chosen.is_first == 1) ≡ s.first) × (numbering_of i ≡ s.terms.numbering)
   pub fed : is_unjudged d ≡ true → IsFedState i.state h.read
 
-same_due : (a b : Due ℕ) (i : Installation) → IsDue i a → IsDue i b → a ≡ b
-same_due a b i x y = let both = sym x ∙ y in cc both
-
 -- == One call ==
 
 -- the call was one that was due, and what is known of what is due next
@@ -73,7 +70,8 @@ module _ (s : Setting) (i i' : Installation) (h h' : Host) where
 
   at_due : (d e : Due ℕ) → KnownAt s d i h → IsDue i e → (KnownAt s e i h → MakesCall s e i' h h') → MakesCall s d i' h h'
   at_due d e x due goes =
-      let same = same_due d e i x.due due in
+      let both = sym x.due ∙ due in
+      let same : d ≡ e = cc both in
       rw same (goes (rw same at x))
 
   obeys : (d : Due ℕ) → KnownAt s d i h → Obeys s i i' h h' → MakesCall s d i' h h'
