@@ -2,26 +2,20 @@
 use Rattle.minisign_install.proofs.Common.{◌≡◌, ◌∙◌, List, ℕ, Bool, true, false, ◌||◌, bytes_eq, Result, Ok, Err, Some, ap, refl, subst, sym, ⊤, is_utf8, NamedFault, NotUtf8, Fault, CommentsRecord, SignatureBoxRecord, is_prehashed, SignatureTextRecord, box_of, read_signature, read_signature_box, require, and_then, key_of, read_utf8, judge_key, read_under, PublicKeyValue}
 use Rattle.minisign.specs.Texts.{map_ok}
 
-boxed : (r : Result SignatureTextRecord Fault) (x : SignatureBoxRecord) → map_ok box_of r ≡ Ok x → (c : CommentsRecord) × (x.comments ≡ Some c)
-boxed (Ok t) x h = let same : box_of t ≡ x = cc h in (t.comments, ap (λ (y : SignatureBoxRecord). y.comments) (sym same))
+boxed : (r : Result SignatureTextRecord Fault) (x : SignatureBoxRecord) → map_ok box_of r ≡ Ok x → (t : SignatureTextRecord) × (r ≡ Ok t) × (x.comments ≡ Some t.comments)
+boxed (Ok t) x h = let same : box_of t ≡ x = cc h in (t, refl, ap (λ (y : SignatureBoxRecord). y.comments) (sym same))
 boxed (Err e) x h = cc h
 
 pub comments_in : (text : List ℕ) (x : SignatureBoxRecord) → read_signature_box text ≡ Ok x → (c : CommentsRecord) × (x.comments ≡ Some c)
-comments_in text x read = boxed (read_signature text) x read
-
-same_trusted : (r : Result SignatureTextRecord Fault) (t : SignatureTextRecord) (x : SignatureBoxRecord) (c : CommentsRecord) → r ≡ Ok t
-    → map_ok box_of r ≡ Ok x → x.comments ≡ Some c → t.comments.trusted ≡ c.trusted
-same_trusted (Ok s) t x c is read both =
-    let told : s ≡ t = cc is in
-    let same : box_of s ≡ x = cc read in
-    let comments = ap (λ (y : SignatureBoxRecord). y.comments) same ∙ both in
-    let of_text : s.comments ≡ c = cc comments in
-    ap (λ (u : SignatureTextRecord). u.comments.trusted) (sym told) ∙ ap (λ (d : CommentsRecord). d.trusted) of_text
-same_trusted (Err e) t x c is read both = cc is
+comments_in text x read = let (t, is, comments) = boxed (read_signature text) x read in (t.comments, comments)
 
 pub trusted_in : (text : List ℕ) (t : SignatureTextRecord) (x : SignatureBoxRecord) (c : CommentsRecord) → read_signature text ≡ Ok t
     → read_signature_box text ≡ Ok x → x.comments ≡ Some c → t.comments.trusted ≡ c.trusted
-trusted_in text t x c is read both = same_trusted (read_signature text) t x c is read both
+trusted_in text t x c is read both =
+    let (s, also, comments) = boxed (read_signature text) x read in
+    let one = sym also ∙ is in
+    let other = sym comments ∙ both in
+    cc (one, other)
 
 -- == Reading under a key ==
 
@@ -29,30 +23,24 @@ required : {V : Type 0} (b : Bool) (f : NamedFault) (r : Result V Fault) (v : V)
 required true f r v h = (refl, h)
 required false f r v h = cc h
 
-abbrev two_tests : Bool → Bool → NamedFault → NamedFault → Result ⊤ Fault
-two_tests a b f g = require a f (require b g (Ok tt))
-
-judged_of : (a b : Bool) (f g : NamedFault) (s t : SignatureTextRecord)
-    → and_then (two_tests a b f g) (λ _. Ok s) ≡ Ok t → (b ≡ true) × (s ≡ t)
-judged_of true true f g s t h = (refl, cc h)
-judged_of true false f g s t h = cc h
-judged_of false b f g s t h = cc h
+-- what comes of two steps comes of the first
+pub then_ok : {V W : Type 0} (r : Result V Fault) (next : V → Result W Fault) (w : W) → and_then r next ≡ Ok w → (v : V) × (r ≡ Ok v) × (next v ≡ Ok w)
+then_ok (Ok v) next w h = (v, refl, h)
+then_ok (Err e) next w h = cc h
 
 pub over_digest : (is : Bool) → (is || false) ≡ true → is ≡ true
 over_digest true h = refl
 over_digest false h = cc h
-
-opened_of : (r : Result SignatureTextRecord Fault) (v : PublicKeyValue) (t : SignatureTextRecord)
-    → and_then r (λ s. and_then (judge_key (key_of v) s.signature false) (λ _. Ok s)) ≡ Ok t → (r ≡ Ok t) × (is_prehashed t.signature ≡ true)
-opened_of (Ok s) v t h =
-    let (allowed, same) = judged_of (bytes_eq s.signature.keynum v.key_id) (is_prehashed s.signature || false) _ _ s t h in
-    (ap (λ x. Ok x) same, subst (λ (u : SignatureTextRecord). is_prehashed u.signature ≡ true) same (over_digest (is_prehashed s.signature) allowed))
-opened_of (Err e) v t h = cc h
 
 -- where nothing is refused under a key, and no signature over the data itself will do, the text reads so, and its signature
 -- is over the digest
 pub opened : (v : PublicKeyValue) (sig_text : List ℕ) (t : SignatureTextRecord) → read_under v false sig_text ≡ Ok t
     → (read_signature sig_text ≡ Ok t) × (is_prehashed t.signature ≡ true)
 opened v sig_text t h =
-    let (read, over) = opened_of (read_utf8 read_signature sig_text) v t h in
-    ((required (is_utf8 sig_text) NotUtf8 (read_signature sig_text) t read).1, over)
+    let (s, read, rest) = then_ok (read_utf8 read_signature sig_text) _ t h in
+    let (u, judged, same) = then_ok (judge_key (key_of v) s.signature false) _ t rest in
+    let one : s ≡ t = cc same in
+    let (known, allowed) = required _ _ _ u judged in (
+      (required (is_utf8 sig_text) NotUtf8 (read_signature sig_text) s read).1 ∙ same,
+      subst (λ (x : SignatureTextRecord). is_prehashed x.signature ≡ true) one (over_digest (is_prehashed s.signature) (required _ _ _ u allowed).0),
+    )

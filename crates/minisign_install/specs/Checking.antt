@@ -1,6 +1,6 @@
 -- Whether an update is newer than what is kept, from its signature alone.
-use Rattle.std.specs.Prelude.{◌≡◌, ◌⊎◌, ◌<◌, ◌==◌, ℕ, Bool, false, true, if◌then◌else◌, nat_le, List, [], Option, Some, None, Result, Ok, Err, ⊤}
-use Rattle.minisign_install.specs.Common.{IsUtf8, accepts_comments, judge_answers, judge_key, read_public_key, PublicKeyRecord, SignatureRecord, SignatureTextRecord, box_of, read_signature, and_then, misuse_number, BadFirstFlag, BadNumbering, Offer, Newer, Same, Older}
+use Rattle.std.specs.Prelude.{◌≡◌, ◌⊎◌, ◌<◌, ◌==◌, ℕ, Bool, false, true, if◌then◌else◌, nat_lt, List, [], Option, Some, None, Result, Ok, Err, IsErrAnd, ⊤}
+use Rattle.minisign_install.specs.Common.{option_map_or, IsUtf8, accepts_comments, judge_answers, judge_key, read_public_key, PublicKeyRecord, SignatureTextRecord, box_of, read_signature, and_then, misuse_number, BadFirstFlag, BadNumbering, Offer, Newer, Same, Older}
 use Rattle.minisign_install.specs.Faults.{Rose, Fault, Named, NotUtf8, OutOfMemory, ReadingFailed, InstallFault, Library, install_number}
 use Rattle.minisign_install.specs.Installing.{IsKeptOrNone, Verifier, Terms}
 use Rattle.minisign_install.specs.Comments.{Says, Numbering}
@@ -8,17 +8,13 @@ use Rattle.minisign_install.specs.Directories.{Calls, Finds, IsStill, Known, Run
 use Rattle.minisign_install.specs.Hosted.{wanted_by, numbering_number, offer_number}
 use Rattle.minisign_install.specs.Refusals.{IsCommentRefused, IsRecordRefused}
 
--- the signature is accepted for the digest, where one is given
-abbrev pub accepts_digest : Verifier → Option (List ℕ) → PublicKeyRecord → SignatureRecord → Bool
-accepts_digest accepts None key signature = true
-accepts_digest accepts (Some digest) key signature = accepts digest key.key signature.signature
-
 -- the first condition that fails of a signature over a digest under a key: the key IDs agree, and it is over a digest;
 -- it is accepted for the digest, where one is given; and the comment signature is
 abbrev pub judge_digest : Verifier → Option (List ℕ) → PublicKeyRecord → SignatureTextRecord → Result ⊤ Fault
 judge_digest accepts digest key t =
     and_then (judge_key key t.signature false) (λ _.
-    judge_answers (accepts_digest accepts digest key t.signature) (accepts_comments accepts key (box_of t)))
+    judge_answers (option_map_or (λ d. accepts d key.key t.signature.signature) digest true)
+    (accepts_comments accepts key (box_of t)))
 
 -- the same of the two texts: the trusted comment, or the first case that fails
 abbrev pub digest_verdict : Verifier → Terms → Option (List ℕ) → Result (List ℕ) Fault
@@ -35,7 +31,7 @@ signed_comment accepts terms = digest_verdict accepts terms None
 
 -- what an update of this number is beside the kept number; where none is kept, it is newer
 abbrev pub offer_beside : Option ℕ → ℕ → Offer
-offer_beside (Some kept) n = if nat_le n kept then (if n == kept then Same else Older) else Newer
+offer_beside (Some kept) n = if n == kept then Same else (if nat_lt n kept then Older else Newer)
 offer_beside None n = Newer
 
 -- What is answered of a signed comment by what the record was found to hold: the record is refused as installing
@@ -49,23 +45,26 @@ IsOffered terms first found comment (Err e) =
     IsRecordRefused terms.numbering first found e
     ⊎ ((kept : Option ℕ) × IsKeptOrNone terms.numbering first found kept × IsCommentRefused terms 0 comment e)
 
--- by one call, which changed nothing, the record was read; and this is answered of the comment that the key has signed
--- by what it was found to hold
-abbrev pub AnswersByRecord : Verifier → Terms → Bool → Run → Run → Result (Offer × ℕ) InstallFault → Type 0
-AnswersByRecord accepts terms first old new r =
-    (found : Option (List ℕ)) × (comment : List ℕ) × (signed_comment accepts terms ≡ Ok comment)
-    × IsOffered terms first found comment r × Known old (Calls (Finds Record found) old new)
+-- What a check answers. The texts are rejected, for which no call was made. Or the key has signed the comment, and the
+-- answer is the one by what the record was found to hold, by one call, which changed nothing.
+abbrev pub IsAnswered : Verifier → Terms → Bool → Run → Run → Result (Offer × ℕ) InstallFault → Type 0
+IsAnswered accepts terms first old new r =
+    ((fault : Fault) × (signed_comment accepts terms ≡ Err fault) × (r ≡ Err (Library fault)) × (new ≡ old))
+    ⊎ ((comment : List ℕ) × (found : Option (List ℕ)) × (signed_comment accepts terms ≡ Ok comment)
+    × IsOffered terms first found comment r × Known old (Calls (Finds Record found) old new))
 
--- How a check ends. Memory runs out, or the texts are rejected, before anything is asked of the directory. Otherwise
--- the answer is the one by the record; or reading it failed.
+-- Why there is no answer. Memory runs out, before anything is asked of the directory; or reading the record failed.
+abbrev pub IsUnanswered : Verifier → Terms → ℕ → ℕ → Run → Run → InstallFault → Type 0
+IsUnanswered accepts terms before after old new e =
+    ((e ≡ Library (Named OutOfMemory)) × (new ≡ old) × (after ≡ before))
+    ⊎ ((comment : List ℕ) × (signed_comment accepts terms ≡ Ok comment) × (e ≡ Library (Named ReadingFailed))
+    × Known old (Calls IsStill old new) × Rose before after)
+
+-- how a check ends: it is answered, and reading did not fail; or there is no answer
 abbrev pub ChecksSo : Verifier → Terms → Bool → ℕ → ℕ → Run → Run → Result (Offer × ℕ) InstallFault → Type 0
 ChecksSo accepts terms first before after old new r =
-    ((r ≡ Err (Library (Named OutOfMemory))) × (new ≡ old) × (after ≡ before))
-    ⊎ ((fault : Fault) × (signed_comment accepts terms ≡ Err fault) × (r ≡ Err (Library fault)) × (new ≡ old)
-    × (after ≡ before))
-    ⊎ (AnswersByRecord accepts terms first old new r × (after ≡ before))
-    ⊎ ((comment : List ℕ) × (signed_comment accepts terms ≡ Ok comment) × (r ≡ Err (Library (Named ReadingFailed)))
-    × Known old (Calls IsStill old new) × Rose before after)
+    (IsAnswered accepts terms first old new r × (after ≡ before))
+    ⊎ IsErrAnd r (IsUnanswered accepts terms before after old new)
 
 -- the same of a signed comment that is handed in, and that was vouched for: it or the name is not UTF-8, or it is
 -- answered as above

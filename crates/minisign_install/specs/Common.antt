@@ -29,11 +29,15 @@ pub use Rattle.minisign_install.specs.declared.faults.InstallFault.TheVariants.{
 pub use Rattle.minisign_install.specs.declared.hosted.Installation.{Installation}
 pub use Rattle.minisign_install.specs.declared.hosted.Judged.{Judged}
 pub use Rattle.minisign_install.specs.declared.stage_names.StageName.{StageName}
+pub use Rattle.minisign_install.specs.declared.there.Installed.{Installed}
 pub use Rattle.minisign_install.specs.declared.there.Installed.TheVariants.{Already, Now}
+pub use Rattle.minisign_install.specs.declared.there.Standing.{Standing}
+pub use Rattle.minisign_install.specs.declared.there.Standing.TheVariants.{Other, Replaceable, Update}
 pub use Rattle.minisign_install.specs.declared.wanted.Wanted.{Wanted}
 pub use Rattle.std.specs.Fmt.{decimal}
 pub use Rattle.std.specs.Io.BufRead.{strip_last}
 pub use Rattle.std.specs.Io.KnownBytes.{Consumes, IsAtEnd}
 pub use Rattle.std.specs.List.{concat, list_any, slice_split}
+pub use Rattle.std.specs.Option.{option_map_or}
 pub use Rattle.std.specs.Str.{IsUtf8}
 pub use Rattle.std.specs.Str.Parse.{IsNumeral, digits_value}

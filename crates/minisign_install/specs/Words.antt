@@ -3,7 +3,7 @@ pub use Rattle.minisign.specs.SignatureText.{view_of}
 pub use Rattle.minisign.specs.Texts.{map_ok}
 pub use Rattle.minisign_external.specs.Numbers.{WritesCut}
 pub use Rattle.minisign_external.specs.States.{HasEnded}
-pub use Rattle.minisign_install.specs.Checking.{AnswersByRecord, ChecksSo, CommentChecksSo, IsOffered, accepts_digest, digest_verdict, judge_digest, offer_beside, signed_comment}
+pub use Rattle.minisign_install.specs.Checking.{ChecksSo, CommentChecksSo, IsAnswered, IsOffered, IsUnanswered, digest_verdict, judge_digest, offer_beside, signed_comment}
 pub use Rattle.minisign_install.specs.Comments.{ExpiresAt, HasNumber, IsExpiryRefused, IsNumberText, IsUnexpired, Numbering, Says, Timestamp, Version, expiry_label, fields, file_label, first_of, number_label, value_of, values_in, values_of}
 pub use Rattle.minisign_install.specs.Common.{AnswersTexts, AreQuestions, CommentsRecord, Consumes, HasAsked, Installation, IsAskFedRefusal, IsAtEnd, IsFedState, IsKeyText, IsMarkedTold, IsUtf8, Misuse, PublicKeyRecord, PublicKeyValue, Questions, Refusal, Same, SignatureBoxRecord, SignatureTextRecord, Stage, Work, WrongUse, accepts_comments, and_then, blake2b_digest, box_of, concat, judge_answers, judge_key, read_public_key, read_signature, read_signature_box, read_under, verdict}
 pub use Rattle.minisign_install.specs.Directories.{Appends, Calls, CallsOwning, ClearsAll, FileStays, Finds, GivesPermissions, HasCounted, HasCreated, HasLocked, HasOnDisk, HasReadAt, HasRenamed, HasStepped, HasTried, Held, IsApart, IsAsked, IsBusy, IsFound, IsStill, Known, MayFind, MayLead, MaySyncDirectory, Moment, Name, OtherProcesses, OwnsTheSame, Perhaps, Place, Record, RecordUnchanged, Removes, Renames, Run, RunStep, Sees, Sets, Spoils, Syncs, SyncsDirectory, TouchesOnly, TouchesStages, drawn_bytes}
@@ -17,4 +17,4 @@ pub use Rattle.minisign_install.specs.Order.{Answer, Clear, Copy, Create, Create
 pub use Rattle.minisign_install.specs.RecordTexts.{HasNoNumber, IsFieldText, IsNumberFor, IsUnfit, kept_by, other_field, record_of, record_text}
 pub use Rattle.minisign_install.specs.Refusals.{CanBeInstalled, CannotBeInstalled, Counts, HasFailed, HasPublishedUpdate, InstallsExactly, IsCallFault, IsCause, IsCommentRefused, IsDataRefusal, IsDataRefused, IsLibraryFault, IsLockedRefusal, IsReadRefusal, IsReadingFault, IsRecordFault, IsRecordRefused, IsRefusal, OnlyLocked, counts}
 pub use Rattle.minisign_install.specs.Runs.{HasCleared, HasReached, IsNumberFrom, IsPublished, OwnsNoMore, Publishes, PublishesNothing, PublishesOnly, RecordHolds, RecordHoldsAt, permissions_of}
-pub use Rattle.minisign_install.specs.There.{FindsAnother, GoesOn, InstallsUnlessThere, IsCauseUnlessThere, IsOther, IsSigned, IsThere, IsUnsigned, IsVouchedFor, LooksInPart}
+pub use Rattle.minisign_install.specs.There.{FindsSame, HasLooked, InstallsFrom, InstallsUnlessThere, IsCauseUnlessThere, IsSigned, IsRejectedFor, IsStanding, IsVouchedFor, LooksInPart}

@@ -1,8 +1,8 @@
 //! Whether an update is newer than what is kept, from its signature alone: before its data is there. Nothing is
 //! written, and no lock is taken.
 
-ghost use Rattle.std.specs.Prelude.{◌≡◌, ◌⊎◌, ℕ, [], List, Option, Ok, Err, option_map, IfErr, IfOk, OnErr, OnOk, MatchResult};
-ghost use Rattle.minisign_install.specs.Words.{IsUtf8, ChecksSo, CommentChecksSo, IsOffered, offer_beside, signed_comment, Rose, Named, OutOfMemory, Library, Finds, IsStill, Known, wanted_by, Calls, terms_of, Record};
+ghost use Rattle.std.specs.Prelude.{◌≡◌, [], option_map, IfErr, MatchResult};
+ghost use Rattle.minisign_install.specs.Words.{CallsNothing, ChecksSo, CommentChecksSo, IsAnswered, IsLibraryFault, IsOffered, IsReadingFault, IsUnanswered, Known, offer_beside, terms_of, wanted_by};
 
 use crate::comments::{Numbering, check_comment};
 use crate::directories::Directory;
@@ -11,7 +11,6 @@ use crate::judging::signed_comment;
 use crate::recording::kept_in;
 use crate::wanted::Wanted;
 use minisign_base::NamedFault;
-use minisign_base::devices::DeviceFault;
 use minisign_base::scheme::Scheme;
 use std::alloc::Global;
 
@@ -50,31 +49,32 @@ pub fn check_update<S: Scheme, F: Directory>(
     // with nothing asked, or reading the record fail, which is counted.
     ensures outcome { ChecksSo (S.accepts scheme.now) (terms_of wanted.entry) is_first (F.directory_faults directory.old) (F.directory_faults directory.new) (F.run directory.old) (F.run directory.new) result }
 {
-    match signed_comment(alloc, scheme, wanted) {
-        Ok(Ok(comment)) => match answer_by_record(alloc, comment, wanted, is_first, directory) {
-            Ok(answer) => answer,
-            Err(_) => Err(NamedFault::ReadingFailed.into()),
-        },
-        Ok(Err(fault)) => Err(InstallFault::Library(fault)),
-        Err(_) => Err(NamedFault::OutOfMemory.into()),
+    match check(alloc, scheme, wanted, is_first, directory) {
+        Ok(answer) => answer,
+        Err(fault) => Err(fault),
     }
 }
 
-// What is answered of the signed comment by what the record is found to hold; or reading it failed.
-pub(crate) fn answer_by_record<F: Directory>(
+// What a check answers; or why there is no answer.
+pub(crate) fn check<S: Scheme, F: Directory>(
     alloc: Global,
-    comment: &str,
+    scheme: &S,
     wanted: Wanted<'_>,
     is_first: bool,
     directory: &mut F,
-) -> Result<Result<(Offer, u64), InstallFault>, DeviceFault>
-    ensures answered { IfOk result (λ answer. (found : Option (List ℕ)) × IsOffered (terms_of wanted.entry) is_first found comment.now answer
-        × Known (F.run directory.old) (Calls (Finds Record found) (F.run directory.old) (F.run directory.new)) × (F.directory_faults directory.new ≡ F.directory_faults directory.old)) }
-    ensures failed { OnErr result (Known (F.run directory.old) (Calls IsStill (F.run directory.old) (F.run directory.new)) × Rose (F.directory_faults directory.old) (F.directory_faults directory.new)) }
+) -> Result<Result<(Offer, u64), InstallFault>, InstallFault>
+    ensures answered { MatchResult result
+        (λ answer. IsAnswered (S.accepts scheme.now) (terms_of wanted.entry) is_first (F.run directory.old) (F.run directory.new) answer × (F.directory_faults directory.new ≡ F.directory_faults directory.old))
+        (IsUnanswered (S.accepts scheme.now) (terms_of wanted.entry) (F.directory_faults directory.old) (F.directory_faults directory.new) (F.run directory.old) (F.run directory.new)) }
+    ensures refused { IfErr result (λ e. IsLibraryFault (IsReadingFault (F.directory_faults directory.old) (F.directory_faults directory.new)) e × Known (F.run directory.old) (CallsNothing (F.run directory.old) (F.run directory.new))) }
 {
-    match directory.read_record(alloc) {
-        Ok(found) => Ok(offered(comment, wanted, is_first, found.as_deref())),
-        Err(fault) => Err(fault),
+    match signed_comment(alloc, scheme, wanted) {
+        Ok(Ok(comment)) => match directory.read_record(alloc) {
+            Ok(found) => Ok(offered(comment, wanted, is_first, found.as_deref())),
+            Err(_) => Err(NamedFault::ReadingFailed.into()),
+        },
+        Ok(Err(fault)) => Ok(Err(InstallFault::Library(fault))),
+        Err(_) => Err(NamedFault::OutOfMemory.into()),
     }
 }
 
@@ -118,13 +118,9 @@ fn offered(
 ) -> Result<(Offer, u64), InstallFault>
     ensures { IsOffered (terms_of wanted.entry) is_first (option_map (λ b. b.now) found.entry) comment.now result }
 {
-    match kept_in(found, wanted.numbering, is_first) {
-        Ok(kept) => match check_comment(comment, wanted.file, wanted.numbering, wanted.moment, 0) {
-            Ok(number) => Ok((beside(kept, number), number)),
-            Err(fault) => Err(fault),
-        },
-        Err(fault) => Err(fault),
-    }
+    let kept = kept_in(found, wanted.numbering, is_first)?;
+    let number = check_comment(comment, wanted.file, wanted.numbering, wanted.moment, 0)?;
+    Ok((beside(kept, number), number))
 }
 
 // What an update of this number is beside the kept number, where one is kept.
@@ -132,17 +128,8 @@ fn beside(kept: Option<u64>, number: u64) -> Offer
     ensures { result ≡ offer_beside kept number }
 {
     match kept {
-        Some(kept) => {
-            if number <= kept {
-                if number == kept {
-                    Offer::Same
-                } else {
-                    Offer::Older
-                }
-            } else {
-                Offer::Newer
-            }
-        }
-        None => Offer::Newer,
+        Some(kept) if number == kept => Offer::Same,
+        Some(kept) if number < kept => Offer::Older,
+        _ => Offer::Newer,
     }
 }

@@ -1,7 +1,7 @@
 //! What a file holds is read back, and judged: whether it is an update, and which comment the key has signed.
 
 ghost use Rattle.std.specs.Prelude.{◌≡◌, ◌⊎◌, ◌<◌, ◌+◌, ◌≤◌, ℕ, List, false, true, length, option_map, IfOk, IfErr, OnOk, OnErr, MatchResult};
-ghost use Rattle.minisign_install.specs.Words.{accepts_comments, judge_answers, verdict, SignatureTextRecord, box_of, view_of, map_ok, IsFedState, accepts_digest, digest_verdict, judge_digest, signed_comment, Named, OutOfMemory, Known, TextsVouchWith, IsUpdate, terms_of, IsDataRefused, IsLibraryFault, IsReadingFault};
+ghost use Rattle.minisign_install.specs.Words.{accepts_comments, verdict, SignatureTextRecord, box_of, view_of, map_ok, IsFedState, digest_verdict, judge_digest, signed_comment, Named, OutOfMemory, Known, TextsVouchWith, IsUpdate, terms_of, IsDataRefused, IsLibraryFault, IsReadingFault};
 
 use crate::comments::check_comment;
 use crate::directories::{Directory, Handle};
@@ -9,8 +9,7 @@ use crate::faults::InstallFault;
 use crate::staging::{PIECE, zeros};
 use crate::wanted::Wanted;
 use minisign::{
-    PError, PublicKey, Signature, SignatureView, read_public_key, read_signature,
-    write_comment_message,
+    PError, PublicKey, SignatureView, read_public_key, read_signature, write_comment_message,
 };
 use minisign_base::NamedFault;
 use minisign_base::devices::DeviceFault;
@@ -18,6 +17,7 @@ use minisign_base::scheme::Scheme;
 use minisign_external::public_keys::PublicKeyValue;
 use minisign_external::state::State;
 use minisign_external::texts::test;
+use minisign_external::verdict::{comment_verdict, verdict};
 use std::alloc::{AllocError, Global};
 
 // Reads all that the file holds, and feeds it to a new state. A fault of reading it is counted. Memory runs out only before
@@ -87,16 +87,9 @@ pub(crate) fn judge<S: Scheme>(
         (λ e. IsLibraryFault (λ f. (f ≡ Named OutOfMemory) × (state.new ≡ state.old)) e ⊎ IsDataRefused (S.accepts scheme.now) (terms_of wanted.entry) kept m e) }
 {
     match vouched_comment(alloc, scheme, wanted, state) {
-        Ok(Ok(comment)) => match check_comment(
-            comment,
-            wanted.file,
-            wanted.numbering,
-            wanted.moment,
-            kept,
-        ) {
-            Ok(number) => Ok(number),
-            Err(fault) => Err(fault),
-        },
+        Ok(Ok(comment)) => {
+            check_comment(comment, wanted.file, wanted.numbering, wanted.moment, kept)
+        }
         Ok(Err(fault)) => Err(InstallFault::Library(fault)),
         Err(_) => Err(NamedFault::OutOfMemory.into()),
     }
@@ -147,16 +140,10 @@ fn decide<'a, S: Scheme>(
     requires { length wanted.sig_text.now ≤ length message.old }
     ensures { map_ok (λ c. c.now) result ≡ digest_verdict (S.accepts scheme.now) (terms_of wanted.entry) (option_map (λ d. d.now) digest.entry) }
 {
-    match read_public_key(wanted.pk_text) {
-        Ok(pk) => match read_signature(wanted.sig_text) {
-            Ok(view) => match judge_view(scheme, &pk, &view, digest, message) {
-                Ok(()) => Ok(view.trusted_comment()),
-                Err(fault) => Err(fault),
-            },
-            Err(fault) => Err(fault),
-        },
-        Err(fault) => Err(fault),
-    }
+    let pk = read_public_key(wanted.pk_text)?;
+    let view = read_signature(wanted.sig_text)?;
+    judge_view(scheme, &pk, &view, digest, message)?;
+    Ok(view.trusted_comment())
 }
 
 // The conditions of acceptance in their order.
@@ -176,35 +163,13 @@ fn judge_view<S: Scheme>(
         key_id: *pk.key_id(),
     };
     test(&value, view, false)?;
-    let first = accepts_digest(scheme, pk, view.signature(), digest);
-    judge_answers(first, accepts_comment(scheme, pk, view, message))
-}
-
-// What the two answers of the scheme decide.
-fn judge_answers(first: bool, second: bool) -> Result<(), PError>
-    ensures { result ≡ judge_answers first second }
-{
-    if !first {
-        return Err(NamedFault::SignatureRefused.into());
-    }
-    if !second {
-        return Err(NamedFault::CommentSignatureRefused.into());
-    }
-    Ok(())
-}
-
-// Whether the signature is accepted for the digest, where one is given.
-fn accepts_digest<S: Scheme>(
-    scheme: &S,
-    pk: &PublicKey,
-    signature: &Signature,
-    digest: Option<&[u8; 64]>,
-) -> bool
-    ensures { result ≡ accepts_digest (S.accepts scheme.now) (option_map (λ d. d.now) digest.entry) pk.now signature.now }
-{
+    let second = accepts_comment(scheme, pk, view, message);
     match digest {
-        Some(digest) => scheme.verify(digest, pk.key(), &signature.sig),
-        None => true,
+        Some(digest) => {
+            let first = scheme.verify(digest, pk.key(), &view.signature().sig);
+            verdict(true, first, second)
+        }
+        None => comment_verdict(true, second),
     }
 }
 
