@@ -1,5 +1,5 @@
 -- Whether an update stands at the place already, which is asked with the lock held, before anything is made.
-use Rattle.std.specs.Prelude.{◌≡◌, ◌≢◌, ◌⊎◌, ℕ, Bool, true, false, List, Option, Some, None, Ok, Err, IfOk, IfErr, IsErrAnd, IsSomeAnd, Result}
+use Rattle.std.specs.Prelude.{◌≡◌, ◌≢◌, ◌⊎◌, ℕ, Bool, true, false, List, Option, None, Ok, Err, IfOk, IfErr, IsErrAnd, IsSomeAnd, Result}
 use Rattle.minisign_install.specs.Common.{Verifier, TextsVouchWith, Offer, Same, InstallFault, PlaceInUse, SameNumber, Place, Installed, Already, Now, Standing, Other, Replaceable, Update, Fault, verdict}
 use Rattle.minisign_install.specs.Checking.{IsAnswered, signed_comment}
 use Rattle.minisign_install.specs.Comments.{Says}
