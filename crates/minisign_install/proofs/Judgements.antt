@@ -6,7 +6,7 @@ use Rattle.minisign.specs.Texts.{map_ok}
 use Rattle.minisign.proofs.Laws.{vouched, vouched_verdict}
 use Rattle.minisign_external.specs.PublicKeys.{value_of}
 use Rattle.minisign_install.specs.Checking.{digest_verdict, judge_digest}
-use Rattle.minisign_install.proofs.SignatureComments.{opened}
+use Rattle.minisign_install.proofs.SignatureComments.{opened, then_ok}
 
 -- == What the scheme answers ==
 
@@ -42,10 +42,6 @@ judged_alike true true other unallowed accepts digest m second = refl
 judged_alike true false other unallowed accepts digest m second = refl
 judged_alike false over other unallowed accepts digest m second = refl
 
-judged_comment : (r : Result ⊤ Fault) (told comment : List ℕ) → and_then r (λ _. Ok told) ≡ Ok comment → told ≡ comment
-judged_comment (Ok u) told comment h = cc h
-judged_comment (Err e) told comment h = cc h
-
 module _ (accepts : Verifier) (terms : Terms) where
   by_texts : (m : List ℕ) (k : Result PublicKeyRecord Fault) (s : Result SignatureTextRecord Fault)
       → and_then k (λ key. and_then s (λ t. and_then (judge_digest accepts (Some (blake2b_digest 64 m)) key t) (λ _. Ok t.comments.trusted)))
@@ -68,15 +64,13 @@ module _ (accepts : Verifier) (terms : Terms) where
 
   -- == One comment stands in the text of a signature ==
 
-  in_text : (digest : Option (List ℕ)) (comment : List ℕ) (k : Result PublicKeyRecord Fault) (s : Result SignatureTextRecord Fault)
-      → and_then k (λ key. and_then s (λ t. and_then (judge_digest accepts digest key t) (λ _. Ok t.comments.trusted))) ≡ Ok comment → map_ok (λ t. t.comments.trusted) s ≡ Ok comment
-  in_text digest comment (Ok key) (Ok t) h = ap (λ c. Ok c) (judged_comment (judge_digest accepts digest key t) t.comments.trusted comment h)
-  in_text digest comment (Ok key) (Err e) h = cc h
-  in_text digest comment (Err e) s h = cc h
+  in_text : (digest : Option (List ℕ)) (comment : List ℕ) → digest_verdict accepts terms digest ≡ Ok comment → map_ok (λ t. t.comments.trusted) (read_signature terms.sig_text) ≡ Ok comment
+  in_text digest comment h =
+      let (key, keyed, more) = then_ok (read_public_key terms.pk_text) _ comment h in
+      let (t, read, judged) = then_ok (read_signature terms.sig_text) _ comment more in
+      ap (map_ok (λ t. t.comments.trusted)) read ∙ (then_ok (judge_digest accepts digest key t) _ comment judged).2
 
   -- the comment that the key has signed is the one that was signed with the data
   pub signed_is : (m c signed : List ℕ) → TextsVouchWith accepts terms.pk_text terms.sig_text m false c → signed_comment accepts terms ≡ Ok signed → signed ≡ c
   signed_is m c signed v is =
-      let of_data = in_text (Some (blake2b_digest 64 m)) c (read_public_key terms.pk_text) (read_signature terms.sig_text) (by_digest m ∙ vouched_verdict accepts terms.pk_text terms.sig_text m false c v) in
-      let both = sym (in_text None signed (read_public_key terms.pk_text) (read_signature terms.sig_text) is) ∙ of_data in
-      cc both
+      cc (in_text None signed is, in_text (Some (blake2b_digest 64 m)) c (by_digest m ∙ vouched_verdict accepts terms.pk_text terms.sig_text m false c v))

@@ -1,7 +1,7 @@
 -- Whether an update stands at the place already: what the texts say of what was found there, and what comes of a run that
 -- looked first.
-use Rattle.minisign_install.proofs.Common.{Bool, CallsNothing, Counts, HasCleared, HasInstalled, HasKept, HasLocked, HasStepped, InstallFault, InstallsOnlyUpdates, IsAnswered, IsFound, IsVouched, Known, List, MayBeRecorded, Moment, Name, None, Ok, Option, PublishesInOrder, PublishesNothing, PublishesOnly, Record, Result, Run, Same, SameNumber, Says, Some, Terms, Verifier, ap, append_assoc, counts, false, inl, inr, refl, subst, sym, true, ℕ, ◌++◌, ◌∙◌, ◌∷◌, ◌≡◌}
-use Rattle.minisign_install.specs.Words.{FindsSame, HasLooked, InstallsFrom, InstallsUnlessThere, IsCauseUnlessThere, IsSigned, LooksInPart}
+use Rattle.minisign_install.proofs.Common.{Bool, CallsNothing, Counts, HasCleared, HasInstalled, HasKept, HasLocked, HasStepped, InstallFault, InstallsOnlyUpdates, IsAnswered, IsFound, IsVouched, Known, List, MayBeRecorded, Moment, Name, None, Ok, Option, PublishesInOrder, PublishesNothing, PublishesOnly, Record, Result, Run, Same, SameNumber, Says, Some, Terms, Verifier, ap, append_assoc, arith, counts, false, inl, inr, refl, subst, sym, true, ℕ, ◌++◌, ◌∙◌, ◌∷◌, ◌≡◌}
+use Rattle.minisign_install.specs.Words.{HasLooked, InstallsFrom, InstallsUnlessThere, IsCauseUnlessThere, IsSigned, LooksInPart}
 use Rattle.minisign_install.specs.Common.{Installed, Offer, Other, Replaceable, Standing, Update}
 use Rattle.minisign_install.proofs.Installs.{found_back, installs, nothing_locked}
 use Rattle.minisign_install.proofs.Judgements.{signed_is}
@@ -16,15 +16,15 @@ module _ (accepts : Verifier) (terms : Terms) where
   -- what is vouched for at the place is then an update that was wanted
   pub there_vouched : (again : Bool) (old new : Run) → HasLooked accepts terms again Update old new → IsVouched accepts terms
   there_vouched again old new (inl (other, answer, is, differs)) = cc other
-  there_vouched again old new (inr (None, none, f)) = absurd none
-  there_vouched again old new (inr (Some m, (c, vouched), f)) =
-      let (comment, n, signed, says) = same_signed f.n old f.mid f.same in
+  there_vouched again old new (inr (n, mid, same, None, none, read)) = absurd none
+  there_vouched again old new (inr (n, mid, same, Some m, (c, vouched), read)) =
+      let (comment, n, signed, says) = same_signed n old mid same in
       (m, n, record { comment = c; vouched = vouched; says = subst (λ t. Says t terms.file terms.numbering terms.moment n) (signed_is accepts terms m c comment vouched signed) says; newer = omega (arith) })
 
   pub other_cause : (first again : Bool) (before after : Counts) (old new : Run) → HasLooked accepts terms again Other old new → IsCauseUnlessThere accepts terms first again before after SameNumber
   other_cause first again before after old new (inl (other, answer, is, differs)) = cc other
-  other_cause first again before after old new (inr (None, (unasked, none), f)) = absurd none
-  other_cause first again before after old new (inr (Some m, (unasked, rejected), f)) = inr (refl, unasked, same_signed f.n old f.mid f.same, (m, rejected))
+  other_cause first again before after old new (inr (n, mid, same, None, (unasked, none), read)) = absurd none
+  other_cause first again before after old new (inr (n, mid, same, Some m, (unasked, rejected), read)) = inr (refl, unasked, same_signed n old mid same, (m, rejected))
 
 -- == Calls that changed nothing ==
 
@@ -64,10 +64,10 @@ module _ (accepts : Verifier) (terms : Terms) where
 
   pub looked : (again : Bool) (standing : Standing) (old new : Run) → old.known ≡ true → HasLooked accepts terms again standing old new → ChangesNothing old new
   looked again standing old new known (inl (unread, answer, is, other)) = answered old new answer known is
-  looked again standing old new known (inr (there, is, f)) =
-      let first = answered old f.mid (Ok (Same, f.n)) known f.same in
-      let step = (f.read (first.nothing.known ∙ known)).0 in
-      call_then old f.mid new first (one_call f.mid new step step.this.still)
+  looked again standing old new known (inr (n, mid, same, there, is, read)) =
+      let first = answered old mid (Ok (Same, n)) known same in
+      let step = (read (first.nothing.known ∙ known)).0 in
+      call_then old mid new first (one_call mid new step step.this.still)
 
 -- == A run that looked first ==
 

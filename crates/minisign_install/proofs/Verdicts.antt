@@ -1,13 +1,10 @@
 -- An update is installed exactly where it can be.
-use Rattle.minisign_install.proofs.Common.{◌≡◌, ◌≢◌, inl, inr, ℕ, Bool, true, false, List, [], Option, Some, None, ap, sym, subst, ◌∙◌, refl, arith, IfErr, OnOk, Result, Ok, Err, true≢false, Named, OutOfMemory, InstallFault, Library, Verifier, TextsVouchWith, IsAhead, HasInstalled, IsKeptNumber, Terms, refused_unvouched, CommentsRecord, SignatureBoxRecord, ExpiresAt, IsExpiryRefused, IsNumberText, IsUnexpired, Says, Numbering, HasLocked, IsFound, Run, Record, CanBeInstalled, CannotBeInstalled, Counts, HasFailed, InstallsExactly, IsCallFault, IsDataRefused, IsLibraryFault, IsLockedRefusal, IsRecordRefused, IsRefusal, IsNumberFor, HasNoNumber}
+use Rattle.minisign_install.proofs.Common.{◌≡◌, ◌≢◌, inl, inr, ℕ, Bool, true, false, List, [], Option, Some, None, ap, sym, subst, ◌∙◌, refl, arith, IfErr, OnOk, Result, Ok, Err, true≢false, Named, OutOfMemory, InstallFault, Library, Verifier, TextsVouchWith, IsAhead, HasInstalled, IsKeptNumber, Terms, refused_unvouched, ExpiresAt, IsExpiryRefused, IsUnexpired, Says, Numbering, HasLocked, IsFound, Run, Record, CanBeInstalled, CannotBeInstalled, Counts, HasFailed, InstallsExactly, IsCallFault, IsDataRefused, IsLibraryFault, IsLockedRefusal, IsRecordRefused, IsRefusal, IsNumberFor, HasNoNumber}
 use Rattle.std.specs.Prelude.{IfSome}
 use Rattle.minisign.proofs.Laws.{vouched_verdict}
 use Rattle.minisign_install.proofs.Driving.{not_failed}
 use Rattle.minisign_install.proofs.Installs.{some_list}
 use Rattle.minisign_install.proofs.RecordTexts.{same_number}
-
-no_text : (text : List ℕ) → None ≡ Some text → ⊥
-no_text text e = cc
 
 -- one comment was signed with the data
 same_comment : (accepts : Verifier) (pk sig m : List ℕ) (a b : List ℕ) → TextsVouchWith accepts pk sig m false a → TextsVouchWith accepts pk sig m false b → a ≡ b
@@ -22,22 +19,18 @@ same_kept numbering first found k l (inr (zero, why)) (inr (zero', why')) = zero
 
 record_unfit : (numbering : Numbering) (first : Bool) (found : Option (List ℕ)) (kept : ℕ) (e : InstallFault) → IsRecordRefused numbering first found e → IsKeptNumber numbering first found kept → ⊥
 record_unfit numbering first found kept e (later, why) (inr (zero, (first_one, number))) = true≢false (sym first_one ∙ later)
-record_unfit numbering first found kept e (later, (inl (is, none))) (inl (bytes, there, number)) = no_text bytes (sym none ∙ there)
+record_unfit numbering first found kept e (later, (inl (is, none))) (inl (bytes, there, number)) = cc (none, there)
 record_unfit numbering first found kept e (later, (inr (bytes, there, none, unfit))) (inl (other, same, number)) = none kept (subst (λ t. IsNumberFor numbering t kept) (some_list other bytes (sym same ∙ there)) number)
 
-pub said_once : (comment file : List ℕ) (numbering : Numbering) (moment n k : ℕ) → Says comment file numbering moment n → Says comment file numbering moment k → n ≡ k
-said_once comment file numbering moment n k a b =
-    sym a.number.is ∙ (subst (λ t. IsNumberText t k) (some_list b.value a.value (sym b.numbered ∙ a.numbered)) b.number).is
+said_once : (comment file : List ℕ) (numbering : Numbering) (moment n k : ℕ) → Says comment file numbering moment n → Says comment file numbering moment k → n ≡ k
+said_once comment file numbering moment n k a b = cc (a.number.is, b.number.is, a.numbered, b.numbered)
 
 expires_once : (comment : List ℕ) (n k : ℕ) → ExpiresAt comment n → ExpiresAt comment k → n ≡ k
-expires_once comment n k a b =
-    let both = sym b.once ∙ a.once in
-    let same : b.value ≡ a.value = cc both in
-    sym a.number.is ∙ (subst (λ t. IsNumberText t k) same b.number).is
+expires_once comment n k a b = cc (a.number.is, b.number.is, a.once, b.once)
 
 -- what has expired is not unexpired, nor is what does not say when
-pub expiry_unfit : (comment : List ℕ) (moment : ℕ) (e : InstallFault) → IsExpiryRefused moment comment e → IsUnexpired moment comment → ⊥
-expiry_unfit comment moment e (inl (is, (until, expires, past))) (inl never) = let none = sym expires.once ∙ never in cc none
+expiry_unfit : (comment : List ℕ) (moment : ℕ) (e : InstallFault) → IsExpiryRefused moment comment e → IsUnexpired moment comment → ⊥
+expiry_unfit comment moment e (inl (is, (until, expires, past))) (inl never) = cc (expires.once, never)
 expiry_unfit comment moment e (inl (is, (until, expires, past))) (inr (later, at, ahead)) = omega (arith, past, ahead, expires_once comment until later expires at)
 expiry_unfit comment moment e (inr (is, some, none)) (inl never) = some never
 expiry_unfit comment moment e (inr (is, some, none)) (inr (later, at, ahead)) = none later at

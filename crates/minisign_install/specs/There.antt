@@ -10,11 +10,6 @@ use Rattle.minisign_install.specs.Installing.{Terms}
 use Rattle.minisign_install.specs.Refusals.{Counts, InstallsExactly, IsCallFault, IsCause, IsLibraryFault, IsRefusal, OnlyLocked}
 use Rattle.minisign_install.specs.Runs.{OwnsNoMore}
 
--- the texts vouch for this data, not as a legacy signature would
-abbrev pub IsVouchedFor : Verifier → Terms → List ℕ → Type 0
-IsVouchedFor accepts terms message =
-    (comment : List ℕ) × TextsVouchWith accepts terms.pk_text terms.sig_text message false comment
-
 -- the texts are rejected for this data
 abbrev pub IsRejectedFor : Verifier → Terms → List ℕ → Type 0
 IsRejectedFor accepts terms message =
@@ -23,27 +18,23 @@ IsRejectedFor accepts terms message =
 -- What is found at the place: the update, for which the texts vouch; other data, which was not asked to be replaced; or
 -- nothing that stands in the way, which is no file, or other data that was.
 abbrev pub IsStanding : Verifier → Terms → Bool → Standing → Option (List ℕ) → Type 0
-IsStanding accepts terms again Update there = IsSomeAnd there (IsVouchedFor accepts terms)
+IsStanding accepts terms again Update there =
+    IsSomeAnd there (λ message. (comment : List ℕ)
+    × TextsVouchWith accepts terms.pk_text terms.sig_text message false comment)
 IsStanding accepts terms again Other there = (again ≡ false) × IsSomeAnd there (IsRejectedFor accepts terms)
 IsStanding accepts terms again Replaceable there =
     (there ≡ None) ⊎ ((again ≡ true) × IsSomeAnd there (IsRejectedFor accepts terms))
 
--- By two calls, which changed nothing, a check of the update answers that its number is the one that the record holds
--- (`IsAnswered`), and this was found at the place.
-pub record FindsSame (accepts : Verifier) (terms : Terms) (there : Option (List ℕ)) (locked new : Run) : Type 0 where
-  pub n : ℕ
-  pub mid : Run
-  pub same : IsAnswered accepts terms false locked mid (Ok (Same, n))
-  pub read : Known mid (Calls (Finds Place there) mid new)
-
--- What was found before anything was made. A check of the update, which is one call at most and changed nothing, answers
--- otherwise than that its number is the kept one, and the place was not read. Or it answers that, and this stands there.
+-- What was found before anything was made, by two calls at most, which changed nothing. A check of the update answers
+-- otherwise than that its number is the one that the record holds (`IsAnswered`), and the place was not read. Or it
+-- answers that, and this was found at the place.
 abbrev pub HasLooked : Verifier → Terms → Bool → Standing → Run → Run → Type 0
 HasLooked accepts terms again standing locked new =
     ((standing ≡ Replaceable) × (answer : Result (Offer × ℕ) InstallFault)
     × IsAnswered accepts terms false locked new answer × ((n : ℕ) → answer ≢ Ok (Same, n)))
-    ⊎ ((there : Option (List ℕ)) × IsStanding accepts terms again standing there
-    × FindsSame accepts terms there locked new)
+    ⊎ ((n : ℕ) × (mid : Run) × IsAnswered accepts terms false locked mid (Ok (Same, n))
+    × (there : Option (List ℕ)) × IsStanding accepts terms again standing there
+    × Known mid (Calls (Finds Place there) mid new))
 
 -- two calls at most, which changed nothing
 abbrev pub LooksInPart : Run → Run → Type 0
@@ -58,27 +49,21 @@ pub record InstallsFrom (accepts : Verifier) (terms : Terms) (first : Bool) (ahe
   pub lets_go : OwnsNoMore old new
   pub memory : IfErr r (λ e. e ≡ Library (Named OutOfMemory) → OnlyLocked old new)
 
--- How a run goes that holds the lock. A device failed, or memory ran out, before anything was made. Or the update is
--- there already, and that is said, or other data of its number is, which is refused where it was not asked for: no call
--- has changed anything. Or the run goes on, with the lock held, and installs.
-abbrev pub InstallsUnlessThereLocked : Verifier → Terms → Bool → Bool → Option (List ℕ) → Counts → Counts → Run → Run
-    → Result Installed InstallFault → Type 0
-InstallsUnlessThereLocked accepts terms first again ahead before after locked new r =
-    (LooksInPart locked new × IsErrAnd r (IsLibraryFault (IsCallFault before after)))
-    ⊎ (HasLooked accepts terms again Update locked new × (r ≡ Ok Already) × (after ≡ before))
-    ⊎ (HasLooked accepts terms again Other locked new × (r ≡ Err SameNumber) × (after ≡ before))
-    ⊎ ((mid : Run) × HasLooked accepts terms again Replaceable locked mid × (mid.locked ≡ true)
-    × InstallsFrom accepts terms first ahead before after mid new r)
-
 -- How an installation goes, unless the update is there already. The lock is held by another run, or could not be asked
--- for, and that was all. Or it was got.
+-- for, and that was all. Or it was got. Then a device failed, or an allocation did, before anything was made. Or the
+-- update is there already, and that is said, or other data of its number is, which is rejected where it was not asked to
+-- be replaced: no call has changed anything. Or the run goes on, with the lock held, and installs.
 abbrev pub InstallsUnlessThere : Verifier → Terms → Bool → Bool → Option (List ℕ) → Counts → Counts → Run → Run
     → Result Installed InstallFault → Type 0
 InstallsUnlessThere accepts terms first again ahead before after old new r =
     (HasStepped old new IsBusy × (r ≡ Err PlaceInUse))
     ⊎ (Calls IsStill old new × (r ≡ Err (Library (Named ReadingFailed))) × Rose before.directory after.directory)
     ⊎ ((locked : Run) × HasLocked old locked
-    × InstallsUnlessThereLocked accepts terms first again ahead before after locked new r)
+    × ((LooksInPart locked new × IsErrAnd r (IsLibraryFault (IsCallFault before after)))
+    ⊎ (HasLooked accepts terms again Update locked new × (r ≡ Ok Already) × (after ≡ before))
+    ⊎ (HasLooked accepts terms again Other locked new × (r ≡ Err SameNumber) × (after ≡ before))
+    ⊎ ((mid : Run) × HasLooked accepts terms again Replaceable locked mid × (mid.locked ≡ true)
+    × InstallsFrom accepts terms first ahead before after mid new r)))
 
 -- == The causes alone, whether it is known what the directory holds or not ==
 

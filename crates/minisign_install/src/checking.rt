@@ -28,11 +28,11 @@ pub enum Offer {
 /// Whether an update is newer than what is kept at a place, from the text of its signature: before its data is there.
 /// Returns what it is beside the kept number, and its own number, which comes behind the label of the wanted field.
 ///
-/// Nothing vouches for the data, which is judged when it is installed. With `is_first` an update is newer where no
-/// number of the field is kept. The directory is asked for its record alone, without the lock, and nothing is written.
+/// Nothing vouches for the data, which is judged when it is installed. The directory is asked for its record alone,
+/// without the lock, and nothing is written.
 ///
-/// The refusals come in this order: want of memory; the first failing case of the public key text, of the signature
-/// text, and of the signature of its comment under the key; a record that cannot be read; one that installing refuses;
+/// The errors come in this order: an allocation fails; the first failing case of the public key text, of the signature
+/// text, and of the signature of its comment under the key; a record that cannot be read; one that installing rejects;
 /// a comment that names another file, has no number, or has expired. Takes as much memory as the text of the signature
 /// has bytes, and the record.
 pub fn check_update<S: Scheme, F: Directory>(
@@ -42,11 +42,11 @@ pub fn check_update<S: Scheme, F: Directory>(
     is_first: bool,
     directory: &mut F,
 ) -> Result<(Offer, u64), InstallFault>
-    // The answer is the one by what the record was found to hold, which one call told that changed nothing: the first
-    // case of the texts that fails; else the refusal of the record; else that of the signed comment; else the number
-    // that the comment has for the wanted field, and what that is beside the kept one (`ChecksSo`, `IsOffered`,
-    // `offer_beside`). Before the texts have passed nothing is asked of the directory. Only memory can run out besides,
-    // with nothing asked, or reading the record fail, which is counted.
+    // The texts are rejected for their first case that fails, with nothing asked of the directory. Or one call, which
+    // changed nothing, told what the record holds, and by that the record is rejected, or else the signed comment, or else
+    // the answer is the number that the comment has for the wanted field, and what that is beside the kept one
+    // (`IsAnswered`, `IsOffered`, `offer_beside`). Besides, only an allocation can fail, with nothing asked, or reading the
+    // record, which is counted.
     ensures outcome { ChecksSo (S.accepts scheme.now) (terms_of wanted.entry) is_first (F.directory_faults directory.old) (F.directory_faults directory.new) (F.run directory.old) (F.run directory.new) result }
 {
     match check(alloc, scheme, wanted, is_first, directory) {
@@ -80,8 +80,6 @@ pub(crate) fn check<S: Scheme, F: Directory>(
 
 /// The same of a signed comment that something has vouched for, and of what the record was found to hold, for hosts
 /// that read it themselves: its bytes, or that there is none. Does not allocate.
-///
-/// A comment or a name that is not UTF-8 is refused first.
 pub fn check_comment_offer(
     comment: &[u8],
     file: &[u8],
