@@ -1,35 +1,26 @@
--- The first field of a comment with a label.
-use Rattle.minisign_install.proofs.Common.{◌≡◌, ◌≢◌, ℕ, ◌<◌, Bool, true, false, List, [], ◌∷◌, ◌++◌, Option, Some, None, length, take, drop, get_or, ap, sym, ◌∙◌, refl, cond, inl, inr, lit<, cases_Bool, ne_eqb, take_at, All-from_get_or, slice_split_first, slice_split_none, bytes_eq-Decides, find_char, after_first, before_first, position_or_len, ◌==◌, bytes_eq, MatchOption, FindsChar, fields, first_of, values_in, values_of}
+-- The fields of a comment, and what stands behind a label.
+use Rattle.minisign_install.proofs.Common.{◌≡◌, ◌≢◌, ◌<◌, ◌==◌, ℕ, List, [], ◌∷◌, ◌++◌, Some, None, length, ap, sym, ◌∙◌, refl, cond, arith, drop, Bor, Option, MatchOption, option_map, FindsTextPrefix, StripsPrefix, inl, inr, cases_Bool, eq-eqb, eqb-true, strip, values_of}
 
-abbrev is_tab : ℕ → Bool
-is_tab b = b == 9
+pub strips : (label text : List ℕ) → strip label (label ++ text) ≡ Some text
+strips [] text = refl
+strips (b ∷ label) text = ap (λ t. cond t (strip label (label ++ text)) None) (eq-eqb b b refl) ∙ strips label text
 
-module _ (label rest field more : List ℕ) (front : field ≡ before_first is_tab rest) (back : more ≡ after_first is_tab rest) (within : position_or_len is_tab rest < length rest) where
-  cut : fields rest ≡ field ∷ fields more
-  cut = slice_split_first is_tab rest 0 within ∙ ap (λ f. f ∷ fields (after_first is_tab rest)) (sym front) ∙ ap (λ m. field ∷ fields m) (sym back)
-
-  pub first_gives : bytes_eq (take (length label) field) label ≡ true → values_of label rest ≡ drop (length label) field ∷ values_of label more
-  first_gives is = ap (values_in label) cut ∙ ap (λ t. cond t (drop (length label) field ∷ values_in label (fields more)) (values_in label (fields more))) is
-
-  pub first_gives_none : bytes_eq (take (length label) field) label ≡ false → values_of label rest ≡ values_of label more
-  first_gives_none is = ap (values_in label) cut ∙ ap (λ t. cond t (drop (length label) field ∷ values_in label (fields more)) (values_in label (fields more))) is
-
-pub last_gives : (label rest : List ℕ) → FindsChar 9 rest None → values_of label rest ≡ cond (bytes_eq (take (length label) rest) label) (drop (length label) rest ∷ []) []
-last_gives label rest none =
-    let each : (i : ℕ) → i < length rest → get_or rest i 0 ≢ 9 = find_char 9 rest None none (lit< tt) in
-    ap (values_in label) (slice_split_none is_tab rest (All-from_get_or (λ b. is_tab b ≡ false) rest 0 (λ i l. ne_eqb (get_or rest i 0) 9 (each i l))))
-
-pub begins : (label field : List ℕ) (n : ℕ) → field ≡ label ++ drop n field → bytes_eq (take (length label) field) label ≡ true
-begins label field n is =
-    (bytes_eq-Decides (take (length label) field) label).1 (ap (λ l. take (length label) l) is ∙ take_at label (drop n field) (length label) refl)
-
-pub lacks : (label field : List ℕ) → (take (length label) field ≢ label) → bytes_eq (take (length label) field) label ≡ false
-lacks label field other = elim (cases_Bool (bytes_eq (take (length label) field) label)) [
-  | inl is ↦ absurd (other ((bytes_eq-Decides (take (length label) field) label).0 is))
-  | inr is ↦ is
+lacks : (label text : List ℕ) → ((rest : List ℕ) → text ≢ label ++ rest) → strip label text ≡ None
+lacks [] text other = absurd (other text refl)
+lacks (b ∷ label) [] other = refl
+lacks (b ∷ label) (c ∷ text) other = elim (cases_Bool (c == b)) [
+  | inl same ↦ ap (λ t. cond t (strip label text) None) same
+      ∙ lacks label text (λ rest is. other rest (ap (λ d. d ∷ text) (eqb-true c b same) ∙ ap (λ l. b ∷ l) is))
+  | inr apart ↦ ap (λ t. cond t (strip label text) None) apart
 ]
 
-pub first_is : {T : Type 0} (values : List (List ℕ)) (value : List ℕ) (rest : Option T) (behind : T → List (List ℕ))
-    → MatchOption rest (values ≡ value ∷ []) (λ more. values ≡ value ∷ behind more) → Some value ≡ first_of values
-first_is values value None behind only = ap first_of (sym only)
-first_is values value (Some more) behind first = ap first_of (sym first)
+-- takes the clause of `strip_prefix`
+pub strip_answers : (label text : List ℕ) (r : Option (Bor (List ℕ))) → MatchOption r (FindsTextPrefix label text None) (λ v. StripsPrefix (FindsTextPrefix label) text v.now) → option_map (λ v. v.now) r ≡ strip label text
+strip_answers label text None none = sym (lacks label text none)
+strip_answers label text (Some v) (n, (is, begin, boundary), rest, long) = ap Some rest ∙ sym (ap (strip label) begin ∙ strips label (drop n text))
+
+-- a comment of no bytes has one field, which begins with no label
+pub nothing : (label text : List ℕ) → 0 < length label → length text ≡ 0 → values_of label text ≡ []
+nothing [] text some none = absurd (omega arith)
+nothing (b ∷ label) [] some none = refl
+nothing (b ∷ label) (c ∷ text) some none = absurd (omega arith)

@@ -1,5 +1,5 @@
 -- What a signed comment says of an update.
-use Rattle.std.specs.Prelude.{◌≡◌, ◌⊎◌, ℕ, ◌^◌, ◌<◌, ◌≤◌, List, [], ◌∷◌, ◌==◌, length, take, drop, Option, Some, None, if◌then◌else◌, bytes_eq, codes}
+use Rattle.std.specs.Prelude.{◌≡◌, ◌⊎◌, ℕ, ◌^◌, ◌<◌, ◌≤◌, List, [], ◌∷◌, ◌==◌, Option, Some, None, if◌then◌else◌, codes, filter_map, slice_get}
 use Rattle.minisign_install.specs.Common.{slice_split, IsNumeral, digits_value}
 pub use Rattle.minisign_install.specs.declared.comments.Numbering.{Numbering}
 pub use Rattle.minisign_install.specs.declared.comments.Numbering.TheVariants.{Timestamp, Version}
@@ -9,23 +9,18 @@ use Rattle.minisign_install.specs.Faults.{InstallFault, BadExpiry, Expired}
 abbrev pub fields : List ℕ → List (List ℕ)
 fields comment = slice_split (λ b. b == 9) comment
 
--- what stands behind the label in each field that begins with it
-abbrev pub values_in : List ℕ → List (List ℕ) → List (List ℕ)
-values_in label [] = []
-values_in label (field ∷ more) =
-    if bytes_eq (take (length label) field) label then drop
-    (length label) field ∷ values_in label more else values_in label more
+-- what stands behind the label in a text that begins with it
+abbrev pub strip : List ℕ → List ℕ → Option (List ℕ)
+strip [] text = Some text
+strip (b ∷ label) [] = None
+strip (b ∷ label) (c ∷ text) = if c == b then strip label text else None
 
+-- what stands behind the label in each field that begins with it, and in the first one
 abbrev pub values_of : List ℕ → List ℕ → List (List ℕ)
-values_of label comment = values_in label (fields comment)
+values_of label comment = filter_map (strip label) (fields comment)
 
-abbrev pub first_of : List (List ℕ) → Option (List ℕ)
-first_of [] = None
-first_of (value ∷ more) = Some value
-
--- what stands behind it in the first one
 abbrev pub value_of : List ℕ → List ℕ → Option (List ℕ)
-value_of label comment = first_of (values_of label comment)
+value_of label comment = slice_get (values_of label comment) 0
 
 -- the text writes this number below 2^64 in decimal digits, and has nothing else: no sign stands before them
 pub record IsNumberText (text : List ℕ) (n : ℕ) : Type 0 where

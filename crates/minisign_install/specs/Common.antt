@@ -38,6 +38,6 @@ pub use Rattle.std.specs.Fmt.{decimal}
 pub use Rattle.std.specs.Io.BufRead.{strip_last}
 pub use Rattle.std.specs.Io.KnownBytes.{Consumes, IsAtEnd}
 pub use Rattle.std.specs.List.{concat, list_any, slice_split}
-pub use Rattle.std.specs.Option.{option_map_or}
+pub use Rattle.std.specs.Option.{option_map_or, unwrap_or}
 pub use Rattle.std.specs.Str.{IsUtf8}
 pub use Rattle.std.specs.Str.Parse.{IsNumeral, digits_value}

@@ -1,7 +1,7 @@
 -- What the record beside the place holds: the number of the newest update, behind the label of its field.
 use Rattle.std.specs.Prelude.{◌≡◌, ◌⊎◌, ℕ, List, [], ◌++◌, length, nat_le, if◌then◌else◌}
-use Rattle.minisign_install.specs.Common.{decimal, strip_last, IsUtf8}
-use Rattle.minisign_install.specs.Comments.{IsNumberText, number_label, Numbering, Timestamp, Version}
+use Rattle.minisign_install.specs.Common.{decimal, strip_last, unwrap_or, IsUtf8}
+use Rattle.minisign_install.specs.Comments.{IsNumberText, number_label, strip, Numbering, Timestamp, Version}
 use Rattle.minisign_install.specs.Faults.{InstallFault, DamagedRecord, KeptByTimestamp, KeptByVersion}
 
 -- what is written into a record: the number of an update behind the label of the field that it stands in, as in the
@@ -14,15 +14,11 @@ record_of numbering n = number_label numbering ++ decimal n
 abbrev pub record_text : List ℕ → List ℕ
 record_text bytes = if nat_le (length bytes) 64 then strip_last 10 bytes else []
 
--- the text is the label of this field with this number behind it
-abbrev pub IsFieldText : Numbering → List ℕ → ℕ → Type 0
-IsFieldText numbering text n = (value : List ℕ) × (text ≡ number_label numbering ++ value) × IsNumberText value n
-
 -- A record of these bytes holds this number for updates whose number stands in this field: behind its label; or alone,
 -- as records were written before they named a field, which counts for either.
-abbrev pub IsNumberFor : Numbering → List ℕ → ℕ → Type 0
-IsNumberFor numbering bytes n =
-    IsUtf8 (record_text bytes) × (IsNumberText (record_text bytes) n ⊎ IsFieldText numbering (record_text bytes) n)
+pub record IsNumberFor (numbering : Numbering) (bytes : List ℕ) (n : ℕ) : Type 0 where
+  pub utf8 : IsUtf8 (record_text bytes)
+  pub number : IsNumberText (unwrap_or (strip (number_label numbering) (record_text bytes)) (record_text bytes)) n
 
 -- it holds none
 abbrev pub HasNoNumber : Numbering → List ℕ → Type 0

@@ -1,7 +1,7 @@
 //! What the signed comment says of an update.
 
-ghost use Rattle.std.specs.Prelude.{◌≡◌, ◌≢◌, ◌⊎◌, ◌≤◌, ◌<◌, ◌∷◌, [], ℕ, List, Some, None, option_map, IfOk, IfErr, MatchOption, MatchResult, bytes_eq, take, drop, length, true, false};
-ghost use Rattle.minisign_install.specs.Words.{HasNumber, IsExpiryRefused, IsNumberText, IsUnexpired, Says, expiry_label, file_label, number_label, value_of, values_of, wanted_by, other_field, IsCommentRefused, BadExpiry, Expired, NoNumber, OlderUpdate, OtherFile};
+ghost use Rattle.std.specs.Prelude.{◌≡◌, ◌≢◌, ◌⊎◌, ◌≤◌, ◌<◌, ◌∷◌, [], ℕ, List, Some, None, option_map, IfOk, IfErr, MatchOption, MatchResult, filter_map, length};
+ghost use Rattle.minisign_install.specs.Words.{HasNumber, IsExpiryRefused, IsNumberText, IsUnexpired, Says, expiry_label, fields, file_label, number_label, strip, value_of, values_of, wanted_by, other_field, IsCommentRefused, BadExpiry, Expired, NoNumber, OlderUpdate, OtherFile};
 
 use crate::faults::InstallFault;
 
@@ -59,12 +59,8 @@ pub(crate) fn check_comment(
         return Err(InstallFault::NoNumber);
     };
     match check_expiry(comment, moment) {
-        Ok(()) => {
-            if number < kept {
-                return Err(InstallFault::OlderUpdate);
-            }
-            Ok(number)
-        }
+        Ok(()) if number < kept => Err(InstallFault::OlderUpdate),
+        Ok(()) => Ok(number),
         Err(fault) => Err(fault),
     }
 }
@@ -76,7 +72,7 @@ fn check_expiry(comment: &str, moment: u64) -> Result<(), InstallFault>
     let Some((digits, rest)) = first_value(comment, "expires:") else {
         return Ok(());
     };
-    if is_named_again(rest, "expires:") {
+    if first_value(rest, "expires:").is_some() {
         return Err(InstallFault::BadExpiry);
     }
     match number_of(digits) {
@@ -86,43 +82,9 @@ fn check_expiry(comment: &str, moment: u64) -> Result<(), InstallFault>
     }
 }
 
-// Whether one of the fields that are left, where there are any, begins with the label.
-fn is_named_again(rest: Option<&str>, label: &str) -> bool
-    ensures { MatchOption rest.entry (result ≡ false) (λ more. (result ≡ false → values_of label.now more.now ≡ []) × (result ≡ true → values_of label.now more.now ≢ [])) }
-{
-    match rest {
-        Some(more) => first_value(more, label).is_some(),
-        None => false,
-    }
-}
-
-// What stands behind the label in the first field that begins with it, and the fields behind that one, where there are
-// any.
-fn first_value<'a>(comment: &'a str, label: &str) -> Option<(&'a str, Option<&'a str>)>
-    ensures { MatchOption result (values_of label.now comment.now ≡ [])
-        (λ (v, rest). MatchOption rest (values_of label.now comment.now ≡ v.now ∷ []) (λ more. values_of label.now comment.now ≡ v.now ∷ values_of label.now more.now)) }
-{
-    let mut rest = comment;
-    'fields: loop {
-        match rest.split_once('\t') {
-            Some((field, more)) => {
-                if let Some(value) = strip(field, label) {
-                    return Some((value, Some(more)));
-                }
-                rest = more;
-            }
-            None => {
-                return match strip(rest, label) {
-                    Some(value) => Some((value, None)),
-                    None => None,
-                };
-            }
-        }
-    }
-}
-
 // What stands behind the label in the first field that begins with it.
 fn value<'a>(comment: &'a str, label: &str) -> Option<&'a str>
+    requires { 0 < length label.now }
     ensures { option_map (λ v. v.now) result ≡ value_of label.now comment.now }
 {
     match first_value(comment, label) {
@@ -131,19 +93,44 @@ fn value<'a>(comment: &'a str, label: &str) -> Option<&'a str>
     }
 }
 
-// What stands behind the label in a field that begins with it.
-pub(crate) fn strip<'a>(field: &'a str, label: &str) -> Option<&'a str>
-    ensures { MatchOption result (bytes_eq (take (length label.now) field.now) label.now ≡ false)
-        (λ v. (bytes_eq (take (length label.now) field.now) label.now ≡ true) × (v.now ≡ drop (length label.now) field.now)) }
+// The same, and the fields behind that one.
+#[tactic(auto, using(crate::proofs::Fields::nothing))]
+fn first_value<'a>(comment: &'a str, label: &str) -> Option<(&'a str, &'a str)>
+    requires { 0 < length label.now }
+    ensures { MatchOption result (values_of label.now comment.now ≡ [])
+        (λ (v, rest). values_of label.now comment.now ≡ v.now ∷ values_of label.now rest.now) }
 {
-    match field.strip_prefix(label) {
-        Some(value) => Some(value),
-        None => None,
+    let mut rest = comment;
+    'fields: while !rest.is_empty() {
+        let (field, more) = first_field(rest);
+        if let Some(value) = strip(field, label) {
+            return Some((value, more));
+        }
+        rest = more;
+    }
+    None
+}
+
+// The first field of a comment, and those behind it: no text where there are none.
+fn first_field(comment: &str) -> (&str, &str)
+    ensures field { (label : List ℕ) → 0 < length label → values_of label comment.now ≡ filter_map (strip label) (result.0.now ∷ fields result.1.now) }
+    ensures shorter { 0 < length comment.now → length result.1.now < length comment.now }
+{
+    match comment.split_once('\t') {
+        Some((field, more)) => (field, more),
+        None => (comment, ""),
     }
 }
 
-// The number that a text writes in decimal digits, and nothing else: `parse` takes a plus before them
-// too.
+// What stands behind the label in a text that begins with it.
+#[tactic(auto, using(crate::proofs::Fields::strip_answers))]
+pub(crate) fn strip<'a>(text: &'a str, label: &str) -> Option<&'a str>
+    ensures { option_map (λ v. v.now) result ≡ strip label.now text.now }
+{
+    text.strip_prefix(label)
+}
+
+// The number that a text writes in decimal digits, and nothing else: `parse` takes a plus before them too.
 pub(crate) fn number_of(text: &str) -> Option<u64>
     ensures { MatchOption result ((n : ℕ) → ¬ (IsNumberText text.now n)) (IsNumberText text.now) }
 {

@@ -1,7 +1,7 @@
 //! The number of the newest update is kept beside the place, behind the label of its field.
 
 ghost use Rattle.std.specs.Prelude.{option_map, ◌≡◌, ◌⊎◌, ◌<◌, ◌≤◌, ℕ, false, List, Option, Some, None, IfOk, IfErr, OnOk, OnErr, MatchOption, MatchResult, length, take};
-ghost use Rattle.minisign_install.specs.Words.{Rose, Named, ReadingFailed, Library, IsNumberText, HasStepped, IsStill, Finds, Known, Calls, IsKeptNumber, IsKeptOrNone, HasNoNumber, IsFieldText, IsNumberFor, IsUnfit, kept_by, record_of, record_text, IsReadRefusal, IsRecordFault, IsRecordRefused};
+ghost use Rattle.minisign_install.specs.Words.{Rose, Named, ReadingFailed, Library, IsNumberText, HasStepped, IsStill, Finds, Known, Calls, IsKeptNumber, IsKeptOrNone, HasNoNumber, IsNumberFor, IsUnfit, kept_by, record_of, record_text, IsReadRefusal, IsRecordFault, IsRecordRefused};
 
 use crate::comments::{Numbering, number_of, strip};
 use crate::directories::{Directory, Name};
@@ -77,21 +77,11 @@ fn unfit(bytes: &[u8], numbering: Numbering) -> InstallFault
     ensures why { IsUnfit numbering bytes.now result }
     ensures fault { IsRecordFault false result }
 {
-    match number_for(bytes, numbering.other()) {
-        Some(_) => numbering.other().kept(),
-        None => InstallFault::DamagedRecord,
-    }
-}
-
-impl Numbering {
-    // The place is kept by this field.
-    fn kept(self) -> InstallFault
-        ensures { result ≡ kept_by self }
-    {
-        match self {
-            Numbering::Timestamp => InstallFault::KeptByTimestamp,
-            Numbering::Version => InstallFault::KeptByVersion,
-        }
+    let other = numbering.other();
+    match (number_for(bytes, other), other) {
+        (Some(_), Numbering::Timestamp) => InstallFault::KeptByTimestamp,
+        (Some(_), Numbering::Version) => InstallFault::KeptByVersion,
+        (None, _) => InstallFault::DamagedRecord,
     }
 }
 
@@ -99,20 +89,13 @@ impl Numbering {
 fn number_for(bytes: &[u8], numbering: Numbering) -> Option<u64>
     ensures { MatchOption result (HasNoNumber numbering bytes.now) (IsNumberFor numbering bytes.now) }
 {
-    match str::from_utf8(record_text(bytes)) {
-        Ok(text) => number_in_text(text, numbering),
-        Err(_) => None,
-    }
-}
-
-// The number that a text writes, alone or behind the label of the field, where it does.
-fn number_in_text(text: &str, numbering: Numbering) -> Option<u64>
-    ensures { MatchOption result ((n : ℕ) → ¬ (IsNumberText text.now n ⊎ IsFieldText numbering text.now n)) (λ n. IsNumberText text.now n ⊎ IsFieldText numbering text.now n) }
-{
-    match number_of(text) {
-        Some(number) => Some(number),
-        None => match strip(text, numbering.label()) {
-            Some(value) => number_of(value),
+    let Ok(text) = str::from_utf8(record_text(bytes)) else {
+        return None;
+    };
+    match strip(text, numbering.label()) {
+        Some(value) => number_of(value),
+        None => match number_of(text) {
+            Some(number) => Some(number),
             None => None,
         },
     }
@@ -131,8 +114,9 @@ fn record_text(bytes: &[u8]) -> &[u8]
     }
 }
 
-// Writes what is to be written into a record to the front of `to`, and returns how long that is; where
-// it has no room, nothing.
+// Writes what is to be written into a record to the front of `to`, and returns how long that is; where it has no room,
+// nothing.
+#[tactic(auto, using(crate::proofs::RecordTexts::take_two))]
 pub(crate) fn write_record(numbering: Numbering, number: u64, to: &mut [u8]) -> usize
     ensures written { 0 < result → (result ≤ length to.new) × (take result to.new ≡ record_of numbering number) }
     ensures unwritten { result ≡ 0 → (to.new ≡ to.old) × (length to.old < length (record_of numbering number)) }

@@ -6,9 +6,6 @@ ghost use Rattle.minisign_install.specs.Words.{Consumes, Rose, drawn_bytes};
 use minisign_base::devices::DeviceFault;
 use minisign_base::devices::random_sources::RandomSource;
 
-// How many bytes are drawn for a name.
-const DRAWN: usize = 16;
-
 /// The name of a stage: 16 random bytes. It is made of bytes that were drawn and of nothing else,
 /// so that two runs have one name only by chance, and no other process has a reason to use it.
 #[derive(Drop)]
@@ -23,7 +20,7 @@ impl StageName {
         ensures no_new_fault { IfOk result (λ name. Z.random_faults random.new ≡ Z.random_faults random.old) }
         ensures refused { OnErr result (Rose (Z.random_faults random.old) (Z.random_faults random.new)) }
     {
-        let mut bytes = [0u8; DRAWN];
+        let mut bytes = [0u8; 16];
         random.fill(&mut bytes)?;
         Ok(StageName { bytes })
     }
