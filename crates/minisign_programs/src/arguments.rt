@@ -37,37 +37,24 @@ pub fn read_arguments<R: Env + AllocGlobal>(rt: &R) -> Result<Option<Vec<String>
     // Reading the arguments fails only where memory runs out.
     ensures { IfErr result (λ e. e ≡ Named OutOfMemory) }
 {
-    let arguments = match env::args(&(UnnamedProgram(rt), rt.alloc())) {
-        Ok(arguments) => arguments,
+    match env::args(&(UnnamedProgram(rt), rt.alloc())) {
+        Ok(arguments) => Ok(Some(arguments.collect(rt.alloc())?)),
         Err(error) if error.kind() == io::ErrorKind::OutOfMemory => {
-            return Err(NamedFault::OutOfMemory.into());
+            Err(NamedFault::OutOfMemory.into())
         }
-        Err(_) => return Ok(None),
-    };
-    let mut words = Vec::new(rt.alloc());
-    'words: for word in arguments {
-        words.push(word)?;
-    }
-    Ok(Some(words))
-}
-
-/// The arguments behind the first one, which is the program. Does not allocate.
-pub fn behind_program(arguments: &[String]) -> &[String]
-    ensures { result.now ≡ drop 1 arguments.now }
-{
-    match arguments {
-        [_program, behind @ ..] => behind,
-        [] => arguments,
+        Err(_) => Ok(None),
     }
 }
 
-/// The words of the arguments. It fails only where memory runs out.
+/// The words of the arguments behind the first one, which is the program. It fails only where memory runs out.
 pub fn words_of(alloc: Global, arguments: &[String]) -> std::result::Result<Vec<&str>, AllocError>
-    ensures { IfOk result (λ v. map (λ w. w.now) v.items ≡ map (λ s. string_bytes s) arguments.now) }
+    ensures { IfOk result (λ v. map (λ w. w.now) v.items ≡ map (λ s. string_bytes s) (drop 1 arguments.now)) }
 {
     let mut words = Vec::with_capacity(alloc, arguments.len())?;
-    'words: for argument in arguments {
-        words.push(argument.as_str())?;
+    if let [_program, behind @ ..] = arguments {
+        'words: for argument in behind {
+            words.push(argument.as_str())?;
+        }
     }
     Ok(words)
 }

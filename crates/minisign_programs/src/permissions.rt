@@ -1,45 +1,50 @@
 //! The permissions of a new file that takes the place of an older one.
 
-ghost use Rattle.minisign_programs.specs.Permissions.{KeepsPermissions, LosesGroup};
+ghost use Rattle.std.specs.Prelude.{◌≡◌};
+ghost use Rattle.minisign_programs.specs.Permissions.{KeepsPermissions, LosesGroup, group_bits, other_bits, owner_bits};
 
 use crate::interruptions::again;
 use std::fs::{File, Metadata, Permissions};
 use std::io;
 use std::os::unix::fs::{MetadataExt, PermissionsExt, fchown};
 
-// The nine permission bits of a file's mode, those of the owner, and those of all others.
+// The nine permission bits of a file's mode.
 const ALL: u32 = 0o777;
-
-const OF_THE_OWNER: u32 = 0o700;
-
-const OF_OTHERS: u32 = 0o007;
 
 /// What a new file may have of the permissions of an older one, whose mode this is.
 ///
 /// The bits of the group are kept only as far as all others have them too: where the older file has
 /// an access control list, they are the list's mask and not the permissions of the group, and nothing in
 /// the mode can tell. Of the special bits none is kept.
-#[tactic(auto, using(crate::proofs::Bits::sum_of_kept))]
+#[tactic(auto, using(std::proofs::lemmas::Nat::and_le_r))]
 pub fn permissions_after(older: u32) -> u32
     // The permissions that are told for a new file are the older mode's bits for the owner and for all
     // others, and of those for the group just what all others have too; no other bit is among them.
     ensures kept { KeepsPermissions older result }
 {
-    let others = older & OF_OTHERS;
-    (older & OF_THE_OWNER) | (older & (others << 3)) | others
+    let (owner, group, others) = digits(older);
+    owner * 64 + others + (group & others) * 8
 }
 
 /// What is left of these permissions, which are of a file of one group, for a file of another one.
 ///
 /// The other group gets none. Who was in the first one is now among all others: these have just what
 /// that group had too. Of the special bits none is kept.
-#[tactic(auto, using(crate::proofs::Bits::sum_without_group))]
+#[tactic(auto, using(std::proofs::lemmas::Nat::and_le_r))]
 pub fn without_group(older: u32) -> u32
     // The permissions that are told where the group could not be given are the bits of the owner, and for
     // all others just those that the group had too; the group has none, and no other bit is there.
     ensures lost { LosesGroup older result }
 {
-    (older & OF_THE_OWNER) | ((older >> 3) & older & OF_OTHERS)
+    let (owner, group, others) = digits(older);
+    owner * 64 + (group & others)
+}
+
+// The three octal digits of a mode's permissions: of the owner, of the group, and of all others.
+fn digits(mode: u32) -> (u32, u32, u32)
+    ensures { result ≡ (owner_bits mode, group_bits mode, other_bits mode) }
+{
+    (mode / 64 % 8, mode / 8 % 8, mode % 8)
 }
 
 /// Gives a file the owner and the group of another one: whether that was allowed.

@@ -26,7 +26,7 @@ use minisign::base::NamedFault;
 use minisign::base::devices::sinks::{Sink, WriterSink};
 use minisign::base::scheme::Scheme;
 use minisign::base::toy::ToyScheme;
-use minisign_programs::arguments::{behind_program, read_arguments, words_of};
+use minisign_programs::arguments::{read_arguments, words_of};
 use report::{end, usage, warn};
 use std::process::ExitCode;
 use streams::hold_closed_streams;
@@ -93,7 +93,7 @@ fn run_arguments<S: Scheme, W: Sink>(
         × ShowsCommand (S.accepts scheme.now) command s
         × SaysCommand W.Sink command errors.old errors.new s) }
 {
-    let words = words_of(rt.alloc(), behind_program(arguments))?;
+    let words = words_of(rt.alloc(), arguments)?;
     run_command(rt, scheme, command_of(&words), errors)
 }
 
