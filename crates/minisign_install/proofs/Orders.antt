@@ -1,18 +1,14 @@
 -- Whatever outcomes come, a run that makes each call as it is due installs only updates: what stands fast at each call
 -- that is due, and that each outcome leads from there to what stands fast at the next one.
-use Rattle.minisign_install.proofs.Common.{◌≡◌, ◌≢◌, ◌⊎◌, inl, inr, ⊎_elim, ℕ, List, [], ◌∷◌, ◌++◌, true, false, true≢false, ap, sym, subst, ◌∙◌, refl, append_assoc, append-nil, Consumes-nil, Consumes-trans, Consumes-whole, Consumes, concat, IsAhead, HasInstalled, HasKept, MayBePublished, MayBeRecorded, IsUpdate, PublishesInOrder, ClearsAll, HasLocked, HasRenamed, HasStepped, IsStill, Perhaps, Moment, Removes, Renames, Run, Name, Place, Record, Calls, CallsNothing, CallsOwning, Sets, TouchesStages, Spoils, Event, HasRun, Host, Makes, Setting, Writes, WritesInPart, next, Due, Lock, Clear, ReadRecord, Create, Copy, ReadBack, Answer, TakePermissions, Sync, CreateRecord, WriteRecord, SyncRecord, RenameRecord, SyncRecordName, Rename, SyncName, RemoveRecord, Remove, Installed, Outcome, Done, More, Number, Failed, record_of, PublishesNothing, PublishesOnly, HasCleared, HasReached, OwnsNoMore, ⊤, InstallsOnlyUpdates}
+use Rattle.minisign_install.proofs.Common.{◌≡◌, FileStays, ◌≢◌, ◌⊎◌, inl, inr, ⊎_elim, ℕ, List, [], ◌∷◌, ◌++◌, true, false, true≢false, ap, sym, subst, ◌∙◌, refl, append_assoc, append-nil, Consumes-nil, Consumes-trans, Consumes-whole, Consumes, concat, IsAhead, HasInstalled, HasKept, MayBePublished, MayBeRecorded, IsUpdate, PublishesInOrder, ClearsAll, HasLocked, HasRenamed, HasStepped, IsStill, Perhaps, Moment, Removes, Renames, Run, Name, Place, Record, Calls, CallsNothing, CallsOwning, Sets, TouchesStages, Spoils, Event, HasRun, Host, Makes, Setting, Writes, WritesInPart, next, Due, Lock, Clear, ReadRecord, Create, Copy, ReadBack, Answer, TakePermissions, Sync, CreateRecord, WriteRecord, SyncRecord, RenameRecord, SyncRecordName, Rename, SyncName, RemoveRecord, Remove, Installed, Outcome, Done, More, Number, Failed, record_of, PublishesNothing, PublishesOnly, HasCleared, HasReached, OwnsNoMore, ⊤, InstallsOnlyUpdates}
 use Rattle.minisign_install.specs.Order.{Refused}
 use Rattle.minisign_install.proofs.Installs.{found_first, installs, nothing_locked, ordered, places_more, places_update, record_brought}
-use Rattle.minisign_install.proofs.Works.{call_with, HasRecorded, HasStage, IsKept, IsOnly, WorksOn, publishes_none, publishes_nothing, publishes_trans, step, created_publishes, created_keeps, created_stage, kept_no_more, lasting, less_let_go, file_before, names_keep, no_more_trans, perhaps, published, quiet, renamed_publishes, renamed_keeps, resting_publishes, spoiling, works_none, works_trans}
+use Rattle.minisign_install.proofs.Works.{call_with, HasRecorded, HasStage, IsOnly, IsQuiet, WorksOn, publishes_none, publishes_nothing, publishes_trans, step, created_publishes, created_keeps, created_stage, kept_no_more, lasting, less_no_more, file_before, no_more_trans, quiet_trans, working, perhaps, published, quiet, renamed_publishes, renamed_keeps, resting_publishes, spoiling, works_none, works_trans}
 
 -- == Calls together ==
 
 abbrev pub Nothing : ℕ → Name → List ℕ → Type 0
 Nothing kept name bytes = ⊥
-
--- nothing was published, and no more stages are the run's own
-abbrev pub IsQuiet : Run → Run → Type 0
-IsQuiet old new = PublishesNothing old new × OwnsNoMore old new
 
 -- with this call it came to that
 pub reached : {This : Moment → Type 0} {P : Name → List ℕ → Type 0} {C : Moment → Moment → Type 0} {old mid new : Run} → PublishesOnly P old mid → HasStepped mid new C → This new.now → HasReached This old new
@@ -32,9 +28,6 @@ reached_more {old = old} r more = record {
 pub cleared_since : {old mid new : Run} → Calls ClearsAll old mid → PublishesNothing mid new → HasCleared old new
 cleared_since {old = old} (clear, own) more = reached_more (reached (publishes_none (Nothing 0) old) clear clear.this.clear) more
 
-pub quiet_trans : {old mid new : Run} → IsQuiet old mid → IsQuiet mid new → IsQuiet old new
-quiet_trans (none, own) (more, then) = (publishes_trans _ _ _ _ none more, no_more_trans _ _ _ own then)
-
 module _ {old new : Run} where
   calm : {C : Moment → Moment → Type 0} → (call : Calls C old new) → TouchesStages call.0.before new.now → IsQuiet old new
   calm call only = (quiet call.0 only, kept_no_more old new call.1)
@@ -49,15 +42,8 @@ module _ {old new : Run} where
   quiet_none (inl same) = subst (IsQuiet old) (sym same) (publishes_none _ old, record { only = λ q e. e })
   quiet_none (inr still) = quiet_still still
 
-  quiet_works : {name : List ℕ} {file : ℕ} → WorksOn name file old new → IsQuiet old new
-  quiet_works works = (works.publishes, kept_no_more old new works.own)
-
   quiet_spoiled : {name : List ℕ} {file : ℕ} → HasStage old name file → Calls (Spoils file) old new → IsQuiet old new
-  quiet_spoiled stage (step, own) = quiet_works (spoiling stage step step.this own)
-
-  -- a stage's name was let go
-  less_no_more : {name : List ℕ} → Sets name false old.owns new.owns → OwnsNoMore old new
-  less_no_more {name = name} less = record { only = λ q owned. (less_let_go name old new less q owned).1 }
+  quiet_spoiled stage call = (spoiling stage call call.0.this).quiet
 
   pub removed : {name : List ℕ} → CallsOwning name false (Removes name) old new → IsQuiet old new
   removed done = (quiet done.stepped done.stepped.this.only, less_no_more done.own)
@@ -67,20 +53,20 @@ module _ {old new : Run} where
       (⊎_elim (resting_publishes old new) (λ done. quiet done done.this.only) (perhaps (Removes name) old new tried.stepped), less_no_more tried.own)
 
 writes_work : (name : List ℕ) (file : ℕ) (pieces : List (List ℕ)) (old new : Run) → HasStage old name file → Writes file pieces old new
-    → WorksOn name file old new × (new.now.holds file ≡ old.now.holds file ++ concat pieces)
+    → WorksOn (λ f. f ≡ file) old new × (new.now.holds file ≡ old.now.holds file ++ concat pieces)
 writes_work name file [] old new stage same =
-    subst (λ r. WorksOn name file old r × (r.now.holds file ≡ old.now.holds file ++ [])) (sym same) (works_none name file old stage, sym (append-nil (old.now.holds file)))
+    subst (λ r. WorksOn (λ f. f ≡ file) old r × (r.now.holds file ≡ old.now.holds file ++ [])) (sym same) (works_none old, sym (append-nil (old.now.holds file)))
 writes_work name file (piece ∷ more) old new stage (mid, (step, own), rest) =
-    let first = spoiling stage step step.this.spoils own in
-    let (then, more_grown) = writes_work name file more mid new first.stage rest in (
-      works_trans name file old mid new first then,
+    let first = spoiling stage (step, own) step.this.spoils in
+    let (then, more_grown) = writes_work name file more mid new (first.stages name file stage) rest in (
+      works_trans first then,
       more_grown ∙ ap (λ l. l ++ concat more) (step.this.grown ∙ ap (λ h. h ++ piece) (file_before step stage).holds) ∙ append_assoc (old.now.holds file) piece (concat more),
     )
 
 quiet_part : {name : List ℕ} {file : ℕ} {old new : Run} → HasStage old name file → WritesInPart file old new → IsQuiet old new
 quiet_part {name = name} {file = file} {old = old} {new = new} stage (pieces, mid, writes, then) =
     let works = (writes_work name file pieces old mid stage writes).0 in
-    quiet_trans (quiet_works works) (⊎_elim (λ same. quiet_none (inl same)) (quiet_spoiled works.stage) then)
+    quiet_trans works.quiet (⊎_elim (λ same. quiet_none (inl same)) (quiet_spoiled (works.stages name file stage)) then)
 
 -- == What stands fast ==
 
@@ -218,8 +204,8 @@ module _ (s : Setting) (a : Host) where
   judged_more : {now then : Run} {kept n : ℕ} → Judged s a now kept n → HasStage then s.name s.file → then.now.holds s.file ≡ now.now.holds s.file → Judged s a then kept n
   judged_more {kept = kept} {n = n} x stage holds = record { stage = stage; given = subst (IsAhead a.ahead) (sym holds) x.given; update = subst (λ b. IsUpdate s.accepts s.terms kept b n) (sym holds) x.update }
 
-  staged_more : {now then : Run} {kept n : ℕ} → Staged s a now kept n → IsKept now then s.name s.file → Staged s a then kept n
-  staged_more x k = record { judged = judged_more x.judged k.stage k.same.holds; permissions = k.same.permissions ∙ x.permissions; on_disk = k.same.on_disk ∙ x.on_disk }
+  staged_more : {now then : Run} {kept n : ℕ} → Staged s a now kept n → HasStage then s.name s.file → FileStays s.file now.now then.now → Staged s a then kept n
+  staged_more x stage same = record { judged = judged_more x.judged stage same.holds; permissions = same.permissions ∙ x.permissions; on_disk = same.on_disk ∙ x.on_disk }
 
   only_updates : {P : ℕ → Name → List ℕ → Type 0} {names : List (List ℕ)} {now : Run} → SoFar s a P names now → InstallsOnlyUpdates s.accepts s.terms s.first a.run now
   only_updates {now = now} x = inr (x.base.locked, x.base.lock, installs s.accepts s.terms s.first x.base.locked now x.base.lock.held x.base.kept x.places)
@@ -292,59 +278,57 @@ module _ (s : Setting) (a : Host) where
       from (Create kept) (Failed e) x made = (stopped (stay x.0 (fails (Create kept) e x made)), tt)
       from (Copy kept) More (x, is, stage, consumed) (pieces, writes, given, read) =
           let (works, grown) = writes_work s.name s.file pieces h.run h'.run stage writes in
-          (stay x (quiet_works works), is, works.stage, subst (Consumes a.ahead h'.ahead) (sym grown) (Consumes-trans a.ahead h.ahead h'.ahead (h.run.now.holds s.file) (concat pieces) consumed given))
+          (stay x works.quiet, is, works.stages s.name s.file stage, subst (Consumes a.ahead h'.ahead) (sym grown) (Consumes-trans a.ahead h.ahead h'.ahead (h.run.now.holds s.file) (concat pieces) consumed given))
       from (Copy kept) Done (x, is, stage, consumed) (pieces, writes, given, end, read) =
           let (works, grown) = writes_work s.name s.file pieces h.run h'.run stage writes in
           let held = h'.run.now.holds s.file in
           let all : Consumes a.ahead h'.ahead held = subst (Consumes a.ahead h'.ahead) (sym grown) (Consumes-trans a.ahead h.ahead h'.ahead (h.run.now.holds s.file) (concat pieces) consumed given) in
-          (stay x (quiet_works works), is, works.stage, Consumes-whole a.ahead h'.ahead held (λ xs. xs ≡ held) all end refl)
+          (stay x works.quiet, is, works.stages s.name s.file stage, Consumes-whole a.ahead h'.ahead held (λ xs. xs ≡ held) all end refl)
       from (ReadBack kept) More x (run, read) = subst (λ r. Holds {E = E} (ReadBack kept) (record h' { run = r })) (sym run) x
       from (ReadBack kept) Done (x, is, stage, given) (run, all) = subst (λ r. Holds {E = E} (Answer kept) (record h' { run = r })) (sym run) (x, is, stage, given, all)
       from (Answer kept) (Number n) (x, is, stage, given, all) (run, update) =
           subst (λ r. Holds {E = E} (TakePermissions n) (record h' { run = r })) (sym run)
           (at_most_record x, record { stage = stage; given = given; update = subst (λ k. IsUpdate s.accepts s.terms k (h.run.now.holds s.file) n) (sym is) (subst (λ b. IsUpdate s.accepts s.terms kept b n) (sym all) update) })
       from (TakePermissions n) Done (x, judged) ((step, own), ahead', read') =
-          let works = spoiling judged.stage step step.this.spoils own in
-          (stay x (quiet_works works), judged_more judged works.stage (step.this.same ∙ (file_before step judged.stage).holds), step.this.given)
+          let works = spoiling judged.stage (step, own) step.this.spoils in
+          (stay x works.quiet, judged_more judged (works.stages s.name s.file judged.stage) (step.this.same ∙ (file_before step judged.stage).holds), step.this.given)
       from (Sync n) Done (x, judged, permissions) ((step, own), ahead', read') =
-          let works = spoiling judged.stage step step.this.spoils own in
+          let works = spoiling judged.stage (step, own) step.this.spoils in
           let file = file_before step judged.stage in
-          (stay x (quiet_works works), record { judged = judged_more judged works.stage (step.this.same ∙ file.holds); permissions = step.this.permissions ∙ file.permissions ∙ permissions; on_disk = step.this.on_disk })
+          (stay x works.quiet, record { judged = judged_more judged (works.stages s.name s.file judged.stage) (step.this.same ∙ file.holds); permissions = step.this.permissions ∙ file.permissions ∙ permissions; on_disk = step.this.on_disk })
       from (CreateRecord n) Done (x, staged) (made, ahead', read') =
           let stage = staged.judged.stage in
-          let (names, files, kept) = created_keeps s.record_name s.record_file h.run h'.run made s.name s.file stage in (
+          let (names, files, kept, same) = created_keeps s.record_name s.record_file h.run h'.run made s.name s.file stage in (
             go_on x (created_publishes s.record_name s.record_file h.run h'.run made) (λ q e (differs, none). (none, sym (made.own.others q differs) ∙ e)),
-            staged_more staged kept,
+            staged_more staged kept same,
             record { stage = created_stage s.record_name s.record_file h.run h'.run stage.known stage.locked made; names = names; files = files; holds = made.stepped.this.empty },
           )
       from (WriteRecord n) Done (x, staged, stage) ((pieces, writes, all), ahead', read') =
           let (works, grown) = writes_work s.record_name s.record_file pieces h.run h'.run stage.stage writes in (
-            stay x (quiet_works works),
-            staged_more staged (works.kept s.name s.file staged.judged.stage stage.files),
-            record { stage = works.stage; names = stage.names; files = stage.files; holds = grown ∙ ap (λ l. l ++ concat pieces) stage.holds ∙ all },
+            stay x works.quiet,
+            staged_more staged (works.stages s.name s.file staged.judged.stage) (works.files s.name s.file staged.judged.stage stage.files),
+            record { stage = works.stages s.record_name s.record_file stage.stage; names = stage.names; files = stage.files; holds = grown ∙ ap (λ l. l ++ concat pieces) stage.holds ∙ all },
           )
       from (SyncRecord n) Done (x, staged, stage) ((step, own), ahead', read') =
-          let works = spoiling stage.stage step step.this.spoils own in (
-            stay x (quiet_works works),
-            staged_more staged (works.kept s.name s.file staged.judged.stage stage.files),
-            record { stage = works.stage; names = stage.names; files = stage.files; holds = step.this.same ∙ (file_before step stage.stage).holds ∙ stage.holds },
+          let works = spoiling stage.stage (step, own) step.this.spoils in (
+            stay x works.quiet,
+            staged_more staged (works.stages s.name s.file staged.judged.stage) (works.files s.name s.file staged.judged.stage stage.files),
+            record { stage = works.stages s.record_name s.record_file stage.stage; names = stage.names; files = stage.files; holds = step.this.same ∙ (file_before step stage.stage).holds ∙ stage.holds },
             step.this.on_disk,
           )
-      from (RenameRecord n) Done (x, staged, stage, on_disk) (renamed, ahead', read') = (
-        numbered x staged stage on_disk renamed.stepped (less_no_more renamed.own),
-        staged_more staged
-            (renamed_keeps s.record_name Record s.record_file h.run h'.run stage.stage renamed.stepped renamed.own.others s.name s.file staged.judged.stage stage.names stage.files),
-        (h.run, stage, on_disk, renamed),
-      )
-      from (SyncRecordName n) Done (x, staged, (before, stage, on_disk, renamed)) ((step, own), ahead', read') = (
-        let_go (stay x (calm (step, own) step.this.same.only)) (ap (λ o. o s.record_name) own.owns ∙ renamed.own.set),
-        staged_more staged (names_keep h.run h'.run step own s.name s.file staged.judged.stage),
-        subst (λ b. HasRecorded b h'.run) stage.holds (record {
-          earlier = before.steps;
-          published = (published s.record_name Record before h.run h'.run renamed.stepped step s.record_file stage.stage on_disk).0;
-          lasts = lasting s.record_name before h.run h'.run renamed.stepped step s.record_file stage.stage on_disk;
-        }),
-      )
+      from (RenameRecord n) Done (x, staged, stage, on_disk) (renamed, ahead', read') =
+          let (kept, same) = renamed_keeps s.record_name Record s.record_file h.run h'.run stage.stage renamed.stepped renamed.own.others s.name s.file staged.judged.stage stage.names stage.files in
+          (numbered x staged stage on_disk renamed.stepped (less_no_more renamed.own), staged_more staged kept same, (h.run, stage, on_disk, renamed))
+      from (SyncRecordName n) Done (x, staged, (before, stage, on_disk, renamed)) ((step, own), ahead', read') =
+          let works = working (step, own) step.this.same.only step.this.same.stages (λ f no. absurd no) in (
+            let_go (stay x works.quiet) (ap (λ o. o s.record_name) own.owns ∙ renamed.own.set),
+            staged_more staged (works.stages s.name s.file staged.judged.stage) (works.files s.name s.file staged.judged.stage (λ no. no)),
+            subst (λ b. HasRecorded b h'.run) stage.holds (record {
+              earlier = before.steps;
+              published = (published s.record_name Record before h.run h'.run renamed.stepped step s.record_file stage.stage on_disk).0;
+              lasts = lasting s.record_name before h.run h'.run renamed.stepped step s.record_file stage.stage on_disk;
+            }),
+          )
       from (Rename n) Done (x, staged, recorded) (renamed, ahead', read') = (placed x staged recorded renamed.stepped (less_no_more renamed.own), (h.run, x.publishes, staged, recorded, renamed))
       from (SyncName n) Done (x, (before, publishes, staged, recorded, renamed)) ((step, own), ahead', read') =
           let (published_so, permissions) = published s.name Place before h.run h'.run renamed.stepped step s.file staged.judged.stage staged.on_disk in

@@ -1,10 +1,10 @@
 -- Where each failing call says why it failed, a run that is rejected says the first reason; and where memory ran out, nothing
 -- was published.
 use Rattle.minisign_install.proofs.Common.{◌≡◌, ◌≢◌, inl, inr, ℕ, true, List, Option, ap, sym, subst, ◌∙◌, refl, ⊎_elim, Verifier, Terms, HasStepped, Run, Counts, HasCleared, HasPublishedUpdate, IsDataRefusal, IsDataRefused, IsRefusal, PublishesNothing, InstallFault, IsAhead, Rose, IsBusy, IsStill, DeviceFails, Explains, Host, Makes, Setting, next, Due, Lock, Clear, ReadRecord, Create, Copy, ReadBack, Answer, RenameRecord, Rename, SyncName, RemoveRecord, Remove, Installed, Outcome, Done, Failed, IsCallFault, IsLibraryFault, Place, Named, OutOfMemory, Library, WantsNoMemory, OnlyLocked}
-use Rattle.minisign_install.proofs.Works.{publishes_nothing, publishes_trans, renamed_stands}
+use Rattle.minisign_install.proofs.Works.{IsQuiet, publishes_nothing, publishes_trans, quiet_trans, renamed_stands}
 use Rattle.minisign_install.specs.Order.{Refused}
 use Rattle.minisign_install.proofs.Installs.{found_first}
-use Rattle.minisign_install.proofs.Orders.{Found, Holds, IsQuiet, Nothing, Q, SoFar, at_most_record, cleared_since, fails, quiet_clear, quiet_trans, reached, reached_more, removed, stay}
+use Rattle.minisign_install.proofs.Orders.{Found, Holds, Nothing, Q, SoFar, at_most_record, cleared_since, fails, quiet_clear, reached, reached_more, removed, stay}
 
 -- why the data is not installed, by what was found to be kept; and where memory ran out, nothing was published, if only
 -- calls that ask for memory want it

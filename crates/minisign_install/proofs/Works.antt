@@ -1,6 +1,6 @@
 -- The stages of a run, what one call publishes, and calls one after another.
 use Rattle.std.proofs.lemmas.Option.{none-some, same_Some}
-use Rattle.minisign_install.proofs.Common.{◌≡◌, ◌≢◌, ℕ, List, Some, true, false, IsApart, OwnsTheSame, Moment, Run, RunStep, HasOnDisk, Name, Record, PublishesNothing, PublishesOnly, IsPublished, ◌⊎◌, inl, inr, ⊎_elim, ap, sym, subst, ◌∙◌, refl, RecordUnchanged, MayLead, MayFind, Renames, TouchesOnly, TouchesStages, FileStays, Sets, Place, Numbering, Publishes, IsNumberFrom, RecordHolds, true≢false, [], ◌∷◌, ◌++◌, append_assoc, All-cons, All-nil, All-append, HasCreated, HasStepped, IsStill, Perhaps, SyncsDirectory, Spoils, RecordHoldsAt, OwnsNoMore, permissions_of}
+use Rattle.minisign_install.proofs.Common.{◌≡◌, ◌≢◌, ℕ, List, Some, true, false, IsApart, OwnsTheSame, Moment, Run, RunStep, HasOnDisk, Name, Record, PublishesNothing, PublishesOnly, IsPublished, ◌⊎◌, inl, inr, ⊎_elim, ap, sym, subst, ◌∙◌, refl, RecordUnchanged, MayLead, MayFind, Renames, TouchesOnly, TouchesStages, FileStays, Sets, Place, Numbering, Publishes, IsNumberFrom, RecordHolds, true≢false, [], ◌∷◌, ◌++◌, append_assoc, All-cons, All-nil, All-append, HasCreated, HasStepped, IsStill, Perhaps, SyncsDirectory, Spoils, RecordHoldsAt, OwnsNoMore, Calls, permissions_of}
 
 -- the run holds the lock, and the name of a stage is its own and leads to this file, and neither lasting name does or
 -- may after a crash
@@ -11,17 +11,15 @@ pub record HasStage (r : Run) (name : List ℕ) (file : ℕ) : Type 0 where
   pub leads : r.now.stages name ≡ Some file
   pub apart : IsApart r.now file
 
--- the stage is still there, with what it held and its permissions, on the disk where it was
-pub record IsKept (old new : Run) (name : List ℕ) (file : ℕ) : Type 0 where
-  pub stage : HasStage new name file
-  pub same : FileStays file old.now new.now
+-- nothing was published, and no more stages are the run's own
+abbrev pub IsQuiet : Run → Run → Type 0
+IsQuiet old new = PublishesNothing old new × OwnsNoMore old new
 
--- only this stage was worked on, and nothing was published
-pub record WorksOn (name : List ℕ) (file : ℕ) (old new : Run) : Type 0 where
-  pub publishes : PublishesNothing old new
-  pub stage : HasStage new name file
-  pub kept : (s : List ℕ) (f : ℕ) → HasStage old s f → f ≢ file → IsKept old new s f
-  pub own : OwnsTheSame old new
+-- no more than such files of stages changed, and nothing was published
+pub record WorksOn (touched : ℕ → Type 0) (old new : Run) : Type 0 where
+  pub quiet : IsQuiet old new
+  pub stages : (s : List ℕ) (f : ℕ) → HasStage old s f → HasStage new s f
+  pub files : (s : List ℕ) (f : ℕ) → HasStage old s f → ¬ (touched f) → FileStays f old.now new.now
 
 -- only these bytes, at only this lasting name
 abbrev pub IsOnly : Name → List ℕ → Name → List ℕ → Type 0
@@ -78,11 +76,6 @@ others_keep numbering k m m' same keeps = record {
       keeps.numbers bytes (found_before found lead (same.on_disk found.file lead) (same.holds found.file lead));
 }
 
-call_keeps : (P : Name → List ℕ → Type 0) (numbering : Numbering) (k : ℕ) (m m' : Moment) → Publishes P (step m m') → ((bytes : List ℕ) → P Record bytes → IsNumberFrom numbering k bytes) → RecordHolds numbering k m → RecordHolds numbering k m'
-call_keeps P numbering k m m' brings floor keeps =
-    let (g, leads) = brings.stays Record keeps.file keeps.leads in
-    record { file = g; leads = leads; numbers = λ bytes found. ⊎_elim (keeps.numbers bytes) (floor bytes) (brings.finds Record bytes found) }
-
 -- == Calls together ==
 
 pub publishes_weaken : (P Q : Name → List ℕ → Type 0) (old new : Run) → ((n : Name) (b : List ℕ) → P n b → Q n b) → PublishesOnly P old new → PublishesOnly Q old new
@@ -118,7 +111,8 @@ module _ (P : Name → List ℕ → Type 0) where
     locked = s.locked;
     numbers = λ l numbering k floor keeps.
         let before = others_keep numbering k old.now s.before (s.others.record_left l) keeps in
-        let after = call_keeps P numbering k s.before new.now this floor before in
+        let (g, leads) = this.stays Record before.file before.leads in
+        let after : RecordHolds numbering k new.now = record { file = g; leads = leads; numbers = λ bytes found. ⊎_elim (before.numbers bytes) (floor bytes) (this.finds Record bytes found) } in
         (All-cons (RecordHoldsAt numbering k) (step s.before new.now) [] (before, after) (All-nil (RecordHoldsAt numbering k)), after);
   }
 
@@ -146,6 +140,19 @@ pub resting_publishes : (old new : Run) → HasStepped old new IsStill → Publi
 resting_publishes old new s =
     quiet s (subst (TouchesStages s.before) (sym s.this) (record { leads = λ n. refl; left = λ n f e. inr e; files = λ f no. record { holds = refl; on_disk = refl; permissions = refl } }))
 
+pub kept_no_more : (old new : Run) → OwnsTheSame old new → OwnsNoMore old new
+kept_no_more old new own = record { only = λ s e. sym (ap (λ o. o s) own.owns) ∙ e }
+
+-- a stage's name was let go
+pub less_no_more : {name : List ℕ} {old new : Run} → Sets name false old.owns new.owns → OwnsNoMore old new
+less_no_more {new = new} less = record { only = λ s e. sym (less.others s (λ same. true≢false (sym e ∙ ap (λ t. new.owns t) same ∙ less.set))) ∙ e }
+
+pub no_more_trans : (old mid new : Run) → OwnsNoMore old mid → OwnsNoMore mid new → OwnsNoMore old new
+no_more_trans old mid new a b = record { only = λ s e. a.only s (b.only s e) }
+
+pub quiet_trans : {old mid new : Run} → IsQuiet old mid → IsQuiet mid new → IsQuiet old new
+quiet_trans (none, own) (more, then) = (publishes_trans _ _ _ _ none more, no_more_trans _ _ _ own then)
+
 pub perhaps : (call : Moment → Moment → Type 0) (old new : Run) → HasStepped old new (Perhaps call) → HasStepped old new IsStill ⊎ HasStepped old new call
 perhaps call old new s = ⊎_elim (λ still. inl (call_with s still)) (λ done. inr (call_with s done)) s.this
 
@@ -170,40 +177,33 @@ module _ {C : Moment → Moment → Type 0} {old new : Run} (s : HasStepped old 
     apart = λ n l. apart_before n (lead n l);
   }
 
-  kept_after : new.owns t ≡ old.owns t → new.now.stages t ≡ s.before.stages t → ((n : Name) → MayLead new.now n f → MayLead s.before n f) → FileStays f s.before new.now → IsKept old new t f
-  kept_after owns stages lead same = record { stage = stage_after owns stages lead; same = stays_trans file_before same }
+-- == Stages are worked on ==
 
--- == A stage is worked on ==
-
-pub works_none : (name : List ℕ) (file : ℕ) (r : Run) → HasStage r name file → WorksOn name file r r
-works_none name file r stage = record {
-  publishes = publishes_none (λ _ _. ⊥) r;
-  stage = stage;
-  kept = λ s f held other. record { stage = held; same = record { holds = refl; on_disk = refl; permissions = refl } };
-  own = record { owns = refl };
+pub works_none : {touched : ℕ → Type 0} (r : Run) → WorksOn touched r r
+works_none r = record {
+  quiet = (publishes_none (λ _ _. ⊥) r, record { only = λ s e. e });
+  stages = λ s f held. held;
+  files = λ s f held other. record { holds = refl; on_disk = refl; permissions = refl };
 }
 
-pub works_trans : (name : List ℕ) (file : ℕ) (old mid new : Run) → WorksOn name file old mid → WorksOn name file mid new → WorksOn name file old new
-works_trans name file old mid new a b = record {
-  publishes = publishes_trans (λ _ _. ⊥) old mid new a.publishes b.publishes;
-  stage = b.stage;
-  kept = λ s f held other.
-      let first = a.kept s f held other in
-      let then = b.kept s f first.stage other in
-      record { stage = then.stage; same = stays_trans first.same then.same };
-  own = record { owns = b.own.owns ∙ a.own.owns };
+pub works_trans : {touched : ℕ → Type 0} {old mid new : Run} → WorksOn touched old mid → WorksOn touched mid new → WorksOn touched old new
+works_trans a b = record {
+  quiet = quiet_trans a.quiet b.quiet;
+  stages = λ s f held. b.stages s f (a.stages s f held);
+  files = λ s f held other. stays_trans (a.files s f held other) (b.files s f (a.stages s f held) other);
 }
 
-pub spoiling : {C : Moment → Moment → Type 0} {name : List ℕ} {file : ℕ} {old new : Run} → HasStage old name file → (s : HasStepped old new C) → Spoils file s.before new.now → OwnsTheSame old new → WorksOn name file old new
-spoiling {name = name} {file = file} {old = old} {new = new} stage s spoils own =
-    let only = spoils.only in
-    let owns : (t : List ℕ) → new.owns t ≡ old.owns t = λ t. ap (λ o. o t) own.owns in
-    record {
-      publishes = publishes_one (λ _ _. ⊥) s (touching (λ _ _. ⊥) only (λ f is. subst (IsApart s.before) (sym is) (apart_before s stage)));
-      stage = stage_after s stage (owns name) (spoils.stages name) (λ n lead. lead_before only lead);
-      kept = λ t f held other. kept_after s held (owns t) (spoils.stages t) (λ n lead. lead_before only lead) (only.files f other);
-      own = own;
-    }
+-- a call that changes no names
+pub working : {C : Moment → Moment → Type 0} {touched : ℕ → Type 0} {old new : Run} → (call : Calls C old new) → TouchesOnly touched call.0.before new.now → ((t : List ℕ) → new.now.stages t ≡ call.0.before.stages t)
+    → ((f : ℕ) → touched f → IsApart call.0.before f) → WorksOn touched old new
+working {old = old} {new = new} (s, own) only stages apart = record {
+  quiet = (publishes_one (λ _ _. ⊥) s (touching (λ _ _. ⊥) only apart), kept_no_more old new own);
+  stages = λ t f held. stage_after s held (ap (λ o. o t) own.owns) (stages t) (λ n lead. lead_before only lead);
+  files = λ t f held other. stays_trans (file_before s held) (only.files f other);
+}
+
+pub spoiling : {C : Moment → Moment → Type 0} {name : List ℕ} {file : ℕ} {old new : Run} → HasStage old name file → (call : Calls C old new) → Spoils file call.0.before new.now → WorksOn (λ f. f ≡ file) old new
+spoiling stage call spoils = working call spoils.only spoils.stages (λ f is. subst (IsApart call.0.before) (sym is) (apart_before call.0 stage))
 
 -- == A stage is made ==
 
@@ -220,20 +220,16 @@ module _ (name : List ℕ) (g : ℕ) (old new : Run) where
   pub created_publishes : HasCreated name g old new → PublishesNothing old new
   created_publishes c = publishes_one (λ _ _. ⊥) c.stepped (touching (λ _ _. ⊥) c.stepped.this.only (λ f is. subst (IsApart c.stepped.before) (sym is) c.stepped.this.apart))
 
-  pub created_keeps : HasCreated name g old new → (s : List ℕ) (f : ℕ) → HasStage old s f → (s ≢ name) × (f ≢ g) × IsKept old new s f
+  pub created_keeps : HasCreated name g old new → (s : List ℕ) (f : ℕ) → HasStage old s f → (s ≢ name) × (f ≢ g) × HasStage new s f × FileStays f old.now new.now
   created_keeps c s f held =
       let this = c.stepped.this in
       let leads = leads_before c.stepped held in
       let name_differs : s ≢ name = λ e. none-some f (sym this.free ∙ ap (λ x. c.stepped.before.stages x) (sym e) ∙ leads) in
       let file_differs : f ≢ g = λ e. this.fresh s (leads ∙ ap (λ x. Some x) e) in
-      (name_differs, file_differs, kept_after c.stepped held (c.own.others s name_differs) (this.stages.others s name_differs) (λ n lead. lead_before this.only lead) (this.only.files f file_differs))
+      let stage = stage_after c.stepped held (c.own.others s name_differs) (this.stages.others s name_differs) (λ n lead. lead_before this.only lead) in
+      (name_differs, file_differs, stage, stays_trans (file_before c.stepped held) (this.only.files f file_differs))
 
 -- == A stage gets a lasting name, and the directory is synced ==
-
-pub names_keep : (old new : Run) → HasStepped old new SyncsDirectory → OwnsTheSame old new → (t : List ℕ) (f : ℕ) → HasStage old t f → IsKept old new t f
-names_keep old new s own t f held =
-    let same = s.this.same in
-    kept_after s held (ap (λ o. o t) own.owns) (same.stages t) (λ n lead. lead_before same.only lead) (same.only.files f (λ no. no))
 
 pub place_or_record : (n to : Name) → (n ≡ to) ⊎ (n ≢ to)
 place_or_record Place Place = inl refl
@@ -248,9 +244,11 @@ module _ (name : List ℕ) (to : Name) (g : ℕ) (old new : Run) (stage : HasSta
       let set = s.this.leads.set ∙ leads_before s stage in
       ⊎_elim (λ is. inr (is, same_Some f g (sym e ∙ ap (λ x. new.now.leads x) is ∙ set))) (λ other. inl (inl (sym (s.this.leads.others n other) ∙ e))) (place_or_record n to)
 
-  pub renamed_keeps : (s : HasStepped old new (Renames name to)) → ((t : List ℕ) → t ≢ name → new.owns t ≡ old.owns t) → (t : List ℕ) (f : ℕ) → HasStage old t f → t ≢ name → f ≢ g → IsKept old new t f
+  pub renamed_keeps : (s : HasStepped old new (Renames name to)) → ((t : List ℕ) → t ≢ name → new.owns t ≡ old.owns t) → (t : List ℕ) (f : ℕ) → HasStage old t f → t ≢ name → f ≢ g
+      → HasStage new t f × FileStays f old.now new.now
   renamed_keeps s owns t f held name_differs file_differs =
-      kept_after s held (owns t name_differs) (s.this.stages.others t name_differs) (λ n lead. ⊎_elim (λ led. led) (λ both. absurd (file_differs both.1)) (renamed_lead s n f lead)) (s.this.files f)
+      let stage = stage_after s held (owns t name_differs) (s.this.stages.others t name_differs) (λ n lead. ⊎_elim (λ led. led) (λ both. absurd (file_differs both.1)) (renamed_lead s n f lead)) in
+      (stage, stays_trans (file_before s held) (s.this.files f))
 
   pub renamed_stands : old.now.on_disk g ≡ true → (s : HasStepped old new (Renames name to)) → HasOnDisk new.now to (old.now.holds g)
   renamed_stands on_disk s =
@@ -302,17 +300,3 @@ lasting name old mid new first last g stage on_disk numbering k number =
           let leads = ⊎_elim (λ e. e) (last.this.synced Record found.file) found.lead in
           subst (IsNumberFrom numbering k) (sym (found_there stands found (same_Some found.file stands.file (sym leads ∙ stands.leads)))) number;
     }
-
--- == Which stages are the run's own ==
-
-pub kept_no_more : (old new : Run) → OwnsTheSame old new → OwnsNoMore old new
-kept_no_more old new own = record { only = λ s e. sym (ap (λ o. o s) own.owns) ∙ e }
-
-pub no_more_trans : (old mid new : Run) → OwnsNoMore old mid → OwnsNoMore mid new → OwnsNoMore old new
-no_more_trans old mid new a b = record { only = λ s e. a.only s (b.only s e) }
-
--- no stage is the run's own that was not so before, nor this one
-pub less_let_go : (name : List ℕ) (old new : Run) → Sets name false old.owns new.owns → (s : List ℕ) → new.owns s ≡ true → (s ≢ name) × (old.owns s ≡ true)
-less_let_go name old new own s e =
-    let differs : s ≢ name = λ same. true≢false (sym e ∙ ap (λ t. new.owns t) same ∙ own.set) in
-    (differs, sym (own.others s differs) ∙ e)

@@ -1,7 +1,7 @@
 -- A directory that processes share, one layer below bytes: names that lead to files, what the files hold, and what a
 -- crash leaves of both. Files are numbered, and no number comes twice. The definitions say what one call of the
 -- system does from one moment to the next, and what other processes may do between two calls.
-use Rattle.std.specs.Prelude.{◌≡◌, ◌≢◌, ◌⊎◌, ℕ, ◌<◌, ◌≤◌, Bool, true, false, List, [], ◌∷◌, ◌++◌, length, take, drop, Option, Some, None, Result, IfOk, MatchResult, OnOk, OnErr, not}
+use Rattle.std.specs.Prelude.{◌≡◌, ◌≢◌, ◌⊎◌, ℕ, ◌<◌, ◌≤◌, Bool, true, false, List, [], ◌∷◌, ◌++◌, length, take, drop, Option, Some, None, Result, IfOk, MatchResult, OnOk, OnErr}
 use Rattle.minisign_install.specs.Common.{StageName}
 use Rattle.minisign_install.specs.Faults.{Rose}
 pub use Rattle.minisign_install.specs.declared.directories.Name.{Name}
@@ -199,13 +199,9 @@ pub record Sees (fact : Moment → Type 0) (old new : Moment) : Type 0 where
   pub still : new ≡ old
   pub seen : fact old
 
--- the lock was asked for, which changed nothing, and got unless another run holds it
-abbrev pub IsAsked : Bool → Moment → Moment → Type 0
-IsAsked got = Sees (λ m. m.busy ≡ not got)
-
--- it was not got
+-- nothing changed, and another run holds the lock
 abbrev pub IsBusy : Moment → Moment → Type 0
-IsBusy = IsAsked false
+IsBusy = Sees (λ m. m.busy ≡ true)
 
 -- == A call of a run ==
 
@@ -231,9 +227,9 @@ pub record CallsOwning (name : List ℕ) (is : Bool) (call : Moment → Moment �
   pub stepped : HasStepped old new call
   pub own : Sets name is old.owns new.owns
 
--- the lock was asked for and got
+-- the lock was asked for, which changed nothing, and got, since no other run held it
 pub record HasLocked (old new : Run) : Type 0 where
-  pub stepped : HasStepped old new (IsAsked true)
+  pub stepped : HasStepped old new (Sees (λ m. m.busy ≡ false))
   pub held : new.locked ≡ true
 
 -- a stage was created, whose name and file are the run's own from now on

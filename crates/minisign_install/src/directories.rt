@@ -2,8 +2,8 @@
 //! the system. Between any two calls other processes may do what `OtherProcesses` of the definitions
 //! allows them.
 
-ghost use Rattle.std.specs.Prelude.{◌≡◌, ℕ, Bool, true, false, OnErr, IfOk, take, length, option_map, ◌+◌, ◌^◌, ◌<◌, ◌≤◌};
-ghost use Rattle.minisign_install.specs.Words.{Rose, Run, Appends, Calls, CallsOwning, ClearsAll, Finds, GivesPermissions, HasCounted, HasCreated, HasReadAt, HasRenamed, HasTried, Held, IsAsked, IsStill, Known, MaySyncDirectory, Perhaps, Removes, Renames, Sees, Spoils, Syncs, SyncsDirectory, TouchesStages, drawn_bytes};
+ghost use Rattle.std.specs.Prelude.{◌≡◌, ℕ, Bool, true, false, not, OnErr, IfOk, take, length, option_map, ◌+◌, ◌^◌, ◌<◌, ◌≤◌};
+ghost use Rattle.minisign_install.specs.Words.{Rose, Run, Appends, Calls, CallsOwning, ClearsAll, Finds, GivesPermissions, HasCounted, HasCreated, HasReadAt, HasRenamed, HasTried, Held, IsStill, Known, MaySyncDirectory, Perhaps, Removes, Renames, Sees, Spoils, Syncs, SyncsDirectory, TouchesStages, drawn_bytes};
 
 use crate::stage_names::StageName;
 use minisign_base::devices::DeviceFault;
@@ -43,7 +43,7 @@ pub trait Directory {
     /// Locks the place against other runs, for as long as this lives: `true` where it is locked
     /// now, also by an earlier call, and `false` where another run holds the lock.
     fn lock(&mut self) -> Result<bool, DeviceFault>
-        ensures asked { Known (run self.old) (HasTried (λ got. Calls (IsAsked got)) (Calls IsStill) (run self.old) (run self.new) result) }
+        ensures asked { Known (run self.old) (HasTried (λ got. Calls (Sees (λ m. m.busy ≡ not got))) (Calls IsStill) (run self.old) (run self.new) result) }
         ensures held { Known (run self.old) (IfOk result (λ is. is ≡ true → (run self.new).locked ≡ true)) }
         ensures held_already { Known (run self.old) ((run self.old).locked ≡ true → IfOk result (λ is. is ≡ true)) }
         ensures counted { HasCounted (directory_faults self.old) (directory_faults self.new) result };
