@@ -30,7 +30,7 @@ cleared_since {old = old} (clear, own) more = reached_more (reached (publishes_n
 
 module _ {old new : Run} where
   calm : {C : Moment → Moment → Type 0} → (call : Calls C old new) → TouchesStages call.0.before new.now → IsQuiet old new
-  calm call only = (quiet call.0 only, kept_no_more old new call.1)
+  calm call only = (quiet call.0 only (λ f no. absurd no), kept_no_more old new call.1)
 
   pub quiet_still : Calls IsStill old new → IsQuiet old new
   quiet_still (still, own) = (resting_publishes old new still, kept_no_more old new own)
@@ -46,11 +46,11 @@ module _ {old new : Run} where
   quiet_spoiled stage call = (spoiling stage call call.0.this).quiet
 
   pub removed : {name : List ℕ} → CallsOwning name false (Removes name) old new → IsQuiet old new
-  removed done = (quiet done.stepped done.stepped.this.only, less_no_more done.own)
+  removed done = (quiet done.stepped done.stepped.this.only (λ f no. absurd no), less_no_more done.own)
 
   perhaps_removed : {name : List ℕ} → CallsOwning name false (Perhaps (Removes name)) old new → IsQuiet old new
   perhaps_removed {name = name} tried =
-      (⊎_elim (resting_publishes old new) (λ done. quiet done done.this.only) (perhaps (Removes name) old new tried.stepped), less_no_more tried.own)
+      (⊎_elim (resting_publishes old new) (λ done. quiet done done.this.only (λ f no. absurd no)) (perhaps (Removes name) old new tried.stepped), less_no_more tried.own)
 
 writes_work : (name : List ℕ) (file : ℕ) (pieces : List (List ℕ)) (old new : Run) → HasStage old name file → Writes file pieces old new
     → WorksOn (λ f. f ≡ file) old new × (new.now.holds file ≡ old.now.holds file ++ concat pieces)

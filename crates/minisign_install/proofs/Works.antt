@@ -1,6 +1,6 @@
 -- The stages of a run, what one call publishes, and calls one after another.
 use Rattle.std.proofs.lemmas.Option.{none-some, same_Some}
-use Rattle.minisign_install.proofs.Common.{◌≡◌, ◌≢◌, ℕ, List, Some, true, false, IsApart, OwnsTheSame, Moment, Run, RunStep, HasOnDisk, Name, Record, PublishesNothing, PublishesOnly, IsPublished, ◌⊎◌, inl, inr, ⊎_elim, ap, sym, subst, ◌∙◌, refl, RecordUnchanged, MayLead, MayFind, Renames, TouchesOnly, TouchesStages, FileStays, Sets, Place, Numbering, Publishes, IsNumberFrom, RecordHolds, true≢false, [], ◌∷◌, ◌++◌, append_assoc, All-cons, All-nil, All-append, HasCreated, HasStepped, IsStill, Perhaps, SyncsDirectory, Spoils, RecordHoldsAt, OwnsNoMore, Calls, permissions_of}
+use Rattle.minisign_install.proofs.Common.{◌≡◌, ◌≢◌, ℕ, List, Some, true, false, IsApart, OwnsTheSame, Moment, Run, RunStep, HasOnDisk, Name, Record, PublishesNothing, PublishesOnly, IsPublished, ◌⊎◌, inl, inr, ⊎_elim, ap, sym, subst, ◌∙◌, refl, RecordUnchanged, MayLead, MayFind, Renames, TouchesOnly, TouchesStages, FileStays, Sets, Place, Numbering, Publishes, IsNumberFrom, RecordHolds, true≢false, [], ◌∷◌, ◌++◌, append_assoc, All-cons, All-nil, All-append, HasCreated, HasStepped, IsStill, Perhaps, SyncsDirectory, Spoils, RecordHoldsAt, OwnsNoMore, Calls}
 
 -- the run holds the lock, and the name of a stage is its own and leads to this file, and neither lasting name does or
 -- may after a crash
@@ -54,16 +54,6 @@ found_before found lead on_disk holds = record { file = found.file; lead = lead;
 
 found_there : {m : Moment} {n to : Name} {bytes held : List ℕ} → (stands : HasOnDisk m to held) → (found : MayFind m n bytes) → found.file ≡ stands.file → bytes ≡ held
 found_there {m = m} stands found is = found.holds (ap (λ f. m.on_disk f) is ∙ stands.on_disk) ∙ ap (λ f. m.holds f) is ∙ stands.holds
-
--- a call that touches no file to which a lasting name may lead
-touching : {touched : ℕ → Type 0} {m m' : Moment} (P : Name → List ℕ → Type 0) → TouchesOnly touched m m' → ((f : ℕ) → touched f → IsApart m f) → Publishes P (step m m')
-touching P only apart = record {
-  finds = λ n bytes found.
-      let lead = lead_before only found.lead in
-      let same = only.files found.file (λ is. apart found.file is n lead) in
-      inl (found_before found lead (λ kept. same.on_disk ∙ kept) same.holds);
-  stays = λ n f e. (f, only.leads n ∙ e);
-}
 
 -- == The number in the record ==
 
@@ -132,13 +122,20 @@ module _ (P : Name → List ℕ → Type 0) where
   pub publishes_nothing : (old new : Run) → PublishesNothing old new → PublishesOnly P old new
   publishes_nothing old new = publishes_weaken (λ _ _. ⊥) P old new (λ n b no. absurd no)
 
--- a call that touches no file publishes nothing
-pub quiet : {C : Moment → Moment → Type 0} {old new : Run} → (s : HasStepped old new C) → TouchesStages s.before new.now → PublishesNothing old new
-quiet s only = publishes_one (λ _ _. ⊥) s (touching (λ _ _. ⊥) only (λ f no. absurd no))
+-- a call that touches no file to which a lasting name may lead publishes nothing
+pub quiet : {touched : ℕ → Type 0} {C : Moment → Moment → Type 0} {old new : Run} → (s : HasStepped old new C) → TouchesOnly touched s.before new.now → ((f : ℕ) → touched f → IsApart s.before f) → PublishesNothing old new
+quiet s only apart = publishes_one (λ _ _. ⊥) s (record {
+  finds = λ n bytes found.
+      let lead = lead_before only found.lead in
+      let same = only.files found.file (λ is. apart found.file is n lead) in
+      inl (found_before found lead (λ kept. same.on_disk ∙ kept) same.holds);
+  stays = λ n f e. (f, only.leads n ∙ e);
+})
 
 pub resting_publishes : (old new : Run) → HasStepped old new IsStill → PublishesNothing old new
 resting_publishes old new s =
-    quiet s (subst (TouchesStages s.before) (sym s.this) (record { leads = λ n. refl; left = λ n f e. inr e; files = λ f no. record { holds = refl; on_disk = refl; permissions = refl } }))
+    let only = subst (TouchesStages s.before) (sym s.this) (record { leads = λ n. refl; left = λ n f e. inr e; files = λ f no. record { holds = refl; on_disk = refl; permissions = refl } }) in
+    quiet s only (λ f no. absurd no)
 
 pub kept_no_more : (old new : Run) → OwnsTheSame old new → OwnsNoMore old new
 kept_no_more old new own = record { only = λ s e. sym (ap (λ o. o s) own.owns) ∙ e }
@@ -197,7 +194,7 @@ works_trans a b = record {
 pub working : {C : Moment → Moment → Type 0} {touched : ℕ → Type 0} {old new : Run} → (call : Calls C old new) → TouchesOnly touched call.0.before new.now → ((t : List ℕ) → new.now.stages t ≡ call.0.before.stages t)
     → ((f : ℕ) → touched f → IsApart call.0.before f) → WorksOn touched old new
 working {old = old} {new = new} (s, own) only stages apart = record {
-  quiet = (publishes_one (λ _ _. ⊥) s (touching (λ _ _. ⊥) only apart), kept_no_more old new own);
+  quiet = (quiet s only apart, kept_no_more old new own);
   stages = λ t f held. stage_after s held (ap (λ o. o t) own.owns) (stages t) (λ n lead. lead_before only lead);
   files = λ t f held other. stays_trans (file_before s held) (only.files f other);
 }
@@ -218,7 +215,7 @@ module _ (name : List ℕ) (g : ℕ) (old new : Run) where
   }
 
   pub created_publishes : HasCreated name g old new → PublishesNothing old new
-  created_publishes c = publishes_one (λ _ _. ⊥) c.stepped (touching (λ _ _. ⊥) c.stepped.this.only (λ f is. subst (IsApart c.stepped.before) (sym is) c.stepped.this.apart))
+  created_publishes c = quiet c.stepped c.stepped.this.only (λ f is. subst (IsApart c.stepped.before) (sym is) c.stepped.this.apart)
 
   pub created_keeps : HasCreated name g old new → (s : List ℕ) (f : ℕ) → HasStage old s f → (s ≢ name) × (f ≢ g) × HasStage new s f × FileStays f old.now new.now
   created_keeps c s f held =
@@ -266,7 +263,7 @@ module _ (name : List ℕ) (to : Name) (g : ℕ) (old new : Run) (stage : HasSta
   })
 
 pub published : (name : List ℕ) (to : Name) (old mid new : Run) → HasStepped old mid (Renames name to) → HasStepped mid new SyncsDirectory → (g : ℕ) → HasStage old name g → old.now.on_disk g ≡ true
-    → (p : IsPublished to (old.now.holds g) old.steps new.steps) × (permissions_of p ≡ old.now.permissions g)
+    → (p : IsPublished to (old.now.holds g) old.steps new.steps) × (p.renamed.after.permissions p.stands.file ≡ old.now.permissions g)
 unfolding renamed_stands
 published name to old mid new first last g stage on_disk = (
   record {

@@ -251,7 +251,6 @@ pub record HasCounted {A E : Type 0} (old new : ℕ) (answer : Result A E) : Typ
 
 -- these are the bytes of a file from an offset on, at least one where there are any and there is room
 pub record HasReadAt {E : Type 0} (held : List ℕ) (at : ℕ) (buffer : List ℕ) (answer : Result ℕ E) : Type 0 where
-  pub within : IfOk answer (λ n. n ≤ length (drop at held))
   pub bytes : IfOk answer (λ n. take n buffer ≡ take n (drop at held))
   pub end : IfOk answer (λ n. n ≡ 0 → 0 < length buffer → drop at held ≡ [])
 

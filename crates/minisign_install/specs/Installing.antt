@@ -7,7 +7,7 @@ use Rattle.minisign_install.specs.Comments.{Says, Numbering}
 pub use Rattle.minisign.specs.Reading.{IsAhead}
 use Rattle.minisign_install.specs.Directories.{HasLocked, HasStepped, IsFound, IsStill, Moment, Run, RunStep, Name, Place, Record}
 use Rattle.minisign_install.specs.RecordTexts.{HasNoNumber, IsNumberFor, record_of}
-use Rattle.minisign_install.specs.Runs.{PublishesNothing, PublishesOnly, HasCleared, IsPublished, RecordHolds, RecordHoldsAt, permissions_of}
+use Rattle.minisign_install.specs.Runs.{PublishesNothing, PublishesOnly, HasCleared, IsPublished, RecordHolds, RecordHoldsAt}
 
 -- which updates are wanted: the two texts, the file's name, where the number stands, and at which moment they must not
 -- have expired, in seconds since the beginning of 1970
@@ -122,7 +122,7 @@ pub record HasInstalled (accepts : Verifier) (terms : Terms) (first : Bool) (ahe
   pub recorded : List RunStep
   pub number_first : IsPublished Record (record_of terms.numbering n) earlier recorded
   pub published : IsPublished Place bytes recorded new.steps
-  pub permissions : permissions_of published ≡ true
+  pub permissions : published.renamed.after.permissions published.stands.file ≡ true
 
 -- the texts vouch for some data as for an update, whichever number is kept
 abbrev pub IsVouched : Verifier → Terms → Type 0

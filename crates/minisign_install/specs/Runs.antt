@@ -1,5 +1,5 @@
 -- What several calls of a run do together.
-use Rattle.std.specs.Prelude.{◌≡◌, ◌⊎◌, ℕ, ◌≤◌, Bool, true, List, ◌∷◌, ◌++◌, All, Some}
+use Rattle.std.specs.Prelude.{◌≡◌, ◌⊎◌, ℕ, ◌≤◌, true, List, ◌∷◌, ◌++◌, All, Some}
 use Rattle.minisign_install.specs.Directories.{IsClear, MayFind, Moment, Run, SyncsDirectory, HasOnDisk, RunStep, Name, Record}
 use Rattle.minisign_install.specs.RecordTexts.{IsNumberFor}
 use Rattle.minisign_install.specs.Comments.{Numbering}
@@ -65,7 +65,3 @@ pub record IsPublished (to : Name) (bytes : List ℕ) (old : List RunStep) (new 
   pub calls : new ≡ synced ∷ renamed ∷ old
   pub stands : HasOnDisk renamed.after to bytes
   pub lasts : SyncsDirectory synced.before synced.after
-
--- whether the file that got the name had the permissions of the file at the place then
-abbrev pub permissions_of : {to : Name} {bytes : List ℕ} {old new : List RunStep} → IsPublished to bytes old new → Bool
-permissions_of published = published.renamed.after.permissions published.stands.file
