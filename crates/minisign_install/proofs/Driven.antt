@@ -99,7 +99,7 @@ module _ (accepts : Verifier) (terms : Terms) (first : Bool) where
           let (held, reason) = goes_so due old h going so known named (stays named is) in
           let (is_known, may) = ready s a due h known going held in
           let makes = call.made is_known may in
-          (from s a h h' known due o held makes, why ⊤ s a known h h' due o held makes call.explained (λ _. call.memory) reason)),
+          (from s a h h' due o held makes, why ⊤ s a known h h' due o held makes call.explained (λ _. call.memory) reason)),
     )
 
 -- what is due where the run has not ended

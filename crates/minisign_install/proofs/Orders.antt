@@ -198,7 +198,7 @@ module _ (s : Setting) (a : Host) where
   placed {now = now} {then = then} {n = n} x staged recorded renamed own =
       let stage = staged.judged.stage in
       let brought = renamed_publishes s.name Place s.file now then stage staged.on_disk renamed in
-      let places = inr (places_update s.accepts s.terms x.base.kept.number n (now.now.holds s.file) x.base.locked now then stage.locked x.publishes recorded staged.judged.update brought) in
+      let places = inr (places_update s.accepts s.terms x.base.kept.number n (now.now.holds s.file) x.base.locked now then (x.publishes.locked x.base.lock.held) x.publishes recorded staged.judged.update brought) in
       extend x brought (ordered s.accepts s.terms x.base.kept.number places) places (λ q e of. (of, own.only q e))
 
   judged_more : {now then : Run} {kept n : ℕ} → Judged s a now kept n → HasStage then s.name s.file → then.now.holds s.file ≡ now.now.holds s.file → Judged s a then kept n
@@ -249,7 +249,7 @@ module _ (s : Setting) (a : Host) where
     fails (Remove f) e x (removal, ahead', read') = perhaps_removed removal
     fails due e x never = absurd never
 
-    module _ {E : Type 0} (known : a.run.known ≡ true) where
+    module _ {E : Type 0} where
       pub from : (due : Due E) (o : Outcome E) → Holds due h → Makes s due o h h' → Holds (next due o) h'
       from Lock Done (run, ahead) ((lock, own), ahead', read') = (subst (λ r. HasLocked r h'.run) run lock, subst (λ r. OwnsNoMore r h'.run) run (kept_no_more h.run h'.run own), ahead' ∙ ahead)
       from Lock (Failed e) (run, ahead) ((still, own), ahead', read') = ((inl (subst (λ r. HasStepped r h'.run IsStill) run still), subst (λ r. OwnsNoMore r h'.run) run (kept_no_more h.run h'.run own)), tt)
@@ -272,7 +272,7 @@ module _ (s : Setting) (a : Host) where
       from (Create kept) Done (x, is, ahead) (made, ahead', read') = (
         go_on x (created_publishes s.name s.file h.run h'.run made) (λ q e (differs, none). (none, sym (made.own.others q differs) ∙ e)),
         is,
-        created_stage s.name s.file h.run h'.run (x.publishes.known ∙ x.base.lock.stepped.known ∙ known) (x.publishes.locked x.base.lock.held) made,
+        created_stage s.name s.file h.run h'.run made,
         subst (Consumes a.ahead h'.ahead) (sym made.stepped.this.empty) (subst (λ y. Consumes a.ahead y []) (sym (ahead' ∙ ahead)) (Consumes-nil a.ahead)),
       )
       from (Create kept) (Failed e) x made = (stopped (stay x.0 (fails (Create kept) e x made)), tt)
@@ -301,7 +301,7 @@ module _ (s : Setting) (a : Host) where
           let (names, files, kept, same) = created_keeps s.record_name s.record_file h.run h'.run made s.name s.file stage in (
             go_on x (created_publishes s.record_name s.record_file h.run h'.run made) (λ q e (differs, none). (none, sym (made.own.others q differs) ∙ e)),
             staged_more staged kept same,
-            record { stage = created_stage s.record_name s.record_file h.run h'.run stage.known stage.locked made; names = names; files = files; holds = made.stepped.this.empty },
+            record { stage = created_stage s.record_name s.record_file h.run h'.run made; names = names; files = files; holds = made.stepped.this.empty },
           )
       from (WriteRecord n) Done (x, staged, stage) ((pieces, writes, all), ahead', read') =
           let (works, grown) = writes_work s.record_name s.record_file pieces h.run h'.run stage.stage writes in (
@@ -326,7 +326,7 @@ module _ (s : Setting) (a : Host) where
             subst (λ b. HasRecorded b h'.run) stage.holds (record {
               earlier = before.steps;
               published = (published s.record_name Record before h.run h'.run renamed.stepped step s.record_file stage.stage on_disk).0;
-              lasts = lasting s.record_name before h.run h'.run renamed.stepped step s.record_file stage.stage on_disk;
+              lasts = lasting s.record_name before h.run h'.run renamed.stepped step s.record_file stage.stage on_disk (x.publishes.locked x.base.lock.held);
             }),
           )
       from (Rename n) Done (x, staged, recorded) (renamed, ahead', read') = (placed x staged recorded renamed.stepped (less_no_more renamed.own), (h.run, x.publishes, staged, recorded, renamed))

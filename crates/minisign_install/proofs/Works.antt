@@ -2,11 +2,8 @@
 use Rattle.std.proofs.lemmas.Option.{none-some, same_Some}
 use Rattle.minisign_install.proofs.Common.{◌≡◌, ◌≢◌, ℕ, List, Some, true, false, IsApart, OwnsTheSame, Moment, Run, RunStep, HasOnDisk, Name, Record, PublishesNothing, PublishesOnly, IsPublished, ◌⊎◌, inl, inr, ⊎_elim, ap, sym, subst, ◌∙◌, refl, RecordUnchanged, MayLead, MayFind, Renames, TouchesOnly, TouchesStages, FileStays, Sets, Place, Numbering, Publishes, IsNumberFrom, RecordHolds, true≢false, [], ◌∷◌, ◌++◌, append_assoc, All-cons, All-nil, All-append, HasCreated, HasStepped, IsStill, Perhaps, SyncsDirectory, Spoils, RecordHoldsAt, OwnsNoMore, Calls}
 
--- the run holds the lock, and the name of a stage is its own and leads to this file, and neither lasting name does or
--- may after a crash
+-- the name of a stage is the run's own and leads to this file, and neither lasting name does or may after a crash
 pub record HasStage (r : Run) (name : List ℕ) (file : ℕ) : Type 0 where
-  pub known : r.known ≡ true
-  pub locked : r.locked ≡ true
   pub owned : r.owns name ≡ true
   pub leads : r.now.stages name ≡ Some file
   pub apart : IsApart r.now file
@@ -167,8 +164,6 @@ module _ {C : Moment → Moment → Type 0} {old new : Run} (s : HasStepped old 
 
   stage_after : new.owns t ≡ old.owns t → new.now.stages t ≡ s.before.stages t → ((n : Name) → MayLead new.now n f → MayLead s.before n f) → HasStage new t f
   stage_after owns stages lead = record {
-    known = s.known ∙ held.known;
-    locked = s.locked held.locked;
     owned = owns ∙ held.owned;
     leads = stages ∙ leads_before;
     apart = λ n l. apart_before n (lead n l);
@@ -205,10 +200,8 @@ spoiling stage call spoils = working call spoils.only spoils.stages (λ f is. su
 -- == A stage is made ==
 
 module _ (name : List ℕ) (g : ℕ) (old new : Run) where
-  pub created_stage : old.known ≡ true → old.locked ≡ true → HasCreated name g old new → HasStage new name g
-  created_stage known locked c = record {
-    known = c.stepped.known ∙ known;
-    locked = c.stepped.locked locked;
+  pub created_stage : HasCreated name g old new → HasStage new name g
+  created_stage c = record {
     owned = c.own.set;
     leads = c.stepped.this.stages.set;
     apart = λ n lead. c.stepped.this.apart n (lead_before c.stepped.this.only lead);
@@ -277,11 +270,11 @@ published name to old mid new first last g stage on_disk = (
 )
 
 -- all that is found of the record is there for good then, since others leave it alone
-pub lasting : (name : List ℕ) (old mid new : Run) → HasStepped old mid (Renames name Record) → HasStepped mid new SyncsDirectory → (g : ℕ) → HasStage old name g → old.now.on_disk g ≡ true
+pub lasting : (name : List ℕ) (old mid new : Run) → HasStepped old mid (Renames name Record) → HasStepped mid new SyncsDirectory → (g : ℕ) → HasStage old name g → old.now.on_disk g ≡ true → mid.locked ≡ true
     → (numbering : Numbering) (k : ℕ) → IsNumberFrom numbering k (old.now.holds g) → RecordHolds numbering k new.now
-lasting name old mid new first last g stage on_disk numbering k number =
+lasting name old mid new first last g stage on_disk locked numbering k number =
     let before = renamed_stands name Record g old mid stage on_disk first in
-    let left = last.others.record_left (first.locked stage.locked) in
+    let left = last.others.record_left locked in
     let only = last.this.same.only in
     let same = only.files before.file (λ no. no) in
     let stands : HasOnDisk new.now Record (old.now.holds g) = record {
