@@ -3,7 +3,7 @@ use Rattle.minisign_install.proofs.Common.{◌≡◌, inl, inr, ⊎_elim, ℕ, L
 use Rattle.minisign_install.specs.Order.{Refused}
 use Rattle.minisign_install.proofs.Orders.{Holds, from}
 use Rattle.minisign_install.proofs.Reasons.{Reason, why}
-use Rattle.minisign_install.proofs.Verdicts.{exactly, refused_exactly}
+use Rattle.minisign_install.proofs.Verdicts.{installed_exactly, refused_exactly}
 
 -- a call that is due can be made: the run is still known, and the lock is held
 ready : (s : Setting) (a : Host) (due : Due InstallFault) (h : Host) → a.run.known ≡ true → has_ended due ≡ false → Holds s a due h → (h.run.known ≡ true) × MayCall due h.run
@@ -72,7 +72,7 @@ module _ (accepts : Verifier) (terms : Terms) (first : Bool) where
     ends Installed w h goes = λ known.
         let (named, is) = named_by w in
         let (ended, installs) = (goes known named is).0 in
-        (ended.0, installs, exactly accepts terms first a.ahead a.faults h.faults a.run h.run Unit (Ok tt) (λ k. installs) tt known, ended.1)
+        (ended.0, installs, installed_exactly accepts terms first Unit tt a.ahead a.faults h.faults a.run h.run installs, ended.1)
     ends (Refused e) w h goes = λ known.
         let (named, is) = named_by w in
         let (ended, (reason, spares)) = goes known named is in

@@ -1,6 +1,6 @@
 -- Whether an update stands at the place already: what the texts say of what was found there, and what comes of a run that
 -- looked first.
-use Rattle.minisign_install.proofs.Common.{Bool, CallsNothing, Counts, HasCleared, HasInstalled, HasKept, HasLocked, HasStepped, InstallFault, InstallsOnlyUpdates, IsAnswered, IsFound, IsVouched, Known, List, MayBeRecorded, Moment, Name, None, Ok, Option, PublishesInOrder, PublishesNothing, PublishesOnly, Record, Result, Run, Same, SameNumber, Says, Some, Terms, Verifier, ap, append_assoc, arith, counts, false, inl, inr, refl, subst, sym, true, ℕ, ◌++◌, ◌∙◌, ◌∷◌, ◌≡◌}
+use Rattle.minisign_install.proofs.Common.{Bool, CallsNothing, Counts, HasCleared, HasInstalled, HasKept, HasLocked, HasStepped, InstallFault, InstallsOnlyUpdates, IsAnswered, IsFound, IsVouched, Known, List, MayBeRecorded, Moment, Name, None, Ok, Option, PublishesInOrder, PublishesNothing, PublishesOnly, Record, Result, Run, Same, SameNumber, Says, Some, Terms, Verifier, ap, append_assoc, arith, counts, false, inl, inr, refl, subst, sym, true, ℕ, ⊎_elim, ◌++◌, ◌∙◌, ◌∷◌, ◌≡◌}
 use Rattle.minisign_install.specs.Words.{HasLooked, InstallsFrom, InstallsUnlessThere, IsCauseUnlessThere, IsSigned, LooksInPart}
 use Rattle.minisign_install.specs.Common.{Installed, Offer, Other, Replaceable, Standing, Update}
 use Rattle.minisign_install.proofs.Installs.{found_back, installs, nothing_locked}
@@ -71,9 +71,6 @@ module _ (accepts : Verifier) (terms : Terms) where
 
 -- == A run that looked first ==
 
-after_nothing : (P : Name → List ℕ → Type 0) (old mid new : Run) → PublishesNothing old mid → PublishesOnly P mid new → PublishesOnly P old new
-after_nothing P old mid new none p = publishes_trans P old mid new (publishes_nothing P old mid none) p
-
 cleared_after : (old mid new : Run) → PublishesNothing old mid → HasCleared mid new → HasCleared old new
 cleared_after old mid new none c = record {
   later = c.later;
@@ -85,9 +82,9 @@ cleared_after old mid new none c = record {
 
 -- what was published in order was so from before nothing was
 places_after : (accepts : Verifier) (terms : Terms) (kept : ℕ) (old mid new : Run) → PublishesNothing old mid → PublishesInOrder accepts terms kept mid new → PublishesInOrder accepts terms kept old new
-places_after accepts terms kept old mid new none (inl recorded) = inl (after_nothing (MayBeRecorded accepts terms kept) old mid new none recorded)
+places_after accepts terms kept old mid new none (inl recorded) = inl (publishes_trans (MayBeRecorded accepts terms kept) old mid new (publishes_nothing (MayBeRecorded accepts terms kept) old mid none) recorded)
 places_after accepts terms kept old mid new none (inr b) =
-    inr (record { n = b.n; point = b.point; recorded = after_nothing (MayBeRecorded accepts terms kept) old mid b.point none b.recorded; locked = b.locked; there = b.there; placed = b.placed; stays = b.stays })
+    inr (record { n = b.n; point = b.point; recorded = publishes_trans (MayBeRecorded accepts terms kept) old mid b.point (publishes_nothing (MayBeRecorded accepts terms kept) old mid none) b.recorded; locked = b.locked; there = b.there; placed = b.placed; stays = b.stays })
 
 module _ (accepts : Verifier) (terms : Terms) (first again : Bool) (old locked : Run) (known : old.known ≡ true) (lock : HasLocked old locked) where
   -- it ends there
@@ -115,19 +112,20 @@ module _ (accepts : Verifier) (terms : Terms) (first again : Bool) (old locked :
     kept_before next same kept = record { found = kept.found; there = same.back kept.found lock.held kept.there; number = kept.number; held = kept.held }
 
     pub goes_only : (new : Run) → Known mid (InstallsOnlyUpdates accepts terms first mid new) → InstallsOnlyUpdates accepts terms first old new
-    goes_only new i = elim (i known_there) [
-      | inl still ↦ ends new (call_then locked mid new rests (one_call mid new still still.this))
-      | inr (next, got, from) ↦
-          let same = locked_again next got in
-          inr (
-            locked,
-            lock,
-            elim from.only [
-              | inl nothing ↦ nothing_locked accepts terms first locked new lock.held (publishes_trans (λ _ _. ⊥) locked next new same.nothing nothing)
-              | inr (kept, places) ↦ installs accepts terms first locked new lock.held (kept_before next same kept) (places_after accepts terms kept.number locked next new same.nothing places)
-            ],
-          )
-    ]
+    goes_only new i =
+        ⊎_elim
+        (λ still. ends new (call_then locked mid new rests (one_call mid new still still.this)))
+        (λ (next, got, from).
+        let same = locked_again next got in
+        inr (
+          locked,
+          lock,
+          ⊎_elim
+              (λ nothing. nothing_locked accepts terms first locked new lock.held (publishes_trans (λ _ _. ⊥) locked next new same.nothing nothing))
+              (λ (kept, places). installs accepts terms first locked new lock.held (kept_before next same kept) (places_after accepts terms kept.number locked next new same.nothing places))
+              from.only,
+        ))
+        (i known_there)
 
     pub goes_installed : (ahead : Option (List ℕ)) (new : Run) → Known mid ((next : Run) × HasLocked mid next × HasInstalled accepts terms first ahead next new)
         → (l : Run) × HasLocked old l × HasInstalled accepts terms first ahead l new

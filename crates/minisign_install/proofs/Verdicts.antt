@@ -6,10 +6,6 @@ use Rattle.minisign_install.proofs.Driving.{not_failed}
 use Rattle.minisign_install.proofs.Installs.{some_list}
 use Rattle.minisign_install.proofs.RecordTexts.{same_number}
 
--- one comment was signed with the data
-same_comment : (accepts : Verifier) (pk sig m : List ℕ) (a b : List ℕ) → TextsVouchWith accepts pk sig m false a → TextsVouchWith accepts pk sig m false b → a ≡ b
-same_comment accepts pk sig m a b u v = let both = sym (vouched_verdict accepts pk sig m false a u) ∙ vouched_verdict accepts pk sig m false b v in cc both
-
 same_kept : (numbering : Numbering) (first : Bool) (found : Option (List ℕ)) (k l : ℕ) → IsKeptNumber numbering first found k → IsKeptNumber numbering first found l → k ≡ l
 same_kept numbering first found k l (inl (bytes, there, number)) (inl (other, same, is)) =
     same_number numbering bytes k l number (subst (λ t. IsNumberFor numbering t l) (some_list other bytes (sym same ∙ there)) is)
@@ -22,16 +18,12 @@ record_unfit numbering first found kept e (later, why) (inr (zero, (first_one, n
 record_unfit numbering first found kept e (later, (inl (is, none))) (inl (bytes, there, number)) = cc (none, there)
 record_unfit numbering first found kept e (later, (inr (bytes, there, none, unfit))) (inl (other, same, number)) = none kept (subst (λ t. IsNumberFor numbering t kept) (some_list other bytes (sym same ∙ there)) number)
 
-said_once : (comment file : List ℕ) (numbering : Numbering) (moment n k : ℕ) → Says comment file numbering moment n → Says comment file numbering moment k → n ≡ k
-said_once comment file numbering moment n k a b = cc (a.number.is, b.number.is, a.numbered, b.numbered)
-
-expires_once : (comment : List ℕ) (n k : ℕ) → ExpiresAt comment n → ExpiresAt comment k → n ≡ k
-expires_once comment n k a b = cc (a.number.is, b.number.is, a.once, b.once)
-
 -- what has expired is not unexpired, nor is what does not say when
 expiry_unfit : (comment : List ℕ) (moment : ℕ) (e : InstallFault) → IsExpiryRefused moment comment e → IsUnexpired moment comment → ⊥
 expiry_unfit comment moment e (inl (is, (until, expires, past))) (inl never) = cc (expires.once, never)
-expiry_unfit comment moment e (inl (is, (until, expires, past))) (inr (later, at, ahead)) = omega (arith, past, ahead, expires_once comment until later expires at)
+expiry_unfit comment moment e (inl (is, (until, expires, past))) (inr (later, at, ahead)) =
+    let same : until ≡ later = cc (expires.number.is, at.number.is, expires.once, at.once) in
+    omega (arith, past, ahead)
 expiry_unfit comment moment e (inr (is, some, none)) (inl never) = some never
 expiry_unfit comment moment e (inr (is, some, none)) (inr (later, at, ahead)) = none later at
 
@@ -41,14 +33,16 @@ module _ (accepts : Verifier) (terms : Terms) (first : Bool) where
   data_unfit found kept message e number (inl (fault, is, refused)) (least, n, held, update) =
       refused_unvouched accepts terms.pk_text terms.sig_text message false fault refused update.vouched.vouched
   data_unfit found kept message e number (inr (comment, vouched, why)) (least, n, held, update) =
-      let same : update.comment ≡ comment = same_comment accepts terms.pk_text terms.sig_text message update.comment comment update.vouched vouched in
+      let one = vouched_verdict accepts terms.pk_text terms.sig_text message false in
+      let same : update.comment ≡ comment = cc (one update.comment update.vouched, one comment vouched) in
       let says : Says comment terms.file terms.numbering terms.moment n = subst (λ t. Says t terms.file terms.numbering terms.moment n) same update.says in
       elim why [
         | inl (is, other) ↦ other says.named
         | inr (inl (is, named, none)) ↦ none n (record { value = says.value; numbered = says.numbered; number = says.number })
         | inr (inr (inl (named, (k, has), why))) ↦ expiry_unfit comment terms.moment e why says.unexpired
         | inr (inr (inr (is, (k, older, less)))) ↦
-            omega (arith, less, update.newer, said_once comment terms.file terms.numbering terms.moment n k says older, same_kept terms.numbering first found kept least number held)
+            let once : n ≡ k = cc (says.number.is, older.number.is, says.numbered, older.numbered) in
+            omega (arith, less, update.newer, same_kept terms.numbering first found kept least number held)
       ]
 
   some_ahead : (ahead : Option (List ℕ)) → (message : List ℕ) × IsAhead ahead message
@@ -78,11 +72,7 @@ module _ (accepts : Verifier) (terms : Terms) (first : Bool) where
   refused_exactly A ahead before after old new e (inr (inl (still, device))) = λ memory no_new_fault. memory_only before after e _ memory no_new_fault device
   refused_exactly A ahead before after old new e (inr (inr (locked, got, refusal))) = λ memory no_new_fault. inr (locked, got, locked_verdict ahead before after locked new e memory no_new_fault refusal)
 
-  -- what is said of success and of refusals makes it exact
-  pub exactly : (ahead : Option (List ℕ)) (before after : Counts) (old new : Run) (A : Type 0) (r : Result A InstallFault)
-      → OnOk r (old.known ≡ true → ((locked : Run) × HasLocked old locked × HasInstalled accepts terms first ahead locked new))
-      → IfErr r (λ e. old.known ≡ true → IsRefusal accepts terms first ahead before after old new e) → old.known ≡ true → InstallsExactly accepts terms first ahead before after old new r
-  exactly ahead before after old new A (Ok a) installed refused = λ known memory no_new_fault.
-      let (locked, got, is) = installed known in
+  pub installed_exactly : (A : Type 0) (a : A) (ahead : Option (List ℕ)) (before after : Counts) (old new : Run) → (locked : Run) × HasLocked old locked × HasInstalled accepts terms first ahead locked new
+      → InstallsExactly accepts terms first ahead before after old new (Ok a)
+  installed_exactly A a ahead before after old new (locked, got, is) = λ memory no_new_fault.
       inr (locked, got, (is.kept.found, is.kept.there, (is.bytes, is.read, (is.kept.number, is.n, is.kept.held, is.update))))
-  exactly ahead before after old new A (Err e) installed refused = λ known. refused_exactly A ahead before after old new e (refused known)

@@ -1,7 +1,7 @@
 //! What a file holds is read back, and judged: whether it is an update, and which comment the key has signed.
 
 ghost use Rattle.std.specs.Prelude.{◌≡◌, ◌⊎◌, ◌<◌, ◌+◌, ◌≤◌, ℕ, List, false, true, length, option_map, IfOk, IfErr, OnOk, OnErr, MatchResult};
-ghost use Rattle.minisign_install.specs.Words.{accepts_comments, verdict, SignatureTextRecord, box_of, view_of, map_ok, IsFedState, digest_verdict, judge_digest, signed_comment, Named, OutOfMemory, Known, TextsVouchWith, IsUpdate, terms_of, IsDataRefused, IsLibraryFault, IsReadingFault};
+ghost use Rattle.minisign_install.specs.Words.{accepts_comments, verdict, SignatureTextRecord, box_of, view_of, map_ok, IsFedState, digest_verdict, signed_comment, Named, OutOfMemory, Known, TextsVouchWith, IsUpdate, terms_of, IsDataRefused, IsLibraryFault, IsReadingFault};
 
 use crate::comments::check_comment;
 use crate::directories::{Directory, Handle};
@@ -129,8 +129,8 @@ pub(crate) fn signed_comment<'a, S: Scheme>(
     Ok(decide(scheme, wanted, None, &mut message))
 }
 
-// The comment that the key has signed; where a digest is given, the signature has to be accepted for it too. What the
-// comment signature is over is written to `message`.
+// The conditions of acceptance in their order: the comment that the key has signed; where a digest is given, the
+// signature has to be accepted for it too. What the comment signature is over is written to `message`.
 fn decide<'a, S: Scheme>(
     scheme: &S,
     wanted: Wanted<'a>,
@@ -142,35 +142,20 @@ fn decide<'a, S: Scheme>(
 {
     let pk = read_public_key(wanted.pk_text)?;
     let view = read_signature(wanted.sig_text)?;
-    judge_view(scheme, &pk, &view, digest, message)?;
-    Ok(view.trusted_comment())
-}
-
-// The conditions of acceptance in their order.
-fn judge_view<S: Scheme>(
-    scheme: &S,
-    pk: &PublicKey,
-    view: &SignatureView<'_>,
-    digest: Option<&[u8; 64]>,
-    message: &mut [u8],
-) -> Result<(), PError>
-    requires { 64 + length view.now.trusted ≤ length message.old }
-    ensures { (t : SignatureTextRecord) → view.now ≡ view_of t
-        → result ≡ judge_digest (S.accepts scheme.now) (option_map (λ d. d.now) digest.entry) pk.now t }
-{
     let value = PublicKeyValue {
         key: *pk.key(),
         key_id: *pk.key_id(),
     };
-    test(&value, view, false)?;
-    let second = accepts_comment(scheme, pk, view, message);
+    test(&value, &view, false)?;
+    let second = accepts_comment(scheme, &pk, &view, message);
     match digest {
         Some(digest) => {
             let first = scheme.verify(digest, pk.key(), &view.signature().sig);
-            verdict(true, first, second)
+            verdict(true, first, second)?;
         }
-        None => comment_verdict(true, second),
+        None => comment_verdict(true, second)?,
     }
+    Ok(view.trusted_comment())
 }
 
 // Whether the comment signature has at least 64 bytes, and the first 64 are accepted for the signature followed by the

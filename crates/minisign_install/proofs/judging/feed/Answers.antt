@@ -1,9 +1,6 @@
-use Rattle.minisign_install.proofs.Common.{refl, take, ◌++◌, []}
+use Rattle.minisign_install.proofs.Common.{take, ◌++◌}
 use Rattle.minisign_install.proofs.Pieces.{read_more}
 use Rattle.minisign_install.proofs.judging.feed.Goals as goal
-
-pub pieces-init : goal.pieces-init
-pieces-init g c = ([], c.new-state.ensures.fed, λ known. refl)
 
 pub pieces-preserved : goal.pieces-preserved
 pieces-preserved g c =
