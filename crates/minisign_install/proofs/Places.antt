@@ -1,6 +1,6 @@
 -- Whether an update stands at the place already: what the texts say of what was found there, and what comes of a run that
 -- looked first.
-use Rattle.minisign_install.proofs.Common.{Bool, CallsNothing, Counts, HasCleared, HasInstalled, HasKept, HasLocked, HasStepped, InstallFault, InstallsOnlyUpdates, IsAnswered, IsFound, IsVouched, Known, List, MayBeRecorded, Moment, Name, None, Ok, Option, PublishesInOrder, PublishesNothing, PublishesOnly, Record, Result, Run, Same, SameNumber, Says, Some, Terms, Verifier, ap, append_assoc, arith, counts, false, inl, inr, refl, subst, sym, true, ℕ, ⊎_elim, ◌++◌, ◌∙◌, ◌∷◌, ◌≡◌}
+use Rattle.minisign_install.proofs.Common.{Bool, CallsNothing, Counts, HasCleared, HasInstalled, HasKept, HasLocked, HasStepped, InstallFault, InstallsOnlyUpdates, IsAnswered, IsFound, IsVouched, Known, List, MayBeRecorded, Moment, None, Ok, Option, PublishesInOrder, PublishesNothing, Record, Result, Run, Same, SameNumber, Says, Some, Terms, Verifier, ap, append_assoc, arith, counts, false, inl, inr, refl, subst, sym, true, ℕ, ⊎_elim, ◌++◌, ◌∙◌, ◌∷◌, ◌≡◌}
 use Rattle.minisign_install.specs.Words.{HasLooked, InstallsFrom, InstallsUnlessThere, IsCauseUnlessThere, IsSigned, LooksInPart}
 use Rattle.minisign_install.specs.Common.{Installed, Offer, Other, Replaceable, Standing, Update}
 use Rattle.minisign_install.proofs.Installs.{found_back, installs, nothing_locked}

@@ -1,5 +1,5 @@
 -- An update is installed exactly where it can be.
-use Rattle.minisign_install.proofs.Common.{◌≡◌, ◌≢◌, inl, inr, ℕ, Bool, true, false, List, [], Option, Some, None, ap, sym, subst, ◌∙◌, refl, arith, IfErr, OnOk, Result, Ok, Err, true≢false, Named, OutOfMemory, InstallFault, Library, Verifier, TextsVouchWith, IsAhead, HasInstalled, IsKeptNumber, Terms, refused_unvouched, ExpiresAt, IsExpiryRefused, IsUnexpired, Says, Numbering, HasLocked, IsFound, Run, Record, CanBeInstalled, CannotBeInstalled, Counts, HasFailed, InstallsExactly, IsCallFault, IsDataRefused, IsLibraryFault, IsLockedRefusal, IsRecordRefused, IsRefusal, IsNumberFor, HasNoNumber}
+use Rattle.minisign_install.proofs.Common.{◌≡◌, ◌≢◌, inl, inr, ℕ, Bool, false, List, [], Option, Some, None, ap, sym, subst, ◌∙◌, refl, arith, Ok, Err, true≢false, Named, OutOfMemory, InstallFault, Library, Verifier, IsAhead, HasInstalled, IsKeptNumber, Terms, refused_unvouched, IsExpiryRefused, IsUnexpired, Says, Numbering, HasLocked, IsFound, Run, Record, CanBeInstalled, CannotBeInstalled, Counts, HasFailed, InstallsExactly, IsCallFault, IsDataRefused, IsLibraryFault, IsLockedRefusal, IsRecordRefused, IsRefusal, IsNumberFor, HasNoNumber}
 use Rattle.std.specs.Prelude.{IfSome}
 use Rattle.minisign.proofs.Laws.{vouched_verdict}
 use Rattle.minisign_install.proofs.Driving.{not_failed}
