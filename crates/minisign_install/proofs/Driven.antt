@@ -12,7 +12,7 @@ ready s a Clear h known going (lock, mine, same) = (lock.stepped.known ∙ known
 ready s a ReadRecord h known going (l, lock, mine, clear, same) = (clear.0.known ∙ lock.stepped.known ∙ known, clear.0.locked lock.held)
 ready s a Installed h known going x = absurd (true≢false going)
 ready s a (Refused e) h known going x = absurd (true≢false going)
-ready s a due h known going x = (x.0.publishes.known ∙ x.0.base.lock.stepped.known ∙ known, x.0.publishes.locked x.0.base.lock.held)
+ready s a due h known going x = (x.0.publishes.known ∙ x.0.lock.stepped.known ∙ known, x.0.publishes.locked x.0.lock.held)
 
 module _ (accepts : Verifier) (terms : Terms) (first : Bool) where
   -- What is so of any directory: no device failed so far; or the run will be rejected for this error, and why that may be.

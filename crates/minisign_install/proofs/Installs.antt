@@ -2,7 +2,7 @@
 use Rattle.minisign_install.proofs.Common.{◌≡◌, ◌≤◌, ◌<◌, ◌^◌, inl, inr, ⊎_elim, ℕ, Bool, List, Option, Some, None, sym, subst, ◌∙◌, true, arith, Verifier, HasKept, InstallsLocked, MayBePublished, IsKeptNumber, MayBeInstalled, MayBeRecorded, IsUpdate, RecordsFirst, PublishesInOrder, Terms, Numbering, ClearsAll, HasStepped, IsFound, Moment, Finds, Run, Name, Place, Record, IsNumberFor, record_of, PublishesNothing, PublishesOnly, IsNumberFrom, RecordHolds, MayLead}
 use Rattle.minisign_install.proofs.Works.{HasRecorded, IsOnly, publishes_nothing, publishes_trans, publishes_weaken}
 use Rattle.minisign_install.proofs.RecordTexts.{record_reads, same_number}
-use Rattle.std.proofs.lemmas.Option.{none-some}
+use Rattle.std.proofs.lemmas.Option.{none-some, same_Some}
 
 no_record : Record ≡ Place → ⊥
 no_record e = cc
@@ -11,22 +11,14 @@ no_record e = cc
 number_from : (numbering : Numbering) (k n : ℕ) → n < 2 ^ 64 → k ≤ n → IsNumberFrom numbering k (record_of numbering n)
 number_from numbering k n bound least = (n, record_reads numbering n bound, least)
 
-pub some_list : (xs ys : List ℕ) → Some xs ≡ Some ys → xs ≡ ys
-some_list xs ys e = cc
-
 number_least : (numbering : Numbering) (first : Bool) (bytes : List ℕ) (kept k n : ℕ) → IsNumberFor numbering bytes n → k ≤ n → IsKeptNumber numbering first (Some bytes) kept → k ≤ kept
 number_least numbering first bytes kept k n is least (inl (text, same, number)) =
-    omega (arith, least, same_number numbering bytes n kept is (subst (λ b. IsNumberFor numbering b kept) (some_list text bytes (sym same)) number))
+    omega (arith, least, same_number numbering bytes n kept is (subst (λ b. IsNumberFor numbering b kept) (same_Some text bytes (sym same)) number))
 number_least numbering first bytes kept k n is least (inr (is_zero, (is_first, none))) = absurd (none n is)
 
 module _ (accepts : Verifier) (terms : Terms) (kept : ℕ) where
   abbrev P : Name → List ℕ → Type 0
   P = MayBePublished accepts terms kept
-
-  pub record_brought : (update : List ℕ) (n : ℕ) (old new : Run) → IsUpdate accepts terms kept update n → PublishesOnly (IsOnly Record (record_of terms.numbering n)) old new
-      → PublishesOnly (MayBeRecorded accepts terms kept) old new
-  record_brought update n old new is brings =
-      publishes_weaken (IsOnly Record (record_of terms.numbering n)) (MayBeRecorded accepts terms kept) old new (λ name b only. (only.0, (n, update, is, only.1))) brings
 
   recorded_publishes : {old new : Run} → PublishesOnly (MayBeRecorded accepts terms kept) old new → PublishesOnly P old new
   recorded_publishes = publishes_weaken (MayBeRecorded accepts terms kept) P _ _ (λ name b is. subst (λ x. MayBePublished accepts terms kept x b) (sym is.0) is.1)

@@ -1,5 +1,5 @@
 -- A host that does what the header says makes a run of the law: each of its calls is one that was due.
-use Rattle.minisign_install.proofs.Common.{◌≡◌, ◌==◌, inl, inr, ◌∙◌, ℕ, Bool, true, List, [], ◌∷◌, sym, refl, nat_le, install_number, IsDue, IsFedState, numbering_of, piece_outcome, HasBegun, HasGone, HasObeyed, MakesDue, Obeys, TellsAnswers, TellsRecord, Event, HasRun, Host, Makes, Setting, due_number, next, Due, Lock, ReadRecord, ReadBack, Answer, Outcome, Done, More, Number, Failed, Installation, InstallFault, GivesUpdate, Result, Ok, Err, Refusal, WrongUse, ⊤}
+use Rattle.minisign_install.proofs.Common.{◌≡◌, ◌==◌, inl, inr, ◌∙◌, ℕ, Bool, true, List, [], ◌∷◌, sym, refl, nat_le, install_number, IsDue, IsFedState, numbering_of, piece_outcome, HasBegun, HasGone, HasObeyed, MakesDue, Obeys, TellsAnswers, TellsRecord, HasRun, Host, Makes, Setting, due_number, next, Due, Lock, ReadRecord, ReadBack, Answer, Outcome, Done, More, Number, Failed, Installation, InstallFault, GivesUpdate, Result, Ok, Err, Refusal, WrongUse, ⊤}
 use Rattle.minisign_external.specs.declared.state.Refusal.TheVariants.{Refused}
 use Rattle.minisign_install.proofs.Judgements.{answers_texts}
 use Rattle.minisign_install.proofs.Works.{call_with}
@@ -89,13 +89,13 @@ module _ (s : Setting) (i i' : Installation) (h h' : Host) where
 -- == All calls ==
 
 run_from : (s : Setting) (d : Due ℕ) (i : Installation) (h : Host) (told : List (Installation × Host)) (i' : Installation) (h' : Host) → KnownAt s d i h → HasObeyed s i h told i' h'
-    → (events : List (Event ℕ)) × (due : Due ℕ) × IsDue i' due × HasRun (Makes s) d h events due h'
+    → (events : List (Outcome ℕ × Host)) × (due : Due ℕ) × IsDue i' due × HasRun (Makes s) d h events due h'
 run_from s d i h [] i' h' x (same, host) = ([], d, rw same x.due, (refl, host))
 run_from s d i h ((j, k) ∷ more) i' h' x (call, rest) =
     let (o, made, y) = obeys s i j h k d x call in
     let (events, due, is, run) = run_from s (next d o) j k more i' h' y rest in
-    (record { outcome = o; host = k } ∷ events, due, is, (made, run))
+    ((o, k) ∷ events, due, is, (made, run))
 
 pub makes_run : (s : Setting) (i i' : Installation) (h h' : Host) (told : List (Installation × Host)) → HasBegun s i h → HasObeyed s i h told i' h'
-    → (events : List (Event ℕ)) × (due : Due ℕ) × IsDue i' due × HasRun (Makes s) Lock h events due h'
+    → (events : List (Outcome ℕ × Host)) × (due : Due ℕ) × IsDue i' due × HasRun (Makes s) Lock h events due h'
 makes_run s i i' h h' told (b, read) obeyed = run_from s Lock i h told i' h' (record { due = b.due; chosen = (b.first, b.field); fed = λ e. rw read b.fed }) obeyed

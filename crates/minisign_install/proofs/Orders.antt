@@ -1,9 +1,9 @@
 -- Whatever outcomes come, a run that makes each call as it is due installs only updates: what stands fast at each call
 -- that is due, and that each outcome leads from there to what stands fast at the next one.
-use Rattle.minisign_install.proofs.Common.{◌≡◌, FileStays, ◌≢◌, ◌⊎◌, inl, inr, ⊎_elim, ℕ, List, [], ◌∷◌, ◌++◌, true, false, true≢false, ap, sym, subst, ◌∙◌, refl, append_assoc, append-nil, Consumes-nil, Consumes-trans, Consumes-whole, Consumes, concat, IsAhead, HasInstalled, HasKept, MayBePublished, MayBeRecorded, IsUpdate, PublishesInOrder, ClearsAll, HasLocked, HasRenamed, HasStepped, IsStill, Perhaps, Moment, Removes, Renames, Run, Name, Place, Record, Calls, CallsNothing, CallsOwning, Sets, TouchesStages, Spoils, Event, HasRun, Host, Makes, Setting, Writes, WritesInPart, next, Due, Lock, Clear, ReadRecord, Create, Copy, ReadBack, Answer, TakePermissions, Sync, CreateRecord, WriteRecord, SyncRecord, RenameRecord, SyncRecordName, Rename, SyncName, RemoveRecord, Remove, Installed, Outcome, Done, More, Number, Failed, record_of, PublishesNothing, PublishesOnly, HasCleared, HasReached, OwnsNoMore, ⊤, InstallsOnlyUpdates}
+use Rattle.minisign_install.proofs.Common.{◌≡◌, FileStays, ◌≢◌, ◌⊎◌, inl, inr, ⊎_elim, ℕ, List, [], ◌∷◌, ◌++◌, true, false, true≢false, ap, sym, subst, ◌∙◌, refl, append_assoc, append-nil, Consumes-nil, Consumes-trans, Consumes-whole, Consumes, concat, IsAhead, HasInstalled, HasKept, MayBePublished, MayBeRecorded, IsUpdate, PublishesInOrder, ClearsAll, HasLocked, HasRenamed, HasStepped, IsStill, Perhaps, Moment, Removes, Renames, Run, Name, Place, Record, Calls, CallsNothing, CallsOwning, Sets, TouchesStages, Spoils, HasRun, Host, Makes, Setting, Writes, WritesInPart, next, Due, Lock, Clear, ReadRecord, Create, Copy, ReadBack, Answer, TakePermissions, Sync, CreateRecord, WriteRecord, SyncRecord, RenameRecord, SyncRecordName, Rename, SyncName, RemoveRecord, Remove, Installed, Outcome, Done, More, Number, Failed, record_of, PublishesNothing, PublishesOnly, HasCleared, HasReached, OwnsNoMore, ⊤, InstallsOnlyUpdates}
 use Rattle.minisign_install.specs.Order.{Refused}
-use Rattle.minisign_install.proofs.Installs.{found_first, installs, nothing_locked, ordered, places_more, places_update, record_brought}
-use Rattle.minisign_install.proofs.Works.{call_with, HasRecorded, HasStage, IsOnly, IsQuiet, WorksOn, publishes_none, publishes_nothing, publishes_trans, step, created_publishes, created_keeps, created_stage, kept_no_more, lasting, less_no_more, file_before, no_more_trans, quiet_trans, working, perhaps, published, quiet, renamed_publishes, renamed_keeps, resting_publishes, spoiling, works_none, works_trans}
+use Rattle.minisign_install.proofs.Installs.{found_first, installs, nothing_locked, ordered, places_more, places_update}
+use Rattle.minisign_install.proofs.Works.{call_with, HasRecorded, HasStage, IsOnly, IsQuiet, WorksOn, publishes_none, publishes_nothing, publishes_trans, publishes_weaken, step, created_publishes, created_keeps, created_stage, kept_no_more, lasting, less_no_more, file_before, no_more_trans, quiet_trans, working, perhaps, published, quiet, renamed_publishes, renamed_keeps, resting_publishes, spoiling, works_none, works_trans}
 
 -- == Calls together ==
 
@@ -29,14 +29,11 @@ pub cleared_since : {old mid new : Run} → Calls ClearsAll old mid → Publishe
 cleared_since {old = old} (clear, own) more = reached_more (reached (publishes_none (Nothing 0) old) clear clear.this.clear) more
 
 module _ {old new : Run} where
-  calm : {C : Moment → Moment → Type 0} → (call : Calls C old new) → TouchesStages call.0.before new.now → IsQuiet old new
+  pub calm : {C : Moment → Moment → Type 0} → (call : Calls C old new) → TouchesStages call.0.before new.now → IsQuiet old new
   calm call only = (quiet call.0 only (λ f no. absurd no), kept_no_more old new call.1)
 
   pub quiet_still : Calls IsStill old new → IsQuiet old new
   quiet_still (still, own) = (resting_publishes old new still, kept_no_more old new own)
-
-  pub quiet_clear : Calls ClearsAll old new → IsQuiet old new
-  quiet_clear clear = calm clear clear.0.this.only
 
   quiet_none : CallsNothing old new → IsQuiet old new
   quiet_none (inl same) = subst (IsQuiet old) (sym same) (publishes_none _ old, record { only = λ q e. e })
@@ -70,24 +67,20 @@ quiet_part {name = name} {file = file} {old = old} {new = new} stage (pieces, mi
 
 -- == What stands fast ==
 
--- the lock was got, and the record was found to have a number
-pub record Found (s : Setting) (a : Host) : Type 0 where
-  pub locked : Run
-  pub lock : HasLocked a.run locked
-  pub kept : HasKept s.terms s.first locked.now
-
 -- it is none of these names
 abbrev pub NoneOf : List (List ℕ) → List ℕ → Type 0
 NoneOf [] q = ⊤
 NoneOf (name ∷ more) q = (q ≢ name) × NoneOf more q
 
--- Then leftovers were removed, and only what is as P says was published, in order. A stage whose name is none of these is
--- the run's own only if it was so before.
+-- The lock was got, the record was found to have a number, leftovers were removed, and only what is as P says was
+-- published, in order. A stage whose name is none of these is the run's own only if it was so before.
 pub record SoFar (s : Setting) (a : Host) (P : ℕ → Name → List ℕ → Type 0) (names : List (List ℕ)) (now : Run) : Type 0 where
-  pub base : Found s a
-  pub cleared : HasCleared base.locked now
-  pub publishes : PublishesOnly (P base.kept.number) base.locked now
-  pub places : PublishesInOrder s.accepts s.terms base.kept.number base.locked now
+  pub locked : Run
+  pub lock : HasLocked a.run locked
+  pub kept : HasKept s.terms s.first locked.now
+  pub cleared : HasCleared locked now
+  pub publishes : PublishesOnly (P kept.number) locked now
+  pub places : PublishesInOrder s.accepts s.terms kept.number locked now
   pub own : (q : List ℕ) → now.owns q ≡ true → NoneOf names q → a.run.owns q ≡ true
 
 -- the stage holds an update, which is all the data that was ahead
@@ -127,31 +120,28 @@ module _ (s : Setting) (a : Host) where
   abbrev pub Two : List (List ℕ)
   Two = s.record_name ∷ s.name ∷ []
 
-  abbrev pub number : ℕ → List ℕ
-  number = record_of s.terms.numbering
-
   abbrev pub Holds : {E : Type 0} → Due E → Host → Type 0
   Holds Lock h = (h.run ≡ a.run) × (h.ahead ≡ a.ahead)
   Holds Clear h = HasLocked a.run h.run × OwnsNoMore a.run h.run × (h.ahead ≡ a.ahead)
   Holds ReadRecord h = (l : Run) × HasLocked a.run l × OwnsNoMore a.run l × Calls ClearsAll l h.run × (h.ahead ≡ a.ahead)
-  Holds (Create kept) h = (x : SoFar s a Nothing [] h.run) × (x.base.kept.number ≡ kept) × (h.ahead ≡ a.ahead)
-  Holds (Copy kept) h = (x : SoFar s a Nothing One h.run) × (x.base.kept.number ≡ kept) × HasStage h.run s.name s.file × Consumes a.ahead h.ahead (h.run.now.holds s.file)
-  Holds (ReadBack kept) h = (x : SoFar s a Nothing One h.run) × (x.base.kept.number ≡ kept) × HasStage h.run s.name s.file × IsAhead a.ahead (h.run.now.holds s.file)
+  Holds (Create kept) h = (x : SoFar s a Nothing [] h.run) × (x.kept.number ≡ kept) × (h.ahead ≡ a.ahead)
+  Holds (Copy kept) h = (x : SoFar s a Nothing One h.run) × (x.kept.number ≡ kept) × HasStage h.run s.name s.file × Consumes a.ahead h.ahead (h.run.now.holds s.file)
+  Holds (ReadBack kept) h = (x : SoFar s a Nothing One h.run) × (x.kept.number ≡ kept) × HasStage h.run s.name s.file × IsAhead a.ahead (h.run.now.holds s.file)
   Holds (Answer kept) h =
-      (x : SoFar s a Nothing One h.run) × (x.base.kept.number ≡ kept) × HasStage h.run s.name s.file × IsAhead a.ahead (h.run.now.holds s.file) × (h.run.now.holds s.file ≡ h.read)
-  Holds (TakePermissions n) h = (x : SoFar s a Q One h.run) × Judged s a h.run x.base.kept.number n
-  Holds (Sync n) h = (x : SoFar s a Q One h.run) × Judged s a h.run x.base.kept.number n × (h.run.now.permissions s.file ≡ true)
-  Holds (CreateRecord n) h = (x : SoFar s a Q One h.run) × Staged s a h.run x.base.kept.number n
-  Holds (WriteRecord n) h = (x : SoFar s a Q Two h.run) × Staged s a h.run x.base.kept.number n × RecordStage s h.run []
-  Holds (SyncRecord n) h = (x : SoFar s a Q Two h.run) × Staged s a h.run x.base.kept.number n × RecordStage s h.run (number n)
-  Holds (RenameRecord n) h = (x : SoFar s a Q Two h.run) × Staged s a h.run x.base.kept.number n × RecordStage s h.run (number n) × (h.run.now.on_disk s.record_file ≡ true)
+      (x : SoFar s a Nothing One h.run) × (x.kept.number ≡ kept) × HasStage h.run s.name s.file × IsAhead a.ahead (h.run.now.holds s.file) × (h.run.now.holds s.file ≡ h.read)
+  Holds (TakePermissions n) h = (x : SoFar s a Q One h.run) × Judged s a h.run x.kept.number n
+  Holds (Sync n) h = (x : SoFar s a Q One h.run) × Judged s a h.run x.kept.number n × (h.run.now.permissions s.file ≡ true)
+  Holds (CreateRecord n) h = (x : SoFar s a Q One h.run) × Staged s a h.run x.kept.number n
+  Holds (WriteRecord n) h = (x : SoFar s a Q Two h.run) × Staged s a h.run x.kept.number n × RecordStage s h.run []
+  Holds (SyncRecord n) h = (x : SoFar s a Q Two h.run) × Staged s a h.run x.kept.number n × RecordStage s h.run (record_of s.terms.numbering n)
+  Holds (RenameRecord n) h = (x : SoFar s a Q Two h.run) × Staged s a h.run x.kept.number n × RecordStage s h.run (record_of s.terms.numbering n) × (h.run.now.on_disk s.record_file ≡ true)
   Holds (SyncRecordName n) h =
-      (x : SoFar s a Q Two h.run) × Staged s a h.run x.base.kept.number n
-      × ((before : Run) × RecordStage s before (number n) × (before.now.on_disk s.record_file ≡ true) × HasRenamed s.record_name Record before h.run)
-  Holds (Rename n) h = (x : SoFar s a Q One h.run) × Staged s a h.run x.base.kept.number n × HasRecorded (number n) h.run
+      (x : SoFar s a Q Two h.run) × Staged s a h.run x.kept.number n
+      × ((before : Run) × RecordStage s before (record_of s.terms.numbering n) × (before.now.on_disk s.record_file ≡ true) × HasRenamed s.record_name Record before h.run)
+  Holds (Rename n) h = (x : SoFar s a Q One h.run) × Staged s a h.run x.kept.number n × HasRecorded (record_of s.terms.numbering n) h.run
   Holds (SyncName n) h =
-      (x : SoFar s a All One h.run) × ((before : Run) × PublishesOnly (Q x.base.kept.number) x.base.locked before
-      × Staged s a before x.base.kept.number n × HasRecorded (number n) before × HasRenamed s.name Place before h.run)
+      (x : SoFar s a All One h.run) × ((before : Run) × PublishesOnly (Q x.kept.number) x.locked before
+      × Staged s a before x.kept.number n × HasRecorded (record_of s.terms.numbering n) before × HasRenamed s.name Place before h.run)
   Holds (RemoveRecord e) h = SoFar s a All Two h.run × ⊤
   Holds (Remove e) h = SoFar s a All One h.run × ⊤
   Holds Installed h = Ended s a h.run × ((locked : Run) × HasLocked a.run locked × HasInstalled s.accepts s.terms s.first a.ahead locked h.run)
@@ -160,15 +150,15 @@ module _ (s : Setting) (a : Host) where
   -- == From one moment to the next ==
 
   abbrev pub extend : {P P' : ℕ → Name → List ℕ → Type 0} {R : Name → List ℕ → Type 0} {names names' : List (List ℕ)} {now then : Run} → (x : SoFar s a P names now) → PublishesOnly R now then
-      → PublishesOnly (P' x.base.kept.number) x.base.locked then → PublishesInOrder s.accepts s.terms x.base.kept.number x.base.locked then
+      → PublishesOnly (P' x.kept.number) x.locked then → PublishesInOrder s.accepts s.terms x.kept.number x.locked then
       → ((q : List ℕ) → then.owns q ≡ true → NoneOf names' q → NoneOf names q × (now.owns q ≡ true)) → SoFar s a P' names' then
   extend x more publishes places own =
-      record { base = x.base; cleared = reached_more x.cleared more; publishes = publishes; places = places; own = λ q e of. let (before, mine) = own q e of in x.own q mine before }
+      record { locked = x.locked; lock = x.lock; kept = x.kept; cleared = reached_more x.cleared more; publishes = publishes; places = places; own = λ q e of. let (before, mine) = own q e of in x.own q mine before }
 
   abbrev pub go_on : {P : ℕ → Name → List ℕ → Type 0} {names names' : List (List ℕ)} {now then : Run} → SoFar s a P names now → PublishesNothing now then
       → ((q : List ℕ) → then.owns q ≡ true → NoneOf names' q → NoneOf names q × (now.owns q ≡ true)) → SoFar s a P names' then
   go_on {P = P} {now = now} {then = then} x none own =
-      extend x none (publishes_trans (P x.base.kept.number) x.base.locked now then x.publishes (publishes_nothing (P x.base.kept.number) now then none)) (places_more s.accepts s.terms x.base.kept.number x.base.locked now then none x.places) own
+      extend x none (publishes_trans (P x.kept.number) x.locked now then x.publishes (publishes_nothing (P x.kept.number) now then none)) (places_more s.accepts s.terms x.kept.number x.locked now then none x.places) own
 
   abbrev pub stay : {P : ℕ → Name → List ℕ → Type 0} {names : List (List ℕ)} {now then : Run} → SoFar s a P names now → IsQuiet now then → SoFar s a P names then
   stay x (none, own) = go_on x none (λ q e of. (of, own.only q e))
@@ -176,30 +166,30 @@ module _ (s : Setting) (a : Host) where
   -- the stage of this name is not the run's own any more
   abbrev pub let_go : {P : ℕ → Name → List ℕ → Type 0} {name : List ℕ} {names : List (List ℕ)} {now : Run} → SoFar s a P (name ∷ names) now → now.owns name ≡ false → SoFar s a P names now
   let_go {now = now} x less =
-      record { base = x.base; cleared = x.cleared; publishes = x.publishes; places = x.places; own = λ q e of. x.own q e ((λ same. true≢false (sym e ∙ ap (λ t. now.owns t) same ∙ less)), of) }
+      record { locked = x.locked; lock = x.lock; kept = x.kept; cleared = x.cleared; publishes = x.publishes; places = x.places; own = λ q e of. x.own q e ((λ same. true≢false (sym e ∙ ap (λ t. now.owns t) same ∙ less)), of) }
 
   abbrev pub at_most : {P : ℕ → Name → List ℕ → Type 0} {names : List (List ℕ)} {now : Run} → SoFar s a P names now → SoFar s a All names now
-  at_most x = record { base = x.base; cleared = x.cleared; publishes = ordered s.accepts s.terms x.base.kept.number x.places; places = x.places; own = x.own }
+  at_most x = record { locked = x.locked; lock = x.lock; kept = x.kept; cleared = x.cleared; publishes = ordered s.accepts s.terms x.kept.number x.places; places = x.places; own = x.own }
 
   abbrev pub at_most_record : {names : List (List ℕ)} {now : Run} → SoFar s a Nothing names now → SoFar s a Q names now
-  at_most_record {now = now} x = record { base = x.base; cleared = x.cleared; publishes = publishes_nothing (Q x.base.kept.number) x.base.locked now x.publishes; places = x.places; own = x.own }
+  at_most_record {now = now} x = record { locked = x.locked; lock = x.lock; kept = x.kept; cleared = x.cleared; publishes = publishes_nothing (Q x.kept.number) x.locked now x.publishes; places = x.places; own = x.own }
 
   -- the stage of the record gets the record's name
-  abbrev pub numbered : {now then : Run} {n : ℕ} → (x : SoFar s a Q Two now) → Staged s a now x.base.kept.number n → RecordStage s now (number n) → now.now.on_disk s.record_file ≡ true
+  abbrev pub numbered : {now then : Run} {n : ℕ} → (x : SoFar s a Q Two now) → Staged s a now x.kept.number n → RecordStage s now (record_of s.terms.numbering n) → now.now.on_disk s.record_file ≡ true
       → HasStepped now then (Renames s.record_name Record) → OwnsNoMore now then → SoFar s a Q Two then
   numbered {now = now} {then = then} {n = n} x staged stage on_disk renamed own =
-      let brought = record_brought s.accepts s.terms x.base.kept.number (now.now.holds s.file) n now then staged.judged.update
-      (subst (λ b. PublishesOnly (IsOnly Record b) now then) stage.holds (renamed_publishes s.record_name Record s.record_file now then stage.stage on_disk renamed)) in
-      let all = publishes_trans (Q x.base.kept.number) x.base.locked now then x.publishes brought in
+      let brought = publishes_weaken _ (Q x.kept.number) now then (λ name b only. (only.0, (n, now.now.holds s.file, staged.judged.update, only.1 ∙ stage.holds)))
+      (renamed_publishes s.record_name Record s.record_file now then stage.stage on_disk renamed) in
+      let all = publishes_trans (Q x.kept.number) x.locked now then x.publishes brought in
       extend x brought all (inl all) (λ q e of. (of, own.only q e))
 
   -- the stage gets the place's name
-  abbrev pub placed : {now then : Run} {n : ℕ} → (x : SoFar s a Q One now) → Staged s a now x.base.kept.number n → HasRecorded (number n) now → HasStepped now then (Renames s.name Place) → OwnsNoMore now then → SoFar s a All One then
+  abbrev pub placed : {now then : Run} {n : ℕ} → (x : SoFar s a Q One now) → Staged s a now x.kept.number n → HasRecorded (record_of s.terms.numbering n) now → HasStepped now then (Renames s.name Place) → OwnsNoMore now then → SoFar s a All One then
   placed {now = now} {then = then} {n = n} x staged recorded renamed own =
       let stage = staged.judged.stage in
       let brought = renamed_publishes s.name Place s.file now then stage staged.on_disk renamed in
-      let places = inr (places_update s.accepts s.terms x.base.kept.number n (now.now.holds s.file) x.base.locked now then (x.publishes.locked x.base.lock.held) x.publishes recorded staged.judged.update brought) in
-      extend x brought (ordered s.accepts s.terms x.base.kept.number places) places (λ q e of. (of, own.only q e))
+      let places = inr (places_update s.accepts s.terms x.kept.number n (now.now.holds s.file) x.locked now then (x.publishes.locked x.lock.held) x.publishes recorded staged.judged.update brought) in
+      extend x brought (ordered s.accepts s.terms x.kept.number places) places (λ q e of. (of, own.only q e))
 
   judged_more : {now then : Run} {kept n : ℕ} → Judged s a now kept n → HasStage then s.name s.file → then.now.holds s.file ≡ now.now.holds s.file → Judged s a then kept n
   judged_more {kept = kept} {n = n} x stage holds = record { stage = stage; given = subst (IsAhead a.ahead) (sym holds) x.given; update = subst (λ b. IsUpdate s.accepts s.terms kept b n) (sym holds) x.update }
@@ -208,7 +198,7 @@ module _ (s : Setting) (a : Host) where
   staged_more x stage same = record { judged = judged_more x.judged stage same.holds; permissions = same.permissions ∙ x.permissions; on_disk = same.on_disk ∙ x.on_disk }
 
   only_updates : {P : ℕ → Name → List ℕ → Type 0} {names : List (List ℕ)} {now : Run} → SoFar s a P names now → InstallsOnlyUpdates s.accepts s.terms s.first a.run now
-  only_updates {now = now} x = inr (x.base.locked, x.base.lock, installs s.accepts s.terms s.first x.base.locked now x.base.lock.held x.base.kept x.places)
+  only_updates {now = now} x = inr (x.locked, x.lock, installs s.accepts s.terms s.first x.locked now x.lock.held x.kept x.places)
 
   stopped : {P : ℕ → Name → List ℕ → Type 0} {now : Run} → SoFar s a P [] now → Ended s a now
   stopped x = (only_updates x, record { only = λ q e. x.own q e tt })
@@ -257,9 +247,11 @@ module _ (s : Setting) (a : Host) where
       from Clear (Failed e) (lock, mine, ahead) made = (unread lock mine (fails Clear e (lock, mine, ahead) made), tt)
       from ReadRecord (Number n) (l, lock, mine, clear, ahead) ((found, (reads, own), number), ahead', read') =
           let still = quiet_still (call_with reads reads.this.still, own) in
-          let (none, more) = quiet_trans (quiet_clear clear) still in (
+          let (none, more) = quiet_trans (calm clear clear.0.this.only) still in (
             record {
-              base = record { locked = l; lock = lock; kept = record { found = found; there = found_first found l h.run h'.run lock.held clear.0 reads; number = n; held = number } };
+              locked = l;
+              lock = lock;
+              kept = record { found = found; there = found_first found l h.run h'.run lock.held clear.0 reads; number = n; held = number };
               cleared = cleared_since clear still.0;
               publishes = none;
               places = inl (publishes_nothing (Q n) l h'.run none);
@@ -268,7 +260,7 @@ module _ (s : Setting) (a : Host) where
             refl,
             ahead' ∙ ahead,
           )
-      from ReadRecord (Failed e) (l, lock, mine, clear, ahead) made = (unread lock mine (quiet_trans (quiet_clear clear) (fails ReadRecord e (l, lock, mine, clear, ahead) made)), tt)
+      from ReadRecord (Failed e) (l, lock, mine, clear, ahead) made = (unread lock mine (quiet_trans (calm clear clear.0.this.only) (fails ReadRecord e (l, lock, mine, clear, ahead) made)), tt)
       from (Create kept) Done (x, is, ahead) (made, ahead', read') = (
         go_on x (created_publishes s.name s.file h.run h'.run made) (λ q e (differs, none). (none, sym (made.own.others q differs) ∙ e)),
         is,
@@ -326,7 +318,7 @@ module _ (s : Setting) (a : Host) where
             subst (λ b. HasRecorded b h'.run) stage.holds (record {
               earlier = before.steps;
               published = (published s.record_name Record before h.run h'.run renamed.stepped step s.record_file stage.stage on_disk).0;
-              lasts = lasting s.record_name before h.run h'.run renamed.stepped step s.record_file stage.stage on_disk (x.publishes.locked x.base.lock.held);
+              lasts = lasting s.record_name before h.run h'.run renamed.stepped step s.record_file stage.stage on_disk (x.publishes.locked x.lock.held);
             }),
           )
       from (Rename n) Done (x, staged, recorded) (renamed, ahead', read') = (placed x staged recorded renamed.stepped (less_no_more renamed.own), (h.run, x.publishes, staged, recorded, renamed))
@@ -335,10 +327,10 @@ module _ (s : Setting) (a : Host) where
           let y = let_go (stay x (calm (step, own) step.this.same.only)) (ap (λ o. o s.name) own.owns ∙ renamed.own.set) in (
             stopped y,
             (
-              y.base.locked,
-              y.base.lock,
+              y.locked,
+              y.lock,
               record {
-                kept = y.base.kept;
+                kept = y.kept;
                 cleared = y.cleared;
                 bytes = before.now.holds s.file;
                 n = n;
@@ -368,7 +360,7 @@ module _ (s : Setting) (a : Host) where
   pub safe : {E : Type 0} (due : Due E) (h : Host) → Holds due h → (h.run ≡ a.run) ⊎ InstallsOnlyUpdates s.accepts s.terms s.first a.run h.run
   safe Lock h (run, ahead) = inl run
   safe Clear h (lock, mine, ahead) = inr (unread lock mine (quiet_none (inl refl))).0
-  safe ReadRecord h (l, lock, mine, clear, ahead) = inr (unread lock mine (quiet_clear clear)).0
+  safe ReadRecord h (l, lock, mine, clear, ahead) = inr (unread lock mine (calm clear clear.0.this.only)).0
   safe Installed h x = inr x.0.0
   safe (Refused e) h x = inr x.0.0
   safe due h x = inr (only_updates x.0)
@@ -379,6 +371,6 @@ module _ (s : Setting) (a : Host) where
 
 -- what each call leads to, a run does
 pub runs : {E : Type 0} {call : Due E → Outcome E → Host → Host → Type 0} (P : Due E → Host → Type 0) → ((due : Due E) (o : Outcome E) (h h' : Host) → P due h → call due o h h' → P (next due o) h')
-    → (due : Due E) (h : Host) (events : List (Event E)) (due' : Due E) (h' : Host) → P due h → HasRun call due h events due' h' → P due' h'
+    → (due : Due E) (h : Host) (events : List (Outcome E × Host)) (due' : Due E) (h' : Host) → P due h → HasRun call due h events due' h' → P due' h'
 runs P goes due h [] due' h' x (is, same) = subst (λ d. P d h') (sym is) (subst (P due) (sym same) x)
-runs P goes due h (e ∷ more) due' h' x (made, rest) = runs P goes (next due e.outcome) e.host more due' h' (goes due e.outcome h e.host x made) rest
+runs P goes due h ((o, mid) ∷ more) due' h' x (made, rest) = runs P goes (next due o) mid more due' h' (goes due o h mid x made) rest

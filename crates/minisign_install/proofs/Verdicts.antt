@@ -3,12 +3,12 @@ use Rattle.minisign_install.proofs.Common.{◌≡◌, ◌≢◌, inl, inr, ℕ, 
 use Rattle.std.specs.Prelude.{IfSome}
 use Rattle.minisign.proofs.Laws.{vouched_verdict}
 use Rattle.minisign_install.proofs.Driving.{not_failed}
-use Rattle.minisign_install.proofs.Installs.{some_list}
+use Rattle.std.proofs.lemmas.Option.{same_Some}
 use Rattle.minisign_install.proofs.RecordTexts.{same_number}
 
 same_kept : (numbering : Numbering) (first : Bool) (found : Option (List ℕ)) (k l : ℕ) → IsKeptNumber numbering first found k → IsKeptNumber numbering first found l → k ≡ l
 same_kept numbering first found k l (inl (bytes, there, number)) (inl (other, same, is)) =
-    same_number numbering bytes k l number (subst (λ t. IsNumberFor numbering t l) (some_list other bytes (sym same ∙ there)) is)
+    same_number numbering bytes k l number (subst (λ t. IsNumberFor numbering t l) (same_Some other bytes (sym same ∙ there)) is)
 same_kept numbering first found k l (inl (bytes, there, number)) (inr (zero, (is, none))) = absurd (subst (λ f. IfSome f (HasNoNumber numbering)) there none k number)
 same_kept numbering first found k l (inr (zero, (is, none))) (inl (bytes, there, number)) = absurd (subst (λ f. IfSome f (HasNoNumber numbering)) there none l number)
 same_kept numbering first found k l (inr (zero, why)) (inr (zero', why')) = zero ∙ sym zero'
@@ -16,7 +16,7 @@ same_kept numbering first found k l (inr (zero, why)) (inr (zero', why')) = zero
 record_unfit : (numbering : Numbering) (first : Bool) (found : Option (List ℕ)) (kept : ℕ) (e : InstallFault) → IsRecordRefused numbering first found e → IsKeptNumber numbering first found kept → ⊥
 record_unfit numbering first found kept e (later, why) (inr (zero, (first_one, number))) = true≢false (sym first_one ∙ later)
 record_unfit numbering first found kept e (later, (inl (is, none))) (inl (bytes, there, number)) = cc (none, there)
-record_unfit numbering first found kept e (later, (inr (bytes, there, none, unfit))) (inl (other, same, number)) = none kept (subst (λ t. IsNumberFor numbering t kept) (some_list other bytes (sym same ∙ there)) number)
+record_unfit numbering first found kept e (later, (inr (bytes, there, none, unfit))) (inl (other, same, number)) = none kept (subst (λ t. IsNumberFor numbering t kept) (same_Some other bytes (sym same ∙ there)) number)
 
 -- what has expired is not unexpired, nor is what does not say when
 expiry_unfit : (comment : List ℕ) (moment : ℕ) (e : InstallFault) → IsExpiryRefused moment comment e → IsUnexpired moment comment → ⊥

@@ -92,17 +92,12 @@ Makes s (Remove first) o h h' =
     Goes (CallsOwning s.name false (Removes s.name)) (CallsOwning s.name false (Perhaps (Removes s.name))) o h h'
 Makes s due o h h' = ⊥
 
--- what was said of a call, and the host after it
-pub record Event (E : Type 0) : Type 0 where
-  pub outcome : Outcome E
-  pub host : Host
-
--- Each call was as it was due, and as this says, from when this was due to when that is.
-abbrev pub HasRun : {E : Type 0} → (Due E → Outcome E → Host → Host → Type 0) → Due E → Host → List (Event E)
-    → Due E → Host → Type 0
+-- Each call was as it was due, and as this says, from when this was due to when that is: by what was said of each, and
+-- the host after it.
+abbrev pub HasRun : {E : Type 0} → (Due E → Outcome E → Host → Host → Type 0) → Due E → Host
+    → List (Outcome E × Host) → Due E → Host → Type 0
 HasRun call due h [] due' h' = (due' ≡ due) × (h' ≡ h)
-HasRun call due h (event ∷ more) due' h' =
-    call due event.outcome h event.host × HasRun call (next due event.outcome) event.host more due' h'
+HasRun call due h ((o, mid) ∷ more) due' h' = call due o h mid × HasRun call (next due o) mid more due' h'
 
 -- == Why a call failed ==
 

@@ -3,7 +3,7 @@
 //! host makes a run of the law on runs. None of it allocates.
 
 ghost use Rattle.std.specs.Prelude.{◌≡◌, ◌<◌, ◌≤◌, ℕ, List, Some, option_map, if◌then◌else◌, OnOk, IfErr, MatchOption, length, take};
-ghost use Rattle.minisign_install.specs.Words.{CallHasFailed, CannotBeFed, CannotFail, CannotGo, Event, HasBegun, HasObeyed, HasReadBack, HasReadRecord, HasRun, Host, IsBegun, IsDue, IsHostMeaning, IsNotDue, IsUnused, RestUnchanged, WasDone, WritesCut, call_of, due_number, due_of, failure, is_device_error, numbering_number, numbering_of, offer_number, Due, Lock, Makes, ReadRecord, Setting, WriteRecord, Done, More, record_of};
+ghost use Rattle.minisign_install.specs.Words.{CallHasFailed, CannotBeFed, CannotFail, CannotGo, HasBegun, HasObeyed, HasReadBack, HasReadRecord, HasRun, Host, IsBegun, IsDue, IsHostMeaning, IsNotDue, IsUnused, RestUnchanged, WasDone, WritesCut, call_of, due_number, due_of, failure, is_device_error, numbering_number, numbering_of, offer_number, Due, Lock, Makes, ReadRecord, Setting, WriteRecord, Done, More, record_of};
 ghost use Rattle.minisign_install.specs.declared.order.Due.TheVariants as ended;
 
 use crate::checking::Offer;
@@ -365,5 +365,5 @@ pub fn any_host_installs_only_updates()
     // that law holds of it wherever it is cut off, `installed` where the installation says that the update is installed,
     // and `lets_go` however it has ended.
     ensures run { (s : Setting) (i i' : Installation) (h h' : Host) (told : List (Installation × Host))
-        → HasBegun s i h → HasObeyed s i h told i' h' → (events : List (Event ℕ)) × (due : Due ℕ) × IsDue i' due × HasRun (Makes s) Lock h events due h' }
+        → HasBegun s i h → HasObeyed s i h told i' h' → (events : List (Outcome ℕ × Host)) × (due : Due ℕ) × IsDue i' due × HasRun (Makes s) Lock h events due h' }
 {}

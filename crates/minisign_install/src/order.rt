@@ -2,7 +2,7 @@
 //! call that is due, says how it went, and is told the next one. What an error is, is the host's.
 
 ghost use Rattle.std.specs.Prelude.{◌≡◌, ◌⊎◌, List, true};
-ghost use Rattle.minisign_install.specs.Words.{HasLocked, Run, Event, Explains, HasRun, Host, Makes, Setting, HasInstalled, InstallsOnlyUpdates, InstallFault, fits, next, IsRefusal, OwnsNoMore};
+ghost use Rattle.minisign_install.specs.Words.{HasLocked, Run, Explains, HasRun, Host, Makes, Setting, HasInstalled, InstallsOnlyUpdates, InstallFault, fits, next, IsRefusal, OwnsNoMore};
 
 /// What is due: the call that the host makes next, or how the run has ended. The numbers are those
 /// of the record up to the answers of the signature scheme, and then those of the update.
@@ -119,22 +119,22 @@ impl<E: Drop> Due<E> {
 pub fn any_run_installs_only_updates<E: Drop>()
     // Wherever the run is cut off: it has made no call yet, or what the headline of
     // `install_update` says holds of it.
-    ensures safe { (s : Setting) (h h' : Host) (events : List (Event E)) (due : Due E)
+    ensures safe { (s : Setting) (h h' : Host) (events : List (Outcome E × Host)) (due : Due E)
         → h.run.known ≡ true → HasRun (Makes s) Due.Lock h events due h' → (h'.run ≡ h.run) ⊎ InstallsOnlyUpdates s.accepts s.terms s.first h.run h'.run }
 
     // Where it has ended well, the data that was ahead is installed, on the disk and for good.
-    ensures installed { (s : Setting) (h h' : Host) (events : List (Event E))
+    ensures installed { (s : Setting) (h h' : Host) (events : List (Outcome E × Host))
         → h.run.known ≡ true → HasRun (Makes s) Due.Lock h events Due.Installed h'
         → (locked : Run) × HasLocked h.run locked × HasInstalled s.accepts s.terms s.first h.ahead locked h'.run }
 
     // Where it has ended otherwise, and each failing call says why it failed, the error is the first
     // reason, and what the run has published by then is as `refused` of `install_update` says.
-    ensures refused { (s : Setting) (h h' : Host) (events : List (Event InstallFault)) (e : InstallFault)
+    ensures refused { (s : Setting) (h h' : Host) (events : List (Outcome InstallFault × Host)) (e : InstallFault)
         → h.run.known ≡ true → HasRun (λ due o k k'. Makes s due o k k' × Explains s due o k k') Due.Lock h events (Due.Refused e) h'
         → IsRefusal s.accepts s.terms s.first h.ahead h.faults h'.faults h.run h'.run e }
 
     // However it has ended, no stage is the run's own that was not so before.
-    ensures lets_go { (s : Setting) (h h' : Host) (events : List (Event E)) (due : Due E)
+    ensures lets_go { (s : Setting) (h h' : Host) (events : List (Outcome E × Host)) (due : Due E)
         → h.run.known ≡ true → HasRun (Makes s) Due.Lock h events due h' → (due ≡ Due.Installed) ⊎ ((e : E) × (due ≡ Due.Refused e))
         → OwnsNoMore h.run h'.run }
 {}
