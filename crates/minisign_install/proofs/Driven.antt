@@ -1,5 +1,5 @@
 -- An installation over a directory, from call to call: what stands fast between two of them, and what that says at the end.
-use Rattle.minisign_install.proofs.Common.{◌≡◌, inl, inr, ⊎_elim, ℕ, List, [], Option, Some, None, Ok, Err, Bool, true, false, ap, ◌∙◌, refl, true≢false, Verifier, HasInstalled, InstallsExactly, InstallsOnlyUpdates, Terms, InstallFault, AreNamed, HasMade, IsNamed, Knows, MayCall, setting, HasLocked, Run, Explains, Host, Setting, drawn_bytes, has_ended, next, Due, Lock, Clear, ReadRecord, Answer, Rename, SyncName, RemoveRecord, Remove, Installed, Outcome, Done, Failed, Counts, IsCause, IsRefusal, OwnsNoMore, Stage, Work, Went, Library, Named, OutOfMemory, OnlyLocked, ⊤}
+use Rattle.minisign_install.proofs.Common.{◌≡◌, inl, inr, ⊎_elim, ℕ, List, [], Option, Some, None, Ok, Err, Bool, true, false, ap, ◌∙◌, refl, true≢false, Verifier, HasInstalled, InstallsExactly, InstallsOnlyUpdates, Terms, InstallFault, AreNamed, HasCalled, HasMade, IsNamed, Knows, MayCall, setting, HasLocked, Run, Explains, Host, Setting, drawn_bytes, has_ended, next, Due, Lock, Clear, ReadRecord, Answer, Rename, SyncName, RemoveRecord, Remove, Installed, Outcome, Done, Failed, Counts, IsCause, IsRefusal, OwnsNoMore, Stage, Work, Library, Named, OutOfMemory, OnlyLocked, ⊤}
 use Rattle.minisign_install.specs.Order.{Refused}
 use Rattle.minisign_install.proofs.Orders.{Holds, from}
 use Rattle.minisign_install.proofs.Reasons.{Reason, why}
@@ -44,7 +44,7 @@ module _ (accepts : Verifier) (terms : Terms) (first : Bool) where
     abbrev Goes : Due InstallFault → Work H → Host → Type 0
     Goes due w h = a.run.known ≡ true → (named : Setting) → AreNamed file_of w named → Holds (setting accepts terms first named) a due h × Reason ⊤ (setting accepts terms first named) a due h
 
-    -- or it has ended so
+    -- and it has ended so
     abbrev Ends : Due InstallFault → Work H → Host → Type 0
     Ends Installed w h = a.run.known ≡ true
         → InstallsOnlyUpdates accepts terms first a.run h.run × ((locked : Run) × HasLocked a.run locked × HasInstalled accepts terms first a.ahead locked h.run)
@@ -52,11 +52,11 @@ module _ (accepts : Verifier) (terms : Terms) (first : Bool) where
     Ends (Refused e) w h = a.run.known ≡ true
         → InstallsOnlyUpdates accepts terms first a.run h.run × IsRefusal accepts terms first a.ahead a.faults h.faults a.run h.run e
         × InstallsExactly {T = Unit} accepts terms first a.ahead a.faults h.faults a.run h.run (Err e) × OwnsNoMore a.run h.run × (e ≡ Library (Named OutOfMemory) → OnlyLocked a.run h.run)
-    Ends due w h = Goes due w h
+    Ends due w h = ⊤
 
     -- between two calls
     abbrev pub Driven : Due InstallFault → Work H → Host → Type 0
-    Driven due w h = HasMade due w × Knows accepts terms due w h.read × Counted a.faults due h.faults × Ends due w h
+    Driven due w h = HasMade due w × Knows accepts terms due w h.read × Counted a.faults due h.faults × Goes due w h × Ends due w h
 
     some_named : (made : Option (Stage H)) → (name : List ℕ) × ((file : ℕ) × IsNamed file_of made name file)
     some_named None = ([], (0, tt))
@@ -77,30 +77,19 @@ module _ (accepts : Verifier) (terms : Terms) (first : Bool) where
         let (named, is) = named_by w in
         let (ended, (reason, spares)) = goes known named is in
         (ended.0.0, reason, refused_exactly accepts terms first Unit a.ahead a.faults h.faults a.run h.run e reason, ended.0.1, spares tt)
-    ends due w h goes = goes
+    ends due w h goes = tt
 
-    -- what has not ended goes on
-    goes_so : (due : Due InstallFault) (w : Work H) (h : Host) → has_ended due ≡ false → Ends due w h → Goes due w h
-    goes_so Installed w h going so = absurd (true≢false going)
-    goes_so (Refused e) w h going so = absurd (true≢false going)
-    goes_so due w h going so = so
-
-    pub drive : (due : Due InstallFault) (o : Outcome InstallFault) (old new : Work H) (h h' : Host) → has_ended due ≡ false
-        → ((named : Setting) → AreNamed file_of new named → AreNamed file_of old named)
-        → HasMade (next due o) new × Knows accepts terms (next due o) new h'.read × ((named : Setting) → AreNamed file_of new named → Went (setting accepts terms first named) due o h h')
-        → Driven due old h → Driven (next due o) new h'
-    drive due o old new h h' going stays (made, knows, went) (has, known_so, counted, so) = (
-      made,
-      knows,
-      count a.faults (named_by new).0 due o h h' going (went (named_by new).0 (named_by new).1).explained counted,
-      ends (next due o) new h' (λ known named is.
-          let s = setting accepts terms first named in
-          let call = went named is in
-          let (held, reason) = goes_so due old h going so known named (stays named is) in
-          let (is_known, may) = ready s a due h known going held in
-          let makes = call.made is_known may in
-          (from s a h h' due o held makes, why ⊤ s a known h h' due o held makes call.explained (λ _. call.memory) reason)),
-    )
+    pub drive : {due : Due InstallFault} {o : Outcome InstallFault} {old new : Work H} {h : Host} {after : List ℕ → Host} → has_ended due ≡ false → (call : HasCalled accepts terms first file_of due o old new h after)
+        → Driven due old h → Driven (next due o) new (after call.then)
+    drive {due = due} {o = o} {new = new} {h = h} {after = after} going call (has, knows, counted, so, ended) =
+        let h' = after call.then in
+        let goes : Goes (next due o) new h' = λ known named is.
+        let s = setting accepts terms first named in
+        let (held, reason) = so known named (call.stays named is) in
+        let (is_known, may) = ready s a due h known going held in
+        let makes = call.made named is is_known may in
+        (from s a h h' due o held makes, why ⊤ s a known h h' due o held makes (call.explained named) (λ _. call.memory) reason) in
+        (call.has, call.knows, count a.faults (named_by new).0 due o h h' going (call.explained (named_by new).0) counted, goes, ends (next due o) new h' goes)
 
 -- what is due where the run has not ended
 pub goes_on : (due : Due InstallFault) → ¬ (due ≡ Installed) → ((e : InstallFault) → ¬ (due ≡ Refused e)) → has_ended due ≡ false

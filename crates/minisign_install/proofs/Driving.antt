@@ -1,17 +1,5 @@
 -- An installation over a directory makes each call as it is due: what each call that went does to what is held between two.
-use Rattle.minisign_install.proofs.Common.{◌≡◌, inl, inr, ℕ, Fault, Named, OutOfMemory, Counts, HasFailed, IsCallFault, counts, ◌⊎◌, ◌≢◌, ⊎_elim, List, Option, Some, None, Bool, true, ap, refl, IsNone, IsSomeAnd, MatchResult, Result, Ok, Err, true≢false, AreNamed, HasMade, IsNamed, Knows, MayCall, Went, WantsNoMemory, made_or, outcome_by, setting, InstallFault, Library, RandomSourceFailed, ReadingFailed, Rose, WritingFailed, HasCounted, Blames, Host, Makes, Setting, Terms, Verifier, Done, Due, Failed, Outcome, next, IsLibraryFault, IsRecordFault, Stage, Work}
-
-pub not_failed : (before after : Counts) (e : Fault) → ¬ (HasFailed before after) → IsCallFault before after e → e ≡ Named OutOfMemory
-not_failed before after e no_new_fault (inl (memory, same)) = memory
-not_failed before after e no_new_fault (inr (inl (reading, (inl u)))) = absurd (no_new_fault (inr (inl u)))
-not_failed before after e no_new_fault (inr (inl (reading, (inr f)))) = absurd (no_new_fault (inr (inr f)))
-not_failed before after e no_new_fault (inr (inr (inl (writing, f)))) = absurd (no_new_fault (inr (inr f)))
-not_failed before after e no_new_fault (inr (inr (inr (drawing, r)))) = absurd (no_new_fault (inl r))
-
--- reading the record says of memory that it could not be read
-pub record_wants : (first : Bool) (P R : Type 0) (e : InstallFault) → (IsRecordFault first e × P) ⊎ ((e ≡ Library (Named ReadingFailed)) × R) → e ≢ Library (Named OutOfMemory)
-record_wants first P R e (inl ((later, is), more)) memory = ⊎_elim (λ is. cc) (λ is. ⊎_elim (λ is. cc) (λ is. ⊎_elim (λ is. cc) (λ is. cc) is) is) is
-record_wants first P R e (inr (is, more)) memory = cc
+use Rattle.minisign_install.proofs.Common.{◌≡◌, inl, inr, ℕ, Named, OutOfMemory, IsCallFault, counts, ◌⊎◌, ◌≢◌, List, Option, Some, None, Bool, true, ap, refl, IsNone, IsSomeAnd, MatchResult, Result, Ok, Err, true≢false, AreNamed, HasMade, IsNamed, Knows, MayCall, HasCalled, WantsNoMemory, made_or, outcome_by, setting, InstallFault, Library, RandomSourceFailed, ReadingFailed, Rose, WritingFailed, HasCounted, Blames, Host, Makes, Setting, Terms, Verifier, Done, Due, Failed, Outcome, next, IsLibraryFault, Stage, Work}
 
 -- a source and a directory that are as they were have counted no error
 pub untouched : {A B : Type 0} (source_faults : A → ℕ) (directory_faults : B → ℕ) (random : ℕ) (u u' : A) (f f' : B) (e : InstallFault)
@@ -57,28 +45,20 @@ module _ {H : Type 0} (file_of : H → ℕ) where
   none_named None name file none = tt
   none_named (Some stage) name file none = absurd (true≢false none)
 
-module _ (accepts : Verifier) (terms : Terms) (first : Bool) {H : Type 0} (file_of : H → ℕ) where
-  -- the call that was due went so, with what is held after it
-  abbrev Gone : Due InstallFault → Outcome InstallFault → Work H → Host → (List ℕ → Host) → Type 0
-  Gone due o new h after =
-      (then : List ℕ) × HasMade (next due o) new × Knows accepts terms (next due o) new then × ((named : Setting) → AreNamed file_of new named → Went (setting accepts terms first named) due o h (after then))
-
-  -- and what was made before it stays
-  abbrev Stays : Work H → Work H → Type 0
-  Stays old new = (named : Setting) → AreNamed file_of new named → AreNamed file_of old named
-
+module _ {H : Type 0} {accepts : Verifier} {terms : Terms} {first : Bool} {file_of : H → ℕ} {due : Due InstallFault} {h : Host} {after : List ℕ → Host} where
   -- a call that gave something, or failed
-  pub gave : {A : Type 0} {P : A → Type 0} {Q : InstallFault → Type 0} (given : A → Outcome InstallFault) (due : Due InstallFault) (old new : Work H) (h : Host) (after : List ℕ → Host) (r : Result A InstallFault)
-      → Stays old new → MatchResult r P Q → ((a : A) → P a → Gone due (given a) new h after) → ((e : InstallFault) → Q e → Gone due (Failed e) new h after) → Stays old new × Gone due (outcome_by given r) new h after
-  gave given due old new h after (Ok a) stays facts ok failed = (stays, ok a facts)
-  gave given due old new h after (Err e) stays facts ok failed = (stays, failed e facts)
+  pub gave : {A : Type 0} {P : A → Type 0} {Q : InstallFault → Type 0} {old new : Work H} (given : A → Outcome InstallFault) (r : Result A InstallFault) → MatchResult r P Q
+      → ((a : A) → P a → HasCalled accepts terms first file_of due (given a) old new h after) → ((e : InstallFault) → Q e → HasCalled accepts terms first file_of due (Failed e) old new h after)
+      → HasCalled accepts terms first file_of due (outcome_by given r) old new h after
+  gave given (Ok a) facts ok failed = ok a facts
+  gave given (Err e) facts ok failed = failed e facts
 
   -- a call of the directory, which fails for this error
-  pub called : {D : Type 0} (due : Due InstallFault) (w : Work H) (h : Host) (after : List ℕ → Host) (read : List ℕ) (e : InstallFault) (r : Result Unit D)
-      → HasMade (next due Done) w × Knows accepts terms (next due Done) w read → HasMade (next due (Failed e)) w × Knows accepts terms (next due (Failed e)) w read
+  pub called : {D : Type 0} {w : Work H} (e : InstallFault) (read : List ℕ) (r : Result Unit D)
+      → HasMade (next due Done) w × Knows accepts terms (next due Done) w (after read).read → HasMade (next due (Failed e)) w × Knows accepts terms (next due (Failed e)) w (after read).read
       → ((named : Setting) → AreNamed file_of w named → h.run.known ≡ true → MayCall due h.run
       → MatchResult r (λ _. Makes (setting accepts terms first named) due Done h (after read)) (λ _. Makes (setting accepts terms first named) due (Failed e) h (after read)))
       → MatchResult r (λ _. (after read).faults ≡ h.faults) (λ _. (named : Setting) → Blames (setting accepts terms first named) due e h (after read)) → WantsNoMemory due (Failed e)
-      → Stays w w × Gone due (made_or r e) w h after
-  called due w h after read e (Ok x) done failed makes why wants = (λ named is. is, (read, done.0, done.1, λ named is. record { made = makes named is; explained = why; memory = tt }))
-  called due w h after read e (Err x) done failed makes why wants = (λ named is. is, (read, failed.0, failed.1, λ named is. record { made = makes named is; explained = why named; memory = wants }))
+      → HasCalled accepts terms first file_of due (made_or r e) w w h after
+  called e read (Ok x) done failed makes why wants = record { stays = λ named is. is; then = read; has = done.0; knows = done.1; made = makes; explained = λ named. why; memory = tt }
+  called e read (Err x) done failed makes why wants = record { stays = λ named is. is; then = read; has = failed.0; knows = failed.1; made = makes; explained = why; memory = wants }

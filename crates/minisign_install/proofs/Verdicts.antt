@@ -2,7 +2,6 @@
 use Rattle.minisign_install.proofs.Common.{◌≡◌, ◌≢◌, inl, inr, ℕ, Bool, false, List, [], Option, Some, None, ap, sym, subst, ◌∙◌, refl, arith, Ok, Err, true≢false, Named, OutOfMemory, InstallFault, Library, Verifier, IsAhead, HasInstalled, IsKeptNumber, Terms, refused_unvouched, IsExpiryRefused, IsUnexpired, Says, Numbering, HasLocked, IsFound, Run, Record, CanBeInstalled, CannotBeInstalled, Counts, HasFailed, InstallsExactly, IsCallFault, IsDataRefused, IsLibraryFault, IsLockedRefusal, IsRecordRefused, IsRefusal, IsNumberFor, HasNoNumber}
 use Rattle.std.specs.Prelude.{IfSome}
 use Rattle.minisign.proofs.Laws.{vouched_verdict}
-use Rattle.minisign_install.proofs.Driving.{not_failed}
 use Rattle.std.proofs.lemmas.Option.{same_Some}
 use Rattle.minisign_install.proofs.RecordTexts.{same_number}
 
@@ -50,7 +49,10 @@ module _ (accepts : Verifier) (terms : Terms) (first : Bool) where
   some_ahead (Some xs) = (xs, refl)
 
   memory_only : (before after : Counts) (e : InstallFault) (W : Type 0) → e ≢ Library (Named OutOfMemory) → ¬ (HasFailed before after) → IsLibraryFault (IsCallFault before after) e → W
-  memory_only before after e W memory no_new_fault (fault, is, device) = absurd (memory (is ∙ ap (λ f. Library f) (not_failed before after fault no_new_fault device)))
+  memory_only before after e W memory no_new_fault (fault, is, (inl (no_memory, same))) = absurd (memory (is ∙ ap (λ f. Library f) no_memory))
+  memory_only before after e W memory no_new_fault (fault, is, (inr (inl (reading, rose)))) = absurd (no_new_fault (inr rose))
+  memory_only before after e W memory no_new_fault (fault, is, (inr (inr (inl (writing, rose))))) = absurd (no_new_fault (inr (inr rose)))
+  memory_only before after e W memory no_new_fault (fault, is, (inr (inr (inr (drawing, rose))))) = absurd (no_new_fault (inl rose))
 
   abbrev pub Verdict : Option (List ℕ) → Run → InstallFault → Type 0
   Verdict ahead locked e = (found : Option (List ℕ)) × IsFound locked.now Record found × ((message : List ℕ) × IsAhead ahead message × CannotBeInstalled accepts terms first found message e)

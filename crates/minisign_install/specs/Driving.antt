@@ -58,22 +58,19 @@ WantsNoMemory due (Failed e) =
     (is_from (Copy 0) due && not (is_from (TakePermissions 0) due)) ≡ false → e ≢ Library (Named OutOfMemory)
 WantsNoMemory due outcome = ⊤
 
--- the call that was due was made, and went so; of a directory whose run is not known, only why it failed is said
-pub record Went (s : Setting) (due : Due InstallFault) (outcome : Outcome InstallFault) (h h' : Host) : Type 0 where
-  pub made : h.run.known ≡ true → MayCall due h.run → Makes s due outcome h h'
-  pub explained : Explains s due outcome h h'
+-- The call that was due was made and went so, wherever the stages were made that it uses; with what is held and known
+-- then, and the host after it by what was read back. Of a directory whose run is not known, only why it failed is said.
+pub record HasCalled {H : Type 0} (accepts : Verifier) (terms : Terms) (first : Bool) (file_of : H → ℕ)
+    (due : Due InstallFault) (outcome : Outcome InstallFault) (old new : Work H) (before : Host)
+    (after : List ℕ → Host) : Type 0 where
+  pub stays : (named : Setting) → AreNamed file_of new named → AreNamed file_of old named
+  pub then : List ℕ
+  pub has : HasMade (next due outcome) new
+  pub knows : Knows accepts terms (next due outcome) new (after then).read
+  pub made : (named : Setting) → AreNamed file_of new named → before.run.known ≡ true → MayCall due before.run
+      → Makes (setting accepts terms first named) due outcome before (after then)
+  pub explained : (named : Setting) → Explains (setting accepts terms first named) due outcome before (after then)
   pub memory : WantsNoMemory due outcome
-
--- The call that was due went so, wherever the stages were made that it uses: what was made stays; and with what is known
--- before it and after it of any directory, and with the hosts before and after it by what was read back.
-abbrev pub HasCalled : {H : Type 0} → Verifier → Terms → Bool → (H → ℕ) → Due InstallFault → Outcome InstallFault
-    → Work H → Work H → (List ℕ → Host) → (List ℕ → Host) → Type 0
-HasCalled accepts terms first file_of due outcome old new before after =
-    (read : List ℕ) → HasMade due old → Knows accepts terms due old read
-    → ((named : Setting) → AreNamed file_of new named → AreNamed file_of old named)
-    × ((then : List ℕ) × HasMade (next due outcome) new × Knows accepts terms (next due outcome) new then
-    × ((named : Setting) → AreNamed file_of new named
-    → Went (setting accepts terms first named) due outcome (before read) (after then)))
 
 -- how many calls there may still be
 abbrev pub calls_left : {E : Type 0} → Due E → ℕ

@@ -1,7 +1,7 @@
 //! The calls of an installation over a directory: each is made as it is due, and says how it went.
 
 ghost use Rattle.std.specs.Prelude.{◌≡◌, ◌⊎◌, ◌<◌, ℕ, List, Some, false, IfErr, IsSome, IsSomeAnd, OnOk, OnErr, MatchResult};
-ghost use Rattle.minisign_install.specs.Words.{concat, HasCalled, HasMade, calls_left, host, made_or, outcome_by, Done, Number, Library, Named, PlaceInUse, RandomSourceFailed, ReadingFailed, Rose, WritingFailed, CallsOwning, ClearsAll, GivesPermissions, HasCounted, HasCreated, HasLocked, HasStepped, HasTried, Held, IsBusy, IsStill, OwnsTheSame, Known, Perhaps, Removes, Spoils, TouchesStages, Calls, CallsNothing, Writes, WritesInPart, terms_of, drawn_bytes, has_ended, next, record_of, counts};
+ghost use Rattle.minisign_install.specs.Words.{concat, HasCalled, HasMade, Knows, calls_left, host, made_or, outcome_by, Done, Number, Library, Named, PlaceInUse, RandomSourceFailed, ReadingFailed, Rose, WritingFailed, CallsOwning, ClearsAll, GivesPermissions, HasCounted, HasCreated, HasLocked, HasStepped, HasTried, Held, IsBusy, IsStill, OwnsTheSame, Known, Perhaps, Removes, Spoils, TouchesStages, Calls, CallsNothing, Writes, WritesInPart, terms_of, drawn_bytes, has_ended, next, record_of, counts};
 
 use crate::comments::Numbering;
 use crate::directories::{Directory, Handle, Name};
@@ -54,8 +54,9 @@ pub(crate) fn make<S: Scheme, Z: RandomSource, R: Source, F: Directory>(
     requires { HasMade due.now work.old }
     // The call that is due was made, and went as it is said; where it failed, this is why: for want of memory only where
     // it asks for memory and no device failed.
-    ensures went { has_ended due.now ≡ false → HasCalled (S.accepts scheme.now) (terms_of wanted.entry) is_first F.Handle.file due.now result work.old work.new
-        (host (F.run directory.old) (R.ahead update.old) (counts (Z.random_faults random.old) (R.faults update.old) (F.directory_faults directory.old)))
+    ensures went { has_ended due.now ≡ false → (read : List ℕ) → HasMade due.now work.old → Knows (S.accepts scheme.now) (terms_of wanted.entry) due.now work.old read
+        → HasCalled (S.accepts scheme.now) (terms_of wanted.entry) is_first F.Handle.file due.now result work.old work.new
+        (host (F.run directory.old) (R.ahead update.old) (counts (Z.random_faults random.old) (R.faults update.old) (F.directory_faults directory.old)) read)
         (host (F.run directory.new) (R.ahead update.new) (counts (Z.random_faults random.new) (R.faults update.new) (F.directory_faults directory.new))) }
     // It is not due again.
     ensures left { has_ended due.now ≡ false → calls_left (next due.now result) < calls_left due.now }

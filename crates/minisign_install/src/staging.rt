@@ -1,6 +1,6 @@
 //! What is written into a stage, piece by piece.
 
-ghost use Rattle.std.specs.Prelude.{◌≡◌, ◌⊎◌, ◌<◌, ℕ, List, length, vec_len, IfOk, IfErr, OnOk, OnErr, MatchResult};
+ghost use Rattle.std.specs.Prelude.{◌≡◌, ◌⊎◌, ◌<◌, ℕ, List, vec_len, IfOk, IfErr, OnOk, OnErr, MatchResult};
 ghost use Rattle.minisign_install.specs.Words.{Consumes, IsAtEnd, concat, Library, Rose, Named, OutOfMemory, ReadingFailed, WritingFailed, HasCounted, Known, Writes, WritesInPart};
 
 use crate::directories::{Directory, Handle};

@@ -1,4 +1,4 @@
-use Rattle.minisign_install.proofs.Common.{◌∙◌, sym, subst, refl, ap, [], ◌++◌, Consumes-nil, Consumes-trans, Consumes, concat}
+use Rattle.minisign_install.proofs.Common.{◌∙◌, sym, subst, ap, ◌++◌, Consumes-trans, Consumes, concat}
 use Rattle.std.proofs.lemmas.List.Folds.{concat-append}
 use Rattle.minisign_install.proofs.Pieces.{part_after, writes_both, writes_told}
 use Rattle.minisign_install.proofs.staging.fill.Goals as goal
