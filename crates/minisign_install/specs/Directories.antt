@@ -1,7 +1,7 @@
 -- A directory that processes share, one layer below bytes: names that lead to files, what the files hold, and what a
 -- crash leaves of both. Files are numbered, and no number comes twice. The definitions say what one call of the
 -- system does from one moment to the next, and what other processes may do between two calls.
-use Rattle.std.specs.Prelude.{◌≡◌, ◌≢◌, ◌⊎◌, ℕ, ◌<◌, ◌≤◌, Bool, true, false, List, [], ◌∷◌, ◌++◌, length, take, drop, Option, Some, None, Result, IfOk, MatchResult, OnOk, OnErr}
+use Rattle.std.specs.Prelude.{◌≡◌, ◌≢◌, ◌⊎◌, ℕ, Bool, true, false, List, [], ◌∷◌, ◌++◌, Option, Some, None, Result, MatchResult, OnOk, OnErr}
 use Rattle.minisign_install.specs.Common.{StageName}
 use Rattle.minisign_install.specs.Faults.{Rose}
 pub use Rattle.minisign_install.specs.declared.directories.Name.{Name}
@@ -248,11 +248,6 @@ HasTried done failed old new answer = MatchResult answer (λ a. done a old new) 
 pub record HasCounted {A E : Type 0} (old new : ℕ) (answer : Result A E) : Type 0 where
   pub no_new_fault : OnOk answer (new ≡ old)
   pub fault : OnErr answer (Rose old new)
-
--- these are the bytes of a file from an offset on, at least one where there are any and there is room
-pub record HasReadAt {E : Type 0} (held : List ℕ) (at : ℕ) (buffer : List ℕ) (answer : Result ℕ E) : Type 0 where
-  pub bytes : IfOk answer (λ n. take n buffer ≡ take n (drop at held))
-  pub end : IfOk answer (λ n. n ≡ 0 → 0 < length buffer → drop at held ≡ [])
 
 -- what a name is found to lead to: no file, or one that holds these bytes
 abbrev pub IsFound : Moment → Name → Option (List ℕ) → Type 0

@@ -2,8 +2,8 @@
 //! the system. Between any two calls other processes may do what `OtherProcesses` of the definitions
 //! allows them.
 
-ghost use Rattle.std.specs.Prelude.{◌≡◌, ℕ, Bool, true, false, not, OnErr, IfOk, take, length, option_map, ◌+◌, ◌^◌, ◌<◌, ◌≤◌};
-ghost use Rattle.minisign_install.specs.Words.{Rose, Run, Appends, Calls, CallsOwning, ClearsAll, Finds, GivesPermissions, HasCounted, HasCreated, HasReadAt, HasRenamed, HasTried, Held, IsStill, Known, MaySyncDirectory, Perhaps, Removes, Renames, Sees, Spoils, Syncs, SyncsDirectory, TouchesStages, drawn_bytes};
+ghost use Rattle.std.specs.Prelude.{◌≡◌, ℕ, Bool, true, false, not, OnErr, IfOk, [], take, drop, length, option_map, ◌+◌, ◌^◌, ◌<◌, ◌≤◌};
+ghost use Rattle.minisign_install.specs.Words.{Rose, Run, Appends, Calls, CallsOwning, ClearsAll, Finds, GivesPermissions, HasCounted, HasCreated, HasRenamed, HasTried, Held, IsStill, Known, MaySyncDirectory, Perhaps, Removes, Renames, Sees, Spoils, Syncs, SyncsDirectory, TouchesStages, drawn_bytes};
 
 use crate::stage_names::StageName;
 use minisign_base::devices::DeviceFault;
@@ -75,7 +75,8 @@ pub trait Directory {
         ensures bound { IfOk result (λ n. n ≤ length buf.new) }
         ensures reach { IfOk result (λ n. 0 < n → at + n < 2 ^ 63) }
         ensures failed { OnErr result (read_fails ≡ true) }
-        ensures read { Known (run self.now) (HasReadAt ((run self.now).now.holds (Self.Handle.file handle.now)) at buf.new result) };
+        ensures read { Known (run self.now) (IfOk result (λ n. take n buf.new ≡ take n (drop at ((run self.now).now.holds (Self.Handle.file handle.now))))) }
+        ensures end { Known (run self.now) (IfOk result (λ n. n ≡ 0 → 0 < length buf.new → drop at ((run self.now).now.holds (Self.Handle.file handle.now)) ≡ [])) };
 
     /// Counts an error of `read_at`, which leaves that to this call.
     fn count_fault(&mut self)

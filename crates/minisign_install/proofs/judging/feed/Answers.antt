@@ -11,5 +11,5 @@ pieces-preserved g c =
     let xs = (g.F.Directory.run c.args.directory.now).now.holds (g.F.Handle.Handle.file c.args.handle.now) in (
       done ++ front,
       c.in-Ok.ensures.fed done fed,
-      λ known. read_more at n xs done front (so_far known) ((c.in_ok-n.ensures.read known).bytes),
+      λ known. read_more at n xs done front (so_far known) (c.in_ok-n.ensures.read known),
     )
