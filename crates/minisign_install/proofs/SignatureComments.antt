@@ -6,16 +6,9 @@ boxed : (r : Result SignatureTextRecord Fault) (x : SignatureBoxRecord) → map_
 boxed (Ok t) x h = let same : box_of t ≡ x = cc h in (t, refl, ap (λ (y : SignatureBoxRecord). y.comments) (sym same))
 boxed (Err e) x h = cc h
 
-pub comments_in : (text : List ℕ) (x : SignatureBoxRecord) → read_signature_box text ≡ Ok x → (c : CommentsRecord) × (x.comments ≡ Some c)
-comments_in text x read = let (t, is, comments) = boxed (read_signature text) x read in (t.comments, comments)
-
-pub trusted_in : (text : List ℕ) (t : SignatureTextRecord) (x : SignatureBoxRecord) (c : CommentsRecord) → read_signature text ≡ Ok t
-    → read_signature_box text ≡ Ok x → x.comments ≡ Some c → t.comments.trusted ≡ c.trusted
-trusted_in text t x c is read both =
-    let (s, also, comments) = boxed (read_signature text) x read in
-    let one = sym also ∙ is in
-    let other = sym comments ∙ both in
-    cc (one, other)
+-- where the box of a text is read, the text is, and the box has its comments
+pub read_whole : (text : List ℕ) (x : SignatureBoxRecord) → read_signature_box text ≡ Ok x → (t : SignatureTextRecord) × (read_signature text ≡ Ok t) × (x.comments ≡ Some t.comments)
+read_whole text x read = boxed (read_signature text) x read
 
 -- == Reading under a key ==
 

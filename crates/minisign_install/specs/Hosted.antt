@@ -1,7 +1,7 @@
 -- What an installation that a host in another language holds stands for, what its calls do, and the numbers by which the
 -- host knows errors and choices.
 use Rattle.std.specs.Prelude.{◌≡◌, ◌⊎◌, ◌==◌, ◌||◌, ◌<◌, ◌≤◌, ◌++◌, ℕ, Bool, true, false, if◌then◌else◌, List, [], ◌∷◌, map, get_or, length, Option, Some, None, IfSome, IsSomeAnd, Ok, Err, Result}
-use Rattle.minisign_install.specs.Common.{list_any, IsUtf8, fault_row, CommentsRecord, SignatureBoxRecord, read_signature_box, IsMeaning, refusal_number, IsKeyText, HasAsked, IsAskFedRefusal, IsBlank, IsFedState, IsMarkedTold, IsNotFed, verdict_misuse, Offer, Newer, Same, Older, PublicKeyValue, Misuse, NotDue, Refusal, WrongUse, Installation, Judged}
+use Rattle.minisign_install.specs.Common.{list_any, IsUtf8, fault_row, SignatureTextRecord, read_signature, IsMeaning, refusal_number, IsKeyText, HasAsked, IsAskFedRefusal, IsBlank, IsFedState, IsMarkedTold, IsNotFed, verdict_misuse, Offer, Newer, Same, Older, PublicKeyValue, Misuse, NotDue, Refusal, WrongUse, Installation, Judged}
 use Rattle.minisign_install.specs.Faults.{Named, NotUtf8, OutOfMemory, RandomSourceFailed, ReadingFailed, WritingFailed, InstallFault, DirectoryNotSynced, IsOwn, Library, PlaceInUse, install_number, install_row}
 use Rattle.minisign_install.specs.Installing.{Verifier, IsKeptNumber, IsUpdate, Terms}
 use Rattle.minisign_external.specs.declared.state.Refusal.TheVariants.{Refused}
@@ -165,16 +165,16 @@ IsJudged judged terms kept comment =
     ((judged.verdict ≡ 1) × Says comment terms.file terms.numbering terms.moment judged.number × (kept ≤ judged.number))
     ⊎ ((e : InstallFault) × (judged.verdict ≡ install_number e) × IsCommentRefused terms kept comment e)
 
--- The questions of the two texts were asked and the digest was told, where this number was kept, and the comment of the
--- box that the second one reads as was judged.
+-- The questions of the two texts were asked and the digest was told, where this number was kept, and the trusted comment
+-- of the second one was judged.
 pub record IsAsking (i : Installation) (terms : Terms) (kept : ℕ) : Type 0 where
   pub due : IsDue i (Answer kept)
   pub key : PublicKeyValue
   pub keyed : IsKeyText terms.pk_text key
   pub asked : HasAsked i.state key terms.sig_text false
   pub told : IsMarkedTold i.state
-  pub judged : (x : SignatureBoxRecord) (c : CommentsRecord) → read_signature_box terms.sig_text ≡ Ok x
-      → x.comments ≡ Some c → IsJudged i.judged terms kept c.trusted
+  pub judged : (t : SignatureTextRecord) → read_signature terms.sig_text ≡ Ok t
+      → IsJudged i.judged terms kept t.comments.trusted
 
 -- asking was refused: it is not due, or the state is used wrongly or has no room for the message, and nothing changes;
 -- or the name of the file or the text of the signature is not UTF-8, or it is refused under the key: then the stage is

@@ -1,6 +1,6 @@
 use Rattle.minisign_install.proofs.Common.{List, ℕ, inl, inr, refl, false, Installation, IsAsking, IsJudged, Terms, TextsVouchWith, Verifier}
 use Rattle.minisign.specs.Headline.{TextsVouchFor}
-use Rattle.minisign_install.proofs.SignatureComments.{comments_in}
+use Rattle.minisign_install.proofs.SignatureComments.{read_whole}
 use Rattle.minisign_install.proofs.hosted.Installation.answer.Goals as goal
 
 -- texts that vouch for what was read back do so with the comment that was judged
@@ -8,8 +8,8 @@ judged_with : (accepts : Verifier) (terms : Terms) (kept : ℕ) (message : List 
     → TextsVouchFor accepts terms.pk_text terms.sig_text message false
     → (comment : List ℕ) × TextsVouchWith accepts terms.pk_text terms.sig_text message false comment × IsJudged i.judged terms kept comment
 judged_with accepts terms kept message i asking v =
-    let (comments, both) = comments_in terms.sig_text v.box v.box_read in
-    (comments.trusted, record { vouched = v; comments = comments; both = both; trusted = refl }, asking.judged v.box comments v.box_read both)
+    let (t, reads, both) = read_whole terms.sig_text v.box v.box_read in
+    (t.comments.trusted, record { vouched = v; comments = t.comments; both = both; trusted = refl }, asking.judged t reads)
 
 pub returns-in-Ok-update-clause-answer : goal.returns-in-Ok-update-clause-answer
 returns-in-Ok-update-clause-answer c = λ terms kept message accepts asking answers.

@@ -1,5 +1,5 @@
-use Rattle.minisign_install.proofs.Common.{◌∙◌, inl, refl, rules, IsDue, IsUtf8, Answer}
-use Rattle.minisign_install.proofs.SignatureComments.{opened, trusted_in}
+use Rattle.minisign_install.proofs.Common.{◌≡◌, ◌∙◌, inl, refl, rules, sym, IsDue, IsUtf8, Answer}
+use Rattle.minisign_install.proofs.SignatureComments.{opened}
 use Rattle.minisign_install.proofs.hosted.Installation.ask.Goals as goal
 
 pub returns-in-Ok-ask_fed-clause-asking : goal.returns-in-Ok-ask_fed-clause-asking
@@ -15,9 +15,10 @@ returns-in-Ok-ask_fed-clause-asking c =
         keyed = keyed;
         asked = c.in-Ok-ask_fed.ensures.asking.0;
         told = c.in-Ok-ask_fed.ensures.asking.1;
-        judged = λ x d read both.
-            rw (c.in-Ok.ensures.cases.0, c.numbering.ensures, comment ∙ trusted_in sig t x d (opened c.args.key.now sig t opens).0 read both)
-            at (c.of-self.ensures pk_text sig);
+        judged = λ s read.
+            let one = sym (opened c.args.key.now sig t opens).0 ∙ read in
+            let said : c.in-Ok-ask_fed.comment.now ≡ s.comments.trusted = cc (comment, one) in
+            rw (c.in-Ok.ensures.cases.0, c.numbering.ensures, said) at (c.of-self.ensures pk_text sig);
       },
     )
 
