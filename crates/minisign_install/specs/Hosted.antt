@@ -158,12 +158,16 @@ abbrev pub wanted_by : List ℕ → List ℕ → List ℕ → Numbering → ℕ 
 wanted_by pk_text sig_text file numbering moment =
     record { pk_text = pk_text; sig_text = sig_text; file = file; numbering = numbering; moment = moment }
 
--- what is kept of a signed comment: 1 and its number where it says that this is an update, or the number of the
--- first reason why not
+-- what a signed comment is worth: its number, which is not below the kept one, or the first reason why it is rejected
+abbrev pub IsWorth : Terms → ℕ → List ℕ → Result ℕ InstallFault → Type 0
+IsWorth terms kept comment (Ok n) = Says comment terms.file terms.numbering terms.moment n × (kept ≤ n)
+IsWorth terms kept comment (Err e) = IsCommentRefused terms kept comment e
+
+-- what is kept of that: 1 and the number, or the number of the reason
 abbrev pub IsJudged : Judged → Terms → ℕ → List ℕ → Type 0
 IsJudged judged terms kept comment =
-    ((judged.verdict ≡ 1) × Says comment terms.file terms.numbering terms.moment judged.number × (kept ≤ judged.number))
-    ⊎ ((e : InstallFault) × (judged.verdict ≡ install_number e) × IsCommentRefused terms kept comment e)
+    ((judged.verdict ≡ 1) × IsWorth terms kept comment (Ok judged.number))
+    ⊎ ((e : InstallFault) × (judged.verdict ≡ install_number e) × IsWorth terms kept comment (Err e))
 
 -- The questions of the two texts were asked and the digest was told, where this number was kept, and the trusted comment
 -- of the second one was judged.
@@ -201,11 +205,11 @@ abbrev pub IsAnswerRefusal : Installation → Installation → Refusal InstallFa
 IsAnswerRefusal old new (WrongUse m) = (new ≡ old) × (IsUndue Answer old m ⊎ (m ≡ verdict_misuse old.state))
 IsAnswerRefusal old new (Refused e) = (kept : ℕ) × IsDue old (Answer kept) × IsDue new (Remove (install_number e))
 
--- a signed comment that is passed in is judged: it or the name is not UTF-8, or it is refused
-abbrev pub IsCommentFault : List ℕ → Terms → ℕ → InstallFault → Type 0
-IsCommentFault comment terms kept e =
-    ((e ≡ Library (Named NotUtf8)) × ¬ (IsUtf8 comment × IsUtf8 terms.file))
-    ⊎ (IsUtf8 comment × IsUtf8 terms.file × IsCommentRefused terms kept comment e)
+-- the same of a signed comment that is passed in as bytes: it or the name is not UTF-8, or it is worth that
+abbrev pub IsWorthBytes : List ℕ → Terms → ℕ → Result ℕ InstallFault → Type 0
+IsWorthBytes comment terms kept r =
+    ((r ≡ Err (Library (Named NotUtf8))) × ¬ (IsUtf8 comment × IsUtf8 terms.file))
+    ⊎ (IsUtf8 comment × IsUtf8 terms.file × IsWorth terms kept comment r)
 
 -- == The same by numbers ==
 

@@ -1,7 +1,7 @@
 //! What the signed comment says of an update.
 
 ghost use Rattle.std.specs.Prelude.{◌≡◌, ◌≢◌, ◌⊎◌, ◌≤◌, ◌<◌, ◌∷◌, [], ℕ, List, Some, None, option_map, IfOk, IfErr, MatchOption, MatchResult, filter_map, length};
-ghost use Rattle.minisign_install.specs.Words.{HasNumber, IsExpiryRefused, IsNumberText, IsUnexpired, Says, expiry_label, fields, file_label, number_label, strip, value_of, values_of, wanted_by, other_field, IsCommentRefused, BadExpiry, Expired, NoNumber, OlderUpdate, OtherFile};
+ghost use Rattle.minisign_install.specs.Words.{HasNumber, IsExpiryRefused, IsNumberText, IsUnexpired, Says, expiry_label, fields, file_label, number_label, strip, value_of, values_of, wanted_by, other_field, IsWorth, BadExpiry, Expired, NoNumber, OlderUpdate, OtherFile};
 
 use crate::faults::InstallFault;
 
@@ -45,9 +45,7 @@ pub(crate) fn check_comment(
     moment: u64,
     kept: u64,
 ) -> Result<u64, InstallFault>
-    ensures says { IfOk result (λ n. Says comment.now file.now numbering moment n) }
-    ensures newer { IfOk result (λ n. kept ≤ n) }
-    ensures refused { IfErr result (IsCommentRefused (wanted_by [] [] file.now numbering moment) kept comment.now) }
+    ensures { IsWorth (wanted_by [] [] file.now numbering moment) kept comment.now result }
 {
     if value(comment, "file:") != Some(file) {
         return Err(InstallFault::OtherFile);

@@ -1,7 +1,7 @@
 //! Asking a signature scheme about what a host has read back, and judging the signed comment. None of it allocates.
 
 ghost use Rattle.std.specs.Prelude.{◌≡◌, ◌⊎◌, ◌≤◌, ℕ, List, false, OnOk, OnErr, IfErr, IfOk, MatchResult, [], Ok, length};
-ghost use Rattle.minisign_install.specs.Words.{IsUtf8, blake2b_digest, Verifier, Terms, SignatureTextRecord, AnswersTexts, IsKeyText, read_under, AreQuestions, HasEnded, IsFedState, Says, install_number, GivesUpdate, IsAnswerRefusal, IsAskRefusal, IsAsking, IsCommentFault, IsJudged, RestUnchanged, IsDue, numbering_of, wanted_by, IsCommentRefused, Answer, Remove, TakePermissions};
+ghost use Rattle.minisign_install.specs.Words.{IsUtf8, blake2b_digest, Verifier, Terms, SignatureTextRecord, AnswersTexts, IsKeyText, read_under, AreQuestions, HasEnded, IsFedState, Says, install_number, GivesUpdate, IsAnswerRefusal, IsAskRefusal, IsAsking, IsWorth, IsWorthBytes, IsJudged, RestUnchanged, IsDue, numbering_of, wanted_by, IsCommentRefused, Answer, Remove, TakePermissions};
 ghost use Rattle.minisign_external.specs.declared.state.Refusal.TheVariants.{Refused};
 
 use crate::comments::{Numbering, check_comment};
@@ -129,7 +129,7 @@ impl Judged {
     // host has written into the installation, and counts as that of another file.
     fn update(&self) -> Result<u64, InstallFault>
         ensures { (terms : Terms) (kept : ℕ) (comment : List ℕ) → IsJudged self.now terms kept comment
-            → MatchResult result (λ n. Says comment terms.file terms.numbering terms.moment n × (kept ≤ n)) (IsCommentRefused terms kept comment) }
+            → IsWorth terms kept comment result }
     {
         if self.verdict == IS_UPDATE {
             return Ok(self.number);
@@ -149,13 +149,9 @@ pub fn judge_comment(
 ) -> Result<u64, InstallFault>
     // The number of the comment is told exactly where the comment and the name are UTF-8, the comment names the file, has
     // this number and has not expired, and it is not below the kept one; otherwise the first reason is.
-    ensures says { IfOk result (λ n. IsUtf8 comment.now × IsUtf8 file.now × Says comment.now file.now numbering moment n × (kept ≤ n)) }
-    ensures refused { IfErr result (IsCommentFault comment.now (wanted_by [] [] file.now numbering moment) kept) }
+    ensures { IsWorthBytes comment.now (wanted_by [] [] file.now numbering moment) kept result }
 {
     let comment = str::from_utf8(comment).map_err(|_| NamedFault::NotUtf8)?;
     let file = str::from_utf8(file).map_err(|_| NamedFault::NotUtf8)?;
-    match check_comment(comment, file, numbering, moment, kept) {
-        Ok(number) => Ok(number),
-        Err(fault) => Err(fault),
-    }
+    check_comment(comment, file, numbering, moment, kept)
 }
