@@ -1,5 +1,5 @@
--- What an installation that a host in another language holds stands for, what its calls do, and the numbers by which the
--- host knows errors and choices.
+-- What an installation that a host in another language holds stands for, what its calls do, and the numbers by which
+-- the host knows errors and choices.
 use Rattle.std.specs.Prelude.{◌≡◌, ◌⊎◌, ◌==◌, ◌||◌, ◌<◌, ◌≤◌, ◌++◌, ℕ, Bool, true, false, if◌then◌else◌, List, [], ◌∷◌, map, get_or, length, Option, Some, None, IfSome, IsSomeAnd, Ok, Err, Result}
 use Rattle.minisign_install.specs.Common.{list_any, IsUtf8, fault_row, SignatureTextRecord, read_signature, IsMeaning, refusal_number, IsKeyText, HasAsked, IsAskFedRefusal, IsBlank, IsFedState, IsMarkedTold, IsNotFed, verdict_misuse, Offer, Newer, Same, Older, PublicKeyValue, Misuse, NotDue, Refusal, WrongUse, Installation, Judged}
 use Rattle.minisign_install.specs.Faults.{Named, NotUtf8, OutOfMemory, RandomSourceFailed, ReadingFailed, WritingFailed, InstallFault, DirectoryNotSynced, IsOwn, Library, PlaceInUse, install_number, install_row}
@@ -169,8 +169,8 @@ IsJudged judged terms kept comment =
     ((judged.verdict ≡ 1) × IsWorth terms kept comment (Ok judged.number))
     ⊎ ((e : InstallFault) × (judged.verdict ≡ install_number e) × IsWorth terms kept comment (Err e))
 
--- The questions of the two texts were asked and the digest was told, where this number was kept, and the trusted comment
--- of the second one was judged.
+-- The questions of the two texts were asked and the digest was told, where this number was kept, and the trusted
+-- comment of the second one was judged.
 pub record IsAsking (i : Installation) (terms : Terms) (kept : ℕ) : Type 0 where
   pub due : IsDue i (Answer kept)
   pub key : PublicKeyValue

@@ -1,6 +1,6 @@
 //! An installation of fixed size that a host in another language holds: it is told which call is due, says how the call
-//! went, and hands over what it reads back; the numbers by which the host knows errors and choices; and the law that such a
-//! host makes a run of the law on runs. None of it allocates.
+//! went, and hands over what it reads back; the numbers by which the host knows errors and choices; and the law that
+//! such a host makes a run of the law on runs. None of it allocates.
 
 ghost use Rattle.std.specs.Prelude.{◌≡◌, ◌<◌, ◌≤◌, ℕ, List, Some, option_map, if◌then◌else◌, OnOk, IfErr, MatchOption, length, take};
 ghost use Rattle.minisign_install.specs.Words.{CallHasFailed, CannotBeFed, CannotFail, CannotGo, HasBegun, HasObeyed, HasReadBack, HasReadRecord, HasRun, Host, IsBegun, IsDue, IsHostMeaning, IsNotDue, IsUnused, RestUnchanged, WasDone, WritesCut, call_of, due_number, due_of, failure, is_device_error, numbering_number, numbering_of, offer_number, Due, Lock, Makes, ReadRecord, Setting, WriteRecord, Done, More, record_of};
@@ -23,7 +23,7 @@ const BEGUN: u64 = 7812726606361684333;
 #[derive(Clone, Copy)]
 pub struct Installation {
     mark: u64,
-    // What is due: the number of the call, in the order of `Due` from 1 on, and the error and the number that come with it.
+    // What is due: the number of the call, in the order of `Due` from 1 on, and its error and its number.
     call: u32,
     error: u32,
     number: u64,

@@ -40,8 +40,8 @@ impl Installation {
 
         // The reasons of a rejection come in one order: answers that are not due; a name that is not UTF-8; what
         // `State::ask_fed` rejects, in its order. A wrong use and a buffer without room leave the installation as it was.
-        // For any other the stage is to be removed, and the run is rejected for that. The message buffer is as it was; where
-        // the answers are not due, the questions are too; and what the host has chosen stays in any case.
+        // For any other the stage is to be removed, and the run is rejected for that. The message buffer is as it was;
+        // where the answers are not due, the questions are too; and what the host has chosen stays in any case.
         ensures refused { IfErr result (IsAskRefusal self.old self.new key.now sig_text.now file.now (length message.old)) }
         ensures kept { OnErr result (message.new ≡ message.old) }
         ensures unasked { (questions.new ≡ questions.old) ⊎ ((kept : ℕ) × IsDue self.old (Answer kept)) }
