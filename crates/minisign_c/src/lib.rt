@@ -23,7 +23,7 @@ ghost use Rattle.minisign_external.specs.declared.state.Misuse.TheVariants.{BadA
 ghost use Rattle.minisign_install.specs.Checking.{HasChecked, IsCheckNumber};
 ghost use Rattle.minisign_install.specs.Comments.{Says};
 ghost use Rattle.minisign_install.specs.Faults.{install_number};
-ghost use Rattle.minisign_install.specs.Hosted.{CannotBeFed, CannotFail, CannotGo, GivesUpdate, CallHasFailed, HasReadRecord, HasReadBack, IsAnswerRefusal, IsAskRefusal, IsAsking, IsBegun, IsDue, IsHostMeaning, IsNumberOf, IsUnused, IsWorthBytes, WasDone, due_number, due_of, numbering_number, numbering_of, wanted_by};
+ghost use Rattle.minisign_install.specs.Hosted.{CannotBeFed, CannotFail, CannotGo, GivesUpdate, CallHasFailed, HasReadRecord, HasReadBack, IsAnswerRefusal, IsAskRefusal, IsAsking, IsBegun, IsDue, IsHostMeaning, IsNumberOf, IsUnused, IsWorth, ReadsTexts, WasDone, due_number, due_of, numbering_number, numbering_of, wanted_by};
 ghost use Rattle.minisign_install.specs.Installing.{Terms};
 ghost use Rattle.minisign_install.specs.RecordTexts.{record_of};
 ghost use Rattle.minisign_install.specs.declared.faults.InstallFault.{InstallFault};
@@ -682,7 +682,7 @@ pub extern "C" fn minisign_judge_comment(
         × Says comment.now file.now k moment number.new × (kept ≤ number.new) }
     ensures refused { 0 < result → ((result ≡ misuse_number BadNumbering) × (1 < numbering))
         ⊎ ((k : Numbering) × (numbering ≡ numbering_number k) × (e : InstallFault) × (result ≡ install_number e)
-        × IsWorthBytes comment.now (wanted_by [] [] file.now k moment) kept (Err e)) }
+        × ReadsTexts comment.now file.now (IsWorth (wanted_by [] [] file.now k moment) kept comment.now) (Err e)) }
     ensures kept { 0 < result → number.new ≡ number.old }
 {
     let Some(numbering) = Numbering::of_number(numbering) else {

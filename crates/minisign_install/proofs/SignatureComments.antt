@@ -1,5 +1,5 @@
 -- What a signature text reads as has comments; and what is left where nothing is refused under a key.
-use Rattle.minisign_install.proofs.Common.{◌≡◌, ◌∙◌, List, ℕ, Bool, true, false, ◌||◌, Result, Ok, Err, Some, ap, refl, subst, sym, is_utf8, NamedFault, NotUtf8, Fault, CommentsRecord, SignatureBoxRecord, is_prehashed, SignatureTextRecord, box_of, read_signature, read_signature_box, require, and_then, key_of, read_utf8, judge_key, read_under, PublicKeyValue}
+use Rattle.minisign_install.proofs.Common.{◌≡◌, ◌∙◌, List, ℕ, Bool, true, false, ◌||◌, Result, Ok, Err, Some, ap, refl, subst, sym, is_utf8, NamedFault, NotUtf8, Fault, SignatureBoxRecord, is_prehashed, SignatureTextRecord, box_of, read_signature, read_signature_box, require, and_then, key_of, read_utf8, judge_key, read_under, PublicKeyValue}
 use Rattle.minisign.specs.Texts.{map_ok}
 
 boxed : (r : Result SignatureTextRecord Fault) (x : SignatureBoxRecord) → map_ok box_of r ≡ Ok x → (t : SignatureTextRecord) × (r ≡ Ok t) × (x.comments ≡ Some t.comments)

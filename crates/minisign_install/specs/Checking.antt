@@ -1,11 +1,11 @@
 -- Whether an update is newer than what is kept, from its signature alone.
 use Rattle.std.specs.Prelude.{◌≡◌, ◌⊎◌, ◌<◌, ◌==◌, ℕ, Bool, false, true, if◌then◌else◌, nat_lt, List, [], Option, Some, None, Result, Ok, Err, IsErrAnd, ⊤}
-use Rattle.minisign_install.specs.Common.{option_map_or, IsUtf8, accepts_comments, judge_answers, judge_key, read_public_key, PublicKeyRecord, SignatureTextRecord, box_of, read_signature, and_then, misuse_number, BadFirstFlag, BadNumbering, Offer, Newer, Same, Older}
-use Rattle.minisign_install.specs.Faults.{Rose, Fault, Named, NotUtf8, OutOfMemory, ReadingFailed, InstallFault, Library, install_number}
+use Rattle.minisign_install.specs.Common.{option_map_or, accepts_comments, judge_answers, judge_key, read_public_key, PublicKeyRecord, SignatureTextRecord, box_of, read_signature, and_then, misuse_number, BadFirstFlag, BadNumbering, Offer, Newer, Same, Older}
+use Rattle.minisign_install.specs.Faults.{Rose, Fault, Named, OutOfMemory, ReadingFailed, InstallFault, Library, install_number}
 use Rattle.minisign_install.specs.Installing.{IsKeptOrNone, Verifier, Terms}
 use Rattle.minisign_install.specs.Comments.{Says, Numbering}
 use Rattle.minisign_install.specs.Directories.{Calls, Finds, IsStill, Known, Run, Record}
-use Rattle.minisign_install.specs.Hosted.{wanted_by, numbering_number, offer_number}
+use Rattle.minisign_install.specs.Hosted.{ReadsTexts, numbering_number, offer_number, wanted_by}
 use Rattle.minisign_install.specs.Refusals.{IsCommentRefused, IsRecordRefused}
 
 -- the first condition that fails of a signature over a digest under a key: the key IDs agree, and it is over a digest;
@@ -66,20 +66,13 @@ ChecksSo accepts terms first before after old new r =
     (IsAnswered accepts terms first old new r × (after ≡ before))
     ⊎ IsErrAnd r (IsUnanswered accepts terms before after old new)
 
--- the same of a signed comment that is handed in, and that was vouched for: it or the name is not UTF-8, or it is
--- answered as above
-abbrev pub CommentChecksSo : List ℕ → Terms → Bool → Option (List ℕ) → Result (Offer × ℕ) InstallFault → Type 0
-CommentChecksSo comment terms first found r =
-    ((r ≡ Err (Library (Named NotUtf8))) × ¬ (IsUtf8 comment × IsUtf8 terms.file))
-    ⊎ (IsUtf8 comment × IsUtf8 terms.file × IsOffered terms first found comment r)
-
 -- == The same by numbers ==
 
 -- a check was answered: the offer has this number
 abbrev pub HasChecked : List ℕ → List ℕ → ℕ → ℕ → ℕ → Option (List ℕ) → ℕ → ℕ → Type 0
 HasChecked comment file numbering moment first found offer n =
     (first < 2) × (k : Numbering) × (numbering ≡ numbering_number k) × (told : Offer) × (offer ≡ offer_number told)
-    × CommentChecksSo comment (wanted_by [] [] file k moment) (first == 1) found (Ok (told, n))
+    × ReadsTexts comment file (IsOffered (wanted_by [] [] file k moment) (first == 1) found comment) (Ok (told, n))
 
 -- it is refused: for a number that is neither 0 nor 1, that of the first flag first; or for the first reason
 abbrev pub IsCheckNumber : List ℕ → List ℕ → ℕ → ℕ → ℕ → Option (List ℕ) → ℕ → Type 0
@@ -88,4 +81,4 @@ IsCheckNumber comment file numbering moment first found error =
     ⊎ ((error ≡ misuse_number BadNumbering) × (first < 2) × (1 < numbering))
     ⊎ ((first < 2) × (k : Numbering) × (numbering ≡ numbering_number k) × (e : InstallFault)
     × (error ≡ install_number e)
-    × CommentChecksSo comment (wanted_by [] [] file k moment) (first == 1) found (Err e))
+    × ReadsTexts comment file (IsOffered (wanted_by [] [] file k moment) (first == 1) found comment) (Err e))

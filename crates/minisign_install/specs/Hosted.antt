@@ -205,11 +205,11 @@ abbrev pub IsAnswerRefusal : Installation → Installation → Refusal InstallFa
 IsAnswerRefusal old new (WrongUse m) = (new ≡ old) × (IsUndue Answer old m ⊎ (m ≡ verdict_misuse old.state))
 IsAnswerRefusal old new (Refused e) = (kept : ℕ) × IsDue old (Answer kept) × IsDue new (Remove (install_number e))
 
--- the same of a signed comment that is passed in as bytes: it or the name is not UTF-8, or it is worth that
-abbrev pub IsWorthBytes : List ℕ → Terms → ℕ → Result ℕ InstallFault → Type 0
-IsWorthBytes comment terms kept r =
-    ((r ≡ Err (Library (Named NotUtf8))) × ¬ (IsUtf8 comment × IsUtf8 terms.file))
-    ⊎ (IsUtf8 comment × IsUtf8 terms.file × IsWorth terms kept comment r)
+-- of a signed comment and a name that are passed in as bytes: one is not UTF-8, or the answer is as P says
+abbrev pub ReadsTexts : {T : Type 0} → List ℕ → List ℕ → (Result T InstallFault → Type 0) → Result T InstallFault → Type 0
+ReadsTexts comment file P r =
+    ((r ≡ Err (Library (Named NotUtf8))) × ¬ (IsUtf8 comment × IsUtf8 file))
+    ⊎ (IsUtf8 comment × IsUtf8 file × P r)
 
 -- == The same by numbers ==
 

@@ -3,13 +3,13 @@ pub use Rattle.minisign.specs.SignatureText.{view_of}
 pub use Rattle.minisign.specs.Texts.{map_ok}
 pub use Rattle.minisign_external.specs.Numbers.{WritesCut}
 pub use Rattle.minisign_external.specs.States.{HasEnded}
-pub use Rattle.minisign_install.specs.Checking.{ChecksSo, CommentChecksSo, IsAnswered, IsOffered, IsUnanswered, digest_verdict, judge_digest, offer_beside, signed_comment}
+pub use Rattle.minisign_install.specs.Checking.{ChecksSo, IsAnswered, IsOffered, IsUnanswered, digest_verdict, judge_digest, offer_beside, signed_comment}
 pub use Rattle.minisign_install.specs.Comments.{ExpiresAt, HasNumber, IsExpiryRefused, IsNumberText, IsUnexpired, Numbering, Says, Timestamp, Version, expiry_label, fields, file_label, number_label, strip, value_of, values_of}
 pub use Rattle.minisign_install.specs.Common.{AnswersTexts, AreQuestions, CommentsRecord, Consumes, HasAsked, Installation, IsAskFedRefusal, IsAtEnd, IsFedState, IsKeyText, IsMarkedTold, IsUtf8, Misuse, PublicKeyRecord, PublicKeyValue, Questions, Refusal, Same, SignatureBoxRecord, SignatureTextRecord, Stage, Work, WrongUse, accepts_comments, and_then, blake2b_digest, box_of, concat, judge_answers, judge_key, read_public_key, read_signature, read_signature_box, read_under, verdict}
 pub use Rattle.minisign_install.specs.Directories.{Appends, Calls, CallsOwning, ClearsAll, FileStays, Finds, GivesPermissions, HasCounted, HasCreated, HasLocked, HasOnDisk, HasRenamed, HasStepped, HasTried, Held, IsApart, IsBusy, IsFound, IsStill, Known, MayFind, MayLead, MaySyncDirectory, Moment, Name, OtherProcesses, OwnsTheSame, Perhaps, Place, Record, RecordUnchanged, Removes, Renames, Run, RunStep, Sees, Sets, Spoils, Syncs, SyncsDirectory, TouchesOnly, TouchesStages, drawn_bytes}
 pub use Rattle.minisign_install.specs.Driving.{AreNamed, HasCalled, HasMade, IsNamed, Knows, MayCall, WantsNoMemory, calls_left, host, made_or, outcome_by, setting}
 pub use Rattle.minisign_install.specs.Faults.{BadExpiry, Expired, Fault, InstallFault, IsOwn, Library, Named, NoNumber, NotUtf8, OlderUpdate, OtherFile, OutOfMemory, PlaceInUse, RandomSourceFailed, ReadingFailed, Rose, SameNumber, WritingFailed, install_number, install_row}
-pub use Rattle.minisign_install.specs.Hosted.{CallHasFailed, CannotBeFed, CannotFail, CannotGo, GivesUpdate, HasGone, HasReadBack, HasReadRecord, IsAnswerRefusal, IsAskRefusal, IsAsking, IsWorth, IsWorthBytes, IsDue, IsJudged, IsNotDue, IsUnused, RestUnchanged, WasDone, due_number, due_of, failure, is_device_error, numbering_of, wanted_by, IsBegun, IsHostMeaning, call_of, numbering_number, offer_number, piece_outcome}
+pub use Rattle.minisign_install.specs.Hosted.{CallHasFailed, CannotBeFed, CannotFail, CannotGo, GivesUpdate, HasGone, HasReadBack, HasReadRecord, IsAnswerRefusal, IsAskRefusal, IsAsking, IsWorth, IsDue, IsJudged, IsNotDue, IsUnused, ReadsTexts, RestUnchanged, WasDone, due_number, due_of, failure, is_device_error, numbering_of, wanted_by, IsBegun, IsHostMeaning, call_of, numbering_number, offer_number, piece_outcome}
 pub use Rattle.minisign_install.specs.Hosting.{HasBegun, HasObeyed, Obeys, TellsAnswers, TellsRecord, by_field, MakesDue}
 pub use Rattle.minisign_install.specs.Hosts.{Blames, CallsNothing, DeviceFails, Explains, HasRun, Host, Makes, Setting, Writes, WritesInPart}
 pub use Rattle.minisign_install.specs.Installing.{HasInstalled, HasKept, InstallsLocked, InstallsOnlyUpdates, IsAhead, IsKeptNumber, IsKeptOrNone, IsUpdate, IsVouched, MayBeInstalled, MayBePublished, MayBeRecorded, NeverFalls, PublishesInOrder, RecordsFirst, Terms, TextsVouchWith, Verifier, terms_of}

@@ -2,7 +2,7 @@
 //! written, and no lock is taken.
 
 ghost use Rattle.std.specs.Prelude.{◌≡◌, [], option_map, IfErr, MatchResult};
-ghost use Rattle.minisign_install.specs.Words.{CallsNothing, ChecksSo, CommentChecksSo, IsAnswered, IsLibraryFault, IsOffered, IsReadingFault, IsUnanswered, Known, offer_beside, terms_of, wanted_by};
+ghost use Rattle.minisign_install.specs.Words.{CallsNothing, ChecksSo, ReadsTexts, IsAnswered, IsLibraryFault, IsOffered, IsReadingFault, IsUnanswered, Known, offer_beside, terms_of, wanted_by};
 
 use crate::comments::{Numbering, check_comment};
 use crate::directories::Directory;
@@ -89,7 +89,7 @@ pub fn check_comment_offer(
     found: Option<&[u8]>,
 ) -> Result<(Offer, u64), InstallFault>
     // The comment and the name have to be UTF-8; then the answer is the one by what the record was found to hold.
-    ensures outcome { CommentChecksSo comment.now (wanted_by [] [] file.now numbering moment) is_first (option_map (λ b. b.now) found.entry) result }
+    ensures outcome { ReadsTexts comment.now file.now (IsOffered (wanted_by [] [] file.now numbering moment) is_first (option_map (λ b. b.now) found.entry) comment.now) result }
 {
     let Ok(comment) = str::from_utf8(comment) else {
         return Err(NamedFault::NotUtf8.into());

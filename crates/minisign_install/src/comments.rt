@@ -1,7 +1,7 @@
 //! What the signed comment says of an update.
 
-ghost use Rattle.std.specs.Prelude.{◌≡◌, ◌≢◌, ◌⊎◌, ◌≤◌, ◌<◌, ◌∷◌, [], ℕ, List, Some, None, option_map, IfOk, IfErr, MatchOption, MatchResult, filter_map, length};
-ghost use Rattle.minisign_install.specs.Words.{HasNumber, IsExpiryRefused, IsNumberText, IsUnexpired, Says, expiry_label, fields, file_label, number_label, strip, value_of, values_of, wanted_by, other_field, IsWorth, BadExpiry, Expired, NoNumber, OlderUpdate, OtherFile};
+ghost use Rattle.std.specs.Prelude.{◌≡◌, ◌≢◌, ◌⊎◌, ◌<◌, ◌∷◌, [], ℕ, List, Some, None, option_map, MatchOption, MatchResult, filter_map, length};
+ghost use Rattle.minisign_install.specs.Words.{HasNumber, IsExpiryRefused, IsNumberText, IsUnexpired, expiry_label, fields, file_label, number_label, strip, value_of, values_of, wanted_by, other_field, IsWorth, BadExpiry, Expired, NoNumber, OlderUpdate, OtherFile};
 
 use crate::faults::InstallFault;
 

@@ -1,7 +1,7 @@
 //! Asking a signature scheme about what a host has read back, and judging the signed comment. None of it allocates.
 
-ghost use Rattle.std.specs.Prelude.{◌≡◌, ◌⊎◌, ◌≤◌, ℕ, List, false, OnOk, OnErr, IfErr, IfOk, MatchResult, [], Ok, length};
-ghost use Rattle.minisign_install.specs.Words.{IsUtf8, blake2b_digest, Verifier, Terms, SignatureTextRecord, AnswersTexts, IsKeyText, read_under, AreQuestions, HasEnded, IsFedState, Says, install_number, GivesUpdate, IsAnswerRefusal, IsAskRefusal, IsAsking, IsWorth, IsWorthBytes, IsJudged, RestUnchanged, IsDue, numbering_of, wanted_by, IsCommentRefused, Answer, Remove, TakePermissions};
+ghost use Rattle.std.specs.Prelude.{◌≡◌, ◌⊎◌, ℕ, List, false, OnOk, OnErr, IfErr, [], Ok, length};
+ghost use Rattle.minisign_install.specs.Words.{blake2b_digest, Verifier, Terms, SignatureTextRecord, AnswersTexts, IsKeyText, read_under, AreQuestions, HasEnded, IsFedState, install_number, GivesUpdate, IsAnswerRefusal, IsAskRefusal, IsAsking, IsWorth, ReadsTexts, IsJudged, RestUnchanged, IsDue, numbering_of, wanted_by, Answer, Remove, TakePermissions};
 ghost use Rattle.minisign_external.specs.declared.state.Refusal.TheVariants.{Refused};
 
 use crate::comments::{Numbering, check_comment};
@@ -149,7 +149,7 @@ pub fn judge_comment(
 ) -> Result<u64, InstallFault>
     // The number of the comment is told exactly where the comment and the name are UTF-8, the comment names the file, has
     // this number and has not expired, and it is not below the kept one; otherwise the first reason is.
-    ensures { IsWorthBytes comment.now (wanted_by [] [] file.now numbering moment) kept result }
+    ensures { ReadsTexts comment.now file.now (IsWorth (wanted_by [] [] file.now numbering moment) kept comment.now) result }
 {
     let comment = str::from_utf8(comment).map_err(|_| NamedFault::NotUtf8)?;
     let file = str::from_utf8(file).map_err(|_| NamedFault::NotUtf8)?;
