@@ -1,5 +1,5 @@
 -- What the parts of an installation come to.
-use Rattle.minisign_install.proofs.Common.{◌≡◌, ◌≤◌, ◌<◌, ◌^◌, inl, inr, ⊎_elim, ℕ, Bool, List, Option, Some, None, sym, subst, ◌∙◌, true, arith, Verifier, HasKept, InstallsLocked, MayBePublished, IsKeptNumber, MayBeInstalled, MayBeRecorded, IsUpdate, RecordsFirst, PublishesInOrder, Terms, Numbering, ClearsAll, HasStepped, IsFound, Moment, Finds, Run, Name, Place, Record, IsNumberFor, record_of, PublishesNothing, PublishesOnly, IsNumberFrom, RecordHolds, MayLead}
+use Rattle.minisign_install.proofs.Common.{◌≡◌, ◌≤◌, ◌<◌, ◌^◌, inl, inr, ℕ, Bool, List, Option, Some, None, sym, subst, ◌∙◌, true, arith, Verifier, HasKept, InstallsLocked, MayBePublished, IsKeptNumber, MayBeInstalled, MayBeRecorded, IsUpdate, RecordsFirst, PublishesInOrder, Terms, Numbering, ClearsAll, HasStepped, IsFound, Moment, Finds, Run, Name, Place, Record, IsNumberFor, record_of, PublishesNothing, PublishesOnly, IsNumberFrom, RecordHolds, MayLead}
 use Rattle.minisign_install.proofs.Works.{HasRecorded, IsOnly, publishes_nothing, publishes_trans, publishes_weaken}
 use Rattle.minisign_install.proofs.RecordTexts.{record_reads, same_number}
 use Rattle.std.proofs.lemmas.Option.{none-some, same_Some}

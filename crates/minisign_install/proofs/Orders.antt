@@ -1,9 +1,9 @@
 -- Whatever outcomes come, a run that makes each call as it is due installs only updates: what stands fast at each call
 -- that is due, and that each outcome leads from there to what stands fast at the next one.
-use Rattle.minisign_install.proofs.Common.{◌≡◌, FileStays, ◌≢◌, ◌⊎◌, inl, inr, ⊎_elim, ℕ, List, [], ◌∷◌, ◌++◌, true, false, true≢false, ap, sym, subst, ◌∙◌, refl, append_assoc, append-nil, Consumes-nil, Consumes-trans, Consumes-whole, Consumes, concat, IsAhead, HasInstalled, HasKept, MayBePublished, MayBeRecorded, IsUpdate, PublishesInOrder, ClearsAll, HasLocked, HasRenamed, HasStepped, IsStill, Perhaps, Moment, Removes, Renames, Run, Name, Place, Record, Calls, CallsNothing, CallsOwning, Sets, TouchesStages, Spoils, HasRun, Host, Makes, Setting, Writes, WritesInPart, next, Due, Lock, Clear, ReadRecord, Create, Copy, ReadBack, Answer, TakePermissions, Sync, CreateRecord, WriteRecord, SyncRecord, RenameRecord, SyncRecordName, Rename, SyncName, RemoveRecord, Remove, Installed, Outcome, Done, More, Number, Failed, record_of, PublishesNothing, PublishesOnly, HasCleared, HasReached, OwnsNoMore, ⊤, InstallsOnlyUpdates}
+use Rattle.minisign_install.proofs.Common.{◌≡◌, FileStays, ◌≢◌, ◌⊎◌, inl, inr, ⊎_elim, ℕ, List, [], ◌∷◌, ◌++◌, true, false, true≢false, ap, sym, subst, ◌∙◌, refl, append_assoc, append-nil, Consumes-nil, Consumes-trans, Consumes-whole, Consumes, concat, IsAhead, HasInstalled, HasKept, MayBePublished, MayBeRecorded, IsUpdate, PublishesInOrder, ClearsAll, HasLocked, HasRenamed, HasStepped, IsStill, Perhaps, Moment, Removes, Renames, Run, Name, Place, Record, Calls, CallsNothing, CallsOwning, TouchesStages, Spoils, HasRun, Host, Makes, Setting, Writes, WritesInPart, next, Due, Lock, Clear, ReadRecord, Create, Copy, ReadBack, Answer, TakePermissions, Sync, CreateRecord, WriteRecord, SyncRecord, RenameRecord, SyncRecordName, Rename, SyncName, RemoveRecord, Remove, Installed, Outcome, Done, More, Number, Failed, record_of, PublishesNothing, PublishesOnly, HasCleared, HasReached, OwnsNoMore, ⊤, InstallsOnlyUpdates}
 use Rattle.minisign_install.specs.Order.{Refused}
 use Rattle.minisign_install.proofs.Installs.{found_first, installs, nothing_locked, ordered, places_more, places_update}
-use Rattle.minisign_install.proofs.Works.{call_with, HasRecorded, HasStage, IsOnly, IsQuiet, WorksOn, publishes_none, publishes_nothing, publishes_trans, publishes_weaken, step, created_publishes, created_keeps, created_stage, kept_no_more, lasting, less_no_more, file_before, no_more_trans, quiet_trans, working, perhaps, published, quiet, renamed_publishes, renamed_keeps, resting_publishes, spoiling, works_none, works_trans}
+use Rattle.minisign_install.proofs.Works.{call_with, HasRecorded, HasStage, IsQuiet, WorksOn, publishes_none, publishes_nothing, publishes_trans, publishes_weaken, step, created_publishes, created_keeps, created_stage, kept_no_more, lasting, less_no_more, file_before, no_more_trans, quiet_trans, working, perhaps, published, quiet, renamed_publishes, renamed_keeps, resting_publishes, spoiling, works_none, works_trans}
 
 -- == Calls together ==
 

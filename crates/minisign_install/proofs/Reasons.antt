@@ -1,6 +1,6 @@
 -- Where each failing call says why it failed, a run that is rejected says the first reason; and where memory ran out, nothing
 -- was published.
-use Rattle.minisign_install.proofs.Common.{◌≡◌, ◌≢◌, inl, inr, ℕ, true, List, Option, ap, sym, subst, ◌∙◌, refl, ⊎_elim, Verifier, Terms, HasKept, HasLocked, HasStepped, Run, Counts, HasCleared, HasPublishedUpdate, IsDataRefusal, IsDataRefused, IsRefusal, PublishesNothing, InstallFault, IsAhead, Rose, IsBusy, IsStill, DeviceFails, Explains, Host, Makes, Setting, next, Due, Lock, Clear, ReadRecord, Create, Copy, ReadBack, Answer, RenameRecord, Rename, SyncName, RemoveRecord, Remove, Installed, Outcome, Done, Failed, IsCallFault, IsLibraryFault, Place, Named, OutOfMemory, Library, WantsNoMemory, OnlyLocked}
+use Rattle.minisign_install.proofs.Common.{◌≡◌, ◌≢◌, inl, inr, ℕ, true, List, Option, ap, ◌∙◌, refl, ⊎_elim, Verifier, Terms, HasKept, HasLocked, Run, Counts, HasCleared, HasPublishedUpdate, IsDataRefusal, IsRefusal, PublishesNothing, InstallFault, DeviceFails, Explains, Host, Makes, Setting, next, Due, Lock, Clear, ReadRecord, Create, Copy, ReadBack, Answer, RenameRecord, Rename, SyncName, RemoveRecord, Remove, Installed, Outcome, Done, Failed, Place, Named, OutOfMemory, Library, WantsNoMemory, OnlyLocked}
 use Rattle.minisign_install.proofs.Works.{IsQuiet, publishes_nothing, publishes_trans, quiet_trans, renamed_stands}
 use Rattle.minisign_install.specs.Order.{Refused}
 use Rattle.minisign_install.proofs.Installs.{found_first}
