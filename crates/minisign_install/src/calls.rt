@@ -68,19 +68,16 @@ pub(crate) fn make<S: Scheme, Z: RandomSource, R: Source, F: Directory>(
         Due::Create(_) => done_or(create(random, directory, &mut work.stage)),
         Due::Copy(_) => done_or(fill(alloc, directory, &made(&work.stage).handle, update)),
         Due::ReadBack(_) => {
-            let stage = made(&work.stage);
-            done_or(read_back(alloc, directory, &stage.handle, &mut work.state))
+            done_or(read_back(alloc, directory, &made(&work.stage).handle, &mut work.state))
         }
         Due::Answer(kept) => number_or(judge(alloc, scheme, wanted, *kept, &mut work.state)),
         Due::TakePermissions(_) => writing_or(take_permissions(directory, made(&work.stage))),
         Due::Sync(_) => writing_or(directory.sync(&made(&work.stage).handle)),
         Due::CreateRecord(_) => done_or(create(random, directory, &mut work.record_stage)),
-        Due::WriteRecord(number) => writing_or(write_number(
-            directory,
-            &made(&work.record_stage).handle,
-            wanted.numbering,
-            *number,
-        )),
+        Due::WriteRecord(number) => {
+            let stage = made(&work.record_stage);
+            writing_or(write_number(directory, stage, wanted.numbering, *number))
+        }
         Due::SyncRecord(_) => writing_or(directory.sync(&made(&work.record_stage).handle)),
         Due::RenameRecord(_) => writing_or(directory.rename(
             &made(&work.record_stage).name,
@@ -214,20 +211,17 @@ fn create<Z: RandomSource, F: Directory>(
 #[tactic(auto, using(crate::proofs::RecordTexts::all_written))]
 fn write_number<F: Directory>(
     directory: &mut F,
-    handle: &F::Handle,
+    stage: &Stage<F::Handle>,
     numbering: Numbering,
     number: u64,
 ) -> Result<(), DeviceFault>
     ensures written { Known (F.run directory.old) (MatchResult result
-        (λ _. (pieces : List (List ℕ)) × Writes (F.Handle.file handle.now) pieces (F.run directory.old) (F.run directory.new) × (concat pieces ≡ record_of numbering number))
-        (λ _. WritesInPart (F.Handle.file handle.now) (F.run directory.old) (F.run directory.new))) }
+        (λ _. (pieces : List (List ℕ)) × Writes (F.Handle.file stage.now.handle) pieces (F.run directory.old) (F.run directory.new) × (concat pieces ≡ record_of numbering number))
+        (λ _. WritesInPart (F.Handle.file stage.now.handle) (F.run directory.old) (F.run directory.new))) }
     ensures counted { HasCounted (F.directory_faults directory.old) (F.directory_faults directory.new) result }
 {
     let mut buffer = [0u8; MOST_WRITTEN];
     let written = write_record(numbering, number, &mut buffer);
     let (text, _) = buffer.split_at(written);
-    match write_all(directory, handle, text) {
-        Ok(()) => Ok(()),
-        Err(fault) => Err(fault),
-    }
+    write_all(directory, &stage.handle, text)
 }

@@ -42,7 +42,7 @@ returns-in-ReadBack-clause-went g c = rw (c.in-ReadBack.is, c.done_or-in-ReadBac
     let read_back = c.read_back.ensures in
     gave _ c.read_back.result (joined _ _ _ _ _ read_back.fed (joined _ _ _ _ _ read_back.refused read_back.no_new_fault))
     (λ x ((m, is_fed, all), (u, calm)).
-    record { stays = λ named is. is; then = m; has = has; knows = is_fed; made = λ named is known may. (read_back.still, rw (rw c.made-stage.ensures at is.0).1 (all known)); explained = λ named. ap (counts _ _) calm; memory = tt })
+    record { stays = λ named is. is; then = m; has = has; knows = is_fed; made = λ named is known may. (read_back.still, rw (rw c.made-in-ReadBack.ensures at is.0).1 (all known)); explained = λ named. ap (counts _ _) calm; memory = tt })
     (λ e (u, ((fault, is, why), v)).
     record { stays = λ named is. is; then = read; has = has.0; knows = tt; made = λ named is known may. read_back.still; explained = λ named. (fault, is, ⊎_elim (λ (memory, same). inl (memory, ap (counts _ _) same)) (λ (reading, rose). inr (inl (reading, inr rose))) why); memory = λ no. absurd (true≢false no) }))
 
@@ -80,7 +80,7 @@ returns-in-Sync-clause-went g c = rw (c.in-Sync.is, c.writing_or-in-Sync.ensures
 
 pub returns-in-WriteRecord-clause-went : goal.returns-in-WriteRecord-clause-went
 returns-in-WriteRecord-clause-went g c = rw (c.in-WriteRecord.is, c.writing_or-in-WriteRecord.ensures) (λ going read has knows.
-    called _ read c.write_number.result (has, knows) (has, knows) (λ named is known may. alone _ _ _ _ c.write_number.result (rw (← (rw c.made-in-WriteRecord.ensures at is.1).1) at (c.write_number.ensures.written known)))
+    called _ read c.write_number.result (has, knows) (has, knows) (λ named is known may. alone _ _ _ _ c.write_number.result (rw (← (rw c.made-stage.ensures at is.1).1) at (c.write_number.ensures.written known)))
     (so_counted _ _ c.write_number.result c.write_number.ensures.counted (λ rose named. (_, refl, inr (inr (inl (refl, rose)))))) (λ no memory. cc))
 
 pub returns-in-SyncRecord-clause-went : goal.returns-in-SyncRecord-clause-went
