@@ -40,10 +40,9 @@ pub some_made : {A : Type 0} {P : A → Type 0} (made : Option A) → IsSomeAnd 
 some_made None fact = absurd fact
 some_made (Some a) fact = (a, refl, fact)
 
-module _ {H : Type 0} (file_of : H → ℕ) where
-  pub none_named : (made : Option (Stage H)) (name : List ℕ) (file : ℕ) → IsNone made → IsNamed file_of made name file
-  none_named None name file none = tt
-  none_named (Some stage) name file none = absurd (true≢false none)
+pub none_named : {H : Type 0} (file_of : H → ℕ) (made : Option (Stage H)) (name : List ℕ) (file : ℕ) → IsNone made → IsNamed file_of made name file
+none_named file_of None name file none = tt
+none_named file_of (Some stage) name file none = absurd (true≢false none)
 
 module _ {H : Type 0} {accepts : Verifier} {terms : Terms} {first : Bool} {file_of : H → ℕ} {due : Due InstallFault} {h : Host} {after : List ℕ → Host} where
   -- a call that gave something, or failed

@@ -51,15 +51,16 @@ abbrev pub MayCall : {E : Type 0} → Due E → Run → Type 0
 MayCall Lock run = ⊤
 MayCall due run = run.locked ≡ true
 
--- Only copying, reading back and judging ask for memory, for a buffer: another call does not fail for want of it, and
--- reading the record says then that it could not be read.
+-- Only copying, reading back and judging allocate, each a buffer: no other call runs out of memory, and reading the
+-- record says then that it could not be read.
 abbrev pub WantsNoMemory : Due InstallFault → Outcome InstallFault → Type 0
 WantsNoMemory due (Failed e) =
     (is_from (Copy 0) due && not (is_from (TakePermissions 0) due)) ≡ false → e ≢ Library (Named OutOfMemory)
 WantsNoMemory due outcome = ⊤
 
--- The call that was due was made and went so, wherever the stages were made that it uses; with what is held and known
--- then, and the host after it by what was read back. Of a directory whose run is not known, only why it failed is said.
+-- The call that was due was made and went so, wherever the stages were made that it uses: what was made stays made,
+-- this was read back by then, and this is held and known. Of a directory whose run is not known, only why it failed is
+-- said.
 pub record HasCalled {H : Type 0} (accepts : Verifier) (terms : Terms) (first : Bool) (file_of : H → ℕ)
     (due : Due InstallFault) (outcome : Outcome InstallFault) (old new : Work H) (before : Host)
     (after : List ℕ → Host) : Type 0 where

@@ -52,8 +52,8 @@ pub(crate) fn make<S: Scheme, Z: RandomSource, R: Source, F: Directory>(
 ) -> Outcome<InstallFault>
     // The stages were made that are used where this is due.
     requires { HasMade due.now work.old }
-    // The call that is due was made, and went as it is said; where it failed, this is why: for want of memory only where
-    // it asks for memory and no device failed.
+    // The call that is due was made, and went as it is said; where it failed, this is why: out of memory only where it
+    // allocates and no device failed.
     ensures went { has_ended due.now ≡ false → (read : List ℕ) → HasMade due.now work.old → Knows (S.accepts scheme.now) (terms_of wanted.entry) due.now work.old read
         → HasCalled (S.accepts scheme.now) (terms_of wanted.entry) is_first F.Handle.file due.now result work.old work.new
         (host (F.run directory.old) (R.ahead update.old) (counts (Z.random_faults random.old) (R.faults update.old) (F.directory_faults directory.old)) read)
