@@ -71,8 +71,8 @@ module _ (accepts : Verifier) (terms : Terms) (first : Bool) where
     ends : (due : Due InstallFault) (w : Work H) (h : Host) → Goes due w h → Ends due w h
     ends Installed w h goes = λ known.
         let (named, is) = named_by w in
-        let (ended, installs) = (goes known named is).0 in
-        (ended.0, installs, installed_exactly accepts terms first Unit tt a.ahead a.faults h.faults a.run h.run installs, ended.1)
+        let (locked, lock, has, ended) = (goes known named is).0 in
+        (ended.0, (locked, lock, has), installed_exactly accepts terms first Unit tt a.ahead a.faults h.faults a.run h.run (locked, lock, has), ended.1)
     ends (Refused e) w h goes = λ known.
         let (named, is) = named_by w in
         let (ended, (reason, spares)) = goes known named is in

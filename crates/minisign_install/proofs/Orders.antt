@@ -144,7 +144,7 @@ module _ (s : Setting) (a : Host) where
       × Staged s a before x.kept.number n × HasRecorded (record_of s.terms.numbering n) before × HasRenamed s.name Place before h.run)
   Holds (RemoveRecord e) h = SoFar s a All Two h.run × ⊤
   Holds (Remove e) h = SoFar s a All One h.run × ⊤
-  Holds Installed h = Ended s a h.run × ((locked : Run) × HasLocked a.run locked × HasInstalled s.accepts s.terms s.first a.ahead locked h.run)
+  Holds Installed h = (locked : Run) × HasLocked a.run locked × HasInstalled s.accepts s.terms s.first a.ahead locked h.run × Ended s a h.run
   Holds (Refused e) h = Ended s a h.run × ⊤
 
   -- == From one moment to the next ==
@@ -192,7 +192,7 @@ module _ (s : Setting) (a : Host) where
       extend x brought (ordered s.accepts s.terms x.kept.number places) places (λ q e of. (of, own.only q e))
 
   judged_more : {now then : Run} {kept n : ℕ} → Judged s a now kept n → HasStage then s.name s.file → then.now.holds s.file ≡ now.now.holds s.file → Judged s a then kept n
-  judged_more {kept = kept} {n = n} x stage holds = record { stage = stage; given = subst (IsAhead a.ahead) (sym holds) x.given; update = subst (λ b. IsUpdate s.accepts s.terms kept b n) (sym holds) x.update }
+  judged_more x stage holds = record { stage = stage; given = rw holds x.given; update = rw holds x.update }
 
   staged_more : {now then : Run} {kept n : ℕ} → Staged s a now kept n → HasStage then s.name s.file → FileStays s.file now.now then.now → Staged s a then kept n
   staged_more x stage same = record { judged = judged_more x.judged stage same.holds; permissions = same.permissions ∙ x.permissions; on_disk = same.on_disk ∙ x.on_disk }
@@ -239,121 +239,116 @@ module _ (s : Setting) (a : Host) where
     fails (Remove f) e x (removal, ahead', read') = perhaps_removed removal
     fails due e x never = absurd never
 
-    module _ {E : Type 0} where
-      pub from : (due : Due E) (o : Outcome E) → Holds due h → Makes s due o h h' → Holds (next due o) h'
-      from Lock Done (run, ahead) ((lock, own), ahead', read') = (subst (λ r. HasLocked r h'.run) run lock, subst (λ r. OwnsNoMore r h'.run) run (kept_no_more h.run h'.run own), ahead' ∙ ahead)
-      from Lock (Failed e) (run, ahead) ((still, own), ahead', read') = ((inl (subst (λ r. HasStepped r h'.run IsStill) run still), subst (λ r. OwnsNoMore r h'.run) run (kept_no_more h.run h'.run own)), tt)
-      from Clear Done (lock, mine, ahead) (clear, ahead', read') = (h.run, lock, mine, clear, ahead' ∙ ahead)
-      from Clear (Failed e) (lock, mine, ahead) made = (unread lock mine (fails Clear e (lock, mine, ahead) made), tt)
-      from ReadRecord (Number n) (l, lock, mine, clear, ahead) ((found, (reads, own), number), ahead', read') =
-          let still = quiet_still (call_with reads reads.this.still, own) in
-          let (none, more) = quiet_trans (calm clear clear.0.this.only) still in (
-            record {
-              locked = l;
-              lock = lock;
-              kept = record { found = found; there = found_first found l h.run h'.run lock.held clear.0 reads; number = n; held = number };
-              cleared = cleared_since clear still.0;
-              publishes = none;
-              places = inl (publishes_nothing (Q n) l h'.run none);
-              own = λ q e any. mine.only q (more.only q e);
-            },
-            refl,
-            ahead' ∙ ahead,
-          )
-      from ReadRecord (Failed e) (l, lock, mine, clear, ahead) made = (unread lock mine (quiet_trans (calm clear clear.0.this.only) (fails ReadRecord e (l, lock, mine, clear, ahead) made)), tt)
-      from (Create kept) Done (x, is, ahead) (made, ahead', read') = (
-        go_on x (created_publishes s.name s.file h.run h'.run made) (λ q e (differs, none). (none, sym (made.own.others q differs) ∙ e)),
-        is,
-        created_stage s.name s.file h.run h'.run made,
-        subst (Consumes a.ahead h'.ahead) (sym made.stepped.this.empty) (subst (λ y. Consumes a.ahead y []) (sym (ahead' ∙ ahead)) (Consumes-nil a.ahead)),
-      )
-      from (Create kept) (Failed e) x made = (stopped (stay x.0 (fails (Create kept) e x made)), tt)
-      from (Copy kept) More (x, is, stage, consumed) (pieces, writes, given, read) =
-          let (works, grown) = writes_work s.name s.file pieces h.run h'.run stage writes in
-          (stay x works.quiet, is, works.stages s.name s.file stage, subst (Consumes a.ahead h'.ahead) (sym grown) (Consumes-trans a.ahead h.ahead h'.ahead (h.run.now.holds s.file) (concat pieces) consumed given))
-      from (Copy kept) Done (x, is, stage, consumed) (pieces, writes, given, end, read) =
-          let (works, grown) = writes_work s.name s.file pieces h.run h'.run stage writes in
-          let held = h'.run.now.holds s.file in
-          let all : Consumes a.ahead h'.ahead held = subst (Consumes a.ahead h'.ahead) (sym grown) (Consumes-trans a.ahead h.ahead h'.ahead (h.run.now.holds s.file) (concat pieces) consumed given) in
-          (stay x works.quiet, is, works.stages s.name s.file stage, Consumes-whole a.ahead h'.ahead held (λ xs. xs ≡ held) all end refl)
-      from (ReadBack kept) More x (run, read) = subst (λ r. Holds {E = E} (ReadBack kept) (record h' { run = r })) (sym run) x
-      from (ReadBack kept) Done (x, is, stage, given) (run, all) = subst (λ r. Holds {E = E} (Answer kept) (record h' { run = r })) (sym run) (x, is, stage, given, all)
-      from (Answer kept) (Number n) (x, is, stage, given, all) (run, update) =
-          subst (λ r. Holds {E = E} (TakePermissions n) (record h' { run = r })) (sym run)
-          (at_most_record x, record { stage = stage; given = given; update = subst (λ k. IsUpdate s.accepts s.terms k (h.run.now.holds s.file) n) (sym is) (subst (λ b. IsUpdate s.accepts s.terms kept b n) (sym all) update) })
-      from (TakePermissions n) Done (x, judged) ((step, own), ahead', read') =
-          let works = spoiling judged.stage (step, own) step.this.spoils in
-          (stay x works.quiet, judged_more judged (works.stages s.name s.file judged.stage) (step.this.same ∙ (file_before step judged.stage).holds), step.this.given)
-      from (Sync n) Done (x, judged, permissions) ((step, own), ahead', read') =
-          let works = spoiling judged.stage (step, own) step.this.spoils in
-          let file = file_before step judged.stage in
-          (stay x works.quiet, record { judged = judged_more judged (works.stages s.name s.file judged.stage) (step.this.same ∙ file.holds); permissions = step.this.permissions ∙ file.permissions ∙ permissions; on_disk = step.this.on_disk })
-      from (CreateRecord n) Done (x, staged) (made, ahead', read') =
-          let stage = staged.judged.stage in
-          let (names, files, kept, same) = created_keeps s.record_name s.record_file h.run h'.run made s.name s.file stage in (
-            go_on x (created_publishes s.record_name s.record_file h.run h'.run made) (λ q e (differs, none). (none, sym (made.own.others q differs) ∙ e)),
-            staged_more staged kept same,
-            record { stage = created_stage s.record_name s.record_file h.run h'.run made; names = names; files = files; holds = made.stepped.this.empty },
-          )
-      from (WriteRecord n) Done (x, staged, stage) ((pieces, writes, all), ahead', read') =
-          let (works, grown) = writes_work s.record_name s.record_file pieces h.run h'.run stage.stage writes in (
-            stay x works.quiet,
-            staged_more staged (works.stages s.name s.file staged.judged.stage) (works.files s.name s.file staged.judged.stage stage.files),
-            record { stage = works.stages s.record_name s.record_file stage.stage; names = stage.names; files = stage.files; holds = grown ∙ ap (λ l. l ++ concat pieces) stage.holds ∙ all },
-          )
-      from (SyncRecord n) Done (x, staged, stage) ((step, own), ahead', read') =
-          let works = spoiling stage.stage (step, own) step.this.spoils in (
-            stay x works.quiet,
-            staged_more staged (works.stages s.name s.file staged.judged.stage) (works.files s.name s.file staged.judged.stage stage.files),
-            record { stage = works.stages s.record_name s.record_file stage.stage; names = stage.names; files = stage.files; holds = step.this.same ∙ (file_before step stage.stage).holds ∙ stage.holds },
-            step.this.on_disk,
-          )
-      from (RenameRecord n) Done (x, staged, stage, on_disk) (renamed, ahead', read') =
-          let (kept, same) = renamed_keeps s.record_name Record s.record_file h.run h'.run stage.stage renamed.stepped renamed.own.others s.name s.file staged.judged.stage stage.names stage.files in
-          (numbered x staged stage on_disk renamed.stepped (less_no_more renamed.own), staged_more staged kept same, (h.run, stage, on_disk, renamed))
-      from (SyncRecordName n) Done (x, staged, (before, stage, on_disk, renamed)) ((step, own), ahead', read') =
-          let works = working (step, own) step.this.same.only step.this.same.stages (λ f no. absurd no) in (
-            let_go (stay x works.quiet) (ap (λ o. o s.record_name) own.owns ∙ renamed.own.set),
-            staged_more staged (works.stages s.name s.file staged.judged.stage) (works.files s.name s.file staged.judged.stage (λ no. no)),
-            subst (λ b. HasRecorded b h'.run) stage.holds (record {
-              earlier = before.steps;
-              published = (published s.record_name Record before h.run h'.run renamed.stepped step s.record_file stage.stage on_disk).0;
-              lasts = lasting s.record_name before h.run h'.run renamed.stepped step s.record_file stage.stage on_disk (x.publishes.locked x.lock.held);
-            }),
-          )
-      from (Rename n) Done (x, staged, recorded) (renamed, ahead', read') = (placed x staged recorded renamed.stepped (less_no_more renamed.own), (h.run, x.publishes, staged, recorded, renamed))
-      from (SyncName n) Done (x, (before, publishes, staged, recorded, renamed)) ((step, own), ahead', read') =
-          let (published_so, permissions) = published s.name Place before h.run h'.run renamed.stepped step s.file staged.judged.stage staged.on_disk in
-          let y = let_go (stay x (calm (step, own) step.this.same.only)) (ap (λ o. o s.name) own.owns ∙ renamed.own.set) in (
-            stopped y,
-            (
-              y.locked,
-              y.lock,
-              record {
-                kept = y.kept;
-                cleared = y.cleared;
-                bytes = before.now.holds s.file;
-                n = n;
-                read = staged.judged.given;
-                update = staged.judged.update;
-                earlier = recorded.earlier;
-                recorded = before.steps;
-                number_first = recorded.published;
-                published = published_so;
-                permissions = permissions ∙ staged.permissions;
-              },
-            ),
-          )
-      from (RemoveRecord f) Done x (removal, ahead', read') = (let_go (stay x.0 (removed removal)) removal.own.set, tt)
-      from (RemoveRecord f) (Failed e) x (removal, ahead', read') = (let_go (stay x.0 (perhaps_removed removal)) removal.own.set, tt)
-      from (Remove f) Done x (removal, ahead', read') = (stopped (let_go (stay x.0 (removed removal)) removal.own.set), tt)
-      from (Remove f) (Failed e) x (removal, ahead', read') = (stopped (let_go (stay x.0 (perhaps_removed removal)) removal.own.set), tt)
-      from (RenameRecord n) (Failed e) x made = (at_most (fails (RenameRecord n) e x made), tt)
-      from (Rename n) (Failed e) x made = (fails (Rename n) e x made, tt)
-      from Installed (Failed e) x never = absurd never
-      from (Refused f) (Failed e) x never = absurd never
-      from due (Failed e) x made = (at_most (stay x.0 (fails due e x made)), tt)
-      from due o x never = absurd never
+    pub from : {E : Type 0} (due : Due E) (o : Outcome E) → Holds due h → Makes s due o h h' → Holds (next due o) h'
+    from Lock Done (run, ahead) ((lock, own), ahead', read') = (rw run at lock, rw run at (kept_no_more h.run h'.run own), ahead' ∙ ahead)
+    from Lock (Failed e) (run, ahead) ((still, own), ahead', read') = ((inl (rw run at still), rw run at (kept_no_more h.run h'.run own)), tt)
+    from Clear Done (lock, mine, ahead) (clear, ahead', read') = (h.run, lock, mine, clear, ahead' ∙ ahead)
+    from Clear (Failed e) (lock, mine, ahead) made = (unread lock mine (fails Clear e (lock, mine, ahead) made), tt)
+    from ReadRecord (Number n) (l, lock, mine, clear, ahead) ((found, (reads, own), number), ahead', read') =
+        let still = quiet_still (call_with reads reads.this.still, own) in
+        let (none, more) = quiet_trans (calm clear clear.0.this.only) still in (
+          record {
+            locked = l;
+            lock = lock;
+            kept = record { found = found; there = found_first found l h.run h'.run lock.held clear.0 reads; number = n; held = number };
+            cleared = cleared_since clear still.0;
+            publishes = none;
+            places = inl (publishes_nothing (Q n) l h'.run none);
+            own = λ q e any. mine.only q (more.only q e);
+          },
+          refl,
+          ahead' ∙ ahead,
+        )
+    from ReadRecord (Failed e) (l, lock, mine, clear, ahead) made = (unread lock mine (quiet_trans (calm clear clear.0.this.only) (fails ReadRecord e (l, lock, mine, clear, ahead) made)), tt)
+    from (Create kept) Done (x, is, ahead) (made, ahead', read') = (
+      go_on x (created_publishes s.name s.file h.run h'.run made) (λ q e (differs, none). (none, sym (made.own.others q differs) ∙ e)),
+      is,
+      created_stage s.name s.file h.run h'.run made,
+      subst (Consumes a.ahead h'.ahead) (sym made.stepped.this.empty) (subst (λ y. Consumes a.ahead y []) (sym (ahead' ∙ ahead)) (Consumes-nil a.ahead)),
+    )
+    from (Create kept) (Failed e) x made = (stopped (stay x.0 (fails (Create kept) e x made)), tt)
+    from (Copy kept) More (x, is, stage, consumed) (pieces, writes, given, read) =
+        let (works, grown) = writes_work s.name s.file pieces h.run h'.run stage writes in
+        (stay x works.quiet, is, works.stages s.name s.file stage, rw grown (Consumes-trans _ _ _ _ _ consumed given))
+    from (Copy kept) Done (x, is, stage, consumed) (pieces, writes, given, end, read) =
+        let (works, grown) = writes_work s.name s.file pieces h.run h'.run stage writes in
+        let all : Consumes a.ahead h'.ahead (h'.run.now.holds s.file) = rw grown (Consumes-trans _ _ _ _ _ consumed given) in
+        (stay x works.quiet, is, works.stages s.name s.file stage, Consumes-whole a.ahead h'.ahead _ (λ xs. xs ≡ h'.run.now.holds s.file) all end refl)
+    from (ReadBack kept) More x (run, read) = rw run x
+    from (ReadBack kept) Done (x, is, stage, given) (run, all) = rw run (x, is, stage, given, all)
+    from (Answer kept) (Number n) (x, is, stage, given, all) (run, update) =
+        rw run (at_most_record x, record { stage = stage; given = given; update = rw (is, all) update })
+    from (TakePermissions n) Done (x, judged) ((step, own), ahead', read') =
+        let works = spoiling judged.stage (step, own) step.this.spoils in
+        (stay x works.quiet, judged_more judged (works.stages s.name s.file judged.stage) (step.this.same ∙ (file_before step judged.stage).holds), step.this.given)
+    from (Sync n) Done (x, judged, permissions) ((step, own), ahead', read') =
+        let works = spoiling judged.stage (step, own) step.this.spoils in
+        let file = file_before step judged.stage in
+        (stay x works.quiet, record { judged = judged_more judged (works.stages s.name s.file judged.stage) (step.this.same ∙ file.holds); permissions = step.this.permissions ∙ file.permissions ∙ permissions; on_disk = step.this.on_disk })
+    from (CreateRecord n) Done (x, staged) (made, ahead', read') =
+        let stage = staged.judged.stage in
+        let (names, files, kept, same) = created_keeps s.record_name s.record_file h.run h'.run made s.name s.file stage in (
+          go_on x (created_publishes s.record_name s.record_file h.run h'.run made) (λ q e (differs, none). (none, sym (made.own.others q differs) ∙ e)),
+          staged_more staged kept same,
+          record { stage = created_stage s.record_name s.record_file h.run h'.run made; names = names; files = files; holds = made.stepped.this.empty },
+        )
+    from (WriteRecord n) Done (x, staged, stage) ((pieces, writes, all), ahead', read') =
+        let (works, grown) = writes_work s.record_name s.record_file pieces h.run h'.run stage.stage writes in (
+          stay x works.quiet,
+          staged_more staged (works.stages s.name s.file staged.judged.stage) (works.files s.name s.file staged.judged.stage stage.files),
+          record { stage = works.stages s.record_name s.record_file stage.stage; names = stage.names; files = stage.files; holds = grown ∙ ap (λ l. l ++ concat pieces) stage.holds ∙ all },
+        )
+    from (SyncRecord n) Done (x, staged, stage) ((step, own), ahead', read') =
+        let works = spoiling stage.stage (step, own) step.this.spoils in (
+          stay x works.quiet,
+          staged_more staged (works.stages s.name s.file staged.judged.stage) (works.files s.name s.file staged.judged.stage stage.files),
+          record { stage = works.stages s.record_name s.record_file stage.stage; names = stage.names; files = stage.files; holds = step.this.same ∙ (file_before step stage.stage).holds ∙ stage.holds },
+          step.this.on_disk,
+        )
+    from (RenameRecord n) Done (x, staged, stage, on_disk) (renamed, ahead', read') =
+        let (kept, same) = renamed_keeps s.record_name Record s.record_file h.run h'.run stage.stage renamed.stepped renamed.own.others s.name s.file staged.judged.stage stage.names stage.files in
+        (numbered x staged stage on_disk renamed.stepped (less_no_more renamed.own), staged_more staged kept same, (h.run, stage, on_disk, renamed))
+    from (SyncRecordName n) Done (x, staged, (before, stage, on_disk, renamed)) ((step, own), ahead', read') =
+        let works = working (step, own) step.this.same.only step.this.same.stages (λ f no. absurd no) in (
+          let_go (stay x works.quiet) (ap (λ o. o s.record_name) own.owns ∙ renamed.own.set),
+          staged_more staged (works.stages s.name s.file staged.judged.stage) (works.files s.name s.file staged.judged.stage (λ no. no)),
+          subst (λ b. HasRecorded b h'.run) stage.holds (record {
+            earlier = before.steps;
+            published = (published s.record_name Record before h.run h'.run renamed.stepped step s.record_file stage.stage on_disk).0;
+            lasts = lasting s.record_name before h.run h'.run renamed.stepped step s.record_file stage.stage on_disk (x.publishes.locked x.lock.held);
+          }),
+        )
+    from (Rename n) Done (x, staged, recorded) (renamed, ahead', read') = (placed x staged recorded renamed.stepped (less_no_more renamed.own), (h.run, x.publishes, staged, recorded, renamed))
+    from (SyncName n) Done (x, (before, publishes, staged, recorded, renamed)) ((step, own), ahead', read') =
+        let (published_so, permissions) = published s.name Place before h.run h'.run renamed.stepped step s.file staged.judged.stage staged.on_disk in
+        let y = let_go (stay x (calm (step, own) step.this.same.only)) (ap (λ o. o s.name) own.owns ∙ renamed.own.set) in (
+          y.locked,
+          y.lock,
+          record {
+            kept = y.kept;
+            cleared = y.cleared;
+            bytes = before.now.holds s.file;
+            n = n;
+            read = staged.judged.given;
+            update = staged.judged.update;
+            earlier = recorded.earlier;
+            recorded = before.steps;
+            number_first = recorded.published;
+            published = published_so;
+            permissions = permissions ∙ staged.permissions;
+          },
+          stopped y,
+        )
+    from (RemoveRecord f) Done x (removal, ahead', read') = (let_go (stay x.0 (removed removal)) removal.own.set, tt)
+    from (RemoveRecord f) (Failed e) x (removal, ahead', read') = (let_go (stay x.0 (perhaps_removed removal)) removal.own.set, tt)
+    from (Remove f) Done x (removal, ahead', read') = (stopped (let_go (stay x.0 (removed removal)) removal.own.set), tt)
+    from (Remove f) (Failed e) x (removal, ahead', read') = (stopped (let_go (stay x.0 (perhaps_removed removal)) removal.own.set), tt)
+    from (RenameRecord n) (Failed e) x made = (at_most (fails (RenameRecord n) e x made), tt)
+    from (Rename n) (Failed e) x made = (fails (Rename n) e x made, tt)
+    from Installed (Failed e) x never = absurd never
+    from (Refused f) (Failed e) x never = absurd never
+    from due (Failed e) x made = (at_most (stay x.0 (fails due e x made)), tt)
+    from due o x never = absurd never
 
   -- == What that says of a run that is cut off there ==
 
@@ -361,12 +356,12 @@ module _ (s : Setting) (a : Host) where
   safe Lock h (run, ahead) = inl run
   safe Clear h (lock, mine, ahead) = inr (unread lock mine (quiet_none (inl refl))).0
   safe ReadRecord h (l, lock, mine, clear, ahead) = inr (unread lock mine (calm clear clear.0.this.only)).0
-  safe Installed h x = inr x.0.0
+  safe Installed h (locked, lock, has, ended) = inr ended.0
   safe (Refused e) h x = inr x.0.0
   safe due h x = inr (only_updates x.0)
 
   pub ended_own : {E : Type 0} (due : Due E) (h : Host) → Holds due h → (due ≡ Installed) ⊎ ((e : E) × (due ≡ Refused e)) → OwnsNoMore a.run h.run
-  ended_own due h x (inl is) = (subst (λ d. Holds d h) is x).0.1
+  ended_own due h x (inl is) = let (locked, lock, has, ended) = subst (λ d. Holds d h) is x in ended.1
   ended_own due h x (inr (e, is)) = (subst (λ d. Holds d h) is x).0.1
 
 -- what each call leads to, a run does

@@ -8,7 +8,7 @@ pub returns-clause-safe : goal.returns-clause-safe
 returns-clause-safe g c = λ s h h' events due known run. safe s h due h' (runs (Holds s h) (λ due o k k'. from s h k k' due o) Lock h events due h' (refl, refl) run)
 
 pub returns-clause-installed : goal.returns-clause-installed
-returns-clause-installed g c = λ s h h' events known run. (runs (Holds s h) (λ due o k k'. from s h k k' due o) Lock h events Installed h' (refl, refl) run).1
+returns-clause-installed g c = λ s h h' events known run. let (locked, lock, has, ended) = runs (Holds s h) (λ due o k k'. from s h k k' due o) Lock h events Installed h' (refl, refl) run in (locked, lock, has)
 
 pub returns-clause-lets_go : goal.returns-clause-lets_go
 returns-clause-lets_go g c = λ s h h' events due known run end. ended_own s h due h' (runs (Holds s h) (λ due o k k'. from s h k k' due o) Lock h events due h' (refl, refl) run) end
