@@ -26,7 +26,7 @@ module _ (accepts : Verifier) (terms : Terms) (first : Bool) where
   count : (before : Counts) (named : Setting) (due : Due InstallFault) (o : Outcome InstallFault) (h h' : Host) → has_ended due ≡ false → Explains (setting accepts terms first named) due o h h'
       → Counted before due h.faults → Counted before (next due o) h'.faults
   count before named Lock (Failed e) h h' going why same = ⊎_elim (λ busy. inl busy.0) (λ fails. inr (inr (inl (rw same at fails)))) why
-  count before named ReadRecord (Failed e) h h' going why same = ⊎_elim (λ refused. inr (inl refused.0)) (λ fails. inr (inr (inl (rw same at fails)))) why
+  count before named ReadRecord (Failed e) h h' going why same = ⊎_elim (λ refused. inr (inl (refused.0, refused.1))) (λ fails. inr (inr (inl (rw same at fails)))) why
   count before named (Answer kept) (Failed e) h h' going why same = ⊎_elim (λ refused. inr (inr (inr (inl (h.read, kept, refused))))) (λ fails. inr (inr (inl (rw same at fails)))) why
   count before named (Rename n) (Failed e) h h' going (writing, rose) same = inr (inr (inl (_, writing, inr (inr (inl (refl, rw same at rose))))))
   count before named (SyncName n) (Failed e) h h' going (directory, rose) same = inr (inr (inr (inr (directory, rw same at rose))))

@@ -53,8 +53,8 @@ module _ (M : Type 0) (s : Setting) (a : Host) (known : a.run.known ≡ true) (h
       let rested = fails s a h h' ReadRecord e (l, lock, mine, clear, ahead) made in
       let none = (quiet_trans (calm clear clear.0.this.only) rested).0 in
       let refusal = ⊎_elim
-      (λ refused.
-      let (found, read_so, why_so) = refused.1 (clear.0.known ∙ lock.stepped.known ∙ known) in
+      (λ (found, why_so, read).
+      let read_so = read (clear.0.known ∙ lock.stepped.known ∙ known) in
       inr (inl (cleared_since clear rested.0, none, (found, found_first found l h.run h'.run lock.held clear.0 read_so, why_so))))
       (λ fails. inl (none, rw same at fails)) blamed in
       (inr (inr (l, lock, refusal)), λ m is. absurd (wants m refl is))

@@ -2,7 +2,7 @@
 -- record by then.
 use Rattle.std.specs.Prelude.{◌≡◌, ◌≢◌, ◌⊎◌, ℕ, ◌<◌, Bool, false, List, Option, Some, None, Err, IfErr, IsErrAnd, MatchResult, Result}
 use Rattle.minisign_install.specs.Common.{verdict}
-use Rattle.minisign_install.specs.Faults.{Rose, Fault, Named, OutOfMemory, RandomSourceFailed, ReadingFailed, WritingFailed, InstallFault, Library, PlaceInUse, NoRecord, DamagedRecord, KeptByTimestamp, KeptByVersion, OtherFile, NoNumber, OlderUpdate, DirectoryNotSynced}
+use Rattle.minisign_install.specs.Faults.{Rose, Fault, Named, OutOfMemory, RandomSourceFailed, ReadingFailed, WritingFailed, InstallFault, Library, PlaceInUse, NoRecord, OtherFile, NoNumber, OlderUpdate, DirectoryNotSynced}
 use Rattle.minisign_install.specs.Installing.{Verifier, TextsVouchWith, IsAhead, HasKept, MayBePublished, IsKeptNumber, MayBeRecorded, IsUpdate, Terms}
 use Rattle.minisign_install.specs.Comments.{HasNumber, IsExpiryRefused, Says, file_label, value_of, Numbering}
 use Rattle.minisign_install.specs.Directories.{Finds, Known, HasLocked, HasStepped, IsBusy, IsFound, IsStill, Run, HasOnDisk, Place, Record}
@@ -139,21 +139,17 @@ InstallsExactly accepts terms first ahead before after old new answer =
 
 -- == The causes alone, whether it is known what the directory holds or not ==
 
--- the record is rejected, which it never is at the first installation
-abbrev pub IsRecordFault : Bool → InstallFault → Type 0
-IsRecordFault first e =
-    (first ≡ false) × ((e ≡ NoRecord) ⊎ (e ≡ DamagedRecord) ⊎ (e ≡ KeptByTimestamp) ⊎ (e ≡ KeptByVersion))
-
 -- reading the record rejected it, for what it was found to hold
 abbrev pub IsReadRefusal : Numbering → Bool → Run → Run → InstallFault → Type 0
 IsReadRefusal numbering first old new e =
-    IsRecordFault first e × Known old ((found : Option (List ℕ)) × HasStepped old new (Finds Record found)
-    × IsRecordRefused numbering first found e)
+    (found : Option (List ℕ)) × IsRecordRefused numbering first found e
+    × Known old (HasStepped old new (Finds Record found))
 
 -- why an installation is rejected: the lock is held by another, or the record is rejected, or a device failed, or
 -- memory ran out, or some data is rejected, or the directory could not be synced
 abbrev pub IsCause : Verifier → Terms → Bool → Counts → Counts → InstallFault → Type 0
 IsCause accepts terms first before after e =
-    (e ≡ PlaceInUse) ⊎ IsRecordFault first e ⊎ IsLibraryFault (IsCallFault before after) e
+    (e ≡ PlaceInUse) ⊎ ((found : Option (List ℕ)) × IsRecordRefused terms.numbering first found e)
+    ⊎ IsLibraryFault (IsCallFault before after) e
     ⊎ ((message : List ℕ) × (kept : ℕ) × IsDataRefused accepts terms kept message e)
     ⊎ ((e ≡ DirectoryNotSynced) × Rose before.directory after.directory)

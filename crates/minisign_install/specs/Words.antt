@@ -15,6 +15,6 @@ pub use Rattle.minisign_install.specs.Hosts.{Blames, CallsNothing, DeviceFails, 
 pub use Rattle.minisign_install.specs.Installing.{HasInstalled, HasKept, InstallsLocked, InstallsOnlyUpdates, IsAhead, IsKeptNumber, IsKeptOrNone, IsUpdate, IsVouched, MayBeInstalled, MayBePublished, MayBeRecorded, NeverFalls, PublishesInOrder, RecordsFirst, Terms, TextsVouchWith, Verifier, terms_of}
 pub use Rattle.minisign_install.specs.Order.{Answer, Clear, Copy, Create, CreateRecord, Done, Due, Failed, Lock, More, Number, Outcome, ReadBack, ReadRecord, Remove, RemoveRecord, Rename, RenameRecord, Sync, SyncName, SyncRecord, SyncRecordName, TakePermissions, WriteRecord, fits, has_ended, next}
 pub use Rattle.minisign_install.specs.RecordTexts.{HasNoNumber, IsNumberFor, IsUnfit, kept_by, other_field, record_of, record_text}
-pub use Rattle.minisign_install.specs.Refusals.{CanBeInstalled, CannotBeInstalled, Counts, HasFailed, HasPublishedUpdate, InstallsExactly, IsCallFault, IsCause, IsCommentRefused, IsDataRefusal, IsDataRefused, IsLibraryFault, IsLockedRefusal, IsReadRefusal, IsReadingFault, IsRecordFault, IsRecordRefused, IsRefusal, OnlyLocked, counts}
+pub use Rattle.minisign_install.specs.Refusals.{CanBeInstalled, CannotBeInstalled, Counts, HasFailed, HasPublishedUpdate, InstallsExactly, IsCallFault, IsCause, IsCommentRefused, IsDataRefusal, IsDataRefused, IsLibraryFault, IsLockedRefusal, IsReadRefusal, IsReadingFault, IsRecordRefused, IsRefusal, OnlyLocked, counts}
 pub use Rattle.minisign_install.specs.Runs.{HasCleared, HasReached, IsNumberFrom, IsPublished, OwnsNoMore, Publishes, PublishesNothing, PublishesOnly, RecordHolds, RecordHoldsAt}
 pub use Rattle.minisign_install.specs.There.{HasLooked, InstallsFrom, InstallsUnlessThere, IsCauseUnlessThere, IsSigned, IsRejectedFor, IsStanding, LooksInPart}

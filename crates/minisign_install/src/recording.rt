@@ -1,7 +1,7 @@
 //! The number of the newest update is kept beside the place, behind the label of its field.
 
 ghost use Rattle.std.specs.Prelude.{option_map, ◌≡◌, ◌⊎◌, ◌<◌, ◌≤◌, ℕ, false, List, Option, Some, None, IfOk, IfErr, OnOk, OnErr, MatchOption, MatchResult, length, take};
-ghost use Rattle.minisign_install.specs.Words.{Rose, Named, ReadingFailed, Library, IsNumberText, HasStepped, IsStill, Finds, Known, Calls, IsKeptNumber, IsKeptOrNone, HasNoNumber, IsNumberFor, IsUnfit, kept_by, record_of, record_text, IsReadRefusal, IsRecordFault, IsRecordRefused};
+ghost use Rattle.minisign_install.specs.Words.{Rose, Named, ReadingFailed, Library, IsNumberText, HasStepped, IsStill, Finds, Known, Calls, IsKeptNumber, IsKeptOrNone, HasNoNumber, IsNumberFor, IsUnfit, kept_by, record_of, record_text, IsReadRefusal, IsRecordRefused};
 
 use crate::comments::{Numbering, number_of, strip};
 use crate::directories::{Directory, Name};
@@ -42,7 +42,6 @@ pub(crate) fn kept_number(
     is_first: bool,
 ) -> Result<u64, InstallFault>
     ensures number { MatchResult result (IsKeptNumber numbering is_first (option_map (λ b. b.now) found.entry)) (IsRecordRefused numbering is_first (option_map (λ b. b.now) found.entry)) }
-    ensures fault { IfErr result (IsRecordFault is_first) }
 {
     match kept_in(found, numbering, is_first) {
         Ok(Some(number)) => Ok(number),
@@ -59,7 +58,6 @@ pub(crate) fn kept_in(
     is_first: bool,
 ) -> Result<Option<u64>, InstallFault>
     ensures number { MatchResult result (IsKeptOrNone numbering is_first (option_map (λ b. b.now) found.entry)) (IsRecordRefused numbering is_first (option_map (λ b. b.now) found.entry)) }
-    ensures fault { IfErr result (IsRecordFault is_first) }
 {
     match found {
         Some(bytes) => match number_for(bytes, numbering) {
@@ -75,7 +73,6 @@ pub(crate) fn kept_in(
 // Why a record of these bytes, which holds no number for the field, is refused.
 fn unfit(bytes: &[u8], numbering: Numbering) -> InstallFault
     ensures why { IsUnfit numbering bytes.now result }
-    ensures fault { IsRecordFault false result }
 {
     let other = numbering.other();
     match (number_for(bytes, other), other) {

@@ -1,6 +1,6 @@
 use Rattle.minisign_install.proofs.Common.{arith, refl, ap, counts, inl, inr, ⊎_elim, true≢false}
 use Rattle.std.specs.Prelude.{is_some}
-use Rattle.minisign_install.proofs.Driving.{alone, called, either, gave, joined, none_named, so_counted, some_made, uncreated, untouched}
+use Rattle.minisign_install.proofs.Driving.{record_wants, alone, called, either, gave, joined, none_named, so_counted, some_made, uncreated, untouched}
 use Rattle.minisign_install.proofs.calls.make.Goals as goal
 
 pub returns-in-Lock-clause-went : goal.returns-in-Lock-clause-went
@@ -16,7 +16,7 @@ returns-in-ReadRecord-clause-went g c = rw (c.in-ReadRecord.is, c.number_or.ensu
     gave _ c.read_number.result (joined _ _ _ _ _ (joined _ _ _ _ _ read_number.read read_number.still) (joined _ _ _ _ _ read_number.refused read_number.no_new_fault))
     (λ kept ((number, u), (v, calm)). record { stays = λ named is. is; then = read; has = has; knows = knows; made = λ named is known may. (number known, refl, refl); explained = λ named. ap (counts _ _) calm; memory = tt })
     (λ e ((u, still), (why, v)).
-    record { stays = λ named is. is; then = read; has = tt; knows = tt; made = λ named is known may. (still known, refl, refl); explained = λ named. ⊎_elim (λ refused. inl refused) (λ (is, rose). inr (_, is, inr (inl (refl, inr rose)))) why; memory = λ no memory. ⊎_elim (λ ((later, is), more). ⊎_elim (λ is. cc) (λ is. ⊎_elim (λ is. cc) (λ is. ⊎_elim (λ is. cc) (λ is. cc) is) is) is) (λ (is, rose). cc) why }))
+    record { stays = λ named is. is; then = read; has = tt; knows = tt; made = λ named is known may. (still known, refl, refl); explained = λ named. ⊎_elim (λ refused. inl refused) (λ (is, rose). inr (_, is, inr (inl (refl, inr rose)))) why; memory = λ no memory. ⊎_elim (λ (found, refused, read_so). record_wants _ _ found e refused memory) (λ (is, rose). cc) why }))
 
 pub returns-in-Create-clause-went : goal.returns-in-Create-clause-went
 returns-in-Create-clause-went g c = rw (c.in-Create.is, c.done_or-in-Create.ensures) (λ going read has knows.
