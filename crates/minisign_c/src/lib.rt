@@ -3,7 +3,7 @@
 
 #![tactic(auto)]
 
-ghost use Rattle.std.specs.Prelude.{◌≡◌, ◌==◌, ◌⊎◌, ◌<◌, ◌≤◌, ◌+◌, ◌++◌, ℕ, Bool, List, [], Some, None, Ok, Err, IfErr, true, false, MatchOption, length, take};
+ghost use Rattle.std.specs.Prelude.{◌≡◌, ◌≢◌, IfSome, ◌==◌, ◌⊎◌, ◌<◌, ◌≤◌, ◌+◌, ◌++◌, ℕ, Bool, List, [], Some, None, Ok, Err, IfErr, true, false, MatchOption, length, take};
 ghost use Rattle.std.specs.Option.{option_map};
 ghost use Rattle.std.specs.Str.{IsUtf8};
 ghost use Rattle.minisign_hash.specs.Blake2b.{blake2b_digest};
@@ -23,13 +23,13 @@ ghost use Rattle.minisign_external.specs.declared.state.Misuse.TheVariants.{BadA
 ghost use Rattle.minisign_install.specs.Checking.{HasChecked, IsCheckNumber};
 ghost use Rattle.minisign_install.specs.Comments.{Says};
 ghost use Rattle.minisign_install.specs.Faults.{install_number};
-ghost use Rattle.minisign_install.specs.Hosted.{CannotBeFed, CannotFail, CannotGo, GivesUpdate, CallHasFailed, HasReadRecord, HasReadBack, IsAnswerRefusal, IsAskRefusal, IsAsking, IsBegun, IsDue, IsHostMeaning, IsNumberOf, IsUnused, IsWorth, ReadsTexts, WasDone, due_number, due_of, numbering_number, numbering_of, wanted_by};
+ghost use Rattle.minisign_install.specs.Hosted.{CannotBeFed, GivesUpdate, HasGone, HasReadRecord, HasReadBack, IsAnswerRefusal, IsAskRefusal, IsAsking, IsBegun, IsDue, IsHostMeaning, IsNumberOf, IsUnused, IsWorth, ReadsTexts, WasDone, due_number, due_of, failure, may_go, numbering_number, numbering_of, wanted_by};
 ghost use Rattle.minisign_install.specs.Installing.{Terms};
 ghost use Rattle.minisign_install.specs.RecordTexts.{record_of};
 ghost use Rattle.minisign_install.specs.declared.faults.InstallFault.{InstallFault};
 ghost use Rattle.minisign_install.specs.declared.order.Due.TheVariants.{Answer, ReadRecord, TakePermissions, WriteRecord};
 ghost use Rattle.minisign_install.specs.declared.order.Due.TheVariants as ended;
-ghost use Rattle.minisign_install.specs.declared.order.Outcome.TheVariants.{Done, More};
+ghost use Rattle.minisign_install.specs.declared.order.Outcome.TheVariants.{Done, Failed, More};
 ghost use Rattle.minisign_external.specs.States.{AnswersTextsBy, AreQuestions, GivesNumber, HasAsked, HasEnded, HasToldDigest, IsAnswered, IsBlank, IsCommentVerdictNumber, IsFedState, IsMarkedFed, IsMarkedTold, IsVerdictNumber, KeepsAsked, asking_number, feeding_misuse, is_asked, is_begun, questions_of, verdict_number};
 
 use minisign::Sealing;
@@ -489,7 +489,7 @@ pub extern "C" fn minisign_install_done(installation: &mut Installation) -> u32
     // What is due next is what the table says, where the call that was due can be done and is not reading back.
     // Otherwise it is not due, and nothing changes.
     ensures gone { result ≡ 0 → WasDone Done installation.old installation.new }
-    ensures refused { 0 < result → (result ≡ misuse_number NotDue) × (installation.new ≡ installation.old) × CannotGo Done installation.old }
+    ensures refused { 0 < result → (result ≡ misuse_number NotDue) × (installation.new ≡ installation.old) × IfSome (due_of installation.old) (λ due. may_go due Done ≡ false) }
 {
     match installation.done(false) {
         Ok(()) => 0,
@@ -502,7 +502,7 @@ pub extern "C" fn minisign_install_done(installation: &mut Installation) -> u32
 pub extern "C" fn minisign_install_more(installation: &mut Installation) -> u32
     // The same where a piece was copied and there may be more. Otherwise it is not due, and nothing changes.
     ensures gone { result ≡ 0 → WasDone More installation.old installation.new }
-    ensures refused { 0 < result → (result ≡ misuse_number NotDue) × (installation.new ≡ installation.old) × CannotGo More installation.old }
+    ensures refused { 0 < result → (result ≡ misuse_number NotDue) × (installation.new ≡ installation.old) × IfSome (due_of installation.old) (λ due. may_go due More ≡ false) }
 {
     match installation.done(true) {
         Ok(()) => 0,
@@ -515,8 +515,8 @@ pub extern "C" fn minisign_install_more(installation: &mut Installation) -> u32
 pub extern "C" fn minisign_install_failed(installation: &mut Installation, why: u32) -> u32
     // What is due next is what the table says, where the call that was due can fail so. Otherwise it is not due, and
     // nothing changes.
-    ensures failed { result ≡ 0 → (rejected : ℕ) × CallHasFailed why rejected installation.old installation.new }
-    ensures refused { 0 < result → (result ≡ misuse_number NotDue) × (installation.new ≡ installation.old) × CannotFail why installation.old }
+    ensures failed { result ≡ 0 → (rejected : ℕ) × HasGone (λ due. failure due why ≡ Some rejected) (Failed rejected) installation.old installation.new }
+    ensures refused { 0 < result → (result ≡ misuse_number NotDue) × (installation.new ≡ installation.old) × IfSome (due_of installation.old) (λ due. failure due why ≡ None) }
 {
     match installation.failed(why) {
         Ok(()) => 0,
@@ -530,7 +530,7 @@ pub extern "C" fn minisign_install_record(installation: &mut Installation, bytes
     // The number that the record holds for the field is kept, or the run is rejected where it holds none and this is
     // not the first installation. Where the record is not to be read, nothing changes.
     ensures read { result ≡ 0 → HasReadRecord (Some bytes.now) installation.old installation.new }
-    ensures refused { 0 < result → (result ≡ misuse_number NotDue) × (installation.new ≡ installation.old) × ¬ (IsDue installation.old ReadRecord) }
+    ensures refused { 0 < result → (result ≡ misuse_number NotDue) × (installation.new ≡ installation.old) × IfSome (due_of installation.old) (λ due. due ≢ ReadRecord) }
 {
     match installation.record(Some(bytes)) {
         Ok(()) => 0,
@@ -543,7 +543,7 @@ pub extern "C" fn minisign_install_record(installation: &mut Installation, bytes
 pub extern "C" fn minisign_install_no_record(installation: &mut Installation) -> u32
     // The same where there is no record.
     ensures read { result ≡ 0 → HasReadRecord None installation.old installation.new }
-    ensures refused { 0 < result → (result ≡ misuse_number NotDue) × (installation.new ≡ installation.old) × ¬ (IsDue installation.old ReadRecord) }
+    ensures refused { 0 < result → (result ≡ misuse_number NotDue) × (installation.new ≡ installation.old) × IfSome (due_of installation.old) (λ due. due ≢ ReadRecord) }
 {
     match installation.record(None) {
         Ok(()) => 0,

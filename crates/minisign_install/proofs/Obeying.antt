@@ -41,10 +41,10 @@ module _ (s : Setting) (i i' : Installation) (h h' : Host) where
   made : (d : Due ℕ) → KnownAt s d i h → (o : Outcome ℕ) → MakesDue o s i h h' → Makes s d o h h'
   made d x o call = rw x.chosen.1 at (rw x.due at call)
 
-  tells : (d : Due ℕ) → KnownAt s d i h → (o : Outcome ℕ) → HasGone o i i' → MakesDue o s i h h'
+  tells : (d : Due ℕ) → KnownAt s d i h → (P : Due ℕ → Type 0) (o : Outcome ℕ) → HasGone P o i i' → MakesDue o s i h h'
       → (is_unjudged (next d o) ≡ true → (is_unjudged d ≡ true) × (h'.read ≡ h.read)) → MakesCall s d i' h h'
-  tells d x o (gone, rest) call unjudged =
-      goes d x o (made d x o call) (rw x.due at gone) rest.chosen (λ e. let (before, read) = unjudged e in rw (rest.state, read) (x.fed before))
+  tells d x P o (gone, rest) call unjudged =
+      goes d x o (made d x o call) (rw x.due at gone).1 rest.chosen (λ e. let (before, read) = unjudged e in rw (rest.state, read) (x.fed before))
 
   tells_record : TellsRecord i i' h h' → KnownAt s ReadRecord i h → MakesCall s ReadRecord i' h h'
   tells_record (found, (due, rest, which), ((stepped, own), ahead, read)) x = elim which [
@@ -75,9 +75,9 @@ module _ (s : Setting) (i i' : Installation) (h h' : Host) where
       rw same (goes (rw same at x))
 
   obeys : (d : Due ℕ) → KnownAt s d i h → Obeys s i i' h h' → MakesCall s d i' h h'
-  obeys d x (inl ((may, gone), call, read)) = tells d x Done gone call (λ e. (unjudged_before d e, read))
-  obeys d x (inr (inl ((may, gone), call, read))) = tells d x More gone call (λ e. (e, read))
-  obeys d x (inr (inr (inl (e, why, (is, gone), call)))) = tells d x (Failed why) gone call (judged d why)
+  obeys d x (inl (gone, call, read)) = tells d x _ Done gone call (λ e. (unjudged_before d e, read))
+  obeys d x (inr (inl (gone, call, read))) = tells d x _ More gone call (λ e. (e, read))
+  obeys d x (inr (inr (inl (e, why, gone, call)))) = tells d x _ (Failed why) gone call (judged d why)
   obeys d x (inr (inr (inr (inl t)))) = at_due d ReadRecord x t.1.0 (tells_record t)
   obeys d x (inr (inr (inr (inr (inl (piece, back, call, read)))))) =
       at_due d (ReadBack back.due.0) x back.due.1

@@ -78,9 +78,10 @@ pub record RestUnchanged (old new : Installation) : Type 0 where
 
 -- == Calls that go as they are told ==
 
--- what is due is what comes after this outcome, by the table
-abbrev pub HasGone : Outcome ℕ → Installation → Installation → Type 0
-HasGone outcome old new = IsSomeAnd (due_of old) (λ due. IsDue new (next due outcome)) × RestUnchanged old new
+-- a call was due that is as P says, and what is due then is what comes after this outcome, by the table
+abbrev pub HasGone : (Due ℕ → Type 0) → Outcome ℕ → Installation → Installation → Type 0
+HasGone P outcome old new =
+    IsSomeAnd (due_of old) (λ due. P due × IsDue new (next due outcome)) × RestUnchanged old new
 
 -- the call that is due can be told to have gone so: not reading back, which is told piece by piece
 abbrev pub may_go : Due ℕ → Outcome ℕ → Bool
@@ -89,15 +90,11 @@ may_go due outcome = fits due outcome
 
 -- the call that was due went so, and the next one is due
 abbrev pub WasDone : Outcome ℕ → Installation → Installation → Type 0
-WasDone outcome old new = IfSome (due_of old) (λ due. may_go due outcome ≡ true) × HasGone outcome old new
+WasDone outcome = HasGone (λ due. may_go due outcome ≡ true) outcome
 
--- no call is due that can be told to have gone so
-abbrev pub CannotGo : Outcome ℕ → Installation → Type 0
-CannotGo outcome i = IfSome (due_of i) (λ due. may_go due outcome ≡ false)
-
--- a wrong use of an installation, which stays as it was
-abbrev pub IsNotDue : Type 0 → Installation → Installation → Misuse → Type 0
-IsNotDue P old new m = (m ≡ NotDue) × (new ≡ old) × P
+-- a wrong use of an installation, which stays as it was: nothing is due, or a call that is as P says
+abbrev pub IsNotDue : (Due ℕ → Type 0) → Installation → Installation → Misuse → Type 0
+IsNotDue P old new m = (m ≡ NotDue) × (new ≡ old) × IfSome (due_of old) P
 
 -- the number is one of an error of a device or of memory
 abbrev pub is_device_error : ℕ → Bool
@@ -113,14 +110,6 @@ failure (ended.Refused first) e = None
 failure Lock e = if is_device_error e || (e == install_number PlaceInUse) then Some e else None
 failure (SyncName n) e = if is_device_error e then Some (install_number DirectoryNotSynced) else None
 failure due e = if is_device_error e then Some e else None
-
--- the call that was due failed for this error, and this is what the run is rejected for
-abbrev pub CallHasFailed : ℕ → ℕ → Installation → Installation → Type 0
-CallHasFailed e why old new = IfSome (due_of old) (λ due. failure due e ≡ Some why) × HasGone (Failed why) old new
-
--- no call is due that can fail so
-abbrev pub CannotFail : ℕ → Installation → Type 0
-CannotFail e i = IfSome (due_of i) (λ due. failure due e ≡ None)
 
 -- == What is read ==
 

@@ -1,11 +1,11 @@
 -- A host in another language that does what include/minisign.h says: it makes the call that an installation says is
 -- due, as it is told there, and says how it went by the call that is there for it. Of each call of the header this
 -- cites what its clauses say where it is no wrong use.
-use Rattle.std.specs.Prelude.{◌≡◌, ◌⊎◌, ◌++◌, ℕ, List, [], ◌∷◌, Option, Ok, Result, IsSomeAnd, false, take}
+use Rattle.std.specs.Prelude.{◌≡◌, ◌⊎◌, ◌++◌, ℕ, List, [], ◌∷◌, Option, Some, Ok, Result, IsSomeAnd, false, take}
 use Rattle.minisign_install.specs.Common.{blake2b_digest, SignatureTextRecord, AnswersTexts, IsKeyText, read_under, AreQuestions, IsFedState, PublicKeyValue, Questions, Refusal, Installation}
 use Rattle.minisign_external.specs.declared.state.Refusal.TheVariants.{Refused}
 use Rattle.minisign_install.specs.Directories.{Calls, Finds, Record}
-use Rattle.minisign_install.specs.Hosted.{CallHasFailed, HasReadBack, HasReadRecord, IsAskRefusal, IsAsking, IsDue, WasDone, due_of, numbering_of, wanted_by, IsBegun, piece_outcome, GivesUpdate}
+use Rattle.minisign_install.specs.Hosted.{HasGone, failure, HasReadBack, HasReadRecord, IsAskRefusal, IsAsking, IsDue, WasDone, due_of, numbering_of, wanted_by, IsBegun, piece_outcome, GivesUpdate}
 use Rattle.minisign_install.specs.Hosts.{Host, Makes, OnDirectory, Setting}
 use Rattle.minisign_install.specs.Comments.{Numbering}
 use Rattle.minisign_install.specs.Faults.{InstallFault}
@@ -30,7 +30,8 @@ TellsOutcome outcome s i i' h h' = WasDone outcome i i' × MakesDue outcome s i 
 
 -- minisign_install_failed, with the number of an error
 abbrev pub TellsFailure : Setting → Installation → Installation → Host → Host → Type 0
-TellsFailure s i i' h h' = (e : ℕ) × (why : ℕ) × CallHasFailed e why i i' × MakesDue (Failed why) s i h h'
+TellsFailure s i i' h h' =
+    (e : ℕ) × (why : ℕ) × HasGone (λ due. failure due e ≡ Some why) (Failed why) i i' × MakesDue (Failed why) s i h h'
 
 -- minisign_install_record, with the bytes that the record was found to hold, or minisign_install_no_record where there
 -- was none

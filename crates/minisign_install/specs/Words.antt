@@ -9,7 +9,7 @@ pub use Rattle.minisign_install.specs.Common.{AnswersTexts, AreQuestions, Commen
 pub use Rattle.minisign_install.specs.Directories.{Appends, Calls, CallsOwning, ClearsAll, FileStays, Finds, GivesPermissions, HasCounted, HasCreated, HasLocked, HasOnDisk, HasRenamed, HasStepped, HasTried, Held, IsApart, IsBusy, IsFound, IsStill, Known, MayFind, MayLead, MaySyncDirectory, Moment, Name, OtherProcesses, OwnsTheSame, Perhaps, Place, Record, RecordUnchanged, Removes, Renames, Run, RunStep, Sees, Sets, Spoils, Syncs, SyncsDirectory, TouchesOnly, TouchesStages, drawn_bytes}
 pub use Rattle.minisign_install.specs.Driving.{AreNamed, HasCalled, HasMade, IsNamed, Knows, MayCall, WantsNoMemory, calls_left, host, made_or, outcome_by, setting}
 pub use Rattle.minisign_install.specs.Faults.{BadExpiry, Expired, Fault, InstallFault, IsOwn, Library, Named, NoNumber, NotUtf8, OlderUpdate, OtherFile, OutOfMemory, PlaceInUse, RandomSourceFailed, ReadingFailed, Rose, SameNumber, WritingFailed, install_number, install_row}
-pub use Rattle.minisign_install.specs.Hosted.{CallHasFailed, CannotBeFed, CannotFail, CannotGo, GivesUpdate, HasGone, HasReadBack, HasReadRecord, IsAnswerRefusal, IsAskRefusal, IsAsking, IsWorth, IsDue, IsJudged, IsNotDue, IsUnused, ReadsTexts, RestUnchanged, WasDone, due_number, due_of, failure, is_device_error, numbering_of, wanted_by, IsBegun, IsHostMeaning, call_of, numbering_number, offer_number, piece_outcome}
+pub use Rattle.minisign_install.specs.Hosted.{CannotBeFed, GivesUpdate, HasGone, HasReadBack, HasReadRecord, IsAnswerRefusal, IsAskRefusal, IsAsking, IsWorth, IsDue, IsJudged, IsNotDue, IsUnused, ReadsTexts, RestUnchanged, WasDone, due_number, due_of, failure, is_device_error, may_go, numbering_of, wanted_by, IsBegun, IsHostMeaning, call_of, numbering_number, offer_number, piece_outcome}
 pub use Rattle.minisign_install.specs.Hosting.{HasBegun, HasObeyed, Obeys, TellsAnswers, TellsRecord, by_field, MakesDue}
 pub use Rattle.minisign_install.specs.Hosts.{Blames, CallsNothing, DeviceFails, Explains, HasRun, Host, Makes, Setting, Writes, WritesInPart}
 pub use Rattle.minisign_install.specs.Installing.{HasInstalled, HasKept, InstallsLocked, InstallsOnlyUpdates, IsAhead, IsKeptNumber, IsKeptOrNone, IsUpdate, IsVouched, MayBeInstalled, MayBePublished, MayBeRecorded, NeverFalls, PublishesInOrder, RecordsFirst, Terms, TextsVouchWith, Verifier, terms_of}

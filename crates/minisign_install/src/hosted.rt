@@ -2,8 +2,8 @@
 //! went, and hands over what it reads back; the numbers by which the host knows errors and choices; and the law that
 //! such a host makes a run of the law on runs. None of it allocates.
 
-ghost use Rattle.std.specs.Prelude.{◌≡◌, ◌<◌, ◌≤◌, ℕ, List, Some, option_map, if◌then◌else◌, OnOk, IfErr, MatchOption, length, take};
-ghost use Rattle.minisign_install.specs.Words.{CallHasFailed, CannotBeFed, CannotFail, CannotGo, HasBegun, HasObeyed, HasReadBack, HasReadRecord, HasRun, Host, IsBegun, IsDue, IsHostMeaning, IsNotDue, IsUnused, RestUnchanged, WasDone, WritesCut, call_of, due_number, due_of, failure, is_device_error, numbering_number, numbering_of, offer_number, Due, Lock, Makes, ReadRecord, Setting, WriteRecord, Done, More, record_of};
+ghost use Rattle.std.specs.Prelude.{◌≡◌, ◌≢◌, false, None, ◌<◌, ◌≤◌, ℕ, List, Some, option_map, if◌then◌else◌, OnOk, IfErr, MatchOption, length, take};
+ghost use Rattle.minisign_install.specs.Words.{CannotBeFed, HasGone, HasBegun, HasObeyed, HasReadBack, HasReadRecord, HasRun, Host, IsBegun, IsDue, IsHostMeaning, IsNotDue, IsUnused, RestUnchanged, WasDone, WritesCut, call_of, due_number, due_of, failure, is_device_error, may_go, numbering_number, numbering_of, offer_number, Due, Lock, Makes, ReadRecord, Setting, WriteRecord, Done, Failed, More, record_of};
 ghost use Rattle.minisign_install.specs.declared.order.Due.TheVariants as ended;
 
 use crate::checking::Offer;
@@ -144,7 +144,7 @@ impl Installation {
         // What is due next is what the table says. Otherwise nothing changes, and no call was due that can go so and is
         // not reading back.
         ensures gone { OnOk result (WasDone (if more then More else Done) self.old self.new) }
-        ensures refused { IfErr result (IsNotDue (CannotGo (if more then More else Done) self.old) self.old self.new) }
+        ensures refused { IfErr result (IsNotDue (λ due. may_go due (if more then More else Done) ≡ false) self.old self.new) }
     {
         let outcome = if more { Outcome::More } else { Outcome::Done };
         let due = self.due().ok_or(Misuse::NotDue)?;
@@ -160,8 +160,8 @@ impl Installation {
     /// synced, that is the error.
     pub fn failed(&mut self, error: u32) -> Result<(), Misuse>
         // What is due next is what the table says. Otherwise nothing changes, and no call was due that can fail so.
-        ensures failed { OnOk result ((why : ℕ) × CallHasFailed error why self.old self.new) }
-        ensures refused { IfErr result (IsNotDue (CannotFail error self.old) self.old self.new) }
+        ensures failed { OnOk result ((why : ℕ) × HasGone (λ due. failure due error ≡ Some why) (Failed why) self.old self.new) }
+        ensures refused { IfErr result (IsNotDue (λ due. failure due error ≡ None) self.old self.new) }
     {
         let due = self.due().ok_or(Misuse::NotDue)?;
         let why = failure(&due, error).ok_or(Misuse::NotDue)?;
@@ -176,7 +176,7 @@ impl Installation {
         // The number that the record holds for the field is kept, or the run is rejected where it holds none, or there is
         // none, and this is not the first installation. Otherwise nothing changes, and the record was not to be read.
         ensures read { OnOk result (HasReadRecord (option_map (λ b. b.now) found.entry) self.old self.new) }
-        ensures refused { IfErr result (IsNotDue (¬ (IsDue self.old ReadRecord)) self.old self.new) }
+        ensures refused { IfErr result (IsNotDue (λ due. due ≢ ReadRecord) self.old self.new) }
     {
         let Some(Due::ReadRecord) = self.due() else {
             return Err(Misuse::NotDue);
