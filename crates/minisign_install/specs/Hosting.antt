@@ -7,7 +7,6 @@ use Rattle.minisign_external.specs.declared.state.Refusal.TheVariants.{Refused}
 use Rattle.minisign_install.specs.Directories.{Calls, Finds, Record}
 use Rattle.minisign_install.specs.Hosted.{HasGone, failure, HasReadBack, HasReadRecord, IsAskRefusal, IsAsking, IsDue, WasDone, due_of, numbering_of, wanted_by, IsBegun, piece_outcome, GivesUpdate}
 use Rattle.minisign_install.specs.Hosts.{Host, Makes, OnDirectory, Setting}
-use Rattle.minisign_install.specs.Comments.{Numbering}
 use Rattle.minisign_install.specs.Faults.{InstallFault}
 use Rattle.minisign_install.specs.Order.{Answer, Outcome, Done, Failed, More}
 
@@ -15,14 +14,12 @@ use Rattle.minisign_install.specs.Order.{Answer, Outcome, Done, Failed, More}
 abbrev pub HasBegun : Setting → Installation → Host → Type 0
 HasBegun s i h = IsBegun s.first s.terms.numbering i × (h.read ≡ [])
 
--- the same setting, where the number stands in this field
-abbrev pub by_field : Setting → Numbering → Setting
-by_field s field = record s { terms = record s.terms { numbering = field } }
-
 -- The call that was due was made, and went so. Into the stage of the record the host writes what
 -- minisign_install_number_text gives, which goes by the field of the installation.
 abbrev pub MakesDue : Outcome ℕ → Setting → Installation → Host → Host → Type 0
-MakesDue outcome s i h h' = IsSomeAnd (due_of i) (λ due. Makes (by_field s (numbering_of i)) due outcome h h')
+MakesDue outcome s i h h' =
+    IsSomeAnd (due_of i)
+    (λ due. Makes (record s { terms = record s.terms { numbering = numbering_of i } }) due outcome h h')
 
 -- minisign_install_done or minisign_install_more, with which nothing is read back
 abbrev pub TellsOutcome : Outcome ℕ → Setting → Installation → Installation → Host → Host → Type 0

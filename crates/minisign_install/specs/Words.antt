@@ -10,7 +10,7 @@ pub use Rattle.minisign_install.specs.Directories.{Appends, Calls, CallsOwning, 
 pub use Rattle.minisign_install.specs.Driving.{AreNamed, HasCalled, HasMade, IsNamed, Knows, MayCall, WantsNoMemory, calls_left, host, made_or, outcome_by, setting}
 pub use Rattle.minisign_install.specs.Faults.{BadExpiry, Expired, Fault, InstallFault, IsOwn, Library, Named, NoNumber, NotUtf8, OlderUpdate, OtherFile, OutOfMemory, PlaceInUse, RandomSourceFailed, ReadingFailed, Rose, SameNumber, WritingFailed, install_number, install_row}
 pub use Rattle.minisign_install.specs.Hosted.{CannotBeFed, GivesUpdate, HasGone, HasReadBack, HasReadRecord, IsAnswerRefusal, IsAskRefusal, IsAsking, IsWorth, IsDue, IsJudged, IsNotDue, IsUnused, ReadsTexts, RestUnchanged, WasDone, due_number, due_of, failure, is_device_error, may_go, numbering_of, wanted_by, IsBegun, IsHostMeaning, call_of, numbering_number, offer_number, piece_outcome}
-pub use Rattle.minisign_install.specs.Hosting.{HasBegun, HasObeyed, Obeys, TellsAnswers, TellsRecord, by_field, MakesDue}
+pub use Rattle.minisign_install.specs.Hosting.{HasBegun, HasObeyed, Obeys, TellsAnswers, TellsRecord, MakesDue}
 pub use Rattle.minisign_install.specs.Hosts.{Blames, CallsNothing, DeviceFails, Explains, HasRun, Host, Makes, Setting, Writes, WritesInPart}
 pub use Rattle.minisign_install.specs.Installing.{HasInstalled, HasKept, InstallsLocked, InstallsOnlyUpdates, IsAhead, IsKeptNumber, IsKeptOrNone, IsUpdate, IsVouched, MayBeInstalled, MayBePublished, MayBeRecorded, NeverFalls, PublishesInOrder, RecordsFirst, Terms, TextsVouchWith, Verifier, terms_of}
 pub use Rattle.minisign_install.specs.Order.{Answer, Clear, Copy, Create, CreateRecord, Done, Due, Failed, Lock, More, Number, Outcome, ReadBack, ReadRecord, Remove, RemoveRecord, Rename, RenameRecord, Sync, SyncName, SyncRecord, SyncRecordName, TakePermissions, WriteRecord, fits, has_ended, next}
