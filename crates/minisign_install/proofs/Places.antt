@@ -1,7 +1,7 @@
 -- Whether an update stands at the place already: what the texts say of what was found there, and what comes of a run that
 -- looked first.
-use Rattle.minisign_install.proofs.Common.{Bool, CallsNothing, Counts, HasCleared, HasInstalled, HasKept, HasLocked, HasStepped, InstallFault, InstallsOnlyUpdates, IsAnswered, IsFound, IsVouched, Known, List, MayBeRecorded, Moment, None, Ok, Option, PublishesInOrder, PublishesNothing, Record, Result, Run, Same, SameNumber, Says, Some, Terms, Verifier, ap, append_assoc, arith, counts, false, inl, inr, refl, subst, sym, true, ℕ, ⊎_elim, ◌++◌, ◌∙◌, ◌∷◌, ◌≡◌}
-use Rattle.minisign_install.specs.Words.{HasLooked, InstallsFrom, InstallsUnlessThere, IsCauseUnlessThere, IsSigned, LooksInPart}
+use Rattle.minisign_install.proofs.Common.{Bool, CallsNothing, Counts, HasCleared, HasInstalled, HasKept, HasLocked, HasStepped, InstallFault, InstallsOnlyUpdates, IsAnswered, IsFound, IsVouched, Known, List, MayBeRecorded, Moment, None, Ok, Option, PublishesInOrder, PublishesNothing, Record, Result, Run, Same, SameNumber, Says, Some, Terms, Verifier, ap, append_assoc, arith, counts, false, inl, inr, refl, signed_comment, subst, sym, true, ℕ, ⊎_elim, ◌++◌, ◌∙◌, ◌∷◌, ◌≡◌}
+use Rattle.minisign_install.specs.Words.{HasLooked, InstallsFrom, InstallsUnlessThere, IsCauseUnlessThere, LooksInPart}
 use Rattle.minisign_install.specs.Common.{Installed, Offer, Other, Replaceable, Standing, Update}
 use Rattle.minisign_install.proofs.Installs.{found_back, installs, nothing_locked}
 use Rattle.minisign_install.proofs.Judgements.{signed_is}
@@ -9,7 +9,7 @@ use Rattle.minisign_install.proofs.Works.{call_with, publishes_none, publishes_n
 
 module _ (accepts : Verifier) (terms : Terms) where
   -- a check answers that the number is the kept one only of a comment that the key has signed, and that says what is wanted
-  same_signed : (n : ℕ) (old new : Run) → IsAnswered accepts terms false old new (Ok (Same, n)) → IsSigned accepts terms
+  same_signed : (n : ℕ) (old new : Run) → IsAnswered accepts terms false old new (Ok (Same, n)) → (comment : List ℕ) × (k : ℕ) × (signed_comment accepts terms ≡ Ok comment) × Says comment terms.file terms.numbering terms.moment k
   same_signed n old new (inl (fault, unsigned, is, still)) = cc is
   same_signed n old new (inr (comment, found, signed, (kept, number, says, same), read)) = (comment, n, signed, says)
 

@@ -67,16 +67,13 @@ InstallsUnlessThere accepts terms first again ahead before after old new r =
 
 -- == The causes alone, whether it is known what the directory holds or not ==
 
--- the key has signed a comment that names the file, has not expired, and has a number
-abbrev pub IsSigned : Verifier → Terms → Type 0
-IsSigned accepts terms =
-    (comment : List ℕ) × (n : ℕ) × (signed_comment accepts terms ≡ Ok comment)
-    × Says comment terms.file terms.numbering terms.moment n
-
--- why an installation is refused, unless the update is there already: as any is; or the number of an update whose
--- comment is signed is the kept one, the texts are rejected for some data, and it was not asked for
+-- why an installation is rejected, unless the update is there already: as any is; or the key has signed a comment that
+-- names the file, has not expired, and has a number, which is the kept one, and the texts are rejected for some data,
+-- which was not asked to be replaced
 abbrev pub IsCauseUnlessThere : Verifier → Terms → Bool → Bool → Counts → Counts → InstallFault → Type 0
 IsCauseUnlessThere accepts terms first again before after e =
     IsCause accepts terms first before after e
-    ⊎ ((e ≡ SameNumber) × (again ≡ false) × IsSigned accepts terms
+    ⊎ ((e ≡ SameNumber) × (again ≡ false)
+    × ((comment : List ℕ) × (n : ℕ) × (signed_comment accepts terms ≡ Ok comment)
+    × Says comment terms.file terms.numbering terms.moment n)
     × ((message : List ℕ) × IsRejectedFor accepts terms message))

@@ -17,4 +17,4 @@ pub use Rattle.minisign_install.specs.Order.{Answer, Clear, Copy, Create, Create
 pub use Rattle.minisign_install.specs.RecordTexts.{HasNoNumber, IsNumberFor, IsUnfit, kept_by, other_field, record_of, record_text}
 pub use Rattle.minisign_install.specs.Refusals.{CanBeInstalled, CannotBeInstalled, Counts, HasFailed, HasPublishedUpdate, InstallsExactly, IsCallFault, IsCause, IsCommentRefused, IsDataRefusal, IsDataRefused, IsLibraryFault, IsLockedRefusal, IsReadRefusal, IsReadingFault, IsRecordRefused, IsRefusal, OnlyLocked, counts}
 pub use Rattle.minisign_install.specs.Runs.{HasCleared, HasReached, IsNumberFrom, IsPublished, OwnsNoMore, Publishes, PublishesNothing, PublishesOnly, RecordHolds, RecordHoldsAt}
-pub use Rattle.minisign_install.specs.There.{HasLooked, InstallsFrom, InstallsUnlessThere, IsCauseUnlessThere, IsSigned, IsRejectedFor, IsStanding, LooksInPart}
+pub use Rattle.minisign_install.specs.There.{HasLooked, InstallsFrom, InstallsUnlessThere, IsCauseUnlessThere, IsRejectedFor, IsStanding, LooksInPart}

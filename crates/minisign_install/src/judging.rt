@@ -36,16 +36,12 @@ pub(crate) fn read_back<F: Directory>(
     let Ok(mut buf) = zeros(alloc, PIECE) else {
         return Err(NamedFault::OutOfMemory.into());
     };
-    match feed(directory, handle, &mut buf) {
-        Ok(fed) => {
-            *state = fed;
-            Ok(())
-        }
-        Err(_) => {
-            directory.count_fault();
-            Err(NamedFault::ReadingFailed.into())
-        }
-    }
+    let Ok(fed) = feed(directory, handle, &mut buf) else {
+        directory.count_fault();
+        return Err(NamedFault::ReadingFailed.into());
+    };
+    *state = fed;
+    Ok(())
 }
 
 // Feeds a new state all that the stage holds.
@@ -170,12 +166,10 @@ fn accepts_comment<S: Scheme>(
     ensures { (t : SignatureTextRecord) → view.now ≡ view_of t
         → result ≡ accepts_comments (S.accepts scheme.now) pk.now (box_of t) }
 {
-    match view.comment_signature() {
-        Some(comment_signature) => {
-            let trusted = view.trusted_comment().as_bytes();
-            write_comment_message(&view.signature().sig, trusted, message);
-            scheme.verify(&message[..64 + trusted.len()], pk.key(), &comment_signature)
-        }
-        None => false,
-    }
+    let Some(comment_signature) = view.comment_signature() else {
+        return false;
+    };
+    let trusted = view.trusted_comment().as_bytes();
+    write_comment_message(&view.signature().sig, trusted, message);
+    scheme.verify(&message[..64 + trusted.len()], pk.key(), &comment_signature)
 }

@@ -137,19 +137,17 @@ fn look_at_place<S: Scheme, F: Directory>(
     ensures refused { IfErr result (λ e. IsLibraryFault (IsReadingFault (F.directory_faults directory.old) (F.directory_faults directory.new)) e × Known (F.run directory.old) (CallsNothing (F.run directory.old) (F.run directory.new))) }
     ensures no_new_fault { OnOk result (F.directory_faults directory.new ≡ F.directory_faults directory.old) }
 {
-    match directory.open_place() {
-        Ok(Some(handle)) => {
-            let mut state = State::new();
-            match read_back(alloc, directory, &handle, &mut state) {
-                Ok(()) => match judge_found(alloc, scheme, wanted, again, &mut state) {
-                    Ok(standing) => Ok(standing),
-                    Err(_) => Err(NamedFault::OutOfMemory.into()),
-                },
-                Err(fault) => Err(fault),
-            }
-        }
-        Ok(None) => Ok(Standing::Replaceable),
-        Err(_) => Err(NamedFault::ReadingFailed.into()),
+    let Ok(found) = directory.open_place() else {
+        return Err(NamedFault::ReadingFailed.into());
+    };
+    let Some(handle) = found else {
+        return Ok(Standing::Replaceable);
+    };
+    let mut state = State::new();
+    read_back(alloc, directory, &handle, &mut state)?;
+    match judge_found(alloc, scheme, wanted, again, &mut state) {
+        Ok(standing) => Ok(standing),
+        Err(_) => Err(NamedFault::OutOfMemory.into()),
     }
 }
 
