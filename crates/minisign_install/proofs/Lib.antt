@@ -12,4 +12,3 @@ mod RecordTexts
 mod Places
 mod Verdicts
 mod Works
-pub mod SignatureComments

@@ -54,18 +54,16 @@ module _ (accepts : Verifier) (terms : Terms) (first : Bool) where
   memory_only before after e W memory no_new_fault (fault, is, (inr (inr (inl (writing, rose))))) = absurd (no_new_fault (inr (inr rose)))
   memory_only before after e W memory no_new_fault (fault, is, (inr (inr (inr (drawing, rose))))) = absurd (no_new_fault (inl rose))
 
-  abbrev pub Verdict : Option (List ℕ) → Run → InstallFault → Type 0
-  Verdict ahead locked e = (found : Option (List ℕ)) × IsFound locked.now Record found × ((message : List ℕ) × IsAhead ahead message × CannotBeInstalled accepts terms first found message e)
-
   locked_verdict : (ahead : Option (List ℕ)) (before after : Counts) (locked new : Run) (e : InstallFault) → e ≢ Library (Named OutOfMemory) → ¬ (HasFailed before after)
-      → IsLockedRefusal accepts terms first ahead before after locked new e → Verdict ahead locked e
-  locked_verdict ahead before after locked new e memory no_new_fault (inl (none, device)) = memory_only before after e (Verdict ahead locked e) memory no_new_fault device
+      → IsLockedRefusal accepts terms first ahead before after locked new e
+      → (found : Option (List ℕ)) × IsFound locked.now Record found × ((message : List ℕ) × IsAhead ahead message × CannotBeInstalled accepts terms first found message e)
+  locked_verdict ahead before after locked new e memory no_new_fault (inl (none, device)) = memory_only before after e _ memory no_new_fault device
   locked_verdict ahead before after locked new e memory no_new_fault (inr (inl (cleared, none, (found, there, why)))) =
       let (message, given) = some_ahead ahead in
       (found, there, (message, given, record { reason = inl why; not_so = λ (kept, n, number, update). record_unfit terms.numbering first found kept e why number }))
   locked_verdict ahead before after locked new e memory no_new_fault (inr (inr (cleared, (kept, (inl (none, (message, given, why))))))) =
       (kept.found, kept.there, (message, given, record { reason = inr (kept.number, kept.held, why); not_so = data_unfit kept.found kept.number message e kept.held why }))
-  locked_verdict ahead before after locked new e memory no_new_fault (inr (inr (cleared, (kept, (inr (inl (publishes, device))))))) = memory_only before after e (Verdict ahead locked e) memory no_new_fault device
+  locked_verdict ahead before after locked new e memory no_new_fault (inr (inr (cleared, (kept, (inr (inl (publishes, device))))))) = memory_only before after e _ memory no_new_fault device
   locked_verdict ahead before after locked new e memory no_new_fault (inr (inr (cleared, (kept, (inr (inr (publishes, rose, why))))))) = absurd (no_new_fault (inr (inr rose)))
 
   pub refused_exactly : (A : Type 0) (ahead : Option (List ℕ)) (before after : Counts) (old new : Run) (e : InstallFault) → IsRefusal accepts terms first ahead before after old new e

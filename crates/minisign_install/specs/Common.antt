@@ -3,7 +3,7 @@ pub use Rattle.minisign.specs.Acceptance.{Verifier, accepts_comments, judge_answ
 pub use Rattle.minisign.specs.Calls.{TextsVouchWith}
 pub use Rattle.minisign.specs.Headline.{verdict}
 pub use Rattle.minisign.specs.PublicKeyText.{read_public_key}
-pub use Rattle.minisign.specs.Records.{CommentsRecord, PublicKeyRecord, SignatureBoxRecord, SignatureRecord}
+pub use Rattle.minisign.specs.Records.{CommentsRecord, PublicKeyRecord, SignatureBoxRecord}
 pub use Rattle.minisign.specs.SignatureText.{SignatureTextRecord, box_of, read_signature, read_signature_box}
 pub use Rattle.minisign.specs.Texts.{and_then}
 pub use Rattle.minisign_base.specs.Fault.{Fault, kind_of, text_of}

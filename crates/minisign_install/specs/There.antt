@@ -51,8 +51,8 @@ pub record InstallsFrom (accepts : Verifier) (terms : Terms) (first : Bool) (ahe
 
 -- How an installation goes, unless the update is there already. The lock is held by another run, or could not be asked
 -- for, and that was all. Or it was got. Then a device failed, or an allocation did, before anything was made. Or the
--- update is there already, and that is said, or other data of its number is, which is rejected where it was not asked to
--- be replaced: no call has changed anything. Or the run goes on, with the lock held, and installs.
+-- update is there already, and that is said, or other data of its number is, which is rejected where it was not asked
+-- to be replaced: no call has changed anything. Or the run goes on, with the lock held, and installs.
 abbrev pub InstallsUnlessThere : Verifier → Terms → Bool → Bool → Option (List ℕ) → Counts → Counts → Run → Run
     → Result Installed InstallFault → Type 0
 InstallsUnlessThere accepts terms first again ahead before after old new r =

@@ -43,10 +43,10 @@ pub fn check_update<S: Scheme, F: Directory>(
     directory: &mut F,
 ) -> Result<(Offer, u64), InstallFault>
     // The texts are rejected for their first case that fails, with nothing asked of the directory. Or one call, which
-    // changed nothing, told what the record holds, and by that the record is rejected, or else the signed comment, or else
-    // the answer is the number that the comment has for the wanted field, and what that is beside the kept one
-    // (`IsAnswered`, `IsOffered`, `offer_beside`). Besides, only an allocation can fail, with nothing asked, or reading the
-    // record, which is counted.
+    // changed nothing, told what the record holds, and by that the record is rejected, or else the signed comment, or
+    // else the answer is the number that the comment has for the wanted field, and what that is beside the kept one
+    // (`IsAnswered`, `IsOffered`, `offer_beside`). Besides, only an allocation can fail, with nothing asked, or reading
+    // the record, which is counted.
     ensures outcome { ChecksSo (S.accepts scheme.now) (terms_of wanted.entry) is_first (F.directory_faults directory.old) (F.directory_faults directory.new) (F.run directory.old) (F.run directory.new) result }
 {
     match check(alloc, scheme, wanted, is_first, directory) {

@@ -20,8 +20,8 @@ use minisign_external::texts::test;
 use minisign_external::verdict::{comment_verdict, verdict};
 use std::alloc::{AllocError, Global};
 
-// Reads all that the file holds, and feeds it to a new state. A fault of reading it is counted. Memory runs out only before
-// anything is read.
+// Reads all that the file holds, and feeds it to a new state. A fault of reading it is counted. Memory runs out only
+// before anything is read.
 pub(crate) fn read_back<F: Directory>(
     alloc: Global,
     directory: &mut F,
@@ -69,8 +69,9 @@ fn feed<F: Directory>(
     }
 }
 
-// Whether what the state was fed is an update: the texts vouch for it, and the comment that was signed with it is judged.
-// Returns the number of the update. Memory runs out only before anything is asked: what says so then may have given up.
+// Whether what the state was fed is an update: the texts vouch for it, and the comment that was signed with it is
+// judged. Returns the number of the update. Memory runs out only before anything is asked: what says so then may have
+// given up.
 pub(crate) fn judge<S: Scheme>(
     alloc: Global,
     scheme: &S,

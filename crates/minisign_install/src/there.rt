@@ -26,17 +26,18 @@ pub enum Installed {
     Already,
 }
 
-/// Installs the data ahead of `update` at the directory's place as `install_update` does, unless the update stands there
-/// already: `Installed::Already`, where its number is the kept one, and the two texts vouch for what the file at the place
-/// holds. Then nothing was made, written, renamed or removed.
+/// Installs the data ahead of `update` at the directory's place as `install_update` does, unless the update stands
+/// there already: `Installed::Already`, where its number is the kept one, and the two texts vouch for what the file at
+/// the place holds. Then nothing was made, written, renamed or removed.
 ///
-/// It locks the place, and asks about the update before it makes anything: it judges the signature of the comment, reads
-/// the record, and where that holds the update's own number for the field, reads the file at the place through. Other data
-/// there is refused (`SameNumber`), unless `again` says that it is to be replaced; a removed file is put back. A key, a
-/// comment or a record that is refused, and an older or a newer update, are left to `install_update`, with the lock held.
+/// It locks the place, and asks about the update before it makes anything: it judges the signature of the comment,
+/// reads the record, and where that holds the update's own number for the field, reads the file at the place through.
+/// Other data there is refused (`SameNumber`), unless `again` says that it is to be replaced; a removed file is put
+/// back. A key, a comment or a record that is refused, and an older or a newer update, are left to `install_update`,
+/// with the lock held.
 ///
-/// The file at the place is read in pieces of 64 KiB. Another process that writes into it meanwhile may have part of what
-/// it held judged with part of what it holds.
+/// The file at the place is read in pieces of 64 KiB. Another process that writes into it meanwhile may have part of
+/// what it held judged with part of what it holds.
 pub fn install_unless_there<S: Scheme, Z: RandomSource, R: Source, F: Directory>(
     alloc: Global,
     scheme: &S,
@@ -51,25 +52,26 @@ pub fn install_unless_there<S: Scheme, Z: RandomSource, R: Source, F: Directory>
     // one to the record, as `install_update` promises; nothing is where the update is there already.
     ensures headline { Known (F.run directory.old) (InstallsOnlyUpdates (S.accepts scheme.now) (terms_of wanted.entry) is_first (F.run directory.old) (F.run directory.new)) }
 
-    // Where `Now` is said, what was installed is the data that was ahead, for good, as `install_update` promises, beside
-    // what the record held when the lock was got.
+    // Where `Now` is said, what was installed is the data that was ahead, for good, as `install_update` promises,
+    // beside what the record held when the lock was got.
     ensures installed { IfOk result (λ which. which ≡ Installed.Now → Known (F.run directory.old) ((locked : Run) × HasLocked (F.run directory.old) locked × HasInstalled (S.accepts scheme.now) (terms_of wanted.entry) is_first (R.ahead update.old) locked (F.run directory.new))) }
 
-    // The lock is held by another run, or could not be asked for, and that was the only call. Or it was got, and held from
-    // then on. The place was read where the record was found to hold the number of the update for its field, and the key
-    // has signed its comment, which names the file and has not expired. `Already` is said exactly where the texts vouch
-    // for what the place held then; `SameNumber` exactly where they are rejected for it and `again` was not asked: no call
-    // of the run has changed anything (`HasLooked`, `IsStanding`). Otherwise the run goes on, and installs or is rejected
-    // from there as `install_update` (`InstallsFrom`). Only a device can fail besides, or an allocation, before anything
-    // is made; an allocation fails only with the lock held, and before anything is published.
+    // The lock is held by another run, or could not be asked for, and that was the only call. Or it was got, and held
+    // from then on. The place was read where the record was found to hold the number of the update for its field, and
+    // the key has signed its comment, which names the file and has not expired. `Already` is said exactly where the
+    // texts vouch for what the place held then; `SameNumber` exactly where they are rejected for it and `again` was not
+    // asked: no call of the run has changed anything (`HasLooked`, `IsStanding`). Otherwise the run goes on, and
+    // installs or is rejected from there as `install_update` (`InstallsFrom`). Only a device can fail besides, or an
+    // allocation, before anything is made; an allocation fails only with the lock held, and before anything is
+    // published.
     ensures goes { Known (F.run directory.old) (InstallsUnlessThere (S.accepts scheme.now) (terms_of wanted.entry) is_first again (R.ahead update.old) (counts (Z.random_faults random.old) (R.faults update.old) (F.directory_faults directory.old)) (counts (Z.random_faults random.new) (R.faults update.new) (F.directory_faults directory.new)) (F.run directory.old) (F.run directory.new) result) }
 
-    // On success the two texts vouch for some data, and the comment that was signed with it names the file, has not expired,
-    // and has a number.
+    // On success the two texts vouch for some data, and the comment that was signed with it names the file, has not
+    // expired, and has a number.
     ensures vouched { OnOk result (IsVouched (S.accepts scheme.now) (terms_of wanted.entry)) }
 
-    // Why a fault may come: as one of `install_update` does; and `SameNumber` only where `again` was not asked, the comment
-    // is signed and says what is wanted, and the texts are rejected for some data.
+    // Why a fault may come: as one of `install_update` does; and `SameNumber` only where `again` was not asked, the
+    // comment is signed and says what is wanted, and the texts are rejected for some data.
     ensures causes { IfErr result (IsCauseUnlessThere (S.accepts scheme.now) (terms_of wanted.entry) is_first again (counts (Z.random_faults random.old) (R.faults update.old) (F.directory_faults directory.old)) (counts (Z.random_faults random.new) (R.faults update.new) (F.directory_faults directory.new))) }
 
     // Where the update is there already, nothing is read of the data ahead, and no name is drawn.

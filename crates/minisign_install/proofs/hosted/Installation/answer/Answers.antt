@@ -1,6 +1,6 @@
 use Rattle.minisign_install.proofs.Common.{List, ℕ, inl, inr, refl, false, Installation, IsAsking, IsJudged, Terms, TextsVouchWith, Verifier}
 use Rattle.minisign.specs.Headline.{TextsVouchFor}
-use Rattle.minisign_install.proofs.SignatureComments.{read_whole}
+use Rattle.minisign_install.proofs.Judgements.{read_whole}
 use Rattle.minisign_install.proofs.hosted.Installation.answer.Goals as goal
 
 -- texts that vouch for what was read back do so with the comment that was judged

@@ -1,5 +1,5 @@
 use Rattle.minisign_install.proofs.Common.{◌≡◌, ◌∙◌, inl, refl, rules, sym, IsDue, IsUtf8, Answer}
-use Rattle.minisign_install.proofs.SignatureComments.{opened}
+use Rattle.minisign_install.proofs.Judgements.{opened}
 use Rattle.minisign_install.proofs.hosted.Installation.ask.Goals as goal
 
 pub returns-in-Ok-ask_fed-clause-asking : goal.returns-in-Ok-ask_fed-clause-asking
