@@ -1,34 +1,22 @@
 -- What the parts of an installation come to.
-use Rattle.minisign_install.proofs.Common.{◌≡◌, ◌≤◌, ◌<◌, ◌^◌, inl, inr, ℕ, Bool, List, Option, Some, None, sym, subst, ◌∙◌, true, arith, Verifier, HasKept, InstallsLocked, MayBePublished, IsKeptNumber, MayBeInstalled, MayBeRecorded, IsUpdate, RecordsFirst, PublishesInOrder, Terms, Numbering, ClearsAll, HasStepped, IsFound, Moment, Finds, Run, Name, Place, Record, IsNumberFor, record_of, PublishesNothing, PublishesOnly, IsNumberFrom, RecordHolds, MayLead}
+use Rattle.minisign_install.proofs.Common.{◌≡◌, ◌≤◌, inl, inr, ⊎_elim, ℕ, Bool, List, Option, Some, None, sym, ◌∙◌, true, arith, Verifier, HasKept, InstallsLocked, MayBePublished, IsKeptNumber, MayBeInstalled, MayBeRecorded, IsUpdate, RecordsFirst, PublishesInOrder, Terms, Numbering, ClearsAll, HasStepped, IsFound, Moment, Finds, Run, Name, Place, Record, record_of, PublishesNothing, PublishesOnly, RecordHolds, MayLead}
 use Rattle.minisign_install.proofs.Works.{HasRecorded, IsOnly, publishes_nothing, publishes_trans, publishes_weaken}
 use Rattle.minisign_install.proofs.RecordTexts.{record_reads, same_number}
 use Rattle.std.proofs.lemmas.Option.{none-some, same_Some}
-
-no_record : Record ≡ Place → ⊥
-no_record e = cc
-
--- what is written of a number is at least any number that is not above it
-number_from : (numbering : Numbering) (k n : ℕ) → n < 2 ^ 64 → k ≤ n → IsNumberFrom numbering k (record_of numbering n)
-number_from numbering k n bound least = (n, record_reads numbering n bound, least)
-
-number_least : (numbering : Numbering) (first : Bool) (bytes : List ℕ) (kept k n : ℕ) → IsNumberFor numbering bytes n → k ≤ n → IsKeptNumber numbering first (Some bytes) kept → k ≤ kept
-number_least numbering first bytes kept k n is least (inl (text, same, number)) =
-    omega (arith, least, same_number numbering bytes n kept is (subst (λ b. IsNumberFor numbering b kept) (same_Some text bytes (sym same)) number))
-number_least numbering first bytes kept k n is least (inr (is_zero, (is_first, none))) = absurd (none n is)
 
 module _ (accepts : Verifier) (terms : Terms) (kept : ℕ) where
   abbrev P : Name → List ℕ → Type 0
   P = MayBePublished accepts terms kept
 
   recorded_publishes : {old new : Run} → PublishesOnly (MayBeRecorded accepts terms kept) old new → PublishesOnly P old new
-  recorded_publishes = publishes_weaken (MayBeRecorded accepts terms kept) P _ _ (λ name b is. subst (λ x. MayBePublished accepts terms kept x b) (sym is.0) is.1)
+  recorded_publishes = publishes_weaken (MayBeRecorded accepts terms kept) P _ _ (λ name b is. rw is.0 is.1)
 
   -- what is published in order is what may be
   pub ordered : {old new : Run} → PublishesInOrder accepts terms kept old new → PublishesOnly P old new
   ordered (inl recorded) = recorded_publishes recorded
   ordered (inr first) =
       publishes_trans P _ _ _ (recorded_publishes first.recorded)
-      (publishes_weaken (MayBeInstalled accepts terms kept first.n) P _ _ (λ name b is. subst (λ x. MayBePublished accepts terms kept x b) (sym is.0) (first.n, is.1)) first.placed)
+      (publishes_weaken (MayBeInstalled accepts terms kept first.n) P _ _ (λ name b is. rw is.0 (first.n, is.1)) first.placed)
 
   places_behind : (n : ℕ) (old point new : Run) → PublishesOnly (MayBeRecorded accepts terms kept) old point → point.locked ≡ true → RecordHolds terms.numbering n point.now → PublishesOnly (MayBeInstalled accepts terms kept n) point new
       → RecordsFirst accepts terms kept old new
@@ -39,7 +27,7 @@ module _ (accepts : Verifier) (terms : Terms) (kept : ℕ) where
     locked = locked;
     there = there;
     placed = placed;
-    stays = placed.numbers locked terms.numbering n (λ bytes no. absurd (no_record no.0)) there;
+    stays = placed.numbers locked terms.numbering n (λ bytes no. absurd (cc no.0)) there;
   }
 
   -- the number was kept, and then the update was published
@@ -47,8 +35,8 @@ module _ (accepts : Verifier) (terms : Terms) (kept : ℕ) where
       → IsUpdate accepts terms kept bytes n → PublishesOnly (IsOnly Place bytes) mid new → RecordsFirst accepts terms kept old new
   places_update n bytes old mid new locked to_record recorded is publishes =
       places_behind n old mid new to_record locked
-      (recorded.lasts terms.numbering n (number_from terms.numbering n n is.says.number.bound (omega arith)))
-      (publishes_weaken (IsOnly Place bytes) (MayBeInstalled accepts terms kept n) mid new (λ name b only. (only.0, subst (λ u. IsUpdate accepts terms kept u n) (sym only.1) is)) publishes)
+      (recorded.lasts terms.numbering n (n, record_reads terms.numbering n is.says.number.bound, omega arith))
+      (publishes_weaken (IsOnly Place bytes) (MayBeInstalled accepts terms kept n) mid new (λ name b only. (only.0, rw only.1 is)) publishes)
 
   pub places_more : (old mid new : Run) → PublishesNothing mid new → PublishesInOrder accepts terms kept old mid → PublishesInOrder accepts terms kept old new
   places_more old mid new more (inl recorded) = inl (publishes_trans (MayBeRecorded accepts terms kept) old mid new recorded (publishes_nothing (MayBeRecorded accepts terms kept) mid new more))
@@ -76,7 +64,7 @@ kept_least : (numbering : Numbering) (first : Bool) (found : Option (List ℕ)) 
 kept_least numbering first None kept k m there number keeps = absurd (none-some keeps.file (sym there ∙ keeps.leads))
 kept_least numbering first (Some bytes) kept k m (f, leads, holds) number keeps =
     let (n, is, least) = keeps.numbers bytes (record { file = f; lead = inl leads; holds = λ kept. sym holds }) in
-    number_least numbering first bytes kept k n is least number
+    ⊎_elim (λ (text, same, number). omega (arith, least, same_number numbering bytes n kept is (rw (same_Some bytes text same) number))) (λ (is_zero, (is_first, none)). absurd (none n is)) number
 
 pub nothing_locked : (accepts : Verifier) (terms : Terms) (first : Bool) (old new : Run) → old.locked ≡ true → PublishesNothing old new → InstallsLocked accepts terms first old new
 nothing_locked accepts terms first old new locked none = record {
@@ -93,6 +81,6 @@ installs accepts terms first old new locked kept places = record {
       let least : k ≤ kept.number = kept_least terms.numbering first kept.found kept.number k old.now kept.there kept.held keeps in
       let brings = ordered accepts terms kept.number places in
       let (each, last) = brings.numbers locked terms.numbering k
-      (λ bytes (n, update, is, same). subst (IsNumberFrom terms.numbering k) (sym same) (number_from terms.numbering k n is.says.number.bound (omega (arith, least, is.newer)))) keeps in
+      (λ bytes (n, update, is, same). rw same (n, record_reads terms.numbering n is.says.number.bound, omega (arith, least, is.newer))) keeps in
       (brings.since, brings.noted, each, last);
 }
