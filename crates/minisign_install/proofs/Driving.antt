@@ -1,19 +1,10 @@
 -- An installation over a directory makes each call as it is due: what each call that went does to what is held between two.
-use Rattle.minisign_install.proofs.Common.{◌≡◌, inl, inr, ℕ, Named, OutOfMemory, IsCallFault, counts, ◌⊎◌, ◌≢◌, List, Option, Some, None, Bool, true, ap, arith, refl, IsNone, IsSomeAnd, MatchResult, Result, Ok, Err, true≢false, AreNamed, HasMade, IsNamed, Knows, MayCall, HasCalled, WantsNoMemory, made_or, outcome_by, setting, InstallFault, IsRecordRefused, Numbering, Timestamp, Version, Library, RandomSourceFailed, ReadingFailed, Rose, WritingFailed, HasCounted, Blames, Host, Makes, Setting, Terms, Verifier, Done, Due, Failed, Outcome, next, IsLibraryFault, Stage, Work}
+use Rattle.minisign_install.proofs.Common.{◌≡◌, inl, inr, ℕ, Named, OutOfMemory, IsCallFault, counts, ◌⊎◌, ◌≢◌, List, Option, Some, None, Bool, true, ap, arith, refl, IsNone, IsSomeAnd, MatchResult, Result, Ok, Err, true≢false, AreNamed, HasMade, IsNamed, Knows, MayCall, HasCalled, WantsNoMemory, made_or, outcome_by, setting, InstallFault, IsRecordRefused, Numbering, Timestamp, Version, Library, RandomSourceFailed, Rose, WritingFailed, HasCounted, Blames, Host, Makes, Setting, Terms, Verifier, Done, Due, Failed, Outcome, next, IsLibraryFault, Stage, Work}
 
 -- a record is not rejected because an allocation fails
 pub record_wants : (numbering : Numbering) (first : Bool) (found : Option (List ℕ)) (e : InstallFault) → IsRecordRefused numbering first found e → e ≢ Library (Named OutOfMemory)
 record_wants Timestamp first found e refused memory = grind arith
 record_wants Version first found e refused memory = grind arith
-
--- a source and a directory that are as they were have counted no error
-pub untouched : {A B : Type 0} (source_faults : A → ℕ) (directory_faults : B → ℕ) (random : ℕ) (u u' : A) (f f' : B) (e : InstallFault)
-    → ((e ≡ Library (Named OutOfMemory)) × (f' ≡ f) × (u' ≡ u)) ⊎ ((e ≡ Library (Named ReadingFailed)) × Rose (source_faults u) (source_faults u'))
-    ⊎ ((e ≡ Library (Named WritingFailed)) × Rose (directory_faults f) (directory_faults f'))
-    → IsLibraryFault (IsCallFault (counts random (source_faults u) (directory_faults f)) (counts random (source_faults u') (directory_faults f'))) e
-untouched source_faults directory_faults random u u' f f' e (inl (is, directory, source)) = (_, is, inl (refl, cc))
-untouched source_faults directory_faults random u u' f f' e (inr (inl (is, rose))) = (_, is, inr (inl (refl, inl rose)))
-untouched source_faults directory_faults random u u' f f' e (inr (inr (is, rose))) = (_, is, inr (inr (inl (refl, rose))))
 
 -- no stage was created, and this is why
 pub uncreated : (random random' f f' : ℕ) (e : InstallFault) → ((e ≡ Library (Named WritingFailed)) × Rose f f') ⊎ ((e ≡ Library (Named RandomSourceFailed)) × Rose random random')

@@ -1,6 +1,6 @@
 use Rattle.minisign_install.proofs.Common.{arith, refl, ap, counts, inl, inr, ⊎_elim, true≢false}
 use Rattle.std.specs.Prelude.{is_some}
-use Rattle.minisign_install.proofs.Driving.{record_wants, alone, called, either, gave, joined, none_named, so_counted, some_made, uncreated, untouched}
+use Rattle.minisign_install.proofs.Driving.{alone, called, either, gave, joined, none_named, record_wants, so_counted, some_made, uncreated}
 use Rattle.minisign_install.proofs.calls.make.Goals as goal
 
 pub returns-in-Lock-clause-went : goal.returns-in-Lock-clause-went
@@ -35,7 +35,7 @@ returns-in-Copy-clause-went g c = rw (c.in-Copy.is, c.done_or-in-Copy.ensures) (
     (λ x ((copied, u), (v, calm)).
     record { stays = λ named is. is; then = read; has = has; knows = knows; made = λ named is known may. let (pieces, writes, given, end) = copied known in rw (rw c.made.ensures at is.0).1 (pieces, writes, given, end, refl); explained = λ named. cc (calm.0, calm.1); memory = tt })
     (λ e ((u, broken), (why, v)).
-    record { stays = λ named is. is; then = read; has = has.0; knows = tt; made = λ named is known may. rw (rw c.made.ensures at is.0).1 (broken known); explained = λ named. untouched g.R.Source.faults g.F.Directory.directory_faults _ _ _ _ _ e why; memory = λ no. absurd (true≢false no) }))
+    record { stays = λ named is. is; then = read; has = has.0; knows = tt; made = λ named is known may. rw (rw c.made.ensures at is.0).1 (broken known); explained = λ named. ⊎_elim (λ (is, directory, update). (_, is, inl (refl, cc (directory, update)))) (⊎_elim (λ (is, rose). (_, is, inr (inl (refl, inl rose)))) (λ (is, rose). (_, is, inr (inr (inl (refl, rose)))))) why; memory = λ no. absurd (true≢false no) }))
 
 pub returns-in-ReadBack-clause-went : goal.returns-in-ReadBack-clause-went
 returns-in-ReadBack-clause-went g c = rw (c.in-ReadBack.is, c.done_or-in-ReadBack.ensures) (λ going read has knows.
