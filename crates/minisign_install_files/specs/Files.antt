@@ -1,6 +1,6 @@
 -- A directory over real files: what is known of it, how the path of a place is read, which paths it goes by, and why an
 -- installation over it is refused.
-use Rattle.std.specs.Prelude.{◌≡◌, ◌≢◌, ◌⊎◌, ℕ, Bool, List, [], ◌∷◌, ◌++◌, All, Option, codes}
+use Rattle.std.specs.Prelude.{◌≡◌, ◌≢◌, ◌⊎◌, ◌<◌, ℕ, Bool, List, [], ◌∷◌, ◌++◌, All, Option, codes, length}
 use Rattle.std.specs.Path.{slash}
 use Rattle.minisign.specs.Acceptance.{Verifier}
 use Rattle.minisign_install.specs.Installing.{Terms}
@@ -33,18 +33,14 @@ mode_of directory = directory.mode
 
 -- == The path of a place ==
 
--- the path of the directory before a slash: where nothing stands there, it is the root
-abbrev pub directory_path : List ℕ → List ℕ
-directory_path [] = codes "/"
-directory_path (b ∷ before) = b ∷ before
-
 -- The path leads into this directory, and there to this name, which has no slash: it is the name alone, in the working
--- directory; or the directory, a slash and the name.
+-- directory; a slash and the name, in the root; or else the directory, a slash and the name.
 abbrev pub IsPlaceIn : List ℕ → List ℕ → List ℕ → Type 0
 IsPlaceIn path directory name =
     All (λ b. b ≢ slash) name
     × (((path ≡ name) × (directory ≡ codes "."))
-    ⊎ ((before : List ℕ) × (path ≡ before ++ slash ∷ name) × (directory ≡ directory_path before)))
+    ⊎ ((path ≡ slash ∷ name) × (directory ≡ codes "/"))
+    ⊎ ((path ≡ directory ++ slash ∷ name) × (0 < length directory)))
 
 -- no file has this name: it is empty, or that of the directory itself or of the one above
 abbrev pub IsNoFile : List ℕ → Type 0
@@ -66,9 +62,9 @@ path_of directory Stage = beside directory (codes "stage-*")
 
 -- == Why an installation is refused ==
 
--- Of a run over a new source of random bytes, which has counted no fault, this is the cause of the fault, with what
--- that has counted then, and with the counts of the source of the data and of the directory before and after.
+-- this is the cause of the fault, with the counts of the source of the data and of the directory before and after, and
+-- with two of the source of random bytes, which is the run's own
 abbrev pub HasCause : Verifier → Terms → Bool → Bool → ℕ → ℕ → ℕ → ℕ → InstallFault → Type 0
 HasCause accepts terms first again update update_then directory directory_then fault =
-    (random : ℕ) × IsCauseUnlessThere accepts terms first again (counts 0 update directory)
-    (counts random update_then directory_then) fault
+    (random : ℕ) × (random_then : ℕ) × IsCauseUnlessThere accepts terms first again (counts random update directory)
+    (counts random_then update_then directory_then) fault

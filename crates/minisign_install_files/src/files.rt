@@ -3,7 +3,7 @@
 
 ghost use Rattle.std.specs.Prelude.{◌≡◌, ℕ, List, None, true, IfOk, IfSome, IsErr, string_bytes};
 ghost use Rattle.minisign_install.specs.Directories.{HasCounted, unknown};
-ghost use Rattle.minisign_install_files.specs.Files.{IsNoFile, IsPlaceIn, beside, faults_of, directory_of, directory_path, mode_of, name_of, path_of, place_of};
+ghost use Rattle.minisign_install_files.specs.Files.{IsNoFile, IsPlaceIn, beside, faults_of, directory_of, mode_of, name_of, path_of, place_of};
 
 use crate::troubles::{Part, Trouble};
 use hex::encode;
@@ -125,16 +125,10 @@ impl<'a> FileDirectory<'a> {
     }
 
     // The path of a file beside the target, by what stands behind the target's name.
-    #[tactic(auto, using(crate::proofs::Paths::joined))]
     fn beside(&self, behind: &str) -> Result<String, AllocError>
         ensures { IfOk result (λ made. string_bytes made ≡ beside self.now behind.now) }
     {
-        let mut path = String::from_str(self.rt.alloc(), self.directory)?;
-        path.push_str("/.")?;
-        path.push_str(self.name)?;
-        path.push_str(".")?;
-        path.push_str(behind)?;
-        Ok(path)
+        Ok(format!(in self.rt.alloc(); "{}/.{}.{behind}", self.directory, self.name)?)
     }
 
     // The path of a stage.
@@ -175,6 +169,16 @@ impl<'a> FileDirectory<'a> {
         answer
     }
 
+    // Opens a file that is this user's alone to read and write; one that has to be new is made.
+    fn open_own(&self, path: Result<String, AllocError>, is_new: bool) -> io::Result<File> {
+        OpenOptions::new()
+            .read(true)
+            .write(true)
+            .create_new(is_new)
+            .mode(FOR_THE_OWNER)
+            .open(self.rt, path?)
+    }
+
     // The regular file that the path of a part leads to, where any does. No link is followed.
     fn regular(&self, part: Part) -> Result<Option<Metadata>, DeviceFault> {
         let words = match again(|| fs::symlink_metadata(self.rt, self.shown(part)?)) {
@@ -191,10 +195,8 @@ impl<'a> FileDirectory<'a> {
     // Whether the path of a part leads to this open file, and through no link.
     fn leads_to(&self, part: Part, file: &File) -> Result<bool, DeviceFault> {
         let opened = self.on(part, || file.metadata())?;
-        Ok(match self.regular(part)? {
-            Some(found) => found.dev() == opened.dev() && found.ino() == opened.ino(),
-            None => false,
-        })
+        let found = self.regular(part)?;
+        Ok(found.is_some_and(|found| found.dev() == opened.dev() && found.ino() == opened.ino()))
     }
 
     // The regular file that the path of a part leads to, opened to be read, where any does.
@@ -202,33 +204,28 @@ impl<'a> FileDirectory<'a> {
         if self.regular(part)?.is_none() {
             return Ok(None);
         }
-        let file = self.on(part, || match fs::open(self.rt, self.shown(part)?) {
-            Ok(file) => Ok(file),
-            Err(error) => Err(why_closed(part, error)),
+        let file = self.on(part, || {
+            fs::open(self.rt, self.shown(part)?).map_err(|error| why_closed(part, error))
         })?;
-        if self.leads_to(part, &file)? {
-            Ok(Some(file))
-        } else {
-            self.fails(part, Error::other(RESTLESS))
+        if !self.leads_to(part, &file)? {
+            return self.fails(part, Error::other(RESTLESS));
         }
+        Ok(Some(file))
     }
 
     // Opens the lock file, or makes it, which is told. None where others removed it or made one meanwhile.
     fn open_lock(&self) -> Result<Option<(File, bool)>, DeviceFault> {
         let is_new = self.regular(Part::Lock)?.is_none();
-        let error = match open_own(self.rt, self.beside("lock"), is_new) {
-            Ok(file) if self.leads_to(Part::Lock, &file)? => return Ok(Some((file, is_new))),
-            Ok(_) => return Ok(None),
-            Err(error) => error,
-        };
-        match (error.kind(), is_new) {
-            (ErrorKind::NotFound, false) | (ErrorKind::AlreadyExists, true) => Ok(None),
-            (ErrorKind::NotFound, true) => self.fails(
-                Part::Directory,
-                Error::other("there is no such directory"),
-            ),
-            (_, true) => self.fails(Part::Lock, error),
-            (_, false) => self.fails(Part::Lock, why_closed(Part::Lock, error)),
+        match self.open_own(self.beside("lock"), is_new) {
+            Ok(file) => Ok(self.leads_to(Part::Lock, &file)?.then_some((file, is_new))),
+            Err(error) => match (error.kind(), is_new) {
+                (ErrorKind::NotFound, false) | (ErrorKind::AlreadyExists, true) => Ok(None),
+                (ErrorKind::NotFound, true) => {
+                    self.fails(Part::Directory, Error::other("there is no such directory"))
+                }
+                (_, true) => self.fails(Part::Lock, error),
+                (_, false) => self.fails(Part::Lock, why_closed(Part::Lock, error)),
+            },
         }
     }
 
@@ -277,15 +274,11 @@ impl<'a> FileDirectory<'a> {
         }
         let remove = || fs::remove_file(self.rt, self.beside(NEW_LOCK)?);
         let _removed = again(remove);
-        let fresh = self.on(
-            Part::Stage,
-            || open_own(self.rt, self.beside(NEW_LOCK), true),
-        )?;
+        let fresh = self.on(Part::Stage, || self.open_own(self.beside(NEW_LOCK), true))?;
         if give_owner(&fresh, &keeper) && fresh.try_lock().is_ok() {
-            self.on(
-                Part::Lock,
-                || fs::rename(self.rt, self.beside(NEW_LOCK)?, self.beside("lock")?),
-            )?;
+            self.on(Part::Lock, || {
+                fs::rename(self.rt, self.beside(NEW_LOCK)?, self.beside("lock")?)
+            })?;
             return Ok(fresh);
         }
         self.on(Part::Stage, remove)?;
@@ -337,15 +330,12 @@ impl<'a> FileDirectory<'a> {
         let digits = found
             .strip_prefix(".")
             .and_then(|rest| rest.strip_prefix(self.name))
-            .and_then(|rest| rest.strip_prefix(".stage-"));
-        match digits {
-            Some(digits) => digits.len() == DIGITS
-                && digits
-                    .as_bytes()
-                    .iter()
-                    .all(|digit| matches!(digit, b'0'..=b'9' | b'a'..=b'f')),
-            None => false,
-        }
+            .and_then(|rest| rest.strip_prefix(".stage-"))
+            .unwrap_or("");
+        digits.len() == DIGITS
+            && digits
+                .bytes()
+                .all(|digit| matches!(digit, b'0'..=b'9' | b'a'..=b'f'))
     }
 }
 
@@ -354,26 +344,15 @@ fn parts_of(path: &str) -> (&str, &str)
     ensures parts { IsPlaceIn path.now result.0.now result.1.now }
 {
     match path.rsplit_once('/') {
-        Some((before, name)) => (directory_path(before), name),
+        Some((before, name)) => {
+            if before.is_empty() {
+                ("/", name)
+            } else {
+                (before, name)
+            }
+        }
         None => (".", path),
     }
-}
-
-// The path of the directory that stands before a slash.
-fn directory_path(before: &str) -> &str
-    ensures { result.now ≡ directory_path before.now }
-{
-    if before.is_empty() { "/" } else { before }
-}
-
-// Opens a file that is this user's alone to read and write; one that has to be new is made.
-fn open_own(rt: &HostRuntime, path: Result<String, AllocError>, is_new: bool) -> io::Result<File> {
-    OpenOptions::new()
-        .read(true)
-        .write(true)
-        .create_new(is_new)
-        .mode(FOR_THE_OWNER)
-        .open(rt, path?)
 }
 
 // Why a file could not be opened. The lock file and the record are for their owner alone.
@@ -396,37 +375,35 @@ impl Directory for FileDirectory<'_> {
     ghost read_fails = { true };
 
     fn lock(&mut self) -> Result<bool, DeviceFault> {
-        if self.counted(|directory| directory.is_locked())? {
+        if self.counted(|it| it.is_locked())? {
             return Ok(true);
         }
-        self.lock = self.counted(|directory| directory.locked_file())?;
+        self.lock = self.counted(|it| it.locked_file())?;
         Ok(self.lock.is_some())
     }
 
     fn clear(&mut self) -> Result<(), DeviceFault> {
-        self.counted(|directory| {
-            directory.check_lock()?;
-            directory.on(Part::Directory, || directory.remove_stages())
+        self.counted(|it| {
+            it.check_lock()?;
+            it.on(Part::Directory, || it.remove_stages())
         })
     }
 
     fn create(&mut self, name: &StageName) -> Result<StageFile, DeviceFault> {
-        self.counted(|directory| {
-            directory.check_lock()?;
-            Ok(StageFile {
-                file: directory.on(
-                    Part::Stage,
-                    || open_own(directory.rt, directory.stage_path(name), true),
-                )?,
-                part: Part::Stage,
-                has_permissions: Cell::new(false),
-            })
+        let file = self.counted(|it| {
+            it.check_lock()?;
+            it.on(Part::Stage, || it.open_own(it.stage_path(name), true))
+        })?;
+        Ok(StageFile {
+            file,
+            part: Part::Stage,
+            has_permissions: Cell::new(false),
         })
     }
 
     fn write(&mut self, handle: &StageFile, bytes: &[u8]) -> Result<usize, DeviceFault> {
         let mut file = &handle.file;
-        let n = self.counted(|directory| directory.on(Part::Stage, || file.write(bytes)))?;
+        let n = self.counted(|it| it.on(Part::Stage, || file.write(bytes)))?;
         if n <= bytes.len() && (n > 0 || bytes.is_empty()) {
             return Ok(n);
         }
@@ -447,23 +424,22 @@ impl Directory for FileDirectory<'_> {
     }
 
     fn take_permissions(&mut self, handle: &StageFile) -> Result<(), DeviceFault> {
-        self.counted(|directory| {
-            let older = directory.regular(Part::Place)?;
+        self.counted(|it| {
+            let older = it.regular(Part::Place)?;
             handle.has_permissions.set(true);
-            directory.on(
-                Part::Stage,
-                || give_permissions(&handle.file, &older, directory.mode),
-            )
+            it.on(Part::Stage, || {
+                give_permissions(&handle.file, &older, it.mode)
+            })
         })
     }
 
     fn sync(&mut self, handle: &StageFile) -> Result<(), DeviceFault> {
-        self.counted(|directory| {
+        self.counted(|it| {
             // The record, which was given no permissions, is the keeper's, whoever runs this.
             if !handle.has_permissions.get() {
-                directory.give_to_keeper(&handle.file)?;
+                it.give_to_keeper(&handle.file)?;
             }
-            directory.on(Part::Stage, || handle.file.sync_all())
+            it.on(Part::Stage, || handle.file.sync_all())
         })
     }
 
@@ -472,25 +448,19 @@ impl Directory for FileDirectory<'_> {
             Name::Place => Part::Place,
             Name::Record => Part::Record,
         };
-        self.counted(|directory| {
-            directory.check_lock()?;
-            directory.on(
-                part,
-                || fs::rename(
-                    directory.rt,
-                    directory.stage_path(name)?,
-                    directory.shown(part)?,
-                ),
-            )
+        self.counted(|it| {
+            it.check_lock()?;
+            it.on(part, || {
+                fs::rename(it.rt, it.stage_path(name)?, it.shown(part)?)
+            })
         })
     }
 
     fn sync_directory(&mut self) -> Result<(), DeviceFault> {
-        self.counted(|directory| {
-            directory.on(
-                Part::Directory,
-                || fs::open(directory.rt, directory.directory)?.sync_all(),
-            )
+        self.counted(|it| {
+            it.on(Part::Directory, || {
+                fs::open(it.rt, it.directory)?.sync_all()
+            })
         })
     }
 
@@ -502,23 +472,22 @@ impl Directory for FileDirectory<'_> {
     }
 
     fn read_record(&mut self, alloc: Global) -> Result<Option<Vec<u8>>, DeviceFault> {
-        self.counted(|directory| {
-            let Some(file) = directory.find(Part::Record)? else {
+        self.counted(|it| {
+            let Some(file) = it.find(Part::Record)? else {
                 return Ok(None);
             };
             let mut bytes = Vec::new(alloc);
             let mut most = (&file).take(MOST_OF_RECORD + 1);
-            directory.on(Part::Record, || most.read_to_end(&mut bytes))?;
+            it.on(Part::Record, || most.read_to_end(&mut bytes))?;
             if bytes.len() as u64 > MOST_OF_RECORD {
-                let error = Error::other("it is too long for a number");
-                return directory.fails(Part::Record, error);
+                return it.fails(Part::Record, Error::other("it is too long for a number"));
             }
             Ok(Some(bytes))
         })
     }
 
     fn open_place(&mut self) -> Result<Option<StageFile>, DeviceFault> {
-        let file = self.counted(|directory| directory.find(Part::Place))?;
+        let file = self.counted(|it| it.find(Part::Place))?;
         Ok(file.map(|file| StageFile {
             file,
             part: Part::Place,

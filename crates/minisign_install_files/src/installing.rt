@@ -32,7 +32,6 @@ impl Read for RandomBytes<'_> {
 ///
 /// The directory holds the lock on the place from here on for as long as it lives. Data that may stand still, as what
 /// is being downloaded, would keep other runs out for as long: it is received into a file first.
-#[tactic(auto, using(crate::proofs::Causes::has_cause))]
 pub fn install_files<S: Scheme, R: Source>(
     rt: &HostRuntime,
     scheme: &S,
@@ -57,7 +56,7 @@ pub fn install_files<S: Scheme, R: Source>(
     ensures no_new_fault { OnOk result ((R.faults update.new ≡ R.faults update.old) × (faults_of directory.new ≡ faults_of directory.old)) }
 {
     let mut random = SourceRandom::new(ReaderSource::new(Uninterrupted(RandomBytes(rt))));
-    install_unless_there(
+    match install_unless_there(
         rt.alloc(),
         scheme,
         &mut random,
@@ -66,5 +65,8 @@ pub fn install_files<S: Scheme, R: Source>(
         again,
         update,
         directory,
-    )
+    ) {
+        Ok(installed) => Ok(installed),
+        Err(fault) => Err(fault),
+    }
 }

@@ -17,13 +17,10 @@ use minisign_base::{NamedFault, unix_timestamp};
 use minisign_external::numbers::Numbered;
 use minisign_install::{InstallFault, Installed, Numbering, Wanted};
 use minisign_install_files::{FileDirectory, Trouble, Uninterrupted, install_files};
-use minisign_programs::arguments::{behind_program, read_arguments, words_of};
+use minisign_programs::arguments::{read_arguments, words_of};
 use std::fs;
 use std::fs::File;
 use std::process::ExitCode;
-
-// The exit status where the update stood there already.
-const THERE_ALREADY: u8 = 255;
 
 fn main(rt: HostRuntime) -> ExitCode {
     run(rt).unwrap_or(ExitCode::FAILURE)
@@ -32,34 +29,32 @@ fn main(rt: HostRuntime) -> ExitCode {
 // The exit status, where there are arguments as they have to be.
 fn run(rt: HostRuntime) -> Option<ExitCode> {
     let arguments = read_arguments(&rt).ok()??;
-    let words = words_of(rt.alloc(), behind_program(arguments.as_slice())).ok()?;
-    let (is_first, words) = match words.as_slice() {
-        ["--first", more @ ..] => (true, more),
-        words => (false, words),
+    let words = words_of(rt.alloc(), arguments.as_slice()).ok()?;
+    let (is_first, again, paths) = match words.as_slice() {
+        ["--first", "--again", paths @ ..] => (true, true, paths),
+        ["--first", paths @ ..] => (true, false, paths),
+        ["--again", paths @ ..] => (false, true, paths),
+        paths => (false, false, paths),
     };
-    let (again, words) = match words {
-        ["--again", more @ ..] => (true, more),
-        words => (false, words),
-    };
-    let [pk, data, sig, place] = words else {
+    let [pk, data, sig, place] = paths else {
         return None;
     };
     // At a first installation all may run what is installed.
-    let mode = if is_first { Some(0o755) } else { None };
-    let mut directory = FileDirectory::of_place(&rt, place, mode)?;
+    let mut directory = FileDirectory::of_place(&rt, place, is_first.then_some(0o755))?;
     let scheme = ToyScheme::new();
-    let fault = match update(&rt, &scheme, pk, data, sig, is_first, again, &mut directory) {
-        Ok(Installed::Now) => return Some(ExitCode::SUCCESS),
-        Ok(Installed::Already) => return Some(ExitCode::from(THERE_ALREADY)),
-        Err(fault) => fault,
-    };
-    let _ = eprintln!(rt; "error: {fault}");
-    if let Some(Trouble { part, error }) = directory.trouble() {
-        if let Ok(path) = directory.shown(part) {
-            let _ = eprintln!(rt; "error: {path}: {error}");
+    match update(&rt, &scheme, pk, data, sig, is_first, again, &mut directory) {
+        Ok(Installed::Now) => Some(ExitCode::SUCCESS),
+        Ok(Installed::Already) => Some(ExitCode::from(255)),
+        Err(fault) => {
+            let _ = eprintln!(rt; "error: {fault}");
+            if let Some(Trouble { part, error }) = directory.trouble() {
+                if let Ok(path) = directory.shown(part) {
+                    let _ = eprintln!(rt; "error: {path}: {error}");
+                }
+            }
+            Some(ExitCode::from(fault.number() as u8))
         }
     }
-    Some(ExitCode::from(fault.number() as u8))
 }
 
 // Installs the data that a file holds.
@@ -94,8 +89,6 @@ fn update<S: Scheme>(
 
 // Opens a file, which is read on where a signal interrupts that.
 fn open(rt: &HostRuntime, path: &str) -> Result<ReaderSource<Uninterrupted<File>>, InstallFault> {
-    match fs::open(rt, path) {
-        Ok(file) => Ok(ReaderSource::new(Uninterrupted(file))),
-        Err(_) => Err(NamedFault::ReadingFailed.into()),
-    }
+    let file = fs::open(rt, path).map_err(|_| NamedFault::ReadingFailed)?;
+    Ok(ReaderSource::new(Uninterrupted(file)))
 }
