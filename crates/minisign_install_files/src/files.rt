@@ -359,7 +359,7 @@ fn parts_of(path: &str) -> (&str, &str)
 fn why_closed(part: Part, error: Error) -> Error {
     match (part, error.kind()) {
         (Part::Lock | Part::Record, ErrorKind::PermissionDenied) => Error::other(
-            "it is for its owner alone: give it the owner of the place",
+            "it is for its owner alone: give it the owner of the target",
         ),
         _ => error,
     }
