@@ -1,6 +1,6 @@
 -- The names of definitions, and of std's lemmas, that the proofs of this crate use.
 pub use Rattle.minisign.proofs.Laws.{refused_unvouched}
-pub use Rattle.minisign_install.specs.Words.{Answer, AnswersTexts, AreNamed, AreQuestions, Blames, Calls, CallsNothing, CallsOwning, CanBeInstalled, CannotBeInstalled, Clear, ClearsAll, CommentsRecord, Copy, Counts, Create, CreateRecord, DeviceFails, Done, Due, Explains, Failed, Fault, FileStays, Finds, GivesUpdate, HasBegun, HasCalled, HasCleared, HasCounted, HasCreated, HasFailed, HasGone, HasInstalled, HasKept, HasLocked, HasMade, HasNoNumber, HasObeyed, HasOnDisk, HasPublishedUpdate, HasReached, HasRenamed, HasRun, HasStepped, Host, InstallFault, Installation, InstallsExactly, InstallsLocked, InstallsOnlyUpdates, IsAhead, IsAnswered, IsApart, IsAsking, IsBusy, IsCallFault, IsCause, IsDataRefusal, IsDataRefused, IsDue, IsExpiryRefused, IsFedState, IsFound, IsJudged, IsKeptNumber, IsKeyText, IsLibraryFault, IsLockedRefusal, IsNamed, IsNumberFor, IsNumberFrom, IsNumberText, IsPublished, IsRecordRefused, IsRefusal, IsStill, IsUnexpired, IsUpdate, IsVouched, Known, Knows, Library, Lock, Makes, MakesDue, MayBeInstalled, MayBePublished, MayBeRecorded, MayCall, MayFind, MayLead, Moment, More, Name, Named, NotUtf8, Number, Numbering, Obeys, OnlyLocked, OutOfMemory, Outcome, OwnsNoMore, OwnsTheSame, Perhaps, Place, PublicKeyRecord, PublicKeyValue, Publishes, PublishesInOrder, PublishesNothing, PublishesOnly, Questions, RandomSourceFailed, ReadBack, ReadRecord, ReadingFailed, Record, RecordHolds, RecordHoldsAt, RecordUnchanged, RecordsFirst, Refusal, Remove, RemoveRecord, Removes, Rename, RenameRecord, Renames, Rose, Run, RunStep, Same, SameNumber, Says, Sets, Setting, SignatureBoxRecord, SignatureTextRecord, Spoils, Stage, Sync, SyncName, SyncRecord, SyncRecordName, SyncsDirectory, TakePermissions, TellsAnswers, TellsRecord, Terms, TextsVouchWith, Timestamp, TouchesOnly, TouchesStages, Verifier, Version, WantsNoMemory, Work, WriteRecord, Writes, WritesInPart, WritingFailed, WrongUse, accepts_comments, and_then, blake2b_digest, box_of, calls_left, counts, drawn_bytes, due_number, has_ended, host, install_number, judge_key, made_or, next, number_label, numbering_of, outcome_by, piece_outcome, read_public_key, read_signature, read_signature_box, read_under, record_of, record_text, setting, signed_comment, strip, terms_of, values_of}
+pub use Rattle.minisign_install.specs.Words.{Answer, AnswersTexts, AreNamed, AreQuestions, Blames, Calls, CallsNothing, CallsOwning, CanBeInstalled, CannotBeInstalled, Clear, ClearsAll, Copy, Counts, Create, CreateRecord, DeviceFails, Done, Due, Explains, Failed, Fault, FileStays, Finds, GivesUpdate, HasBegun, HasCalled, HasCleared, HasCounted, HasCreated, HasFailed, HasGone, HasInstalled, HasKept, HasLocked, HasMade, HasNoNumber, HasObeyed, HasOnDisk, HasPublishedUpdate, HasReached, HasRenamed, HasRun, HasStepped, Host, InstallFault, Installation, InstallsExactly, InstallsLocked, InstallsOnlyUpdates, IsAhead, IsAnswered, IsApart, IsAsking, IsBusy, IsCallFault, IsCause, IsDataRefusal, IsDataRefused, IsDue, IsExpiryRefused, IsFedState, IsFound, IsJudged, IsKeptNumber, IsKeyText, IsLibraryFault, IsLockedRefusal, IsNamed, IsNumberFor, IsNumberFrom, IsNumberText, IsPublished, IsRecordRefused, IsRefusal, IsStill, IsUnexpired, IsUpdate, IsVouched, Known, Knows, Library, Lock, Makes, MakesDue, MayBeInstalled, MayBePublished, MayBeRecorded, MayCall, MayFind, MayLead, Moment, More, Name, Named, NotUtf8, Number, Numbering, Obeys, OnlyLocked, OutOfMemory, Outcome, OwnsNoMore, OwnsTheSame, Perhaps, Place, PublicKeyRecord, PublicKeyValue, Publishes, PublishesInOrder, PublishesNothing, PublishesOnly, Questions, RandomSourceFailed, ReadBack, ReadRecord, ReadingFailed, Record, RecordHolds, RecordHoldsAt, RecordUnchanged, RecordsFirst, Refusal, Remove, RemoveRecord, Removes, Rename, RenameRecord, Renames, Rose, Run, RunStep, Same, SameNumber, Says, Sets, Setting, SignatureBoxRecord, SignatureTextRecord, Spoils, Stage, Sync, SyncName, SyncRecord, SyncRecordName, SyncsDirectory, TakePermissions, TellsAnswers, TellsRecord, Terms, TextsVouchWith, Timestamp, TouchesOnly, TouchesStages, Verifier, Version, WantsNoMemory, Work, WriteRecord, Writes, WritesInPart, WritingFailed, WrongUse, accepts_comments, and_then, blake2b_digest, box_of, calls_left, counts, drawn_bytes, due_number, has_ended, host, install_number, judge_key, made_or, next, number_label, numbering_of, outcome_by, piece_outcome, read_public_key, read_signature, read_signature_box, read_under, record_of, record_text, setting, signed_comment, strip, terms_of, values_of}
 pub use Rattle.minisign.specs.Records.{is_prehashed}
 pub use Rattle.minisign.specs.Texts.{require}
 pub use Rattle.minisign_base.specs.declared.faults.NamedFault.{NamedFault}

@@ -7,7 +7,7 @@ use Rattle.minisign_install.specs.Installing.{Verifier, IsKeptNumber, IsUpdate, 
 use Rattle.minisign_external.specs.declared.state.Refusal.TheVariants.{Refused}
 use Rattle.minisign_install.specs.Comments.{Says, Numbering, Timestamp, Version}
 pub use Rattle.minisign_install.specs.Order.{due_number}
-use Rattle.minisign_install.specs.Order.{fits, next, Due, Lock, Clear, ReadRecord, Create, Copy, ReadBack, Answer, TakePermissions, Sync, CreateRecord, WriteRecord, SyncRecord, RenameRecord, SyncRecordName, Rename, SyncName, RemoveRecord, Remove, Outcome, Done, More, Failed}
+use Rattle.minisign_install.specs.Order.{fits, next, Due, Lock, Clear, ReadRecord, Create, Copy, ReadBack, Answer, TakePermissions, Sync, CreateRecord, WriteRecord, SyncRecord, RenameRecord, SyncRecordName, Rename, SyncName, RemoveRecord, Remove, Outcome, Done, More}
 use Rattle.minisign_install.specs.Refusals.{IsCommentRefused, IsDataRefused, IsLibraryFault, IsRecordRefused}
 use Rattle.minisign_install.specs.declared.order.Due.TheVariants as ended
 
@@ -125,8 +125,7 @@ HasReadRecord found old new =
 abbrev pub piece_outcome : List ℕ → Outcome ℕ
 piece_outcome piece = if length piece == 0 then Done else More
 
--- the stage is read back, and the state was fed this piece, and is told nothing of where pieces end; what the host has
--- chosen stays
+-- the stage was to be read back, and the state was fed this piece; what the host has chosen stays
 pub record HasReadBack (piece : List ℕ) (old new : Installation) : Type 0 where
   pub fed : (m : List ℕ) → IsFedState old.state m → IsFedState new.state (m ++ piece)
   pub chosen : new.chosen ≡ old.chosen
