@@ -36,7 +36,7 @@ module _ {old new : Run} where
   quiet_still (still, own) = (resting_publishes old new still, kept_no_more old new own)
 
   quiet_none : CallsNothing old new → IsQuiet old new
-  quiet_none (inl same) = subst (IsQuiet old) (sym same) (publishes_none _ old, record { only = λ q e. e })
+  quiet_none (inl same) = rw same (publishes_none _ old, record { only = λ q e. e })
   quiet_none (inr still) = quiet_still still
 
   quiet_spoiled : {name : List ℕ} {file : ℕ} → HasStage old name file → Calls (Spoils file) old new → IsQuiet old new
@@ -52,7 +52,7 @@ module _ {old new : Run} where
 writes_work : (name : List ℕ) (file : ℕ) (pieces : List (List ℕ)) (old new : Run) → HasStage old name file → Writes file pieces old new
     → WorksOn (λ f. f ≡ file) old new × (new.now.holds file ≡ old.now.holds file ++ concat pieces)
 writes_work name file [] old new stage same =
-    subst (λ r. WorksOn (λ f. f ≡ file) old r × (r.now.holds file ≡ old.now.holds file ++ [])) (sym same) (works_none old, sym (append-nil (old.now.holds file)))
+    rw same (works_none old, sym (append-nil (old.now.holds file)))
 writes_work name file (piece ∷ more) old new stage (mid, (step, own), rest) =
     let first = spoiling stage (step, own) step.this.spoils in
     let (then, more_grown) = writes_work name file more mid new (first.stages name file stage) rest in (
@@ -264,7 +264,7 @@ module _ (s : Setting) (a : Host) where
       go_on x (created_publishes s.name s.file h.run h'.run made) (λ q e (differs, none). (none, sym (made.own.others q differs) ∙ e)),
       is,
       created_stage s.name s.file h.run h'.run made,
-      subst (Consumes a.ahead h'.ahead) (sym made.stepped.this.empty) (subst (λ y. Consumes a.ahead y []) (sym (ahead' ∙ ahead)) (Consumes-nil a.ahead)),
+      rw (made.stepped.this.empty, ahead', ahead) (Consumes-nil a.ahead),
     )
     from (Create kept) (Failed e) x made = (stopped (stay x.0 (fails (Create kept) e x made)), tt)
     from (Copy kept) More (x, is, stage, consumed) (pieces, writes, given, read) =
@@ -312,7 +312,7 @@ module _ (s : Setting) (a : Host) where
         let works = working (step, own) step.this.same.only step.this.same.stages (λ f no. absurd no) in (
           let_go (stay x works.quiet) (ap (λ o. o s.record_name) own.owns ∙ renamed.own.set),
           staged_more staged (works.stages s.name s.file staged.judged.stage) (works.files s.name s.file staged.judged.stage (λ no. no)),
-          subst (λ b. HasRecorded b h'.run) stage.holds (record {
+          rw (← stage.holds) (record {
             earlier = before.steps;
             published = (published s.record_name Record before h.run h'.run renamed.stepped step s.record_file stage.stage on_disk).0;
             lasts = lasting s.record_name before h.run h'.run renamed.stepped step s.record_file stage.stage on_disk (x.publishes.locked x.lock.held);
@@ -367,5 +367,5 @@ module _ (s : Setting) (a : Host) where
 -- what each call leads to, a run does
 pub runs : {E : Type 0} {call : Due E → Outcome E → Host → Host → Type 0} (P : Due E → Host → Type 0) → ((due : Due E) (o : Outcome E) (h h' : Host) → P due h → call due o h h' → P (next due o) h')
     → (due : Due E) (h : Host) (events : List (Outcome E × Host)) (due' : Due E) (h' : Host) → P due h → HasRun call due h events due' h' → P due' h'
-runs P goes due h [] due' h' x (is, same) = subst (λ d. P d h') (sym is) (subst (P due) (sym same) x)
+runs P goes due h [] due' h' x (is, same) = rw (is, same) x
 runs P goes due h ((o, mid) ∷ more) due' h' x (made, rest) = runs P goes (next due o) mid more due' h' (goes due o h mid x made) rest

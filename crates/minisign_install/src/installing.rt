@@ -94,8 +94,8 @@ pub fn install_update<S: Scheme, Z: RandomSource, R: Source, F: Directory>(
     ensures vouched { OnOk result (IsVouched (S.accepts scheme.now) (terms_of wanted.entry)) }
 
     // Why a fault may come: a device's only where its count of faults rose; out of memory only where no count rose; the
-    // record is refused only where it is not the first installation, and all that is said of the data only where some
-    // data has it.
+    // record is rejected only where it is not the first installation, for what some record holds, and all that is said
+    // of the data only where some data has it.
     ensures causes { IfErr result (IsCause (S.accepts scheme.now) (terms_of wanted.entry) is_first (counts (Z.random_faults random.old) (R.faults update.old) (F.directory_faults directory.old)) (counts (Z.random_faults random.new) (R.faults update.new) (F.directory_faults directory.new))) }
 
     // Memory runs out only with the lock held, and before anything is brought to the place or to the record. A run that
