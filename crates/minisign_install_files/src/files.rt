@@ -344,13 +344,8 @@ fn parts_of(path: &str) -> (&str, &str)
     ensures parts { IsPlaceIn path.now result.0.now result.1.now }
 {
     match path.rsplit_once('/') {
-        Some((before, name)) => {
-            if before.is_empty() {
-                ("/", name)
-            } else {
-                (before, name)
-            }
-        }
+        Some((before, name)) if before.is_empty() => ("/", name),
+        Some((before, name)) => (before, name),
         None => (".", path),
     }
 }
