@@ -9,7 +9,7 @@ use Rattle.minisign.specs.Texts.{and_then}
 use Rattle.minisign.specs.SecretKeyText.{read_secret_key}
 use Rattle.minisign.proofs.Openings.{open_text, unopened_text}
 
--- a text that no password opens is refused with the prompt as it was, whether a password is handed in or not
+-- a text that no password opens is rejected with the prompt as it was, whether a password is handed in or not
 pub closed_opening : {R W : Type 0} (p : PromptCall R W) (given : Option (List ℕ)) (text : List ℕ) (bound : Option ℕ) (e : Fault)
     → p.new ≡ p.old → and_then (read_secret_key text) sealed_by_scrypt ≡ Err e → IsOpening p given text bound (Err e)
 closed_opening p (Some password) text bound e same refused = (same, inl (sym (unopened_text text password bound e refused)))

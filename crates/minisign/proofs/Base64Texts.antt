@@ -115,7 +115,7 @@ back_bytes : (a b : List ℕ) → IsBytes (a ++ b) → IsBytes b
 back_bytes [] b h = h
 back_bytes (x ∷ a) b h = back_bytes a b (λ k. h (suc k))
 
--- whole groups, and base64 behind them
+-- whole groups, and base64 after them
 pub joined : (s t a b : List ℕ) → IsBase64Of s a → IsBase64Of t b → length a % 3 ≡ 0 → IsBase64Of (s ++ t) (a ++ b)
 unfolding base64_of
 joined s t a b h j whole = record {
@@ -127,7 +127,7 @@ split : (a c : List ℕ) → length a % 3 ≡ 0 → base64_of (a ++ c) ≡ base6
 unfolding base64_of
 split a c whole = encode_of-append standard a c whole
 
--- base64 that is cut behind whole groups, with some letters behind the cut
+-- base64 that is cut after whole groups, with some letters after the cut
 pub record IsCut (s t b : List ℕ) : Type 0 where
   pub front : List ℕ
   pub back : List ℕ
@@ -163,7 +163,7 @@ same_truth : (x y : Bool) → (x ≡ true → y ≡ true) → (y ≡ true → x 
 same_truth true y h j = sym (h refl)
 same_truth false y h j = sym (false_from_ne_true y (λ t. let no = j t in cc no))
 
--- a text is base64 where what stands behind a piece of whole groups is
+-- a text is base64 where what stands after a piece of whole groups is
 module _ (s t text : List ℕ) (is : text ≡ s ++ t) (groups : length s % 4 ≡ 0) (some : 0 < length t) where
   cut_text : is_base64 text ≡ true → IsCut s t (base64_bytes text)
   cut_text h = cut s t _ (subst (λ x. IsBase64Of x (base64_bytes text)) is (reads text h)) groups some

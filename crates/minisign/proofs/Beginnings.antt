@@ -1,13 +1,13 @@
--- What follows after a refusal, and after one draw and then another.
+-- What follows after a rejection, and after one draw and then another.
 use Rattle.std.proofs.Common.{◌≡◌, ℕ, List, ◌++◌, Option, None, Some, Result, Ok, Err, IsErrAnd, IfOk, IfErr, OnErr, append_assoc, ap, sym, subst, ◌∙◌}
 use Rattle.minisign.proofs.Common.{Consumes, ⊤, HasGiven, without_value}
 
--- what holds anyway holds after a refusal
+-- what holds anyway holds after a rejection
 pub on_err_of : {T E : Type 0} (r : Result T E) (P : Type 0) → P → OnErr r P
 on_err_of (Ok x) P h = tt
 on_err_of (Err e) P h = h
 
--- what holds of a fault holds of the answer that passes it up
+-- what holds of an error holds of the answer that passes it up
 pub passed_up : {T E : Type 0} (r : Result T E) (e : E) (P : E → Type 0) → IsErrAnd r (λ y. y ≡ e) → P e → IfErr r P
 passed_up (Ok x) e P is h = tt
 passed_up (Err y) e P is h = subst P (sym is) h

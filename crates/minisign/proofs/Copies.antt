@@ -3,12 +3,12 @@ use Rattle.std.proofs.Common.{◌≡◌, ℕ, List, [], ◌++◌, Option, None, 
 use Rattle.minisign.proofs.Common.{append_known, Appends, Consumes, Keeps, AppendsFront, SameWhereKnown, AppendsFront-after, AppendsFront-keeps, AppendsFront-more}
 use Rattle.minisign.specs.Reading.{IsAhead}
 
--- all of a text is a beginning of it
+-- all of a text is a prefix of it
 pub front_of_all : (a b c : Option (List ℕ)) (bs : List ℕ) → Appends a b bs → Keeps b c → AppendsFront a c bs
 front_of_all a b c bs all kept =
     subst (AppendsFront a c) (append-nil bs) (AppendsFront-after a b c bs [] all (AppendsFront-keeps b c [] kept))
 
--- a beginning of what was read so far is one of all that was ahead
+-- a prefix of what was read so far is one of all that was ahead
 pub front_of_ahead : (ahead now old new : Option (List ℕ)) (bs : List ℕ) → Consumes ahead now bs → AppendsFront old new bs
     → (message : List ℕ) × IsAhead ahead message × AppendsFront old new message
 front_of_ahead None now old new bs read front = (bs, tt, front)
@@ -16,7 +16,7 @@ front_of_ahead (Some xs) None old new bs read front = absurd read
 front_of_ahead (Some xs) (Some ys) old new bs read front =
     (xs, refl, subst (AppendsFront old new) (sym read) (AppendsFront-more old new bs ys front))
 
--- before anything was read, nothing taken is a beginning of all that is ahead
+-- before anything was read, nothing taken is a prefix of all that is ahead
 pub front_of_nothing : (ahead old new : Option (List ℕ)) → Keeps old new → (message : List ℕ) × IsAhead ahead message × AppendsFront old new message
 front_of_nothing None old new kept = ([], tt, AppendsFront-keeps old new [] kept)
 front_of_nothing (Some xs) old new kept = (xs, refl, AppendsFront-keeps old new xs kept)

@@ -1,4 +1,4 @@
--- The comments by default are read back as they were written.
+-- The default comments are read back as they were written.
 use Rattle.std.proofs.Common.{ℕ, ◌^◌, ◌<◌, List, [], ◌∷◌, None, codes, refl, arith, decimal}
 use Rattle.std.specs.Str.Parse.{AllDigits}
 use Rattle.std.proofs.lemmas.Fmt.{decimal_is_IsNumeral}

@@ -1,5 +1,5 @@
 -- The definitions on the first run: a key of 42 bytes and a signature of 74, as `verify-raw` takes them, are
--- read as their fields, and the signature is accepted for its message and refused for another. The bytes
+-- read as their fields, and the signature is accepted for its message and rejected for another. The bytes
 -- were computed by another program, over Python's Blake2b.
 use Rattle.std.proofs.Common.{◌≡◌, ℕ, false, List, [], ◌∷◌, ◌++◌, None, codes, replicate, refl, Ok, Err}
 use Rattle.minisign.proofs.Common.{blake2b_digest, padded_block, compress, iv, mix, round, rounds, sigma, state_after, work_vector, Named, SignatureRefused}

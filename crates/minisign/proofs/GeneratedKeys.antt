@@ -28,12 +28,12 @@ pub unsealed_pair : (public_of : List ℕ → List ℕ) (seed keynum : List ℕ)
 unsealed_pair public_of seed keynum pk sk lengths public secret =
     pair_of_parts public_of seed keynum pk sk lengths public (subst (IsOfParts keynum (secret_of public_of seed)) (sym secret) (unsealed_parts keynum (secret_of public_of seed)))
 
--- the limits by default are allowed, and lead to N of 2 ^ 15, r of 8 and p of 1
+-- the default limits are allowed, and lead to N of 2 ^ 15, r of 8 and p of 1
 default_limits : sealing_limits 33554432 1048576 ≡ Ok (record { n_log2 = 15; r = 8; p = 1 })
 unfolding limits numbers cost_log2
 default_limits = refl
 
--- so only memory can run out
+-- so only an allocation can fail
 pub only_memory : unwrap_or (result_err (sealing_limits 33554432 1048576)) (Named OutOfMemory) ≡ Named OutOfMemory
 only_memory = ap (λ l. unwrap_or (result_err l) (Named OutOfMemory)) default_limits
 

@@ -12,7 +12,7 @@ pub use Rattle.minisign.proofs.Passes.{fails_without_output}
 pub use Rattle.minisign_base.proofs.Laws.{AppendsFront-after, AppendsFront-more}
 
 module _ (accepts : Verifier) (pk_text sig_text message : List ℕ) (legacy : Bool) where
-  -- texts that vouch for a message are refused only where memory runs out
+  -- texts that vouch for a message are rejected only where an allocation fails
   pub only_memory : (e : Fault) → TextsVouchFor accepts pk_text sig_text message legacy
       → IsReadOrNoMemory {V = List ℕ} (Err e) (verdict accepts pk_text sig_text message legacy) → e ≡ Named OutOfMemory
   only_memory e v (inl is) = let differ = is ∙ vouching_verdict accepts pk_text sig_text message legacy v in cc differ
@@ -23,6 +23,6 @@ module _ (accepts : Verifier) (pk_text sig_text message : List ℕ) (legacy : Bo
       → TextsVouchFor accepts pk_text sig_text message legacy
   accepted_vouches comment given = (vouched accepts pk_text sig_text message legacy comment (read_value comment _ given)).vouched
 
-  -- texts that are refused do not vouch for the message
+  -- texts that are rejected do not vouch for the message
   pub refused_unvouched : (e : Fault) → verdict accepts pk_text sig_text message legacy ≡ Err e → ¬ (TextsVouchFor accepts pk_text sig_text message legacy)
   refused_unvouched e is v = let differ = sym is ∙ vouching_verdict accepts pk_text sig_text message legacy v in cc differ

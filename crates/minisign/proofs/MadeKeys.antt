@@ -29,7 +29,7 @@ unbounded (Err e) = refl
 pub work_allowed : (k : SecretKeyRecord) (l : Result Numbers Fault) → key_limits k ≡ l → IsOk (allowed_work k None) → IsOk l
 work_allowed k l same h = subst IsOk (unbounded (key_limits k) ∙ same) h
 
--- where the limits are allowed, it is another fault
+-- where the limits are allowed, it is another error
 pub other_fault : (l : Result Numbers Fault) (e f : Fault) → IsOk l → e ≡ f → e ≡ unwrap_or (result_err l) f
 other_fault (Ok v) e f ok is = is
 other_fault (Err g) e f ok is = absurd (true≢false (sym ok))

@@ -9,7 +9,7 @@ use Rattle.minisign.specs.Texts.{IsReading, and_then, require}
 use Rattle.minisign.proofs.ReadTexts.{is_reading, passed, read_before, same_end, same_value}
 use Rattle.minisign.proofs.SecretKeyTexts.{read_as}
 
--- what is a value is no fault
+-- what is a value is no error
 pub no_fault : {V : Type 0} (r : Result V Fault) → IsOk r → result_err r ≡ None
 no_fault (Ok v) ok = refl
 no_fault (Err e) ok = absurd (true≢false (sym ok))

@@ -205,7 +205,7 @@ module _ {R W O : Type 0} (reader : RereaderCall R) (status : SinkCall W) (out :
       → StagesEnd reader status out (first ++ second) answer
   second_ended d first second answer a h = second_ends (OneEnds reader status out) first second (begun reader status out) d (ended reader status out) answer a h
 
-  -- a stage was done, and then those behind it ended so; or it is the last one
+  -- a stage was done, and then those after it ended so; or it is the last one
   pub next_stage : (d : Devices R W O) (stage : Stage) (later : List Stage) (answer : Result ⊤ Fault)
       → StageEnds (record reader { new = d.reader }) (record status { new = d.status }) (record out { new = d.out }) stage (Ok tt)
       → StagesEnd (record reader { old = d.reader }) (record status { old = d.status }) (record out { old = d.out }) later answer
@@ -271,7 +271,7 @@ module _ {R : Type 0} (source : SourceOf R) (steady : R → Type 0) (old mid new
       subst (λ r. StagesEnd (rereader_call source steady r new) unused unused (reading_stages false message) (Ok tt)) (unmarked refl)
       (record { reader = new; status = tt; out = tt }, ((whole, same), refl, refl), refl)
 
--- the data was read to its end without a fault, and gave this message; the mark stays, or was set before
+-- the data was read to its end without an error, and gave this message; the mark stays, or was set before
 pub record FirstPass {R : Type 0} (again : Bool) (reader : RereaderCall R) (message : List ℕ) : Type 0 where
   pub given : IsAhead (reader.source.ahead reader.old) message
   pub end : IsAtEnd (reader.source.ahead reader.new)
@@ -369,7 +369,7 @@ module _ {R W O : Type 0} (accepts : Verifier) (pk : PublicKeyRecord) (x : Signa
   )
 
   module _ (message : List ℕ) (read : StagesEnd (rereader_call source steady old mid) unused unused (reading_stages (is_reread output x) message) (Ok tt)) where
-    -- the box is refused, or memory ran out
+    -- the box is rejected, or an allocation failed
     pub unjudged : IsReadOrNoMemory {V = ⊤} (Err e) (judge accepts pk x message legacy) → Fails mid said_before out_before
     unjudged why = (
       message,
@@ -574,7 +574,7 @@ module _ {R W O : Type 0} (accepts : Verifier) (pk : PublicKeyRecord) (x : Signa
     copying_succeeds (Ok v) status_no_new_fault status_unflushed (second, run) = copied output signed holds read pass vouches said status_no_new_fault status_unflushed second run
     copying_succeeds (Err e) status_no_new_fault status_unflushed run = tt
 
--- what is so of how a call ended is so of its fault
+-- what is so of how a call ended is so of its error
 pub of_fault : (r : Result ⊤ Fault) (Ends : Result ⊤ Fault → Type 0) (Q : Fault → Type 0) → Ends r → ((e : Fault) → Ends (Err e) → Q e) → IfErr r Q
 of_fault (Ok u) Ends Q h f = tt
 of_fault (Err e) Ends Q h f = f e h
@@ -585,8 +585,9 @@ pub record IsOther {R : Type 0} (reader : RereaderCall R) (message : List ℕ) :
   pub same : IsSteady reader → IfSome (reader.source.ahead reader.old) (λ xs. second ≡ xs)
   pub changed : blake2b_digest 64 second ≢ blake2b_digest 64 message
 
--- why verifying fails: memory ran out; the place could not be marked; the data could not be read; the box is refused;
--- the status failed; or the copying did, for which the source failed, the output did, or the data is another one
+-- why verifying fails: an allocation failed; the place could not be marked; the data could not be read; the box is
+-- rejected; the status failed; or the copying did, for which the source failed, the output did, or the data is another
+-- one
 abbrev pub IsReason : {R W O : Type 0} → Verifier → PublicKeyRecord → SignatureBoxRecord → Bool → Bool → Bool → RereaderCall R → SinkCall W → SinkCall O → Fault → Type 0
 IsReason accepts pk x quiet output legacy reader status out e = (e ≡ Named OutOfMemory)
     ⊎ ((output ≡ true) × SourceFails reader) ⊎ HasFailed ReadingFailed (reader.source.faults reader.old) (reader.source.faults reader.new) e

@@ -15,7 +15,7 @@ is_reading reads read value = record {
   no_value = λ e is v of_v. let no = sym is ∙ (value v).1 of_v in cc no;
 }
 
--- what is read behind a test
+-- what is read after a test
 pub passed : {V : Type 0} (holds : Bool) (fault : NamedFault) (more : Result V Fault) (v : V) → require holds fault more ≡ Ok v → (holds ≡ true) × (more ≡ Ok v)
 passed true fault more v h = (refl, h)
 passed false fault more v h = cc h

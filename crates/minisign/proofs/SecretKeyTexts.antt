@@ -13,7 +13,7 @@ stored_length : (bytes : List ℕ) (k : SecretKeyRecord) → ReadsSecretKey byte
 stored_length bytes k reads =
     omega (arith, reads.algorithm_length, reads.kdf_length, reads.checksum_algorithm_length, reads.salt_length, reads.operations_limit_length, reads.memory_limit_length, reads.keynum_length, reads.secret_length, reads.checksum_length, simp length-append at (ap length reads.front.1))
 
--- the bytes behind the first n: a field, and those behind it
+-- the bytes after the first n: a field, and those after it
 cut : (n a : ℕ) (bytes : List ℕ) → drop n bytes ≡ take a (drop n bytes) ++ drop (n + a) bytes
 cut n a bytes = sym (take-append-drop a (drop n bytes)) ∙ ap (λ (t : List ℕ). take a (drop n bytes) ++ t) (drop-drop a n bytes)
 

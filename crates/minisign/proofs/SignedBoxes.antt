@@ -48,7 +48,7 @@ genuine_box accepts sign public_of own sk message chosen first second keynum sig
       comment_signed = record { long_enough = omega (arith, long); signed = rw (take_all 64 global (omega (arith, long)), key, same_global, genuine.secret) comment_accepted };
     })
 
--- a public key that is given and refuses the box that was made is the reason
+-- a public key that is given and rejects the box that was made is the reason
 pub refused_by_given : {R Z : Type 0} (accepts : Verifier) (sign : Signer) (pk : Option PublicKeyRecord) (sk : SecretKeyRecord) (message : List ℕ)
     (chosen : ChosenComments) (r : SourceCall R) (z : RandomCall Z) (x : SignatureBoxRecord) (e : Fault) → is_encrypted sk ≡ false
     → ReadsWhole r.source r.old r.new message → IsSigned sign sk message chosen z x

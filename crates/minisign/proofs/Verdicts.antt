@@ -39,7 +39,7 @@ comment_accepted accepts pk s (Some c) h = rw (le-leb 64 (length c.signature) h.
 abbrev pub AreSigned : List ℕ → SignatureBoxRecord → Bool → List ℕ → Type 0
 AreSigned bytes x legacy message = (is_prehashed x.signature || legacy) ≡ true → bytes ≡ signed_bytes x message
 
--- what comes behind two tests matters only where both hold
+-- what comes after two tests matters only where both hold
 judged_alike : (same allowed : Bool) (other unallowed : NamedFault) (a b : Result ⊤ Fault) → (allowed ≡ true → a ≡ b)
     → and_then {V = ⊤} (require same other (require allowed unallowed (Ok tt))) (λ _. a) ≡ and_then {V = ⊤} (require same other (require allowed unallowed (Ok tt))) (λ _. b)
 judged_alike true true other unallowed a b equal = equal refl
@@ -84,7 +84,7 @@ module _ (accepts : Verifier) (pk : PublicKeyRecord) (x : SignatureBoxRecord) (m
       subst (IsReadOrNoMemory r) (judged_alike (bytes_eq x.signature.keynum pk.keynum) (is_prehashed x.signature || legacy) _ _ _ _
       (λ allowed. ap (λ (b : List ℕ). judge_answers (accepts b pk.key x.signature.signature) (accepts_comments accepts pk x)) (held allowed)))
 
--- a refusal, where less is told of the value
+-- a rejection, where less is told of the value
 pub kept_refusal : {V W : Type 0} (f : V → W) (e : Fault) (r : Result V Fault) → IsReadOrNoMemory (Err e) r → IsReadOrNoMemory (Err e) (map_ok f r)
 kept_refusal f e r (inl is) = inl (ap (map_ok f) is)
 kept_refusal f e r (inr memory) = inr (cc memory)
@@ -155,7 +155,7 @@ module _ (accepts : Verifier) (pk_text sig_text message : List ℕ) (legacy : Bo
   unfolding verdict
   of_texts r read = in_parts (read_public_key pk_text) (read_signature sig_text) ∙ ap (λ r. and_then r left) read
 
-  -- a text is refused, or memory ran out for one
+  -- a text is rejected, or an allocation failed for one
   pub text_refused : (e : Fault) → IsReadOrNoMemory (Err e) (read_texts pk_text sig_text) → IsReadOrNoMemory (Err e) (verdict accepts pk_text sig_text message legacy)
   text_refused e (inl refused) = inl (sym (of_texts (Err e) (sym refused)))
   text_refused e (inr memory) = inr (cc memory)

@@ -72,7 +72,7 @@ module _ {R W O : Type 0} (accepts : Verifier) (key : PublicKeyRecord) (box : Si
   judged_exactly (Err e) ok err message told no_new_fault status_no_new_fault out_no_new_fault again =
       refused_for e (why_it_fails accepts key box options.quiet options.output options.allow_legacy reader status out e err) message told no_new_fault status_no_new_fault out_no_new_fault again
 
-  -- the same where a refusal is passed up
+  -- the same where a rejection is passed up
   pub refused_exactly : (r : Result ⊤ Fault) (e : Fault) → IsErrAnd r (λ y. y ≡ e) → IfErr r (VerifyingFails accepts key box options reader status out)
       → WhereNothingFails options.output reader status out r (λ message. judge accepts key box message options.allow_legacy)
   refused_exactly (Ok u) e is err = absurd is
@@ -117,7 +117,7 @@ ahead_reason accepts pk sig reader status out key box e read (inr (inr (inr (inr
 ahead_reason accepts pk sig reader status out key box e read (inr (inr (inr (inr (inr (inl (wanted, rose))))))) = absurd (true≢false (sym wanted))
 ahead_reason accepts pk sig reader status out key box e read (inr (inr (inr (inr (inr (inr (wanted, other))))))) = absurd (true≢false (sym wanted))
 
--- why it is refused
+-- why it is rejected
 pub ahead_refused : {T R W O : Type 0} (accepts : Verifier) (pk sig : List ℕ) (reader : RereaderCall R) (status : SinkCall W) (out : SinkCall O) (r : Result T Fault)
     → IfErr r (VerifyingTextsFails accepts pk sig (options_of true false false) reader status out)
     → IfErr r (λ e. (e ≡ Named OutOfMemory) ⊎ HasFailed ReadingFailed (reader.source.faults reader.old) (reader.source.faults reader.new) e
@@ -129,7 +129,7 @@ ahead_refused accepts pk sig reader status out (Err e) (inl (why, unread, unsaid
 ahead_refused accepts pk sig reader status out (Err e) (inr (key, box, read, h)) =
     ahead_reason accepts pk sig reader status out key box e read (why_it_fails accepts key box true false false reader status out e h)
 
--- at which stage it was refused: neither sink is used
+-- at which stage it was rejected: neither sink is used
 pub reader_refused : {T R W O : Type 0} (accepts : Verifier) (pk sig : List ℕ) (reader : RereaderCall R) (status : SinkCall W) (out : SinkCall O) (r : Result T Fault)
     → IfErr r (VerifyingTextsFails accepts pk sig (options_of true false false) reader status out)
     → IfErr r (VerifyingTextsFails accepts pk sig (options_of true false false) reader unused unused)

@@ -184,7 +184,7 @@ pub record IsOneLine (x : List ℕ) : Type 0 where
 no_feeds : (x : List ℕ) → ((k : ℕ) → k < length x → slice_index x k ≢ 10) → All (λ b. eqb b 10 ≡ false) x
 no_feeds x h k d l = ne_eqb _ 10 (λ z. h k l (get_or_default x k 0 d l ∙ z))
 
--- a line, and the lines behind it
+-- a line, and the lines after it
 pub lines_line : (x rest : List ℕ) → IsOneLine x → lines (line x ++ rest) ≡ x ∷ lines rest
 lines_line x rest h = ap lines (append_assoc x (10 ∷ []) rest) ∙ lines-cut x rest (no_feeds x h.no_feed)
     ∙ ap (λ (b : List ℕ). b ∷ lines rest) (ap (λ t. cond t (take (length x - 1) x) x) (ne_eqb _ 13 h.no_return))
@@ -241,7 +241,7 @@ shown_codes (x ∷ xs) h =
     let (first, others) = and_parts (leb 32 x) (all_shown xs) h in
     (leb-true 32 x first, shown_codes xs others)
 
--- a line that begins with a label, and what stands behind it
+-- a line that begins with a label, and what stands after it
 pub labelled : (label x rest : List ℕ) → line (label ++ x) ++ rest ≡ label ++ (x ++ (10 ∷ rest))
 labelled label x rest = append_assoc (label ++ x) (10 ∷ []) rest ∙ append_assoc label x (10 ∷ rest)
 
@@ -271,7 +271,7 @@ labelled_one_line label x shown some lacks end = record {
         absurd (omega (arith, at, shown_at label (length label - 1) shown (omega arith)))
     last_of (y ∷ ys) lacks end e = end (sym (last_append label (y ∷ ys) (omega arith)) ∙ e)
 
--- a line that begins with a label: the carriage return at its end is that of what stands behind the label
+-- a line that begins with a label: the carriage return at its end is that of what stands after the label
 label_ends : (label : List ℕ) → AllShown label → 0 < length label → slice_index (label ++ []) (length (label ++ []) - 1) ≢ 13
 label_ends label shown some = (labelled_one_line label [] shown some (λ k l. absurd (omega arith)) (λ e. absurd (omega arith))).no_return
 
@@ -289,7 +289,7 @@ strip_labelled label (y ∷ ys) shown some =
     step true = ap (λ (n : ℕ). take n (label ++ y ∷ ys)) shorter ∙ take-append-add label (y ∷ ys) (length (y ∷ ys) - 1)
     step false = refl
 
--- such a line with no line feed in it, and the lines behind it
+-- such a line with no line feed in it, and the lines after it
 pub lines_labelled : (label x rest : List ℕ) → AllShown label → 0 < length label → LacksByte 10 x
     → lines (line (label ++ x) ++ rest) ≡ (label ++ strip_carriage_return x) ∷ lines rest
 lines_labelled label x rest shown some lacks =

@@ -42,7 +42,7 @@ key_to_seal keynum secret salt operations memory = record (unsealed_key keynum s
   memory_limit = to_le_bytes w64 memory;
 }
 
--- the same with the limits by default, 1048576 operations and 33554432 bytes
+-- the same with the default limits, 1048576 operations and 33554432 bytes
 abbrev pub opened_key : List ℕ → List ℕ → List ℕ → SecretKeyRecord
 opened_key keynum secret salt = key_to_seal keynum secret salt 1048576 33554432
 

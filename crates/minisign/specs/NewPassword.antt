@@ -18,7 +18,7 @@ abbrev pub sealing_steps : List Step
 sealing_steps = Say sealing_text ∷ Allocate ∷ Say done_text ∷ []
 
 -- under which password a key is sealed, or why under none: one that is passed in, with the prompt as it was, where only
--- memory can run out; or else one that is typed twice, in these bytes, and then the derivation is told of
+-- an allocation can fail; or else one that is typed twice, in these bytes, and then the derivation is told of
 abbrev pub IsSealing : {R W : Type 0} → PromptCall R W → Option (List ℕ) → Result (List ℕ) Fault → Type 0
 IsSealing p (Some given) answer =
     MatchResult answer (λ password. password ≡ given) (λ e. e ≡ Named OutOfMemory) × (p.new ≡ p.old)

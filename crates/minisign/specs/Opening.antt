@@ -6,7 +6,7 @@ use Rattle.minisign.specs.Sealing.{allowed_work, restored_key, sealed_by_scrypt,
 use Rattle.minisign.specs.SecretKeyText.{read_secret_key, SecretKeyText}
 use Rattle.minisign.specs.Texts.{IsReadOrNoMemory, and_then, require, line}
 
--- the text that asks, the text before the derivation, and the line behind it
+-- the text that asks, the text before the derivation, and the line after it
 unfoldable pub asking_text : List ℕ
 asking_text = codes "Password: "
 

@@ -1,4 +1,4 @@
--- Texts of public keys: what a text reads as, key or first fault; the same as a relation; and the text that is written
+-- Texts of public keys: what a text reads as, key or first error; the same as a relation; and the text that is written
 -- for a key.
 use Rattle.std.specs.Prelude.{◌≡◌, ◌==◌, ℕ, List, [], ◌∷◌, ◌++◌, length, take, drop, nat_le, Result, Ok, Err, codes}
 use Rattle.minisign.specs.Common.{trim, lines, Fault, Named, NamedFault}

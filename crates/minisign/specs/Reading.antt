@@ -13,12 +13,12 @@ pub record ReadsWhole {R : Type 0} (source : SourceOf R) (old new : R) (message 
   pub mark : source.behind new ≡ source.behind old
   pub no_new_fault : source.faults new ≡ source.faults old
 
--- a device failed, for which there is this error: its count of faults rose
+-- a device failed, for which there is this error: its count of errors rose
 pub record HasFailed (error : NamedFault) (old new : ℕ) (e : Fault) : Type 0 where
   pub fault : e ≡ Named error
   pub rose : Rose old new
 
--- an allocation failed, with no new fault of the source, or the source failed
+-- an allocation failed, with no new error of the source, or the source failed
 abbrev pub IsReadFault : {R : Type 0} → SourceOf R → R → R → Fault → Type 0
 IsReadFault source old new e =
     ((e ≡ Named OutOfMemory) × (source.faults new ≡ source.faults old))

@@ -77,7 +77,7 @@ unencrypted_key k =
     (require (bytes_eq k.checksum (checksum_of k)) fault.CorruptedKey (Ok k))
 
 -- what opening takes: scrypt's N, as its logarithm to base 2, and its p; zeros where the key wants no password, or its
--- limits are refused
+-- limits are rejected
 abbrev pub opening_work : SecretKeyRecord → ℕ × ℕ
 opening_work k =
     option_map_or (λ v. (v.n_log2, v.p)) (if wants_password k then result_ok (key_limits k) else None) (0, 0)

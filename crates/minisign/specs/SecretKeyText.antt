@@ -1,4 +1,4 @@
--- Texts of secret keys: what a text reads as, key or first fault; the same as a relation; and the text that is written
+-- Texts of secret keys: what a text reads as, key or first error; the same as a relation; and the text that is written
 -- for a key.
 use Rattle.std.specs.Prelude.{◌≡◌, ℕ, List, [], ◌∷◌, ◌++◌, length, take, drop, nat_le, Option, Result, Ok, Err, codes, unwrap_or}
 use Rattle.minisign.specs.Common.{lines, Fault, Named}
@@ -8,7 +8,7 @@ use Rattle.minisign_base.specs.declared.faults.NamedFault.TheVariants as fault
 
 -- == Reading ==
 
--- the fields of a key, one behind the other
+-- the fields of a key, one after the other
 unfoldable pub secret_key_of_bytes : List ℕ → SecretKeyRecord
 secret_key_of_bytes bytes = record {
   algorithm = take 2 bytes;

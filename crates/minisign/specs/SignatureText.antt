@@ -1,4 +1,4 @@
--- Texts of signatures: what a text reads as, signature and comments or first fault; the same as a relation; and the
+-- Texts of signatures: what a text reads as, signature and comments or first error; the same as a relation; and the
 -- text that is written for a box.
 use Rattle.std.specs.Prelude.{◌≡◌, ◌≢◌, ◌||◌, ◌-◌, ℕ, List, [], ◌∷◌, ◌++◌, length, take, drop, slice_index, nat_eq, nat_le, bytes_eq, Some, Result, Ok, Err, codes, if◌then◌else◌, Option, None, option_map}
 use Rattle.minisign.specs.Common.{trim, LacksByte, lines, strip_carriage_return, Fault, Named}

@@ -80,7 +80,7 @@ AreChosenReadBack chosen = AreReadBack chosen.untrusted chosen.trusted
 abbrev pub RandomHasNoNewFault : {Z : Type 0} → RandomCall Z → Type 0
 RandomHasNoNewFault z = z.random.random_faults z.new ≡ z.random.random_faults z.old
 
--- signing with an opened key fails: an allocation fails, with no new fault of either; the data fails, with nothing
+-- signing with an opened key fails: an allocation fails, with no new error of either; the data fails, with nothing
 -- drawn; or all of it was read, and the random source fails
 abbrev pub OpenedSigningFails : {R Z : Type 0} → SourceCall R → RandomCall Z → Fault → Type 0
 OpenedSigningFails r z e =

@@ -57,7 +57,7 @@ module _ {R W O : Type 0} (reader : RereaderCall R) (status : SinkCall W) (out :
       × (reader.new ≡ reader.old) × (status.new ≡ status.old)
 
 module _ {R W O : Type 0} (reader : RereaderCall R) (status : SinkCall W) (out : SinkCall O) where
-  -- how these stages end, one after another: all were passed; or verifying failed at one of them, and none behind it
+  -- how these stages end, one after another: all were passed; or verifying failed at one of them, and none after it
   -- was begun
   abbrev pub StagesEnd : List Stage → Result ⊤ Fault → Type 0
   StagesEnd stages answer =

@@ -35,7 +35,7 @@ pub record HasCopy {R O : Type 0} (accepts : Verifier) (pk : PublicKeyRecord) (x
   pub legacy_same : is_prehashed x.signature ≡ false → copy ≡ message
   pub steady_same : IsSteady reader → IsSome (reader.source.ahead reader.old) → copy ≡ message
 
--- verifying succeeds: all the data was read to its end without a fault, the box vouches for it, what is to be
+-- verifying succeeds: all the data was read to its end without an error, the box vouches for it, what is to be
 -- said was said and not flushed, and the output holds a copy where one is wanted
 pub record VerifyingSucceeds {R W O : Type 0} (accepts : Verifier) (pk : PublicKeyRecord) (x : SignatureBoxRecord)
     (options : VerifyOptions) (reader : RereaderCall R) (status : SinkCall W) (out : SinkCall O) : Type 0 where
@@ -72,8 +72,8 @@ pub record VerifyingTextsSucceeds {R W O : Type 0} (accepts : Verifier) (pk_text
   pub box_read : read_signature_box sig_text ≡ Ok box
   pub verified : VerifyingSucceeds accepts key box options reader status out
 
--- a text is refused, or memory ran out for one, before anything is read, said or copied; or verifying fails with the
--- key and the box that the texts read as
+-- a text is rejected, or an allocation failed for one, before anything is read, said or copied; or verifying fails with
+-- the key and the box that the texts read as
 abbrev pub VerifyingTextsFails : {R W O : Type 0} → Verifier → List ℕ → List ℕ → VerifyOptions
     → RereaderCall R → SinkCall W → SinkCall O → Fault → Type 0
 VerifyingTextsFails accepts pk_text sig_text options reader status out e =

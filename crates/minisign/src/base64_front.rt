@@ -1,4 +1,4 @@
-//! Base64 that is decoded without memory: the bytes at the front are kept, and all of the text is judged.
+//! Base64 that is decoded without allocating: the bytes at the front are kept, and all of the text is judged.
 
 ghost use Rattle.std.specs.Prelude.{◌≡◌, ◌+◌, ◌*◌, ◌/◌, ◌%◌, ◌≤◌, List, ℕ, false, length, min, take, MatchOption};
 ghost use Rattle.minisign.specs.Texts.{IsBase64Of, is_base64};

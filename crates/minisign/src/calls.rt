@@ -230,7 +230,7 @@ pub fn verify_reader<S: Scheme, R: Rereader>(
     ensures vouched { IfOk result (λ t. (message : List ℕ) × ReadsWhole R.Source data_reader.old data_reader.new message
         × TextsVouchWith (S.accepts scheme.now) pk_text.now sig_text.now message false (string_bytes t)) }
 
-    // Otherwise out of memory; or `reading failed`, only if the reader's count of faults rose; or the verdict's
+    // Otherwise out of memory; or `reading failed`, only if the reader's count of errors rose; or the verdict's
     // rejection.
     ensures refused { IfErr result (λ e. (e ≡ Named OutOfMemory) ⊎ HasFailed ReadingFailed (R.faults data_reader.old) (R.faults data_reader.new) e
         ⊎ ((message : List ℕ) × IsAhead (R.ahead data_reader.old) message

@@ -1,12 +1,12 @@
-//! The names of algorithms, of files and of a folder, and the untrusted comment by default.
+//! The names of algorithms, of files and of a directory, and the default untrusted comment.
 
 /// The untrusted comment of a signature where none is given.
 pub const DEFAULT_COMMENT: &str = "signature from rsign secret key";
 
-/// The environment variable that names the folder of keys and settings.
+/// The environment variable that names the directory of keys and settings.
 pub const SIG_DEFAULT_CONFIG_DIR_ENV_VAR: &str = "RSIGN_CONFIG_DIR";
 
-/// That folder where the variable is not set, in the user's home folder.
+/// That directory where the variable is not set, in the user's home directory.
 pub const SIG_DEFAULT_CONFIG_DIR: &str = ".rsign";
 
 /// The file of a public key.
@@ -15,7 +15,7 @@ pub const SIG_DEFAULT_PKFILE: &str = "rsign.pub";
 /// The file of a secret key.
 pub const SIG_DEFAULT_SKFILE: &str = "rsign.key";
 
-/// What the name of a signature file has behind the name of the signed file.
+/// What the name of a signature file has after the name of the signed file.
 pub const SIG_SUFFIX: &str = ".minisig";
 
 /// A signature over the data itself.

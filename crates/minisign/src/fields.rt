@@ -1,4 +1,4 @@
-//! The fields of a record, taken off the front of bytes and put behind them.
+//! The fields of a record, taken off the front of bytes and put after them.
 
 ghost use Rattle.std.specs.Prelude.{◌≡◌, ◌+◌, ◌<◌, ◌++◌, length, IfOk, IfErr, MatchResult};
 ghost use Rattle.minisign_base.specs.Fault.{Named};
@@ -6,7 +6,7 @@ ghost use Rattle.minisign_base.specs.declared.faults.NamedFault.TheVariants.{Out
 
 use minisign_base::{NamedFault, Result};
 
-// The first `A` bytes, the next `B` and the next `C`, and the bytes behind them.
+// The first `A` bytes, the next `B` and the next `C`, and the bytes after them.
 pub(crate) fn split_three<const A: usize, const B: usize, const C: usize>(
     bytes: &[u8],
 ) -> Result<([u8; A], [u8; B], [u8; C], &[u8])>
@@ -28,7 +28,7 @@ pub(crate) fn split_three<const A: usize, const B: usize, const C: usize>(
     Ok((*first, *second, *third, rest))
 }
 
-// Puts three fields behind the bytes.
+// Puts three fields after the bytes.
 pub(crate) fn push_three(
     bytes: &mut Vec<u8>,
     first: &[u8],

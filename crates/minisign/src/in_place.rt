@@ -1,5 +1,5 @@
-//! Reading the texts of public keys and signatures where they lie, without memory: what is decoded stands in arrays,
-//! and the comments stay in the text.
+//! Reading the texts of public keys and signatures where they lie, without allocating: what is decoded stands in
+//! arrays, and the comments stay in the text.
 
 ghost use Rattle.std.specs.Prelude.{◌≡◌, ◌==◌, ◌⊎◌, ◌+◌, ◌≤◌, ◌<◌, [], ◌∷◌, true, false, Ok, Err, length, MatchResult, IfOk, IfErr};
 ghost use Rattle.std.specs.Str.{trim};
@@ -85,8 +85,8 @@ impl<'a> SignatureView<'a> {
 /// Reads a public key text: a first line that may be anything, and a second of 56 bytes that, trimmed of white space, is
 /// the base64 of the 42 bytes of a key. Later lines are ignored.
 ///
-/// These are refused, in this order: a text with no first line, one with no second line, another length of that line,
-/// what is not base64, fewer than 42 bytes. Takes no memory.
+/// These are rejected, in this order: a text with no first line, one with no second line, another length of that line,
+/// what is not base64, fewer than 42 bytes. Does not allocate.
 pub fn read_public_key(text: &str) -> Result<PublicKey>
     // A public key text is read as its grammar has it, a function of the text: as the key, or the first case that fails.
     ensures { result ≡ read_public_key text.now }
@@ -103,8 +103,8 @@ pub fn read_public_key(text: &str) -> Result<PublicKey>
 
 /// Reads the bare base64 of a key, 56 bytes with nothing around them.
 ///
-/// These are refused, in this order: a text that, trimmed of white space, has another length, what is not base64 as it
-/// stands, fewer than 42 bytes. Takes no memory.
+/// These are rejected, in this order: a text that, trimmed of white space, has another length, what is not base64 as it
+/// stands, fewer than 42 bytes. Does not allocate.
 pub fn read_bare_public_key(text: &str) -> Result<PublicKey>
     // The base64 of a key is read as its grammar has it, a function of the text: as the key, or the first case that
     // fails.
@@ -116,15 +116,15 @@ pub fn read_bare_public_key(text: &str) -> Result<PublicKey>
     decode_key(text, NamedFault::BarePublicKeyNotBase64)
 }
 
-/// Reads a signature text, as `SignatureBox::from_string` does, and tells of it all but what stands behind the first 64
+/// Reads a signature text, as `SignatureBox::from_string` does, and tells of it all but what stands after the first 64
 /// bytes of the comment signature. It has four lines: `untrusted comment: ` and a comment; the base64 of the 74 bytes of a
 /// signature; `trusted comment: ` and the comment that is signed; the base64 of the comment signature, of any length. The
 /// second and the fourth line and the trusted comment are trimmed of white space, the untrusted comment is kept as it
 /// stands, and later lines are ignored.
 ///
-/// These are refused, in this order: a missing line, the first one first; another beginning of the first line; a second
-/// line that is not base64, or of fewer than 74 bytes; another beginning of the third line; an algorithm other than `Ed`
-/// and `ED`; a fourth line that is not base64. Takes no memory.
+/// These are rejected, in this order: a missing line, the first one first; another prefix of the first line; a second
+/// line that is not base64, or of fewer than 74 bytes; another prefix of the third line; an algorithm other than `Ed`
+/// and `ED`; a fourth line that is not base64. Does not allocate.
 pub fn read_signature(text: &str) -> Result<SignatureView<'_>>
     // A signature text is read as its grammar has it, a function of the text: as the signature with its comments, or the
     // first case that fails. Of the comment signature the first 64 bytes are told.
@@ -153,7 +153,7 @@ fn read_key_line(encoded: &str) -> Result<PublicKey>
     decode_key(encoded.trim(), NamedFault::PublicKeyLineNotBase64)
 }
 
-// The key that a text is the base64 of; where it is not base64, this fault.
+// The key that a text is the base64 of; where it is not base64, this error.
 fn decode_key(text: &str, not_base64: NamedFault) -> Result<PublicKey>
     ensures { result ≡ decoded_key not_base64 text.now }
 {

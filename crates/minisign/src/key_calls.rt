@@ -139,7 +139,7 @@ pub fn sign_bytes<S: Scheme, Z: RandomSource>(
     ensures drawn { HasGiven (Z.random_ahead random.old) (Z.random_ahead random.new) }
 
     // The rejections: a sealed key, with nothing drawn; and with an opened one out of memory, with no
-    // new fault of the random source, and a failing random source.
+    // new error of the random source, and a failing random source.
     ensures refused { IfErr result (BytesSigningFails sk.now (random_call Z.RandomSource random.old random.new)) }
 {
     let mut data = MemorySource::new(message);
@@ -187,7 +187,7 @@ pub fn sign_reader<S: Scheme, R: Source, Z: RandomSource>(
     ensures random_no_new_fault { OnOk result (Z.random_faults random.new ≡ Z.random_faults random.old) }
 
     // The rejections: a sealed key, with nothing read or drawn; and with an opened one out of memory,
-    // with no new fault of either, a failing reader, with nothing drawn, and a failing random source,
+    // with no new error of either, a failing reader, with nothing drawn, and a failing random source,
     // once all was read.
     ensures refused { IfErr result (SigningFails (S.accepts scheme.now) (S.signature_of scheme.now) None sk.now
         (given_comments trusted_comment.entry None moment)
@@ -245,7 +245,7 @@ pub fn sign_file<F: Files, S: Scheme, Z: RandomSource>(
     ensures random_no_new_fault { OnOk result (Z.random_faults random.new ≡ Z.random_faults random.old) }
 
     // The rejections: a sealed key, with nothing drawn; and with an opened one out of memory, with no
-    // new fault of the random source, a file that is not opened or not read, with nothing drawn, and
+    // new error of the random source, a file that is not opened or not read, with nothing drawn, and
     // a failing random source.
     ensures refused { IfErr result (PathSigningFails sk.now (random_call Z.RandomSource random.old random.new)) }
 

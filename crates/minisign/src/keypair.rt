@@ -82,7 +82,7 @@ impl KeyPair {
         ensures no_new_fault { OnOk result (Z.random_faults random.new ≡ Z.random_faults random.old) }
 
         // An unsealed pair, which does not allocate, fails only if the random source's count of
-        // faults rose.
+        // errors rose.
         ensures refused { IfErr result
             (HasFailed RandomSourceFailed (Z.random_faults random.old) (Z.random_faults random.new)) }
 
@@ -179,7 +179,7 @@ impl KeyPair {
         ensures no_new_fault { OnOk result (Z.random_faults random.new ≡ Z.random_faults random.old) }
 
         // A sealed pair fails if the random source did, with nothing asked; otherwise all 72 bytes
-        // were drawn, and it ran out of memory, the prompt failed, a line gave no password, or two
+        // were drawn, and an allocation failed, the prompt failed, a line gave no password, or two
         // were typed that differ.
         ensures refused { IfErr result
             (SealedPairFails (random_call Z.RandomSource random.old random.new)
@@ -194,7 +194,7 @@ impl KeyPair {
     }
 
     /// Makes a sealed pair as `generate_encrypted_keypair` does, and writes the text of its public
-    /// key to `pk_sink` and the one of its secret key, with the `comment` or the one by default, to
+    /// key to `pk_sink` and the one of its secret key, with the `comment` or the default one, to
     /// `sk_sink`.
     ///
     /// Rejected are, in this order: what that call rejects, and memory for the two texts, with

@@ -35,8 +35,8 @@ pub struct Sealing {
 
 impl SecretKey {
     /// The secret key of its parts, which is not sealed: a key ID of 8 bytes, and 64 secret
-    /// bytes, those of a seed and of its public key. Its salt and its limits are zeros. Takes no
-    /// memory.
+    /// bytes, those of a seed and of its public key. Its salt and its limits are zeros. Does not
+    /// allocate.
     #[tactic(auto, unfolding(crate::specs::Generation::unsealed_key))]
     pub fn from_parts(key_id: [u8; 8], secret: [u8; 64]) -> SecretKey
         // The key of its parts is the one by definition, not sealed.

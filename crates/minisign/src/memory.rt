@@ -5,7 +5,7 @@ ghost use Rattle.std.specs.Prelude.{◌≡◌, true, Some, length, ⊤};
 use minisign_base::devices::DeviceFault;
 use minisign_base::devices::sources::{Rereader, Source};
 
-// The bytes of a slice, which counts no faults since it has none. Its beginning is marked at first.
+// The bytes of a slice, which counts no errors since it has none. Its beginning is marked at first.
 #[derive(Drop)]
 pub(crate) struct MemorySource<'a> {
     rest: &'a [u8],

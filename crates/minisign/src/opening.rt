@@ -48,7 +48,7 @@ impl SecretKeyBox {
 
     /// The key, where it was never sealed: `SecretKey::from_unencrypted_box`.
     pub fn into_unencrypted_secret_key(self) -> Result<SecretKey>
-        // The text that it holds is read, and refused, as `SecretKey::from_unencrypted_box` says.
+        // The text that it holds is read, and rejected, as `SecretKey::from_unencrypted_box` says.
         ensures { result ≡ read_unencrypted_key self }
     {
         SecretKey::from_unencrypted_box(self)
@@ -59,8 +59,8 @@ impl SecretKey {
     /// Reads the secret key text that the file at `path` holds, and opens the key with the
     /// password, as `from_box` does. The path is taken as it stands.
     ///
-    /// These are refused, in this order: a file that cannot be opened or read, `ReadingFailed`;
-    /// one that is not UTF-8, `NotUtf8`; and what `from_box` refuses. It may run out of memory at
+    /// These are rejected, in this order: a file that cannot be opened or read, `ReadingFailed`;
+    /// one that is not UTF-8, `NotUtf8`; and what `from_box` rejects. An allocation may fail at
     /// any time. Until the file is read the prompt is left alone. No byte of std's files is known, so of
     /// the text it is only said that there is one.
     pub fn from_file<F: Files, R: Source, W: Sink>(
@@ -71,8 +71,8 @@ impl SecretKey {
         prompt: &mut Prompt<R, W>,
     ) -> Result<SecretKey>
         // What is returned is opened from some text, as `SecretKey::from_box` opens it; otherwise
-        // it ran out of memory, the file could not be opened or read, it is not UTF-8, or that call
-        // refuses a text.
+        // an allocation failed, the file could not be opened or read, it is not UTF-8, or that call
+        // rejects a text.
         //
         // Until the file was read the prompt is left alone.
         ensures opens { (IsErrAnd result IsTextFileFault × (prompt.new ≡ prompt.old))
@@ -103,7 +103,7 @@ impl SecretKey {
 
     /// Reads a sealed key and opens it with the password in a fraction of the memory: `from_box`
     /// with only every k-th of scrypt's rows kept, for k from 1 on. The others are made again when
-    /// they are named, so that what is opened and what is refused is the same for every k, and the
+    /// they are named, so that what is opened and what is rejected is the same for every k, and the
     /// time grows with it. Memory for the kept rows is asked for once, 128 * 8 bytes for each of N
     /// / k, rounded up.
     pub fn from_box_keeping<R: Source, W: Sink>(
@@ -134,14 +134,14 @@ impl SecretKey {
     /// `Deriving a key from the password and decrypting the secret key... `, and after the
     /// derivation `done` and a line feed; a password that is passed in leaves the prompt untouched.
     ///
-    /// Refused are, in this order: a text without a first line, without a second one, with a second
+    /// Rejected are, in this order: a text without a first line, without a second one, with a second
     /// line that is not base64, or of fewer than 158 bytes; a key that was never sealed,
     /// `KeyNotEncrypted`; one that is not sealed by scrypt, `UnsupportedEncryptionAlgorithm`;
-    /// what `get_password` refuses; a writer that fails before the derivation; a memory limit above
+    /// what `get_password` rejects; a writer that fails before the derivation; a memory limit above
     /// 1073741824 bytes or a cost above 2^20, `ParametersTooHigh`; limits that lead to parameters
     /// that scrypt does not take, `InvalidParameters`; p above `max_p`, `WorkTooHigh`; a writer
     /// that fails at `done`; a checksum that opening does not restore, `WrongPassword`. What the
-    /// limits and the bound refuse takes no memory for rows.
+    /// limits and the bound reject allocates no rows.
     pub fn from_box_within<R: Source, W: Sink>(
         alloc: Global,
         sk_box: SecretKeyBox,
@@ -150,11 +150,11 @@ impl SecretKey {
         max_p: u32,
     ) -> Result<SecretKey>
         // With a password that is passed in: what the text opens to under it within the bound, key
-        // or first fault, or out of memory. The prompt is left untouched.
+        // or first error, or out of memory. The prompt is left untouched.
         //
         // With a password that is asked for: what was typed opens the key so, and the prompt wrote
         // what docs/FORMATS.md says; a text that no password opens leaves the prompt untouched;
-        // then come the prompt's faults, and what refuses the key with the password, each with
+        // then come the prompt's errors, and what rejects the key with the password, each with
         // what was written by then (`StepEnds`).
         ensures opens { IsOpening (prompt_call R.Source W.Sink prompt.old prompt.new)
             (option_map string_bytes password) sk_box (Some max_p) result }
@@ -175,7 +175,7 @@ impl SecretKey {
     /// from 1 on, as `from_box_keeping` keeps them. N is at most 2^20, so that with k 16 no key
     /// takes more than 64 MiB of rows.
     ///
-    /// What is opened and what is refused, and in which order, is that of `from_box_within`, for
+    /// What is opened and what is rejected, and in which order, is that of `from_box_within`, for
     /// every k.
     pub fn from_box_keeping_within<R: Source, W: Sink>(
         alloc: Global,
@@ -203,12 +203,12 @@ impl SecretKey {
     /// that is the base64 of the key's 158 bytes, with nothing trimmed off; later bytes and later
     /// lines are ignored.
     ///
-    /// Refused are, in this order: a text without a first line, without a second one, with a second
+    /// Rejected are, in this order: a text without a first line, without a second one, with a second
     /// line that is not base64, or of fewer than 158 bytes; a key derivation other than two zero
     /// bytes; a checksum that does not match. Does not allocate.
     pub fn from_unencrypted_box(sk_box: SecretKeyBox) -> Result<SecretKey>
         // A key that was never sealed is read exactly when its text reads as a key, names no key
-        // derivation and has a matching checksum; otherwise it is the first fault.
+        // derivation and has a matching checksum; otherwise it is the first error.
         ensures { result ≡ read_unencrypted_key sk_box }
     {
         let sk = SecretKey::from_text(sk_box.as_str())?;
@@ -288,7 +288,7 @@ impl SecretKey {
         self.open_telling(alloc, password.as_bytes(), prompt, derivation)
     }
 
-    // Opens a sealed key, and says so before the derivation and behind it.
+    // Opens a sealed key, and says so before the derivation and after it.
     #[tactic(auto, using(crate::proofs::Openings::opened_so))]
     fn open_telling<R: Source, W: Sink>(
         self,

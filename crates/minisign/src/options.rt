@@ -2,7 +2,7 @@
 
 ghost use Rattle.std.specs.Prelude.{◌≡◌, true, false};
 
-/// How data is verified. The default says the status, copies nothing, and refuses a signature that
+/// How data is verified. The default says the status, copies nothing, and rejects a signature that
 /// is over the data itself.
 #[derive(Clone, Copy, Debug, Drop)]
 pub struct VerifyOptions {
@@ -30,7 +30,7 @@ impl VerifyOptions {
     };
 }
 
-/// The status is said, nothing is copied, and a signature over the data itself is refused.
+/// The status is said, nothing is copied, and a signature over the data itself is rejected.
 impl Default for VerifyOptions {
     ghost is_default = { λ o. (o.quiet ≡ false) × (o.output ≡ false) × (o.allow_legacy ≡ false) };
 

@@ -64,7 +64,7 @@ impl SecretKey {
     }
 
     /// Tests that the key was never sealed (otherwise `KeyMightBeEncrypted`), and then that its
-    /// checksum matches (otherwise `CorruptedKey`). Takes no memory.
+    /// checksum matches (otherwise `CorruptedKey`). Does not allocate.
     pub fn test_unencrypted(&self) -> Result<()>
         // A key is taken exactly if it was never sealed and its checksum matches; otherwise it is
         // the first reason.
@@ -87,7 +87,7 @@ impl SecretKey {
     }
 
     /// What opening the key takes: scrypt's N, as its logarithm to base 2, at most 20, and its p: N rows of 1 KiB are
-    /// made p times. Zeros where the key wants no password, and where opening refuses its limits. Does not allocate.
+    /// made p times. Zeros where the key wants no password, and where opening rejects its limits. Does not allocate.
     pub fn opening_work(&self) -> (u8, u32)
         // The work of opening is that of the parameters that the limits of the key lead to.
         ensures { result ≡ opening_work self.now }
@@ -104,9 +104,9 @@ impl SecretKey {
     /// Opens a sealed key that was read with a password, within a bound on the work and with every k-th of scrypt's rows
     /// kept, for k from 1 on: as `from_box_keeping_within` does with its text. Nobody is asked for a password.
     ///
-    /// Refused are, in this order: a key that was never sealed, `KeyNotEncrypted`; one that is not sealed by scrypt,
+    /// Rejected are, in this order: a key that was never sealed, `KeyNotEncrypted`; one that is not sealed by scrypt,
     /// `UnsupportedEncryptionAlgorithm`; limits, with `ParametersTooHigh` or `InvalidParameters`; p above `max_p`,
-    /// `WorkTooHigh`; a checksum that opening does not restore, `WrongPassword`. It may run out of memory for the rows,
+    /// `WorkTooHigh`; a checksum that opening does not restore, `WrongPassword`. An allocation may fail for the rows,
     /// where all of these but the last let it derive.
     pub fn open_keeping_within(
         self,
@@ -118,8 +118,8 @@ impl SecretKey {
         requires kept { 1 ≤ k }
 
         // A key that was read opens under the password as its text does, whatever number of rows is kept: it is the key
-        // opened, or the first fault. Only a key that is sealed by scrypt, with limits that are allowed and p within the
-        // bound, may meet out of memory.
+        // opened, or the first error. Only a key that is sealed by scrypt, with limits that are allowed and p within
+        // the bound, may meet out of memory.
         ensures { (result ≡ and_then (sealed_by_scrypt self) (λ sealed. open_sealed sealed password.now (Some max_p)))
             ⊎ ((result ≡ Err (Named OutOfMemory))
             × IsOk (and_then (sealed_by_scrypt self) (λ sealed. allowed_work sealed (Some max_p)))) }
@@ -148,7 +148,7 @@ pub fn write_comment_message(signature: &[u8; 64], trusted: &[u8], message: &mut
 impl SignatureBox {
     /// The box of a signature over the digest of the data, under the key ID of the key that
     /// signed, with both comments and the signature of that signature followed by the trusted one.
-    /// Nothing of it is tested. Only running out of memory is refused.
+    /// Nothing of it is tested. The only error is `OutOfMemory`.
     pub fn from_parts(
         alloc: Global,
         key_id: &[u8; 8],
@@ -157,7 +157,7 @@ impl SignatureBox {
         trusted_comment: &str,
         comment_signature: &[u8; 64],
     ) -> Result<SignatureBox>
-        // A box of parts is the box of these parts; the only refusal is out of memory.
+        // A box of parts is the box of these parts; the only error is out of memory.
         ensures parts { IfOk result (λ x. x ≡ record {
           signature = record { algorithm = prehashed_algorithm; keynum = key_id.now; signature = signature.now };
           comments = Some (record { untrusted = untrusted_comment.now; trusted = trusted_comment.now; signature = comment_signature.now });

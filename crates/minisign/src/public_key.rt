@@ -51,11 +51,11 @@ impl PublicKey {
         &self.keynum_pk.keynum[..]
     }
 
-    /// Reads the 42 bytes at the front: algorithm, key ID, key. Fewer bytes are refused, and
-    /// later ones are ignored. Takes no memory.
+    /// Reads the 42 bytes at the front: algorithm, key ID, key. Fewer bytes are rejected, and
+    /// later ones are ignored. Does not allocate.
     pub fn from_bytes(bytes: &[u8]) -> Result<PublicKey>
         // The lists that begin with a record are read as that record; exactly those that are too
-        // short are refused.
+        // short are rejected.
         ensures { MatchResult result (ReadsPublicKey bytes.now)
             (λ e. (e ≡ Named RecordTooShort) × (length bytes.now < 42)) }
     {
@@ -69,8 +69,8 @@ impl PublicKey {
     /// Reads a public key text, as `read_public_key` does: a first line that may be anything, and a second of 56 bytes
     /// that, trimmed of white space, is the base64 of the 42 bytes of a key. Later lines are ignored.
     ///
-    /// These are refused, in this order: a text with no first line, one with no second line,
-    /// another length of that line, what is not base64, fewer than 42 bytes. Takes no memory.
+    /// These are rejected, in this order: a text with no first line, one with no second line,
+    /// another length of that line, what is not base64, fewer than 42 bytes. Does not allocate.
     pub fn from_box(_alloc: Global, public_key_box: PublicKeyBox) -> Result<PublicKey>
         // A public key text is read as its grammar has it, a function of the text: as the key, or the first case that
         // fails.
@@ -82,13 +82,13 @@ impl PublicKey {
     /// Reads the public key text that the file at `path` holds, as `from_box` does. The path is
     /// taken as it stands.
     ///
-    /// These are refused, in this order: a file that cannot be opened or read, `ReadingFailed`;
-    /// one that is not UTF-8, `NotUtf8`; and what `from_box` refuses. It may run out of memory at
+    /// These are rejected, in this order: a file that cannot be opened or read, `ReadingFailed`;
+    /// one that is not UTF-8, `NotUtf8`; and what `from_box` rejects. An allocation may fail at
     /// any time. No byte of std's files is known, so of the text it is only said that there is one.
     pub fn from_file<F: Files>(files: &F, alloc: Global, path: &str) -> Result<PublicKey>
-        // What is returned is read from some text, as the calls over texts read it; otherwise it
-        // ran out of memory, the file could not be opened or read, it is not UTF-8, or these calls
-        // refuse a text. No byte of std's files is known, so that it is the text of this file no contract
+        // What is returned is read from some text, as the calls over texts read it; otherwise an
+        // allocation failed, the file could not be opened or read, it is not UTF-8, or these calls
+        // reject a text. No byte of std's files is known, so that it is the text of this file no contract
         // says.
         ensures { IsReadFromFile read_public_key result }
     {
@@ -98,8 +98,8 @@ impl PublicKey {
 
     /// Reads the bare base64 of a key, 56 bytes with nothing around them, as `read_bare_public_key` does.
     ///
-    /// These are refused, in this order: a text that, trimmed of white space, has another length,
-    /// what is not base64 as it stands, fewer than 42 bytes. Takes no memory.
+    /// These are rejected, in this order: a text that, trimmed of white space, has another length,
+    /// what is not base64 as it stands, fewer than 42 bytes. Does not allocate.
     pub fn from_base64(_alloc: Global, text: &str) -> Result<PublicKey>
         // The base64 of a key is read as its grammar has it, a function of the text: as the key, or the first case that
         // fails.
@@ -109,7 +109,7 @@ impl PublicKey {
     }
 
     /// The public key of a secret key: its algorithm, its key ID and the last 32 bytes of its
-    /// secret, as they stand in a sealed key too. Never refuses, and takes no memory.
+    /// secret, as they stand in a sealed key too. Never rejects, and does not allocate.
     pub fn from_secret_key(sk: &SecretKey) -> Result<PublicKey>
         // A public key made from a secret one has its algorithm, its key ID as it stands, and
         // the last 32 of its secret bytes; making it never fails.
@@ -130,10 +130,10 @@ impl PublicKey {
 
     /// The text of the key, two lines: `untrusted comment: minisign public key: ` and the
     /// key ID, read little endian, in 16 upper hexadecimal digits; the base64 of the 42 bytes.
-    /// Only running out of memory is refused.
+    /// The only error is `OutOfMemory`.
     pub fn to_box(&self, alloc: Global) -> Result<PublicKeyBox>
         // The text of a key, and its base64, are the ones by definition, and read as this key; the
-        // only refusal is out of memory.
+        // only error is out of memory.
         ensures text { IfOk result (λ b. b ≡ public_key_text self.now) }
         ensures reads_back { IfOk result (λ b. read_public_key b ≡ Ok self.now) }
         ensures refused { IfErr result (λ e. e ≡ Named OutOfMemory) }
@@ -149,13 +149,13 @@ impl PublicKey {
 
     /// The text of the key with a comment of the caller's, two lines: `untrusted comment: ` and the
     /// comment; the base64 of the 42 bytes. It has 77 bytes more than the comment. Where no line
-    /// feed stands in the comment, the text reads as the key again. Only running out of memory is
-    /// refused.
+    /// feed stands in the comment, the text reads as the key again. The
+    /// only error is `OutOfMemory`.
     #[tactic(auto, unfolding(crate::specs::Texts::untrusted_comment_label))]
     pub fn to_box_with_comment(&self, alloc: Global, comment: &str) -> Result<PublicKeyBox>
         // The text of a public key with a comment of the caller's is the one by definition, and if
         // the comment has no line feed it reads as this key; it has 77 bytes more than the comment;
-        // the only refusal is out of memory.
+        // the only error is out of memory.
         ensures text { IfOk result (λ b. b ≡ commented_public_key_text comment.now self.now) }
         ensures reads_back { LacksByte 10 comment.now → IfOk result (λ b. read_public_key b ≡ Ok self.now) }
         ensures size { IfOk result (λ b. length b ≡ length comment.now + 77) }
@@ -168,10 +168,10 @@ impl PublicKey {
         Ok(PublicKeyBox::from(text))
     }
 
-    /// The base64 of the 42 bytes, 56 characters. Only running out of memory is refused.
+    /// The base64 of the 42 bytes, 56 characters. The only error is `OutOfMemory`.
     pub fn to_base64(&self, alloc: Global) -> Result<String>
         // The text of a key, and its base64, are the ones by definition, and read as this key; the
-        // only refusal is out of memory.
+        // only error is out of memory.
         ensures text { IfOk result (λ t. string_bytes t ≡ base64_of (public_key_bytes self.now)) }
         ensures reads_back { IfOk result (λ t. read_bare_public_key (string_bytes t) ≡ Ok self.now) }
         ensures refused { IfErr result (λ e. e ≡ Named OutOfMemory) }
@@ -181,10 +181,10 @@ impl PublicKey {
         Ok(text)
     }
 
-    /// The 42 bytes that `from_bytes` reads as this key. Only running out of memory is refused.
+    /// The 42 bytes that `from_bytes` reads as this key. The only error is `OutOfMemory`.
     pub fn to_bytes(&self, alloc: Global) -> Result<Vec<u8>>
         // The bytes are those of the record, and are read as this record, and by the law `texts_are_decided` as no
-        // other; the only refusal is out of memory.
+        // other; the only error is out of memory.
         ensures bytes { IfOk result (λ v. v.items ≡ public_key_bytes self.now) }
         ensures reads_back { IfOk result (λ v. ReadsPublicKey v.items self.now) }
         ensures refused { IfErr result (λ e. e ≡ Named OutOfMemory) }

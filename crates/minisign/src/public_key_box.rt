@@ -25,7 +25,7 @@ impl Model for PublicKeyBox {
 }
 
 impl PublicKeyBox {
-    /// A box that holds a copy of the text. Only running out of memory is refused.
+    /// A box that holds a copy of the text. The only error is `OutOfMemory`.
     pub fn from_string(alloc: Global, text: &str) -> Result<PublicKeyBox>
         ensures text { IfOk result (λ b. b ≡ text.now) }
         ensures refused { IfErr result (λ e. e ≡ Named OutOfMemory) }
@@ -33,7 +33,7 @@ impl PublicKeyBox {
         Ok(PublicKeyBox::from(String::from_str(alloc, text)?))
     }
 
-    /// The text. Takes no memory.
+    /// The text. Does not allocate.
     pub fn into_string(self) -> String
         ensures { string_bytes result ≡ self }
     {
@@ -41,7 +41,7 @@ impl PublicKeyBox {
         text
     }
 
-    /// The bytes of the text. Only running out of memory is refused.
+    /// The bytes of the text. The only error is `OutOfMemory`.
     pub fn to_bytes(&self, alloc: Global) -> Result<Vec<u8>>
         ensures bytes { IfOk result (λ v. v.items ≡ self.now) }
         ensures refused { IfErr result (λ e. e ≡ Named OutOfMemory) }
@@ -49,7 +49,7 @@ impl PublicKeyBox {
         Ok(Vec::from_slice(alloc, self.as_str().as_bytes())?)
     }
 
-    /// A box with the same text. Only running out of memory is refused.
+    /// A box with the same text. The only error is `OutOfMemory`.
     pub fn try_clone(&self, alloc: Global) -> Result<PublicKeyBox>
         ensures text { IfOk result (λ b. b ≡ self.now) }
         ensures refused { IfErr result (λ e. e ≡ Named OutOfMemory) }
@@ -73,7 +73,7 @@ impl PublicKeyBox {
     }
 }
 
-/// A box of this text. Takes no memory.
+/// A box of this text. Does not allocate.
 impl From<String> for PublicKeyBox {
     ghost from_gives = { λ text b. b ≡ string_bytes text };
 
@@ -82,7 +82,7 @@ impl From<String> for PublicKeyBox {
     }
 }
 
-/// The text of the box. Takes no memory.
+/// The text of the box. Does not allocate.
 impl From<PublicKeyBox> for String {
     ghost from_gives = { λ b text. string_bytes text ≡ b };
 

@@ -19,7 +19,7 @@ use std::rt::Files;
 // How many bytes a read asks for.
 const PIECE_BYTES: usize = 65536;
 
-// The text that the file at this path holds. A file that cannot be opened is refused as one that
+// The text that the file at this path holds. A file that cannot be opened is rejected as one that
 // cannot be read.
 pub(crate) fn read_text_file<F: Files>(files: &F, alloc: Global, path: &str) -> Result<String>
     ensures { IfErr result IsTextFileFault }
@@ -30,11 +30,11 @@ pub(crate) fn read_text_file<F: Files>(files: &F, alloc: Global, path: &str) -> 
     }
 }
 
-/// All that is ahead, as a text in memory. Refused are a failing source (`ReadingFailed`), bytes
-/// that are not UTF-8 (`NotUtf8`), and running out of memory, which may come at any time.
+/// All that is ahead, as a text in memory. Rejected are a failing source (`ReadingFailed`), bytes
+/// that are not UTF-8 (`NotUtf8`), and a failed allocation, which may come at any time.
 pub fn read_text<S: Source>(alloc: Global, source: &mut S) -> Result<String>
-    // A text is all the bytes that were ahead, if these are UTF-8; otherwise memory ran out, with no
-    // new fault of the source, the source failed, or they are not UTF-8.
+    // A text is all the bytes that were ahead, if these are UTF-8; otherwise an allocation failed, with no
+    // new error of the source, the source failed, or they are not UTF-8.
     ensures text { IfOk result (λ t. ReadsWhole S.Source source.old source.new (string_bytes t)) }
     ensures refused { IfErr result (IsTextFault S.Source source.old source.new) }
     ensures given { HasGiven (S.ahead source.old) (S.ahead source.new) }
@@ -46,12 +46,12 @@ pub fn read_text<S: Source>(alloc: Global, source: &mut S) -> Result<String>
     }
 }
 
-/// All that is ahead, in memory. It is read in pieces of 64 KiB. Refused are a failing source, and
-/// running out of memory, for the buffer or for what is kept; some bytes may have been read by
+/// All that is ahead, in memory. It is read in pieces of 64 KiB. Rejected are a failing source, and
+/// a failed allocation, for the buffer or for what is kept; some bytes may have been read by
 /// then.
 pub fn read_to_end<S: Source>(alloc: Global, source: &mut S) -> Result<Vec<u8>>
-    // All the bytes that were ahead are given; or memory ran out, with no new fault of the source, or
-    // a read failed and its count of faults rose. A place that is marked stays marked.
+    // All the bytes that were ahead are given; or an allocation failed, with no new error of the source, or
+    // a read failed and its count of errors rose. A place that is marked stays marked.
     ensures bytes { IfOk result (λ v. ReadsWhole S.Source source.old source.new v.items) }
     ensures refused { IfErr result (IsReadFault S.Source source.old source.new) }
     ensures given { HasGiven (S.ahead source.old) (S.ahead source.new) }

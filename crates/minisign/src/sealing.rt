@@ -48,7 +48,7 @@ impl SecretKey {
     }
 
     // Xors the last 104 bytes of the record with the stream under the password: opens a sealed key,
-    // and seals an opened one. Limits that are not allowed are refused before anything is derived,
+    // and seals an opened one. Limits that are not allowed are rejected before anything is derived,
     // and then a parallelization above the bound; neither takes memory.
     #[tactic(auto, using(crate::proofs::SealedParts::restored_key))]
     pub(crate) fn apply_stream(

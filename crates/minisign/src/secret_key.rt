@@ -82,7 +82,7 @@ impl SecretKey {
     }
 
     /// Whether the key is sealed and has to be opened before it signs: it names a key derivation,
-    /// and its checksum does not match. Takes no memory.
+    /// and its checksum does not match. Does not allocate.
     pub fn is_encrypted(&self) -> bool
         // A secret key is taken as sealed exactly when it names a key derivation and its checksum
         // does not match.
@@ -91,11 +91,11 @@ impl SecretKey {
         self.kdf_alg != KDF_NONE && self.keynum_sk.chk != self.read_checksum()
     }
 
-    /// Reads the 158 bytes at the front. Fewer bytes are refused, and later ones are ignored. The
-    /// bytes are kept as they stand: nothing is opened or tested. Takes no memory.
+    /// Reads the 158 bytes at the front. Fewer bytes are rejected, and later ones are ignored. The
+    /// bytes are kept as they stand: nothing is opened or tested. Does not allocate.
     pub fn from_bytes(bytes: &[u8]) -> Result<SecretKey>
         // The lists that begin with a record are read as that record; exactly those that are too
-        // short are refused.
+        // short are rejected.
         ensures { result ≡ read_secret_key_bytes bytes.now }
     {
         let (sig_alg, kdf_alg, chk_alg, rest) = split_three(bytes)?;
@@ -112,10 +112,10 @@ impl SecretKey {
         })
     }
 
-    /// The 158 bytes that `from_bytes` reads as this key. Only running out of memory is refused.
+    /// The 158 bytes that `from_bytes` reads as this key. The only error is `OutOfMemory`.
     pub fn to_bytes(&self, alloc: Global) -> Result<Vec<u8>>
         // The bytes are those of the record, and are read as this record, and by the law `texts_are_decided` as no
-        // other; the only refusal is out of memory.
+        // other; the only error is out of memory.
         ensures bytes { IfOk result (λ v. v.items ≡ secret_key_bytes self.now) }
         ensures reads_back { IfOk result (λ v. read_secret_key_bytes v.items ≡ Ok self.now) }
         ensures refused { IfErr result (λ e. e ≡ Named OutOfMemory) }

@@ -24,7 +24,7 @@ impl Model for SecretKeyBox {
 }
 
 impl SecretKeyBox {
-    /// A box of this text. Only running out of memory is refused.
+    /// A box of this text. The only error is `OutOfMemory`.
     pub fn from_string(alloc: Global, s: &str) -> Result<SecretKeyBox>
         ensures text { IfOk result (λ b. b ≡ s.now) }
         ensures refused { IfErr result (λ e. e ≡ Named OutOfMemory) }
@@ -32,7 +32,7 @@ impl SecretKeyBox {
         Ok(SecretKeyBox::from(String::from_str(alloc, s)?))
     }
 
-    /// The text. Takes no memory.
+    /// The text. Does not allocate.
     pub fn into_string(self) -> String
         ensures { string_bytes result ≡ self }
     {
@@ -40,7 +40,7 @@ impl SecretKeyBox {
         text
     }
 
-    /// The bytes of the text. Only running out of memory is refused.
+    /// The bytes of the text. The only error is `OutOfMemory`.
     pub fn to_bytes(&self, alloc: Global) -> Result<Vec<u8>>
         ensures bytes { IfOk result (λ v. v.items ≡ self.now) }
         ensures refused { IfErr result (λ e. e ≡ Named OutOfMemory) }
@@ -48,7 +48,7 @@ impl SecretKeyBox {
         Ok(Vec::from_slice(alloc, self.as_str().as_bytes())?)
     }
 
-    /// Another box of the same text. Only running out of memory is refused.
+    /// Another box of the same text. The only error is `OutOfMemory`.
     pub fn try_clone(&self, alloc: Global) -> Result<SecretKeyBox>
         ensures same { IfOk result (λ b. b ≡ self.now) }
         ensures refused { IfErr result (λ e. e ≡ Named OutOfMemory) }
@@ -64,7 +64,7 @@ impl SecretKeyBox {
     }
 }
 
-/// A box of this text. Takes no memory.
+/// A box of this text. Does not allocate.
 impl From<String> for SecretKeyBox {
     ghost from_gives = { λ s b. b ≡ string_bytes s };
 
@@ -73,7 +73,7 @@ impl From<String> for SecretKeyBox {
     }
 }
 
-/// The text of the box. Takes no memory.
+/// The text of the box. Does not allocate.
 impl From<SecretKeyBox> for String {
     ghost from_gives = { λ b s. string_bytes s ≡ b };
 

@@ -1,4 +1,4 @@
-//! Reading the text of a secret key where it lies, without memory.
+//! Reading the text of a secret key where it lies, without allocating.
 
 ghost use Rattle.std.specs.Prelude.{◌≡◌};
 ghost use Rattle.minisign_base.specs.declared.faults.NamedFault.TheVariants.{SecretKeyNotBase64};
@@ -12,11 +12,11 @@ use minisign_base::{NamedFault, Result};
 /// Reads the text of a secret key as it stands, of a sealed key the sealed bytes: the 158 bytes of the key's
 /// record, which `SecretKey::from_bytes` reads.
 ///
-/// Refused are, in this order: a text without a first line, without a second one, with a second line that is not
+/// Rejected are, in this order: a text without a first line, without a second one, with a second line that is not
 /// base64, or of fewer than 158 bytes. Does not allocate.
 pub fn read_secret_key(text: &str) -> Result<[u8; 158]>
     // The text of a secret key is read as its grammar has it, a function of the text: the record is that of the key
-    // that it reads as, and otherwise the fault is the first case that fails.
+    // that it reads as, and otherwise the error is the first case that fails.
     ensures { read_secret_key text.now ≡ map_ok secret_key_of_bytes result }
 {
     let mut lines = text.lines();
@@ -29,7 +29,7 @@ pub fn read_secret_key(text: &str) -> Result<[u8; 158]>
     decode_record(encoded)
 }
 
-// The record that the second line of a text is the base64 of, whatever stands behind it.
+// The record that the second line of a text is the base64 of, whatever stands after it.
 fn decode_record(encoded: &str) -> Result<[u8; 158]>
     ensures { require (is_base64 encoded.now) SecretKeyNotBase64 (read_secret_key_bytes (base64_bytes encoded.now))
         ≡ map_ok secret_key_of_bytes result }

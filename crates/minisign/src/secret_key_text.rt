@@ -20,11 +20,11 @@ impl SecretKey {
     /// line, which nothing is trimmed off, is the base64 of the key's 158 bytes. The first line is
     /// not looked at; later bytes and later lines are ignored.
     ///
-    /// Refused are, in this order: a text without a first line, without a second one, with a second
+    /// Rejected are, in this order: a text without a first line, without a second one, with a second
     /// line that is not base64, or of fewer than 158 bytes. Does not allocate.
     pub fn from_text(text: &str) -> Result<SecretKey>
         // What the text reads as, by the function of its grammar: the key, sealed or not, or the
-        // first fault.
+        // first error.
         ensures { result ≡ read_secret_key text.now }
     {
         let record = read_secret_key(text)?;
@@ -36,11 +36,11 @@ impl SecretKey {
     /// bytes on another, each ended by a line feed. The bytes are written as they stand: of an
     /// opened sealed key the opened ones, still under the name of its key derivation. Where no line
     /// feed stands in the comment, the text reads as the key again. It has 233 bytes more than the
-    /// comment. Only running out of memory is refused.
+    /// comment. The only error is `OutOfMemory`.
     #[tactic(auto, unfolding(crate::specs::SecretKeyText::secret_key_text, crate::specs::SecretKeyText::default_secret_key_comment))]
     pub fn to_box(&self, alloc: Global, comment: Option<&str>) -> Result<SecretKeyBox>
         // The text of a secret key is the one by definition, and if the comment has no line feed it
-        // reads as this key; it has 233 bytes more than the comment; the only refusal is out of
+        // reads as this key; it has 233 bytes more than the comment; the only error is out of
         // memory.
         ensures text { IfOk result
             (λ b. b ≡ secret_key_text (option_copied comment.entry) self.now) }

@@ -39,11 +39,11 @@ impl Signature {
     /// The length of a stored signature in bytes.
     pub const BYTES: usize = 74;
 
-    /// The 74 bytes that `from_bytes` reads as this signature. Only running out of memory is
-    /// refused.
+    /// The 74 bytes that `from_bytes` reads as this signature. The
+    /// only error is `OutOfMemory`.
     pub fn to_bytes(&self, alloc: Global) -> Result<Vec<u8>>
         // The bytes are those of the record, and are read as this record, and by the law `texts_are_decided` as no
-        // other; the only refusal is out of memory.
+        // other; the only error is out of memory.
         ensures bytes { IfOk result (λ v. v.items ≡ signature_bytes self.now) }
         ensures reads_back { IfOk result (λ v. ReadsSignature v.items self.now) }
         ensures len { IfOk result (λ v. vec_len v ≡ Self.BYTES) }
@@ -54,11 +54,11 @@ impl Signature {
         Ok(bytes)
     }
 
-    /// Reads the 74 bytes at the front: algorithm, key ID, signature. Fewer bytes are refused,
-    /// and later ones are ignored. Takes no memory.
+    /// Reads the 74 bytes at the front: algorithm, key ID, signature. Fewer bytes are rejected,
+    /// and later ones are ignored. Does not allocate.
     pub fn from_bytes(bytes: &[u8]) -> Result<Signature>
         // The lists that begin with a record are read as that record; exactly those that are too
-        // short are refused.
+        // short are rejected.
         ensures { MatchResult result (ReadsSignature bytes.now)
             (λ e. (e ≡ Named RecordTooShort) × (length bytes.now < 74)) }
     {

@@ -57,8 +57,8 @@ impl SignatureBones {
         Ok(SignatureBones { signature })
     }
 
-    /// The 74 bytes that `from_bytes` reads as this signature. Only running out of memory is
-    /// rejected.
+    /// The 74 bytes that `from_bytes` reads as this signature. The only error is
+    /// `OutOfMemory`.
     pub fn to_bytes(&self, alloc: Global) -> Result<Vec<u8>>
         // The bytes are those of the record, and are read as this record, and by the law `texts_are_decided` as no
         // other; the only rejection is out of memory.

@@ -63,7 +63,7 @@ impl SignatureBox {
     ghost use Rattle.std.specs.Option.{option_map_or};
     ghost use Rattle.minisign.specs.Records.{is_prehashed};
 
-    /// A box with no comments. Takes no memory.
+    /// A box with no comments. Does not allocate.
     pub fn from_bones(bones: SignatureBones) -> SignatureBox
         ensures { result ≡ record { signature = bones; comments = None } }
     {
@@ -79,10 +79,10 @@ impl SignatureBox {
     /// are trimmed of white space, the untrusted comment is kept as it stands, and later lines are
     /// ignored.
     ///
-    /// These are refused, in this order: a missing line, the first one first; another beginning of
+    /// These are rejected, in this order: a missing line, the first one first; another prefix of
     /// the first line; a second line that is not base64, or of fewer than 74 bytes; another
-    /// beginning of the third line; an algorithm other than `Ed` and `ED`; a fourth line that is
-    /// not base64. It may run out of memory once the text is read.
+    /// prefix of the third line; an algorithm other than `Ed` and `ED`; a fourth line that is
+    /// not base64. An allocation may fail once the text is read.
     pub fn from_string(alloc: Global, text: &str) -> Result<SignatureBox>
         // A signature text is read as the box that its grammar has it, a function of the text, or the first case that
         // fails; otherwise out of memory.
@@ -93,7 +93,7 @@ impl SignatureBox {
 
     /// As `from_string`, of a text that is handed over.
     pub fn try_from_string(alloc: Global, text: String) -> Result<SignatureBox>
-        // The text is read, and refused, as `SignatureBox::from_string` says.
+        // The text is read, and rejected, as `SignatureBox::from_string` says.
         ensures { IsReadOrNoMemory result (read_signature_box (string_bytes text)) }
     {
         read_text(alloc, text.as_str())
@@ -102,13 +102,13 @@ impl SignatureBox {
     /// Reads the signature text that the file at `path` holds, as `from_string` does. The path is
     /// taken as it stands.
     ///
-    /// These are refused, in this order: a file that cannot be opened or read, `ReadingFailed`;
-    /// one that is not UTF-8, `NotUtf8`; and what `from_string` refuses. It may run out of memory
+    /// These are rejected, in this order: a file that cannot be opened or read, `ReadingFailed`;
+    /// one that is not UTF-8, `NotUtf8`; and what `from_string` rejects. An allocation may fail
     /// at any time. No byte of std's files is known, so of the text it is only said that there is one.
     pub fn from_file<F: Files>(files: &F, alloc: Global, path: &str) -> Result<SignatureBox>
-        // What is returned is read from some text, as the calls over texts read it; otherwise it
-        // ran out of memory, the file could not be opened or read, it is not UTF-8, or these calls
-        // refuse a text. No byte of std's files is known, so that it is the text of this file no contract
+        // What is returned is read from some text, as the calls over texts read it; otherwise an
+        // allocation failed, the file could not be opened or read, it is not UTF-8, or these calls
+        // reject a text. No byte of std's files is known, so that it is the text of this file no contract
         // says.
         ensures { IsReadFromFile read_signature_box result }
     {
@@ -117,15 +117,15 @@ impl SignatureBox {
     }
 
     /// The text of the box, the four lines that `from_string` reads, each ended by a line feed. A
-    /// box that was made from a bare signature is refused, and running out of memory.
+    /// box that was made from a bare signature is rejected, and a failed allocation.
     ///
     /// Comments are written as they stand: they are read back where the untrusted one has no line
     /// feed and no carriage return at its end, and the trusted one no line feed and no white space
     /// at its ends. Where the untrusted one ends in a carriage return, it is read back without that
     /// one.
     pub fn to_string(&self, alloc: Global) -> Result<String>
-        // The text of a box is the one by definition; refused are a box from a bare signature, and
-        // running out of memory.
+        // The text of a box is the one by definition; rejected are a box from a bare signature, and
+        // a failed allocation.
         ensures text { MatchOption self.now.comments (result ≡ Err (Named SignatureBoxIncomplete))
             (λ c. MatchResult result (λ t. string_bytes t ≡ signature_text self.now.signature c)
             (λ e. e ≡ Named OutOfMemory)) }
@@ -149,7 +149,7 @@ impl SignatureBox {
 
     /// As `to_string`, of a box that is handed over.
     pub fn into_string(self, alloc: Global) -> Result<String>
-        // The text, what is refused, and what is read back are as `SignatureBox::to_string` says.
+        // The text, what is rejected, and what is read back are as `SignatureBox::to_string` says.
         ensures text { MatchOption self.comments (result ≡ Err (Named SignatureBoxIncomplete))
             (λ c. MatchResult result (λ t. string_bytes t ≡ signature_text self.signature c)
             (λ e. e ≡ Named OutOfMemory)) }
@@ -161,9 +161,9 @@ impl SignatureBox {
         self.to_string(alloc)
     }
 
-    /// The bytes of the text of the box, refused as `to_string`.
+    /// The bytes of the text of the box, rejected as `to_string`.
     pub fn to_bytes(&self, alloc: Global) -> Result<Vec<u8>>
-        // The bytes of a box are those of its text, and what is refused is the same.
+        // The bytes of a box are those of its text, and what is rejected is the same.
         ensures { MatchOption self.now.comments (result ≡ Err (Named SignatureBoxIncomplete))
             (λ c. MatchResult result (λ v. v.items ≡ signature_text self.now.signature c)
             (λ e. e ≡ Named OutOfMemory)) }
@@ -171,7 +171,7 @@ impl SignatureBox {
         Ok(self.to_string(alloc)?.into_bytes())
     }
 
-    /// A box that holds the same. Only running out of memory is refused.
+    /// A box that holds the same. The only error is `OutOfMemory`.
     pub fn try_clone(&self, alloc: Global) -> Result<SignatureBox>
         ensures same { IfOk result (λ b. b ≡ self.now) }
         ensures refused { IfErr result (λ e. e ≡ Named OutOfMemory) }
@@ -195,10 +195,10 @@ impl SignatureBox {
         self.signature.sig_alg == SIGALG_PREHASHED
     }
 
-    /// The comment that nothing vouches for; a bare signature has an empty one. Only running out of
-    /// memory is refused.
+    /// The comment that nothing vouches for; a bare signature has an empty one. The
+    /// only error is `OutOfMemory`.
     pub fn untrusted_comment(&self, alloc: Global) -> Result<String>
-        // The untrusted comment, which of a bare signature is empty; the only refusal is out of
+        // The untrusted comment, which of a bare signature is empty; the only error is out of
         // memory.
         ensures comment { IfOk result (λ t. string_bytes t ≡ option_map_or (λ c. c.untrusted) self.now.comments []) }
         ensures refused { IfErr result (λ e. e ≡ Named OutOfMemory) }
@@ -210,9 +210,9 @@ impl SignatureBox {
     }
 
     /// The comment that the comment signature vouches for. A bare signature, which has none, is
-    /// refused, and running out of memory.
+    /// rejected, and a failed allocation.
     pub fn trusted_comment(&self, alloc: Global) -> Result<String>
-        // The trusted comment; a box without comments is refused, and running out of memory.
+        // The trusted comment; a box without comments is rejected, and a failed allocation.
         ensures { MatchOption self.now.comments (result ≡ Err (Named TrustedCommentAbsent))
             (λ c. MatchResult result (λ t. string_bytes t ≡ c.trusted) (λ e. e ≡ Named OutOfMemory)) }
     {

@@ -80,7 +80,7 @@ pub fn sign<S: Scheme, R: Source, Z: RandomSource>(
     ensures random_no_new_fault { OnOk result (Z.random_faults random.new ≡ Z.random_faults random.old) }
 
     // A key is rejected as sealed exactly when it is sealed, with nothing read or drawn
-    // (`SigningFails`). `reading failed` comes only if the source's count of faults rose, with
+    // (`SigningFails`). `reading failed` comes only if the source's count of errors rose, with
     // nothing drawn; `random source failed` only if that source's count did, once all the data was
     // read; out of memory only if neither count rose (`OpenedSigningFails`); a given public key is
     // rejected exactly when its 32 bytes do not accept the comment signature (`SigningFails`).
@@ -225,7 +225,7 @@ fn trusted_or_default(alloc: Global, comment: Option<&str>, moment: u64) -> Resu
     }
 }
 
-// The comment, or else the one by default.
+// The comment, or else the default one.
 #[tactic(auto, unfolding(crate::specs::Signing::default_untrusted_comment))]
 fn untrusted_or_default(alloc: Global, comment: Option<&str>) -> Result<String>
     ensures comment { IfOk result

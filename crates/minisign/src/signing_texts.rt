@@ -31,10 +31,10 @@ use std::alloc::Global;
 /// that the prompt asks for (`from_box`). Then the data is signed (`sign`, without a public key to
 /// test), and the box is written (`to_string`).
 ///
-/// Refused are, in this order: a text that reads as no key; a checksum of a key that was never
-/// sealed, or what `from_box` refuses; a failing `data_reader`; a failing `random`, once the data
-/// was read. Until the key is opened nothing is read from `data_reader` and nothing drawn. It may
-/// run out of memory at any time. A comment with a line feed, or a trusted one with white space at
+/// Rejected are, in this order: a text that reads as no key; a checksum of a key that was never
+/// sealed, or what `from_box` rejects; a failing `data_reader`; a failing `random`, once the data
+/// was read. Until the key is opened nothing is read from `data_reader` and nothing drawn. An
+/// allocation may fail at any time. A comment with a line feed, or a trusted one with white space at
 /// its ends, is written as it stands: the text need not verify then, or may read with another
 /// comment.
 pub fn sign_texts<S: Scheme, P: Source, Q: Sink, R: Source, Z: RandomSource>(
@@ -73,9 +73,9 @@ pub fn sign_texts<S: Scheme, P: Source, Q: Sink, R: Source, Z: RandomSource>(
     // On success the random source did not fail.
     ensures random_no_new_fault { OnOk result (Z.random_faults random.new ≡ Z.random_faults random.old) }
 
-    // A text that gives no key is refused with nothing read or drawn, by the first reason;
-    // otherwise out of memory, with no new fault of the source or of the random source, a failing
-    // source with nothing drawn, or a failing random source once everything was read. The fault of a
+    // A text that gives no key is rejected with nothing read or drawn, by the first reason;
+    // otherwise out of memory, with no new error of the source or of the random source, a failing
+    // source with nothing drawn, or a failing random source once everything was read. The error of a
     // sealed key never comes (`GivesKey`, `OpenedSigningFails`).
     ensures refused { IfErr result
         (TextSigningFails (prompt_call P.Source Q.Sink prompt.old prompt.new)

@@ -24,7 +24,7 @@ use std::str::Lines;
 pub fn texts_are_decided()
     // What is read of a text, by the function of its grammar, is a public key (of its text, or of bare base64), a
     // signature with its comments or a secret key exactly where the text reads as these by the relation that its
-    // grammar is; it reads as one at most, and as none where what is read is a fault. So do the bytes of a secret key.
+    // grammar is; it reads as one at most, and as none where what is read is an error. So do the bytes of a secret key.
     ensures public_key { (text : List ℕ) → IsReading (PublicKeyText text) (read_public_key text) }
     ensures bare_public_key { (text : List ℕ) → IsReading (BarePublicKey text) (read_bare_public_key text) }
     ensures signature { (text : List ℕ) → IsReading (SignatureText text) (read_signature text) }
@@ -40,7 +40,7 @@ pub fn texts_are_decided()
     // A text opens under a password to a key exactly where it reads as a key that is sealed by scrypt, whose limits are
     // allowed and within the bound and whose checksum the stream under the password restores, and this is the key
     // opened; and it is taken as a key that was never sealed exactly where it reads as one whose checksum matches. In
-    // both cases there is one key at most, and none where what comes is a fault.
+    // both cases there is one key at most, and none where what comes is an error.
     ensures opened_key { (text password : List ℕ) (bound : Option ℕ)
         → IsReading (IsOpened text password bound) (open_key text password bound) }
     ensures unencrypted_key { (text : List ℕ) → IsReading (IsUnencryptedText text) (read_unencrypted_key text) }

@@ -30,7 +30,7 @@ use std::alloc::Global;
 ///
 /// The data is read to its end first, in pieces of 64 KiB. It is kept in memory where the box is
 /// over the data itself and that is allowed; otherwise it is hashed, so that memory does not grow
-/// with it. Then the box is judged: refused is the first of the conditions below that fails, with
+/// with it. Then the box is judged: rejected is the first of the conditions below that fails, with
 /// `status` and `out` untouched. On success `status` gets a line, and another one with the trusted
 /// comment where there is one, unless `quiet`. `status` is not flushed.
 ///
@@ -40,9 +40,9 @@ use std::alloc::Global;
 /// pass gave, and is not flushed: nobody may rely on it. The kept data of a legacy box is written
 /// and flushed without a second reading.
 ///
-/// A failing `data_reader` is refused before anything is judged, then a failing `status`, and a
-/// failing `out` last. Memory may run out for the buffer of a reading, for the data of a legacy
-/// box, for the trusted comment behind the signature, and for the lines of the status, with
+/// A failing `data_reader` is rejected before anything is judged, then a failing `status`, and a
+/// failing `out` last. An allocation may fail for the buffer of a reading, for the data of a legacy
+/// box, for the trusted comment after the signature, and for the lines of the status, with
 /// `status` and `out` untouched, and for the buffer of the second reading.
 pub fn verify<S: Scheme, R: Rereader, W: Sink, O: Sink>(
     alloc: Global,
@@ -66,7 +66,7 @@ pub fn verify<S: Scheme, R: Rereader, W: Sink, O: Sink>(
     // box is prehashed or legacy ones are allowed; the scheme accepts the signature for the Blake2b
     // digest (or the data of a legacy box); and the comment signature, if there is one, has at
     // least 64 bytes, of which the first 64 are accepted for the signature and the trusted comment.
-    // All the data was then read without a fault (`given`, `end`, `no_new_fault`); the mark stays, except
+    // All the data was then read without an error (`given`, `end`, `no_new_fault`); the mark stays, except
     // for a prehashed box with `output`, whose data is marked (`mark`).
     //
     // On success the status got exactly its lines, or nothing with quiet, and was not flushed;
@@ -81,44 +81,44 @@ pub fn verify<S: Scheme, R: Rereader, W: Sink, O: Sink>(
     // On success with `output` for a prehashed box, the source was gone back to its mark and read
     // to its end again; what that gave is the copy, and it has the digest of the first reading
     // (`read_twice` of `HasCopy`). By this and by clause `refused` (`Compare` of `StageEnds`) data
-    // that changed is refused exactly where the second digest is another one.
+    // that changed is rejected exactly where the second digest is another one.
     //
     // The copy is flushed on success (`flushed` of `HasCopy`), and by clause `refused` (`unflushed`
-    // of `Copies`) on no refusal before the digests are compared.
+    // of `Copies`) on no rejection before the digests are compared.
     ensures accepted { OnOk result (VerifyingSucceeds (S.accepts scheme.now) pk.now signature_box.now (options_of quiet output allow_legacy)
         (rereader_call R.Source R.steady data_reader.old data_reader.new)
         (sink_call W.Sink status.old status.new) (sink_call O.Sink out.old out.new)) }
 
     // Otherwise it failed at one of these stages, of which each one before was passed, and none
-    // behind it was begun (`StagesEnd`): the place is marked, for a prehashed box with `output`;
+    // after it was begun (`StagesEnd`): the place is marked, for a prehashed box with `output`;
     // the data is read to its end; the box is judged; its lines are reported, unless `quiet`; and
     // with `output` the mark is gone back to, what is ahead then is copied, its digest is compared
     // with that of the data, and the output is flushed; or for a legacy box the data is put out and
     // flushed (`verifying_stages`). A stage changes no device but its own (`StageEnds`).
     //
-    // A refusal of the box is that of the function `judge` for the data, all of which was read without a fault; status
-    // and output are untouched (`Judge`).
+    // A rejection of the box is that of the function `judge` for the data, all of which was read without an error;
+    // status and output are untouched (`Judge`).
     //
     // `going back failed` comes only at the mark, with nothing read, or at the return, with nothing
-    // copied; the source's count of faults rose, and no place is marked (`Mark`, `Return`).
+    // copied; the source's count of errors rose, and no place is marked (`Mark`, `Return`).
     //
-    // `reading failed` comes only if the source's count of faults rose at a read, which leaves the
+    // `reading failed` comes only if the source's count of errors rose at a read, which leaves the
     // mark (`Read`, `Copy`). Nothing is said of what going back would bring then.
     //
-    // `writing failed` of the status comes only if its count of faults rose, only for a box that
-    // vouches, and never with quiet; the status then took a beginning of its lines, and the output
+    // `writing failed` of the status comes only if its count of errors rose, only for a box that
+    // vouches, and never with quiet; the status then took a prefix of its lines, and the output
     // is untouched (`Report`).
     //
-    // `writing failed` of the output comes only if its count of faults rose, once the status took
-    // its lines: with a beginning taken of what the second reading gave, or of the data of a legacy
+    // `writing failed` of the output comes only if its count of errors rose, once the status took
+    // its lines: with a prefix taken of what the second reading gave, or of the data of a legacy
     // box; or at the flush, with all of it taken (`Copy`, `Put`, `Flush`).
     //
     // `Data changed between verification and output` comes only where all that the second reading
     // gave was copied, and has a different digest from the data (`Compare`).
     //
-    // Out of memory comes only where no count of faults rose: in the first reading, in judging or
-    // before the status took anything, with status and output untouched; or behind the return,
-    // before the second reading began, with nothing copied (`failed` of `Copies`). So no fault of a
+    // Out of memory comes only where no count of errors rose: in the first reading, in judging or
+    // before the status took anything, with status and output untouched; or after the return,
+    // before the second reading began, with nothing copied (`failed` of `Copies`). So no error of a
     // device, and no half of a copy, is told as out of memory.
     //
     // A reading takes at most some bytes off the front of what the source has ahead; going back
@@ -128,7 +128,7 @@ pub fn verify<S: Scheme, R: Rereader, W: Sink, O: Sink>(
         (rereader_call R.Source R.steady data_reader.old data_reader.new)
         (sink_call W.Sink status.old status.new) (sink_call O.Sink out.old out.new)) }
 
-    // After a refusal the status took a beginning of the lines of the box.
+    // After a rejection the status took a prefix of the lines of the box.
     ensures said_front { OnErr result (TakesFront (sink_call W.Sink status.old status.new) (wanted_status quiet signature_box.now)) }
 
     // Whatever the result, but for `output` of a prehashed box, the source lost at most some bytes
@@ -173,7 +173,7 @@ pub fn verdicts_are_decided()
         (judge accepts pk x message legacy ≡ Ok tt) ↔ Vouches accepts pk x message legacy }
 
     // The verdict gives a comment exactly where the texts vouch for the message, with this comment; they do with one at
-    // most, and with none where the verdict is a fault.
+    // most, and with none where the verdict is an error.
     ensures verdict { (accepts : Verifier) (pk_text sig_text message : List ℕ) (legacy : Bool) →
         IsReading (TextsVouchWith accepts pk_text sig_text message legacy) (verdict accepts pk_text sig_text message legacy) }
 {}

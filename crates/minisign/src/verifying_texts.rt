@@ -24,7 +24,7 @@ use std::alloc::Global;
 /// `SignatureBox::from_string` of the other, and `verify` with what they read as.
 ///
 /// The public key text is judged first, then the signature text, both before anything is read.
-/// After a refused text `data_reader`, `status` and `out` are untouched. All else is as `verify`
+/// After a rejected text `data_reader`, `status` and `out` are untouched. All else is as `verify`
 /// says.
 pub fn verify_texts<S: Scheme, R: Rereader, W: Sink, O: Sink>(
     alloc: Global,
@@ -55,8 +55,8 @@ pub fn verify_texts<S: Scheme, R: Rereader, W: Sink, O: Sink>(
     ensures vouched { output ≡ true → OnOk result (CopyIsVouchedFor (S.accepts scheme.now) pk_text.now sig_text.now allow_legacy
         (sink_call O.Sink out.old out.new)) }
 
-    // A refusal of the public key text comes before one of the signature text, and both come before
-    // anything is read, said or copied; so does running out of memory for them (`read_texts`).
+    // A rejection of the public key text comes before one of the signature text, and both come before
+    // anything is read, said or copied; so does a failed allocation for them (`read_texts`).
     //
     // Otherwise verifying fails as `verify` does, with the key and the box that the texts read as
     // (`VerifyingFails`).
@@ -64,7 +64,7 @@ pub fn verify_texts<S: Scheme, R: Rereader, W: Sink, O: Sink>(
         (rereader_call R.Source R.steady data_reader.old data_reader.new)
         (sink_call W.Sink status.old status.new) (sink_call O.Sink out.old out.new)) }
 
-    // After a refusal the status is untouched, or took a beginning of the lines of the box.
+    // After a rejection the status is untouched, or took a prefix of the lines of the box.
     ensures said_front { OnErr result ((status.new ≡ status.old) ⊎ ((key : PublicKeyRecord) × (box : SignatureBoxRecord)
         × (read_texts pk_text.now sig_text.now ≡ Ok (key, box))
         × TakesFront (sink_call W.Sink status.old status.new) (wanted_status quiet box))) }

@@ -15,7 +15,7 @@ nothing_taken p bytes same =
     subst (λ w. AppendsFront (p.sink.taken p.old.writer) (p.sink.taken w) bytes) (sym same)
     (AppendsFront-keeps (p.sink.taken p.old.writer) (p.sink.taken p.old.writer) bytes (Keeps-refl (p.sink.taken p.old.writer)))
 
--- the writer took all that a conversation writes, with no new fault
+-- the writer took all that a conversation writes, with no new error
 pub held_taken : {R W : Type 0} (p : PromptCall R W) (steps : List Step) → ConversationEnds p steps (Ok tt)
     → Appends (p.sink.taken p.old.writer) (p.sink.taken p.new.writer) (written steps)
 held_taken p [] same = subst (λ d. Appends (p.sink.taken p.old.writer) (p.sink.taken d.writer) []) (sym same) (Appends-nil (p.sink.taken p.old.writer))

@@ -39,7 +39,7 @@ filled_up (suc p) (suc fuel) n behind h l some =
           ∙ filled_up p fuel (n / 16) (digit ∷ behind) (omega (arith, h)) (omega (arith, l)) (two_places p n e h)
     ] refl
 
--- what `{:016X}` writes before and behind the digits
+-- what `{:016X}` writes before and after the digits
 padded_sixteen : (numeral : List ℕ) → padded_integral (format_spec 32 0 4 16 (2 ^ 64 - 1)) false [] numeral ≡ replicate (16 - length numeral) 48 ++ numeral
 unfolding padded_integral char_count
 padded_sixteen numeral =

@@ -1,4 +1,4 @@
--- What the faults of key derivation become.
+-- What the errors of key derivation become.
 use Rattle.minisign_kdf.specs.declared.errors.KdfError.{KdfError}
 use Rattle.minisign_kdf.specs.declared.errors.KdfError.TheVariants.{OutOfMemory, InvalidOutputLen}
 use Rattle.minisign_base.specs.Fault.{Fault, Named}

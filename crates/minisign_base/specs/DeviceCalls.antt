@@ -33,7 +33,7 @@ sink_call sink old new = record { sink = sink; old = old; new = new }
 abbrev pub IsSteady : {R : Type 0} → RereaderCall R → Type 0
 IsSteady reader = reader.steady reader.old
 
--- the source failed: its count of faults rose, or stands at its greatest value
+-- the source failed: its count of errors rose, or stands at its greatest value
 abbrev pub SourceFails : {R : Type 0} → RereaderCall R → Type 0
 SourceFails reader = Rose (reader.source.faults reader.old) (reader.source.faults reader.new)
 
@@ -55,7 +55,7 @@ abbrev pub GoesBack : {R : Type 0} → RereaderCall R → Result ⊤ ⊤ → Typ
 GoesBack r answer =
     HasGoneBack r.source.ahead r.source.behind r.source.since r.source.is_marked r.source.faults r.old r.new answer
 
--- the sink failed: its count of faults rose, or stands at its greatest value
+-- the sink failed: its count of errors rose, or stands at its greatest value
 abbrev pub SinkFails : {W : Type 0} → SinkCall W → Type 0
 SinkFails out = Rose (out.sink.sink_faults out.old) (out.sink.sink_faults out.new)
 

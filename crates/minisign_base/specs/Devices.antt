@@ -1,4 +1,4 @@
--- What calls on a device do to what is known of its bytes and to its count of faults. Each kind of call has a
+-- What calls on a device do to what is known of its bytes and to its count of errors. Each kind of call has a
 -- record over the members of the device's trait, the device at the call (old) and at the return (new), and
 -- the answer.
 use Rattle.std.specs.Prelude.{◌≡◌, ℕ, ◌+◌, ◌-◌, ◌^◌, ◌<◌, ◌≤◌, min, Bool, true, false, List, [], ◌++◌, length, take}
@@ -43,7 +43,7 @@ pub record HasRead {S E : Type 0} (ahead_of behind_of since_of : S → Option (L
   pub since : IfOk answer (λ n. since_of new ≡ append_known (since_of old) (take n buffer))
   pub since_kept : OnErr answer (SameWhereKnown (since_of old) (since_of new))
 
--- a steady source remembers the bytes ahead, which stay; a place is marked now, or after a fault none is
+-- a steady source remembers the bytes ahead, which stay; a place is marked now, or after an error none is
 pub record HasMarked {S A E : Type 0} (steady_of : S → Type 0) (ahead_of behind_of since_of : S → Option (List ℕ))
     (is_marked_of : S → Bool) (faults_of : S → ℕ)
     (old new : S) (answer : Result A E) : Type 0 where
@@ -57,7 +57,7 @@ pub record HasMarked {S A E : Type 0} (steady_of : S → Type 0) (ahead_of behin
   pub since : OnOk answer (BeginsAnew (since_of new))
 
 -- the bytes that were remembered are ahead again, which cannot be where no place is marked; the place stays
--- marked, and going back once more would bring the same bytes, or after a fault none is
+-- marked, and going back once more would bring the same bytes, or after an error none is
 pub record HasGoneBack {S A E : Type 0} (ahead_of behind_of since_of : S → Option (List ℕ))
     (is_marked_of : S → Bool) (faults_of : S → ℕ)
     (old new : S) (answer : Result A E) : Type 0 where
@@ -78,7 +78,7 @@ pub record HasFilled {S A E : Type 0} (ahead_of : S → Option (List ℕ)) (faul
   pub fault : OnErr answer (Rose (faults_of old) (faults_of new))
   pub given : OnErr answer (HasGiven (ahead_of old) (ahead_of new))
 
--- the first n of the bytes were taken, of something at least one, or none at a fault; nothing was flushed
+-- the first n of the bytes were taken, of something at least one, or none at an error; nothing was flushed
 pub record HasWritten {S E : Type 0} (taken_of flushed_of : S → Option (List ℕ)) (faults_of : S → ℕ)
     (old new : S) (due : List ℕ) (answer : Result ℕ E) : Type 0 where
   pub bound : IfOk answer (λ n. n ≤ length due)
@@ -89,7 +89,7 @@ pub record HasWritten {S E : Type 0} (taken_of flushed_of : S → Option (List �
   pub kept : OnErr answer (Keeps (taken_of old) (taken_of new))
   pub unflushed : flushed_of new ≡ flushed_of old
 
--- nothing was taken, and all that was taken before was flushed; at a fault what was flushed stays, or is known no more
+-- nothing was taken, and all that was taken before was flushed; at an error what was flushed stays, or is known no more
 pub record HasFlushed {S A E : Type 0} (taken_of flushed_of : S → Option (List ℕ)) (faults_of : S → ℕ)
     (old new : S) (answer : Result A E) : Type 0 where
   pub bytes : Keeps (taken_of old) (taken_of new)

@@ -1,4 +1,4 @@
--- What a fault is: a named one, or a kind and a text of the caller's own.
+-- What an error is: a named one, or a kind and a text of the caller's own.
 use Rattle.std.specs.Prelude.{ℕ, List, Option, Some, None, string_bytes}
 use Rattle.minisign_base.specs.Faults.{fault_row, named_text}
 use Rattle.minisign_base.specs.declared.errors.ErrorKind.{ErrorKind}
@@ -23,7 +23,7 @@ abbrev pub text_of : Fault → List ℕ
 text_of (Named f) = named_text f
 text_of (Worded kind text) = text
 
--- the fault as it is kept
+-- the error as it is kept
 abbrev pub fault_of : Meaning → Fault
 fault_of (kept.Named f) = Named f
 fault_of (kept.Fixed kind text) = Worded kind text.now

@@ -1,4 +1,4 @@
--- The named faults: of each the number by which a program in another language knows it, the kind, and the text.
+-- The named errors: of each the number by which a program in another language knows it, the kind, and the text.
 use Rattle.std.specs.Prelude.{ℕ, List, ◌++◌, codes}
 use Rattle.minisign_base.specs.Identifiers.{identifier_text}
 use Rattle.minisign_base.specs.declared.errors.ErrorKind.{ErrorKind}
@@ -6,7 +6,7 @@ use Rattle.minisign_base.specs.declared.errors.ErrorKind.TheVariants as kind
 use Rattle.minisign_base.specs.declared.faults.NamedFault.{NamedFault}
 use Rattle.minisign_base.specs.declared.faults.NamedFault.TheVariants as fault
 
--- a number, a kind, and what the fault says without its key IDs
+-- a number, a kind, and what the error says without its key IDs
 pub record FaultRow : Type 0 where
   pub number : ℕ
   pub kind : ErrorKind
@@ -72,7 +72,7 @@ fault_row fault.InputOrOutputFailed = row 78 kind.Io (codes "input or output fai
 fault_row fault.FormattingFailed = row 79 kind.Io (codes "an error occurred when formatting an argument")
 fault_row fault.InvalidUtf8 = row 80 kind.Encoding (codes "invalid UTF-8")
 
--- the text: but for three faults it is the summary
+-- the text: but for three errors it is the summary
 abbrev pub named_text : NamedFault → List ℕ
 named_text (fault.DifferentKeyIds signature key) =
     codes "Signature key id: " ++ (identifier_text signature ++

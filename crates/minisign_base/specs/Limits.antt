@@ -29,7 +29,7 @@ numbers memlimit opslimit =
     let p = if few then 1 else min 0x3fffffff (operations / 4 / 2 ^ n_log2 % 2 ^ 32) / 8 in
     record { n_log2 = n_log2; r = 8; p = p }
 
--- numbers, or the fault: a cost above the allowed one is rejected, and then what scrypt does not take
+-- numbers, or the error: a cost above the allowed one is rejected, and then what scrypt does not take
 unfoldable pub limits : Numbers → ℕ → Result Numbers Fault
 limits v n_log2_max =
     if nat_lt n_log2_max v.n_log2 then Err (Named ParametersTooHigh)

@@ -28,7 +28,7 @@ accepted_line line =
     else (if nat_lt 1024 (length line) then Err (Named PasswordTooLong)
     else Ok line)
 
--- the password, or the first fault: no byte at all, no line feed in 1026 bytes, a line that is none
+-- the password, or the first error: no byte at all, no line feed in 1026 bytes, a line that is none
 unfoldable pub password_of : List ℕ → Result (List ℕ) Fault
 password_of bytes =
     if length bytes == 0 then Err (Named EndOfInput)

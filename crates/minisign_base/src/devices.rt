@@ -1,5 +1,5 @@
 //! The devices that bytes come from and go to. A contract sees of each the bytes, where they are
-//! known, and a count of its faults, which stays at its greatest value once it is there.
+//! known, and a count of its errors, which stays at its greatest value once it is there.
 
 pub mod random_sources;
 pub mod sinks;
@@ -7,7 +7,7 @@ pub mod sources;
 
 ghost use Rattle.std.specs.Prelude.{◌≡◌, ◌+◌, ◌-◌, ◌^◌, min};
 
-/// A device failed. Each call names its own fault by the device that failed.
+/// A device failed. Each call names its own error by the device that failed.
 #[derive(Clone, Copy, Debug, PartialEq, Eq)]
 pub struct DeviceFault;
 
@@ -16,7 +16,7 @@ pub struct DeviceFault;
 struct FaultCount(u64);
 
 impl FaultCount {
-    // One more fault. The count stays at its greatest value.
+    // One more error. The count stays at its greatest value.
     fn raise(&mut self) -> DeviceFault
         ensures { self.new.0 ≡ min (self.old.0 + 1) (2 ^ 64 - 1) }
     {

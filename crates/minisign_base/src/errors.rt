@@ -1,4 +1,4 @@
-//! What can go wrong: a kind and a text, and what the faults of std, of key derivation and of
+//! What can go wrong: a kind and a text, and what the errors of std, of key derivation and of
 //! base64 become.
 
 ghost use Rattle.std.specs.Prelude.{◌≡◌, Some, string_bytes};
@@ -15,7 +15,7 @@ use std::marker::Model;
 use std::string::FromUtf8Error;
 use std::{fmt, io};
 
-/// What a fault concerns.
+/// What an error concerns.
 #[derive(Clone, Copy, Debug, PartialEq, Eq)]
 pub enum ErrorKind {
     /// Making a pair of keys.
@@ -42,16 +42,16 @@ pub enum ErrorKind {
     OutOfMemory,
 }
 
-/// A fault: a named one, or a kind and a text of the caller's own. `Display` writes the text.
+/// An error: a named one, or a kind and a text of the caller's own. `Display` writes the text.
 #[derive(Debug, Drop)]
 pub struct PError {
     meaning: Meaning,
 }
 
-/// A value, or a fault.
+/// A value, or an error.
 pub type Result<T> = std::result::Result<T, PError>;
 
-// A fault as it is kept.
+// An error as it is kept.
 #[derive(Debug, Drop)]
 enum Meaning {
     Named(NamedFault),
@@ -68,7 +68,7 @@ impl Model for PError {
 }
 
 impl PError {
-    /// A fault with a text of its own.
+    /// An error with a text of its own.
     pub fn new(kind: ErrorKind, text: String) -> PError
         ensures { result ≡ Worded kind (string_bytes text) }
     {
@@ -77,7 +77,7 @@ impl PError {
         }
     }
 
-    /// A fault with a text that stands in the program. Does not allocate.
+    /// An error with a text that stands in the program. Does not allocate.
     pub fn fixed(kind: ErrorKind, text: &'static str) -> PError
         ensures { result ≡ Worded kind text.now }
     {
@@ -86,7 +86,7 @@ impl PError {
         }
     }
 
-    /// The named fault, if it is one: one with a kind and a text of its caller's is none, whatever
+    /// The named error, if it is one: one with a kind and a text of its caller's is none, whatever
     /// its text says. Does not allocate.
     pub fn named(&self) -> Option<NamedFault>
         ensures { result ≡ name_of self.now }
@@ -97,8 +97,8 @@ impl PError {
         }
     }
 
-    /// The text, which `Display` writes. One with key IDs is put together in `room`. Takes no
-    /// memory.
+    /// The text, which `Display` writes. One with key IDs is put together in `room`. Does not
+    /// allocate.
     pub fn text<'a>(&'a self, room: &'a mut [u8; TEXT_ROOM]) -> &'a [u8]
         ensures { result.now ≡ text_of self.now }
     {
@@ -109,7 +109,7 @@ impl PError {
         }
     }
 
-    /// What the fault concerns.
+    /// What the error concerns.
     pub fn kind(&self) -> &ErrorKind
         ensures { result.now ≡ kind_of self.now }
     {
@@ -121,7 +121,7 @@ impl PError {
     }
 }
 
-/// Writes the text of the fault.
+/// Writes the text of the error.
 impl fmt::Display for PError {
     ghost output = { λ e. Some (text_of e) };
 
@@ -134,7 +134,7 @@ impl fmt::Display for PError {
     }
 }
 
-/// The fault of this name.
+/// The error of this name.
 impl From<NamedFault> for PError {
     ghost from_gives = { λ f e. e ≡ Named f };
 
@@ -163,7 +163,7 @@ impl<T: Drop> From<AllocFailed<T>> for PError {
     }
 }
 
-/// A fault of std's streams is the one that is named for it, whatever it was.
+/// An error of std's streams is the one that is named for it, whatever it was.
 impl From<io::Error> for PError {
     ghost from_gives = { λ _ e. e ≡ Named InputOrOutputFailed };
 
@@ -172,7 +172,7 @@ impl From<io::Error> for PError {
     }
 }
 
-/// A fault of formatting is the one that is named for it.
+/// An error of formatting is the one that is named for it.
 impl From<fmt::Error> for PError {
     ghost from_gives = { λ _ e. e ≡ Named FormattingFailed };
 
@@ -181,7 +181,7 @@ impl From<fmt::Error> for PError {
     }
 }
 
-/// Bytes that are no text are the fault that is named for them.
+/// Bytes that are no text are the error that is named for them.
 impl From<FromUtf8Error> for PError {
     ghost from_gives = { λ _ e. e ≡ Named InvalidUtf8 };
 
@@ -190,7 +190,7 @@ impl From<FromUtf8Error> for PError {
     }
 }
 
-/// Parameters that scrypt does not take are the fault that is named for them.
+/// Parameters that scrypt does not take are the error that is named for them.
 impl From<InvalidParams> for PError {
     ghost from_gives = { λ _ e. e ≡ Named InvalidParameters };
 
@@ -199,7 +199,7 @@ impl From<InvalidParams> for PError {
     }
 }
 
-/// An output that scrypt does not fill is the fault that is named for it.
+/// An output that scrypt does not fill is the error that is named for it.
 impl From<InvalidOutputLen> for PError {
     ghost from_gives = { λ _ e. e ≡ Named InvalidOutputLength };
 
@@ -208,7 +208,7 @@ impl From<InvalidOutputLen> for PError {
     }
 }
 
-/// Each fault of key derivation is the one that is named for it.
+/// Each error of key derivation is the one that is named for it.
 impl From<KdfError> for PError {
     ghost from_gives = { λ d e. e ≡ derivation_fault d };
 
@@ -220,7 +220,7 @@ impl From<KdfError> for PError {
     }
 }
 
-/// Each fault of decoding base64 is the one that is named for it.
+/// Each error of decoding base64 is the one that is named for it.
 impl From<DecodeAllocError> for PError {
     ghost from_gives = { λ d e. e ≡ decoding_fault d };
 

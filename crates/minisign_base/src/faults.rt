@@ -1,4 +1,4 @@
-//! The faults that calls of Minisign return, one enum of them all: of each the number, the kind and the text. None
+//! The errors that calls of Minisign return, one enum of them all: of each the number, the kind and the text. None
 //! takes memory.
 
 ghost use Rattle.std.specs.Prelude.{◌≡◌, Some};
@@ -14,7 +14,7 @@ use std::{fmt, str};
 /// How many bytes a text with key IDs takes at most.
 pub const TEXT_ROOM: usize = 96;
 
-/// A fault that a call of Minisign returns. `Display` writes its text.
+/// An error that a call of Minisign returns. `Display` writes its text.
 #[derive(Clone, Copy, Debug, PartialEq, Eq)]
 pub enum NamedFault {
     /// An allocation failed, or a size that no allocation can have was asked for.
@@ -109,16 +109,16 @@ pub enum NamedFault {
     DataChanged,
     /// An output of no bytes, or of more than the key derivation can give.
     InvalidOutputLength,
-    /// What a fault of std's input and output becomes.
+    /// What an error of std's input and output becomes.
     InputOrOutputFailed,
-    /// What a fault of std's formatting becomes.
+    /// What an error of std's formatting becomes.
     FormattingFailed,
-    /// What std's fault of bytes that are not UTF-8 becomes.
+    /// What std's error of bytes that are not UTF-8 becomes.
     InvalidUtf8,
 }
 
 impl NamedFault {
-    /// All named faults, with key IDs of zeros.
+    /// All named errors, with key IDs of zeros.
     pub const ALL: [NamedFault; 49] = [
         NamedFault::OutOfMemory,
         NamedFault::ReadingFailed,
@@ -174,21 +174,21 @@ impl NamedFault {
         NamedFault::InvalidUtf8,
     ];
 
-    /// What the fault concerns.
+    /// What the error concerns.
     pub fn kind(&self) -> &'static ErrorKind
         ensures { result.now ≡ (fault_row self.now).kind }
     {
         &self.row().1
     }
 
-    /// The number by which a program in another language knows the fault.
+    /// The number by which a program in another language knows the error.
     pub fn number(&self) -> u32
         ensures { result ≡ (fault_row self.now).number }
     {
         self.row().0
     }
 
-    /// What the fault says without its key IDs, at most 127 bytes: but for three faults all of
+    /// What the error says without its key IDs, at most 127 bytes: but for three errors all of
     /// its text.
     pub fn summary(&self) -> &'static str
         ensures { result.now ≡ (fault_row self.now).summary }
@@ -196,8 +196,8 @@ impl NamedFault {
         self.row().2
     }
 
-    /// The text, which `Display` writes. One with key IDs is put together in `room`. Takes no
-    /// memory.
+    /// The text, which `Display` writes. One with key IDs is put together in `room`. Does not
+    /// allocate.
     pub fn text<'a>(&self, room: &'a mut [u8; TEXT_ROOM]) -> &'a [u8]
         ensures { result.now ≡ named_text self.now }
     {
@@ -321,7 +321,7 @@ impl NamedFault {
     }
 }
 
-/// Writes the text of the fault.
+/// Writes the text of the error.
 impl fmt::Display for NamedFault {
     ghost output = { λ f. Some (named_text f) };
 

@@ -43,7 +43,7 @@ pub fn load_u64_le(bytes: &[u8]) -> u64
     u64::from_le_bytes(first)
 }
 
-/// Four pieces one behind another, put together at the start of `room`. Does not allocate.
+/// Four pieces one after another, put together at the start of `room`. Does not allocate.
 pub fn joined<'a>(
     room: &'a mut [u8],
     first: &[u8],
@@ -61,7 +61,7 @@ pub fn joined<'a>(
     &room[..end]
 }
 
-// Puts a piece behind the first `at` bytes, and returns where it ends.
+// Puts a piece after the first `at` bytes, and returns where it ends.
 fn put_at(room: &mut [u8], at: usize, piece: &[u8]) -> usize
     requires { at + length piece.now ≤ length room.old }
     ensures end { result ≡ at + length piece.now }
@@ -77,7 +77,7 @@ fn put_at(room: &mut [u8], at: usize, piece: &[u8]) -> usize
 /// line feed or the end. The line feed and one carriage return before it are no part of the
 /// password. Where the password is empty, `<empty>` and a line feed are written and flushed.
 ///
-/// Memory for one line is wanted first; where it runs out, that is `OutOfMemory` and nothing was
+/// One line is allocated first; where that fails, it is `OutOfMemory` and nothing was
 /// written or read. Then, in this order: `WritingFailed` and `ReadingFailed` where a device
 /// fails, `EndOfInput` where the input ends at once, `PasswordTooLong` where 1026 bytes hold no
 /// line feed, of which no more are read, `NotUtf8`, and `PasswordTooLong` for more than 1024
@@ -89,15 +89,15 @@ pub fn get_password<R: Source, W: Sink>(
 ) -> Result<String>
     // The password is the one in the first line of the bytes ahead, by its definition
     // (`specs/Passwords`); the text was written and then, if the password is empty, the mark of an
-    // empty one, and all of it was flushed; no more than the line was read, and no fault came.
+    // empty one, and all of it was flushed; no more than the line was read, and no error came.
     ensures asked { IfOk result (λ password. (bytes : List ℕ)
         × (password_of bytes ≡ Ok (string_bytes password))
         × ConversationEnds (prompt_call R.Source W.Sink prompt.old prompt.new)
         (asking_steps text.now bytes) (Ok tt)) }
 
-    // Otherwise it stopped at the first of these steps that was not done: memory ran out, with
+    // Otherwise it stopped at the first of these steps that was not done: an allocation failed, with
     // nothing written or read; or the writer failed before anything was read; or the reader failed
-    // inside the line, once the text was flushed; or these bytes hold no password, with the fault
+    // inside the line, once the text was flushed; or these bytes hold no password, with the error
     // of the line; or the writer failed at the mark.
     ensures refused { IfErr result (λ e. (bytes : List ℕ)
         × ConversationEnds (prompt_call R.Source W.Sink prompt.old prompt.new)
@@ -122,7 +122,7 @@ fn line_buffer(alloc: Global) -> Result<Vec<u8>>
 /// The seconds since 1970, rounded down. Where the clock can't be read or is set before 1970, that
 /// is `ClockIncorrect`. Does not allocate.
 pub fn unix_timestamp(clock: &impl Clock) -> Result<u64>
-    // The only fault of the clock is `system clock is incorrect`. The number of seconds is in no
+    // The only error of the clock is `system clock is incorrect`. The number of seconds is in no
     // contract.
     ensures { IfErr result (λ e. e ≡ Named ClockIncorrect) }
 {
@@ -152,7 +152,7 @@ fn seconds_since_1970(now: SystemTime) -> Result<u64>
 /// Does not allocate.
 #[tactic(auto, unfolding(crate::specs::Limits::numbers))]
 pub fn raw_scrypt_params(memlimit: u64, opslimit: u64, n_log2_max: u8) -> Result<Params>
-    // Limits become parameters exactly by their definition, and each fault comes exactly in its
+    // Limits become parameters exactly by their definition, and each error comes exactly in its
     // case.
     ensures outcome { result ≡ limits (numbers memlimit opslimit) n_log2_max }
 

@@ -1,4 +1,4 @@
-//! What keys, boxes and signatures stand on: faults, the devices that bytes come from and go to,
+//! What keys, boxes and signatures stand on: errors, the devices that bytes come from and go to,
 //! the interface of a signature scheme, and the limits of key derivation.
 
 #![tactic(auto)]

@@ -48,10 +48,10 @@ impl<R: Source, W: Sink> Prompt<R, W> {
         (reader, writer)
     }
 
-    /// Writes a text and flushes it. After a fault the writer took a prefix of the text. Takes
-    /// no memory, and leaves the reader alone.
+    /// Writes a text and flushes it. After an error the writer took a prefix of the text. Does
+    /// not allocate, and leaves the reader alone.
     pub fn say(&mut self, text: &str) -> Result<()>
-        // The text is written and flushed, or a prefix of it is written, and the only fault is
+        // The text is written and flushed, or a prefix of it is written, and the only error is
         // `writing failed`; the reader is left alone (`StepEnds`).
         ensures ended { StepEnds (prompt_call R.Source W.Sink self.old self.new) (Say text.now) result }
     {
@@ -98,7 +98,7 @@ impl Prompt<NoSource, NoSink> {
     /// question is rejected, `EndOfInput`. Does not allocate.
     pub fn silent() -> Prompt<NoSource, NoSink>
         // No line that a silent prompt reads is a password: its input ends at once, and that is the
-        // fault.
+        // error.
         ensures { (old new : Prompt NoSource NoSink) (bytes : List ℕ)
             → HasReadLine (source_call ⟦<NoSource as Source>⟧ old.reader new.reader) bytes
             → password_of bytes ≡ Err (Named EndOfInput) }
@@ -167,7 +167,7 @@ fn next_byte<R: Source>(source: &mut R) -> Result<Option<u8>>
 
 /// A law, for which nothing is done: what a prompt's writer takes follows from the steps of its conversation.
 pub fn conversations_are_written<R: Source, W: Sink>()
-    // Where all steps were done, the writer took all that they write, with no new fault; where a conversation stopped,
+    // Where all steps were done, the writer took all that they write, with no new error; where a conversation stopped,
     // it took a prefix of that.
     ensures taken { (old new : Prompt R W) (steps : List Step) → ConversationEnds (prompt_call R.Source W.Sink old new) steps (Ok tt)
         → Appends (W.taken old.writer) (W.taken new.writer) (written steps) }

@@ -50,8 +50,8 @@ use std::alloc::Global;
 /// Returns the length of the whole text.
 #[unsafe(no_mangle)]
 pub extern "C" fn minisign_error_text(error: u32, text: &mut [u8]) -> usize
-    // The text of a number is that of the wrong use, that of the error of installing, or what the error of the library
-    // says without its key IDs; it has less than 128 bytes, is cut to its room and ended by a 0.
+    // The text of a number is that of the usage error, that of the error of installing, or what the error of the
+    // library says without its key IDs; it has less than 128 bytes, is cut to its room and ended by a 0.
     ensures written { (meaning : List ℕ) × IsHostMeaning error meaning × (result ≡ length meaning) × WritesCut meaning text.old text.new }
     ensures room { result < 128 }
 {
@@ -72,7 +72,7 @@ pub extern "C" fn minisign_init(state: &mut State)
 #[unsafe(no_mangle)]
 pub extern "C" fn minisign_update(state: &mut State, piece: &[u8]) -> u32
     // Each update appends to what the state was fed, and what was asked stays. A state that is not being fed takes no
-    // data: the wrong use has its number, and the state stays as it was.
+    // data: the usage error has its number, and the state stays as it was.
     ensures fed { (m : List ℕ) → IsFedState state.old m → (result ≡ 0) × IsFedState state.new (m ++ piece.now) }
     ensures asked { KeepsAsked state.old state.new }
     ensures begun { result ≡ 0 → IsMarkedFed state.old }
@@ -88,7 +88,7 @@ pub extern "C" fn minisign_update(state: &mut State, piece: &[u8]) -> u32
 #[unsafe(no_mangle)]
 pub extern "C" fn minisign_digest(state: &mut State, digest: &mut [u8; 64]) -> u32
     // The digest of everything the state was fed, which it has then told; what was asked stays. A state that is not
-    // being fed tells none: the wrong use has its number, and state and digest stay as they were.
+    // being fed tells none: the usage error has its number, and state and digest stay as they were.
     ensures digest { (m : List ℕ) → IsFedState state.old m
         → (result ≡ 0) × (digest.new ≡ blake2b_digest 64 m) × HasToldDigest state.new m }
     ensures asked { KeepsAsked state.old state.new }
@@ -206,8 +206,8 @@ pub extern "C" fn minisign_verdict(state: &mut State, first: u32, second: u32) -
         → IsAnswered state.old accepts v sig_text message legacy first second → IsKeyText pk_text v
         → GivesNumber accepts pk_text sig_text message legacy result }
 
-    // An answer is 7955827 for yes or 28271 for no, and no other number is taken; a verdict ends the state, and a wrong
-    // use has its number and changes nothing.
+    // An answer is 7955827 for yes or 28271 for no, and no other number is taken; a verdict ends the state, and a usage
+    // error has its number and changes nothing.
     ensures ended { result ≡ 0 → HasEnded state.old state.new × IsAnswer first × IsAnswer second }
     ensures refused { 0 < result → IsVerdictNumber state.old state.new first second result }
 {
@@ -262,7 +262,7 @@ pub extern "C" fn minisign_open_secret_key(
 
     // What is rejected comes in this order: a number that is neither 0 nor 1; a key that was not read; a password that
     // is not UTF-8; and the first reason for which the key gives none within the greatest work; only with a password
-    // may memory run out. The key is then as it was.
+    // may an allocation fail. The key is then as it was.
     ensures refused { 0 < result → IsOpeningNumber unopened.now (passed_in with_password password.now) with_password greatest_work result }
     ensures kept { 0 < result → key.new ≡ key.old }
 {
@@ -436,7 +436,7 @@ pub extern "C" fn minisign_signed_text(
 
     // No text is written, in this order, for a key that was not opened, for comments that are not UTF-8, that would
     // not be read back, or that Minisign 0.11 would not read back, or where there is no room; for all others it is,
-    // unless memory runs out. Buffer and length are then as they were.
+    // unless an allocation fails. Buffer and length are then as they were.
     ensures refused { 0 < result → IsWritingNumber key.now (comments_of trusted.now untrusted.now) first.now second.now text.old result }
     ensures kept { 0 < result → (text.new ≡ text.old) × (text_len.new ≡ text_len.old) }
 {
@@ -555,7 +555,7 @@ pub extern "C" fn minisign_install_no_record(installation: &mut Installation) ->
 #[unsafe(no_mangle)]
 pub extern "C" fn minisign_install_piece(installation: &mut Installation, piece: &[u8]) -> u32
     // Each piece appends to what was read back, and at the end the answers are due. Where no stage is read back, the
-    // wrong use has its number, and nothing changes.
+    // usage error has its number, and nothing changes.
     ensures read { result ≡ 0 → HasReadBack piece.now installation.old installation.new }
     ensures refused { 0 < result → (installation.new ≡ installation.old) × (m : Misuse) × (result ≡ misuse_number m) × CannotBeFed installation.old m }
 {
@@ -589,7 +589,7 @@ pub extern "C" fn minisign_install_ask(
     // What the host has chosen stays.
     ensures chosen { installation.new.chosen ≡ installation.old.chosen }
 
-    // The number is that of the first reason of `Installation::ask`: a wrong use changes nothing, and for any other
+    // The number is that of the first reason of `Installation::ask`: a usage error changes nothing, and for any other
     // reason the stage is to be removed. The message buffer is as it was.
     ensures refused { 0 < result → IsNumberOf (λ r. IfErr r (IsAskRefusal installation.old installation.new key.now sig_text.now file.now (length message.old))) result }
     ensures kept { 0 < result → message.new ≡ message.old }
@@ -620,7 +620,7 @@ pub extern "C" fn minisign_install_answer(
         → IsNumberOf (GivesUpdate accepts terms kept message installation.new) result }
 
     // An answer is 7955827 for yes or 28271 for no, and no other number is taken; the permissions are due only where
-    // the answers were, and a wrong use has its number and changes nothing.
+    // the answers were, and a usage error has its number and changes nothing.
     ensures due { result ≡ 0 → ((kept : ℕ) × IsDue installation.old (Answer kept)) × ((n : ℕ) × IsDue installation.new (TakePermissions n))
         × HasEnded installation.old.state installation.new.state × IsAnswer first × IsAnswer second }
     ensures refused { 0 < result → ((result ≡ misuse_number BadAnswer) × (¬ (IsAnswer first) ⊎ ¬ (IsAnswer second)) × (installation.new ≡ installation.old))
@@ -638,7 +638,7 @@ pub extern "C" fn minisign_install_answer(
     }
 }
 
-/// Writes the number as it is to be written into the record, behind the label of its field, and returns how long
+/// Writes the number as it is to be written into the record, after the label of its field, and returns how long
 /// that is.
 #[unsafe(no_mangle)]
 pub extern "C" fn minisign_install_number_text(

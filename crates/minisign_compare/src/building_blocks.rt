@@ -160,7 +160,7 @@ impl Clock for Shows {
     }
 }
 
-// A clock that shows so many seconds since 1970, or behind a `-` can't be read.
+// A clock that shows so many seconds since 1970, or after a `-` can't be read.
 fn clock_of(word: &str) -> Result<Shows, Refusal> {
     if word.starts_with("-") {
         return Ok(Shows(None));

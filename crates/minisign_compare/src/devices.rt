@@ -49,7 +49,7 @@ impl DataWord {
         Ok(data)
     }
 
-    // Takes one part behind the bytes.
+    // Takes one part after the bytes.
     fn refine(&mut self, alloc: Global, part: &str) -> Result<(), Refusal> {
         let Some((name, value)) = part.split_once('=') else {
             return Err(Refusal::BadRequest);
@@ -121,7 +121,7 @@ impl<'a> CountedSource<'a> {
         self.place
     }
 
-    // One more fault.
+    // One more error.
     fn fail(&mut self) -> DeviceFault {
         self.faults = self.faults.saturating_add(1);
         DeviceFault
@@ -174,7 +174,7 @@ impl<'a> Rereader for CountedSource<'a> {
     }
 }
 
-// The bytes from a place on, none where it lies behind them.
+// The bytes from a place on, none where it lies after them.
 fn from_place(bytes: &[u8], place: usize) -> &[u8] {
     if place < bytes.len() {
         &bytes[place..]

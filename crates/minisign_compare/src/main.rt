@@ -43,7 +43,7 @@ fn answer_all<W: Write>(rt: &HostRuntime, answers: &mut W) -> io::Result<ExitCod
     Ok(ExitCode::SUCCESS)
 }
 
-// Says that a line is no request, behind the answers to those before it.
+// Says that a line is no request, after the answers to those before it.
 fn refuse<W: Write>(rt: &HostRuntime, answers: &mut W, line: &str) -> io::Result<ExitCode> {
     answers.flush()?;
     eprintln!(rt; "bad request: {line}")?;
@@ -120,7 +120,7 @@ fn print_fields<W: Write>(answers: &mut W, fields: &str) -> io::Result<()> {
     write!(answers, "ok {fields}")
 }
 
-// Prints the fault that a call returned.
+// Prints the error that a call returned.
 fn print_fault<W: Write>(rt: &HostRuntime, answers: &mut W, fault: &PError) -> io::Result<()> {
     let text = format!(in rt.alloc(); "{fault}")?;
     let digits = hex::encode(rt.alloc(), text.as_bytes())?;

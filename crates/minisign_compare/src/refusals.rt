@@ -12,7 +12,7 @@ use std::alloc::{AllocError, AllocFailed};
 /// Why a request gets no fields for an answer.
 #[derive(Drop)]
 pub enum Refusal {
-    /// The library's call returned a fault.
+    /// The library's call returned an error.
     Fault(PError),
     /// The call has a condition that the request does not meet.
     OutsideConditions,

@@ -2,7 +2,7 @@
 
 use crate::words::times_in;
 
-// Each request, and how many words stand behind its name.
+// Each request, and how many words stand after its name.
 const REQUESTS: [(&str, u64); 36] = [
     ("pk_from_box", 1),
     ("pk_from_base64", 1),
@@ -47,7 +47,7 @@ fn requests() -> &'static [(&'static str, u64)] {
     &REQUESTS
 }
 
-/// Whether the line has the name of a request, and as many words behind it as belong to that one.
+/// Whether the line has the name of a request, and as many words after it as belong to that one.
 pub fn is_request(name: &str, line: &str) -> bool {
     let words = times_in(line.as_bytes(), b' ');
     for (request, count) in requests() {

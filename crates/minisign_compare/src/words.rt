@@ -73,7 +73,7 @@ pub fn typed_lines_of(alloc: Global, word: &str) -> Result<Vec<u8>, Refusal> {
     Ok(typed)
 }
 
-// Puts one line and its line feed behind those that are there.
+// Puts one line and its line feed after those that are there.
 fn type_line(alloc: Global, word: &str, typed: &mut Vec<u8>) -> Result<(), Refusal> {
     let line = text_of(alloc, word)?;
     typed.extend_from_slice(line.as_bytes())?;

@@ -38,7 +38,7 @@ same_key text password k key (inl given) opens =
     cc both
 same_key text password k key (inr memory) opens = cc memory
 
--- and where none is given memory ran out
+-- and where none is given an allocation failed
 pub refused_memory : (text password : List ℕ) (e : Fault) (key : SecretKeyRecord)
     → IsReadOrNoMemory {V = SecretKeyRecord} (Err e) (key_with_password text password) → open_key text password None ≡ Ok key → e ≡ Named OutOfMemory
 refused_memory text password e key (inl refused) opens =

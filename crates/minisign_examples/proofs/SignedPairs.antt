@@ -14,7 +14,7 @@ use Rattle.minisign.specs.Signing.{AreChosenReadBack, ChosenComments}
 use Rattle.minisign.proofs.Laws.{judged_vouches}
 use Rattle.minisign_examples.specs.Releasing.{IsMemoryOrRandomFault}
 
--- the text vouches for the message, and only memory may run out for it, or no random bytes come
+-- the text vouches for the message, and only an allocation may fail for it, or no random bytes come
 pub signed_by_pair : {T Z : Type 0} (bytes : T → List ℕ) (r : Result T Fault) (accepts : Verifier) (public_of : List ℕ → List ℕ) (pk : PublicKeyRecord) (sk : SecretKeyRecord)
     (message : List ℕ) (chosen : ChosenComments) (z : RandomCall Z) → IsGenuinePair public_of pk sk → AreChosenReadBack chosen
     → IfOk r (λ t. SigningHeadline accepts public_of sk message chosen (bytes t)) → IfErr r (BytesSigningFails sk z)

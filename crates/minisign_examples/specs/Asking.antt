@@ -8,7 +8,7 @@ use Rattle.minisign.specs.Prompt.{Prompt}
 use Rattle.minisign.specs.Opening.{IsOpening}
 use Rattle.minisign.specs.Records.{SecretKeyRecord}
 
--- the prompt was asked once; or memory ran out for a copy of the text, with the prompt as it was
+-- the prompt was asked once; or an allocation failed for a copy of the text, with the prompt as it was
 abbrev pub IsOpeningOnce : {R W : Type 0} → SourceOf R → SinkOf W → Prompt R W → Prompt R W → List ℕ
     → Result SecretKeyRecord Fault → Type 0
 IsOpeningOnce source sink old new text answer =

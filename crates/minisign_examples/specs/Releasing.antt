@@ -14,7 +14,7 @@ pub record ArePairTexts (public_of : List ℕ → List ℕ) (password pk_text sk
   pub secret : OpensTo sk_text password 1 sk
   pub pair : IsGenuinePair public_of pk sk
 
--- it ran out of memory, or the random source failed; no text and no signature was rejected
+-- an allocation failed, or the random source failed; no text and no signature was rejected
 abbrev pub IsMemoryOrRandomFault : Fault → Type 0
 IsMemoryOrRandomFault e = (e ≡ Named OutOfMemory) ⊎ (e ≡ Named RandomSourceFailed)
 

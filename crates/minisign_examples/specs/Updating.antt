@@ -5,7 +5,7 @@ use Rattle.minisign.specs.ErrorKinds.{Verify}
 use Rattle.minisign.specs.Acceptance.{Verifier}
 use Rattle.minisign.specs.Headline.{verdict}
 
--- the fault of an update with another name
+-- the error of an update with another name
 unfoldable pub another_name : Fault
 another_name = Worded Verify (codes "the update has another name")
 

@@ -19,7 +19,7 @@ use std::alloc::Global;
 /// moment, in seconds since 1970.
 ///
 /// The text that is returned vouches for the message. With a genuine secret key and its own public
-/// key it fails only where memory runs out or the random source fails, never for the signature.
+/// key it fails only where an allocation fails or the random source fails, never for the signature.
 pub fn sign_and_verify<S: Scheme, Z: RandomSource>(
     alloc: Global,
     scheme: &S,
@@ -36,7 +36,7 @@ pub fn sign_and_verify<S: Scheme, Z: RandomSource>(
     // It vouches for the message under the public key.
     ensures accepted { IfOk result (λ t. TextsVouchFor (S.accepts scheme.now) (public_key_text public_key.now) (string_bytes t) message.now false) }
 
-    // With a genuine secret key and its own public key it fails only where memory runs out or the
+    // With a genuine secret key and its own public key it fails only where an allocation fails or the
     // random source fails, never for the signature.
     ensures genuine { (seed : List ℕ) → IsGenuine (S.public_of scheme.now) secret_key.now seed
         → public_key.now.key ≡ S.public_of scheme.now seed → public_key.now.keynum ≡ secret_key.now.keynum

@@ -36,8 +36,8 @@ pub struct KeyTexts {
 /// Makes a pair sealed under the password, signs the update with the text of its secret key, and
 /// verifies with what is published. The trusted comment is the moment, in seconds since 1970.
 ///
-/// Only running out of memory, a failing random source and a password of more than 1024 bytes are
-/// rejected.
+/// The only errors are a failed allocation, a failing random source and a password of more than 1024
+/// bytes.
 pub fn sign_release<S: Scheme, Z: RandomSource>(
     alloc: Global,
     scheme: &S,
@@ -50,7 +50,7 @@ pub fn sign_release<S: Scheme, Z: RandomSource>(
     // vouches for the update, whatever the scheme, the password, the update and the random bytes.
     ensures vouches { IfOk result (λ r. TextsVouchFor (S.accepts scheme.now) (string_bytes r.pk_text) (string_bytes r.sig_text) update.now false) }
 
-    // The only errors are running out of memory, a failing random source, and a password of more
+    // The only errors are a failed allocation, a failing random source, and a password of more
     // than 1024 bytes.
     ensures refused { IfErr result (IsPairFault password.now) }
 {
@@ -72,7 +72,7 @@ pub fn make_keys<S: Scheme, Z: RandomSource>(
     ensures made { IfOk result (λ t. (pk : PublicKeyRecord) × (sk : SecretKeyRecord)
         × ArePairTexts (S.public_of scheme.now) password.now (string_bytes t.pk_text) (string_bytes t.sk_text) pk sk) }
 
-    // The only errors are running out of memory, a failing random source, and a password of more
+    // The only errors are a failed allocation, a failing random source, and a password of more
     // than 1024 bytes.
     ensures refused { IfErr result (IsPairFault password.now) }
 {
@@ -93,7 +93,7 @@ pub fn sign_update<S: Scheme, Z: RandomSource>(
     moment: u64,
 ) -> Result<String>
     // With the key of a genuine pair the text is that of a box that vouches for the update, and the
-    // only errors are running out of memory and a failing random source.
+    // only errors are a failed allocation and a failing random source.
     ensures { (pk : PublicKeyRecord) → IsGenuinePair (S.public_of scheme.now) pk sk.now
         → MatchResult result (λ t. (x : SignatureBoxRecord) × (read_signature_box (string_bytes t) ≡ Ok x) × Vouches (S.accepts scheme.now) pk x update.now false) IsMemoryOrRandomFault }
 {

@@ -19,7 +19,7 @@ pub struct NewKey<'a> {
 }
 
 /// Success exactly where the old key vouches for the text of the new one, and the new key for the
-/// update. Otherwise the first reason, of the new key before the update; it may run out of memory.
+/// update. Otherwise the first reason, of the new key before the update; an allocation may fail.
 pub fn check_with_new_key<S: Scheme>(
     alloc: Global,
     scheme: &S,

@@ -11,7 +11,7 @@ use std::alloc::Global;
 
 /// Success exactly where the texts of a public key and of a signature vouch for the update, and the
 /// comment that was signed with it is this name, as `tool-1.2.tar`: so nobody passes off an older
-/// release for a newer one. Otherwise the first reason why not; it may run out of memory.
+/// release for a newer one. Otherwise the first reason why not; an allocation may fail.
 pub fn check_update<S: Scheme>(
     alloc: Global,
     scheme: &S,

@@ -60,8 +60,8 @@ IsWritable comment more bytes = IsKeyComment comment × (length comment + more �
 abbrev pub AreUtf8KeyTexts : List ℕ → Option (List ℕ) → Type 0
 AreUtf8KeyTexts comment password = IsUtf8 comment × IfSome password IsUtf8
 
--- the text of a secret key, of a comment and a password that are texts, was not written: a wrong use; then limits that
--- are rejected, or out of memory
+-- the text of a secret key, of a comment and a password that are texts, was not written: a usage error; then limits
+-- that are rejected, or out of memory
 abbrev pub IsMadeRefusal : Option (List ℕ) → Sealing → List ℕ → List ℕ → Refusal Fault → Type 0
 IsMadeRefusal password s comment bytes (WrongUse m) = IsUnwritable comment 233 bytes m
 IsMadeRefusal password s comment bytes (Refused e) = IsWritable comment 233 bytes × (e ≡ making_fault password s)

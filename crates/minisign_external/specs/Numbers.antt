@@ -1,4 +1,4 @@
--- The numbers by which a program in another language knows rejections, and what they mean. The numbers of named faults
+-- The numbers by which a program in another language knows rejections, and what they mean. The numbers of named errors
 -- stand in their table.
 use Rattle.std.specs.Prelude.{◌≡◌, ◌⊎◌, ℕ, ◌<◌, ◌-◌, ◌+◌, List, [], ◌∷◌, ◌++◌, codes, length, take, min}
 use Rattle.minisign_base.specs.Fault.{Fault, Named, Worded}
@@ -53,12 +53,12 @@ answer_no = 28271
 abbrev pub IsAnswer : ℕ → Type 0
 IsAnswer n = (n ≡ answer_yes) ⊎ (n ≡ answer_no)
 
--- the number of a fault: 255 where it has no name, which no call answers
+-- the number of an error: 255 where it has no name, which no call answers
 abbrev pub fault_number : Fault → ℕ
 fault_number (Named f) = (fault_row f).number
 fault_number (Worded kind text) = 255
 
--- the number of a refusal: that of the wrong use, or that of the error, by its own table
+-- the number of a rejection: that of the usage error, or that of the error, by its own table
 abbrev pub refusal_number : {F : Type 0} → (F → ℕ) → Refusal F → ℕ
 refusal_number number (WrongUse m) = misuse_number m
 refusal_number number (Refused e) = number e

@@ -20,12 +20,12 @@ key_of v = record { algorithm = []; keynum = v.key_id; key = v.key }
 abbrev pub read_utf8 : {V : Type 0} → (List ℕ → Result V Fault) → List ℕ → Result V Fault
 read_utf8 read bytes = require (is_utf8 bytes) NotUtf8 (read bytes)
 
--- what is answered of a key that is read, and its value; of a fault, and then the value stays
+-- what is answered of a key that is read, and its value; of an error, and then the value stays
 abbrev pub told_key : Result PublicKeyRecord Fault → PublicKeyValue → Result Unit Fault × PublicKeyValue
 told_key (Ok k) old = (Ok tt, value_of k)
 told_key (Err e) old = (Err e, old)
 
--- the same as a number: 0, or that of the fault
+-- the same as a number: 0, or that of the error
 abbrev pub told_key_number : Result PublicKeyRecord Fault → PublicKeyValue → ℕ × PublicKeyValue
 told_key_number (Ok k) old = (0, value_of k)
 told_key_number (Err e) old = (fault_number e, old)

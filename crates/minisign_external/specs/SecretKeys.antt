@@ -46,7 +46,7 @@ read_value bytes =
       reserved = 0;
     }
 
--- whether a text is read as a number: 0, or that of the fault
+-- whether a text is read as a number: 0, or that of the error
 abbrev pub reading_number : Result SecretKeyRecord Fault → ℕ
 reading_number (Ok k) = 0
 reading_number (Err e) = fault_number e
@@ -79,8 +79,9 @@ OpensAs v text =
     (password : Option (List ℕ)) (greatest_work : ℕ)
     → open_read_key (unopened_record v) password greatest_work ≡ read_key_to_sign text password greatest_work
 
--- a key that was read was not opened: the password is not UTF-8; or memory ran out, with a password, for a derivation,
--- which a key takes that is sealed by scrypt, with limits that are allowed and within the work; or it gives no key
+-- a key that was read was not opened: the password is not UTF-8; or an allocation failed, with a password, for a
+-- derivation, which a key takes that is sealed by scrypt, with limits that are allowed and within the work; or it
+-- gives no key
 abbrev pub IsOpeningFault : SecretKeyRecord → Option (List ℕ) → ℕ → Fault → Type 0
 IsOpeningFault k password greatest_work e =
     ((e ≡ Named NotUtf8) × ¬ (IfSome password IsUtf8))

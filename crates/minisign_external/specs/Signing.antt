@@ -96,7 +96,7 @@ HasNoRoom key_id chosen first second bytes =
     length bytes < length (signature_text (answered_signature key_id first) (answered_comments chosen second))
 
 -- the text was not written, and this is the first reason: the key was not opened, a comment is not UTF-8, a comment is
--- rejected, or the text has no room; or memory ran out, of comments that are not rejected
+-- rejected, or the text has no room; or an allocation failed, of comments that are not rejected
 abbrev pub IsWritingRefusal : SecretKeyValue → ChosenComments → List ℕ → List ℕ → List ℕ → Refusal Fault → Type 0
 IsWritingRefusal v chosen first second bytes (WrongUse m) =
     ((m ≡ KeyNotOpened) × (is_opened v ≡ false))

@@ -138,7 +138,7 @@ asking_result s v sig_text legacy room =
 abbrev pub verdict_misuse : State → Misuse
 verdict_misuse s = if is_begun s then NotAsked else NotBegun
 
--- the rejection is a fault of the library, of this kind
+-- the rejection is an error of the library, of this kind
 abbrev pub IsFaultOf : (Fault → Type 0) → Refusal Fault → Type 0
 IsFaultOf holds (WrongUse m) = ⊥
 IsFaultOf holds (Refused e) = holds e
@@ -153,7 +153,7 @@ abbrev pub IsAskFedRefusal : State → PublicKeyValue → List ℕ → Bool → 
 IsAskFedRefusal s v sig_text legacy room r =
     IsNotFedRefusal s r ⊎ (IsMarkedFed s × (asked_of (read_under v legacy sig_text) room ≡ Err r))
 
--- where it is a fault, every text that reads as the key and the text of the signature, which is UTF-8 then, reject for
+-- where it is an error, every text that reads as the key and the text of the signature, which is UTF-8 then, reject for
 -- it, whatever the scheme and the message; or the text of the signature is not UTF-8
 abbrev pub IsTextRefusal : PublicKeyValue → List ℕ → Bool → Refusal Fault → Type 0
 IsTextRefusal v sig_text legacy (WrongUse m) = ⊤

@@ -72,7 +72,7 @@ impl State {
     }
 
     /// The same about all that the state was fed, also where it was asked before: the digest is told as well, and the
-    /// state takes no more data. Returns the trusted comment, which nothing vouches for yet. A wrong use changes
+    /// state takes no more data. Returns the trusted comment, which nothing vouches for yet. A usage error changes
     /// nothing, but that the two key IDs are told where the buffer is too short.
     pub fn ask_fed<'a>(
         &mut self,

@@ -22,7 +22,7 @@ pub fn is_answer(number: u32) -> bool
     number == ANSWER_YES || number == ANSWER_NO
 }
 
-// The number of a fault without a name, which no call of this library answers.
+// The number of an error without a name, which no call of this library answers.
 const UNNAMED: u32 = 255;
 
 /// An error by whose number a program in another language knows it.
@@ -49,10 +49,10 @@ impl Numbered for PError {
 }
 
 impl<F: Numbered> Refusal<F> {
-    /// The number of the refusal: that of the wrong use, or that of the error.
+    /// The number of the rejection: that of the usage error, or that of the error.
     pub fn number(&self) -> u32
-        // The number of a refusal is that of its wrong use or of its error, by a table: of the library's 7 is out of
-        // memory and nothing else.
+        // The number of a rejection is that of its usage error or of its error, by a table: of the library's 7 is out
+        // of memory and nothing else.
         ensures { result ≡ refusal_number F.number_of self.now }
     {
         match self {
@@ -63,7 +63,7 @@ impl<F: Numbered> Refusal<F> {
 }
 
 impl Misuse {
-    /// All wrong uses.
+    /// All usage errors.
     pub const ALL: [Misuse; 14] = [
         Misuse::NotBegun,
         Misuse::AlreadyAsked,
@@ -81,7 +81,7 @@ impl Misuse {
         Misuse::KeyNotRead,
     ];
 
-    /// The number of the wrong use, from 1 to 15, or 63.
+    /// The number of the usage error, from 1 to 15, or 63.
     pub fn number(&self) -> u32
         ensures { result ≡ misuse_number self.now }
     {
@@ -103,7 +103,7 @@ impl Misuse {
         }
     }
 
-    /// What the wrong use is, in English.
+    /// What the usage error is, in English.
     pub fn text(&self) -> &'static str
         ensures { result.now ≡ misuse_text self.now }
     {
@@ -138,7 +138,7 @@ impl Misuse {
 /// is no room for more: returns the length of the whole text, which is at most 127 bytes. Where
 /// `to` has no byte nothing is written.
 pub fn write_error_text(number: u32, to: &mut [u8]) -> usize
-    // The text of a number is that of the wrong use, or what the fault of this number says without its key IDs; it
+    // The text of a number is that of the usage error, or what the error of this number says without its key IDs; it
     // has less than 128 bytes, is cut to its room and ended by a 0.
     ensures written { (text : List ℕ) × IsMeaning number text × (result ≡ length text) × WritesCut text to.old to.new }
     ensures room { result < 128 }
@@ -148,7 +148,7 @@ pub fn write_error_text(number: u32, to: &mut [u8]) -> usize
 
 /// Writes a text, cut where there is no room for more, and a 0. Returns the length of the text.
 pub fn write_cut(text: &str, to: &mut [u8]) -> usize
-    // The text stands at the start of the buffer, cut where there is no room for more, and a 0 behind it.
+    // The text stands at the start of the buffer, cut where there is no room for more, and a 0 after it.
     ensures length { result ≡ length text.now }
     ensures cut { WritesCut text.now to.old to.new }
 {
@@ -164,7 +164,7 @@ pub fn write_cut(text: &str, to: &mut [u8]) -> usize
     bytes.len()
 }
 
-/// What a number means, in English: of a fault its summary, which says all but its key IDs.
+/// What a number means, in English: of an error its summary, which says all but its key IDs.
 pub fn error_text(number: u32) -> &'static str
     ensures meaning { IsMeaning number result.now }
     ensures room { length result.now < 128 }
@@ -181,7 +181,7 @@ pub fn error_text(number: u32) -> &'static str
     }
 }
 
-// The wrong use of a number.
+// The usage error of a number.
 fn misuse_of(number: u32) -> Option<Misuse>
     ensures { result ≡ find (λ m. misuse_number m == number) Misuse.ALL }
 {
@@ -191,7 +191,7 @@ fn misuse_of(number: u32) -> Option<Misuse>
         .find(|misuse| misuse.number() == number)
 }
 
-// The named fault of a number, with key IDs of zeros.
+// The named error of a number, with key IDs of zeros.
 fn fault_of(number: u32) -> Option<NamedFault>
     ensures { result ≡ find (λ f. (fault_row f).number == number) NamedFault.ALL }
 {

@@ -37,8 +37,8 @@ pub fn signed_text(
     // Rejected are comments that would not be read back as they are: one with a line feed, an untrusted one with a
     // carriage return at its end, a trusted one with white space at either end. Then those that Minisign 0.11 would not
     // read back: an untrusted one of 1,004 bytes or more, a trusted one of 8,174 or more, one with a zero byte or a
-    // carriage return. For all others there is a text, unless memory runs out: no comment that is rejected is said to
-    // have wanted memory.
+    // carriage return. For all others there is a text, unless an allocation fails: no comment that is rejected is
+    // called out of memory.
     ensures refused { IfErr result (λ r. ((r ≡ Refused (Named OutOfMemory)) × AreChosenReadBack (comments_of trusted.now untrusted.now) × AreReadByMinisign (comments_of trusted.now untrusted.now))
         ⊎ ((m : Misuse) × (r ≡ WrongUse m) × IsCommentMisuse (comments_of trusted.now untrusted.now) m)) }
     ensures kept { OnOk result (AreChosenReadBack (comments_of trusted.now untrusted.now) × AreReadByMinisign (comments_of trusted.now untrusted.now)) }

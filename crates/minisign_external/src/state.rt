@@ -64,7 +64,7 @@ pub struct Questions {
     pub reserved: u32,
 }
 
-/// A wrong use of a state or of a call.
+/// A usage error of a state or of a call.
 #[derive(Clone, Copy, Debug, PartialEq, Eq)]
 pub enum Misuse {
     /// The state was never begun, or was ended by a verdict.
@@ -101,13 +101,13 @@ pub enum Misuse {
 /// Why a call did not go: mostly for an error of the library.
 #[derive(Debug, Drop)]
 pub enum Refusal<F = PError> {
-    /// A wrong use.
+    /// A usage error.
     WrongUse(Misuse),
     /// What was asked for is rejected, for this error.
     Refused(F),
 }
 
-/// The rejection that this fault is.
+/// The rejection that this error is.
 impl From<PError> for Refusal {
     ghost from_gives = { λ e r. r ≡ Refused e };
 
@@ -116,7 +116,7 @@ impl From<PError> for Refusal {
     }
 }
 
-/// The rejection that this wrong use is.
+/// The rejection that this usage error is.
 impl<F> From<Misuse> for Refusal<F> {
     ghost from_gives = { λ m r. r ≡ WrongUse m };
 

@@ -159,9 +159,9 @@ pub fn open_secret_key(
 
     // What is rejected comes in this order: a key that was not read; a password that is not UTF-8; and the first reason
     // for which the key that was read gives none within the greatest work, as `SecretKey::from_unencrypted_box` says
-    // without a password, but for a key without a checksum, and `SecretKey::from_box_keeping_within` with one. Memory
-    // runs out only with a password, for a key that is sealed by scrypt, whose limits are allowed and within the work.
-    // The value is then as it was.
+    // without a password, but for a key without a checksum, and `SecretKey::from_box_keeping_within` with one. An
+    // allocation fails only with a password, for a key that is sealed by scrypt, whose limits are allowed and within the
+    // work. The value is then as it was.
     ensures refused { IfErr result (IsOpeningRefusal unopened.now (option_map (λ p. p.now) password.entry) greatest_work) }
     ensures kept { OnErr result (value.new ≡ value.old) }
 {

@@ -1,4 +1,4 @@
-//! Folders of files that tests make in the system's one for passing files.
+//! Directories of files that tests make in the system's one for passing files.
 
 use std::test::Fail;
 use std::{env, fs, process};

@@ -1,4 +1,4 @@
-//! What comes of a call, and how bytes are shown and compared; beginnings of texts and bytes.
+//! What comes of a call, and how bytes are shown and compared; prefixes of texts and bytes.
 
 use minisign_base::errors::Result;
 use minisign_base::faults::NamedFault;
@@ -45,7 +45,7 @@ pub fn is_so(answer: Result<bool>) -> bool {
     holds(&answer)
 }
 
-// Whether it was found out and holds, or memory ran out.
+// Whether it was found out and holds, or an allocation failed.
 fn is_right_or_out_of_memory(answer: &Result<bool>) -> bool {
     match answer {
         Ok(right) => *right,
@@ -53,7 +53,7 @@ fn is_right_or_out_of_memory(answer: &Result<bool>) -> bool {
     }
 }
 
-/// Whether it was found out and holds, or memory ran out.
+/// Whether it was found out and holds, or an allocation failed.
 pub fn is_so_or_out_of_memory(answer: Result<bool>) -> bool {
     is_right_or_out_of_memory(&answer)
 }

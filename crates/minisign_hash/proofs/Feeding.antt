@@ -33,7 +33,7 @@ block_rest m b i used e len fits =
 pub held_none : (n : ℕ) (h buffer : List ℕ) → h ≡ state_after n [] 0 → HeldAfter n h 0 buffer 0 [] 0
 held_none n h buffer e = record { len = refl; state = e; rest = refl; counted = refl }
 
--- bytes that are put behind those in the buffer
+-- bytes that are put after those in the buffer
 pub held_more : (n : ℕ) (h : List ℕ) (count : ℕ) (b c : List ℕ) (used : ℕ) (m d : List ℕ) (i : ℕ) → HeldAfter n h count b used m i
     → take (used + length d) c ≡ take used b ++ d → HeldAfter n h count c (used + length d) (m ++ d) i
 held_more n h count b c used m d i held e = record {
@@ -77,7 +77,7 @@ held_taken n g count k b used m i s none len whole ec ek eg =
       counted = omega (arith, ec, ek, whole);
     }
 
--- what is left behind whole blocks is the last block
+-- what is left after whole blocks is the last block
 pub last_taken : (n : ℕ) (h m blocks last : List ℕ) (i k : ℕ) → drop (128 * i) m ≡ blocks ++ last → length m ≡ 128 * i + length (blocks ++ last)
     → length blocks % 128 ≡ 0 → length last ≤ 128 → (0 < length m → 0 < length last) → h ≡ state_after n m (i + length blocks / 128)
     → k ≡ length m % 2 ^ 128

@@ -22,7 +22,7 @@ block_front len i k p q lp lt =
     ap (take len) (drop-append-le (len * k) p q (omega arith))
     ∙ take-append-le len (drop (len * k) p) q (omega (arith, length-drop (len * k) p))
 
--- a block behind the front
+-- a block after the front
 pub block_behind : (len i k : ℕ) (p q : List ℕ) → length p ≡ len * i → block len (p ++ q) (i + k) ≡ block len q k
 block_behind len i k p q lp =
     let at : len * (i + k) ≡ length p + len * k = grind (arith, lp) in

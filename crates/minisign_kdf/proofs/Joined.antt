@@ -26,7 +26,7 @@ length-joined_lists f k (suc n) each =
     let before : length (joined_lists f n) ≡ n * k = length-joined_lists f k n each in
     ap (λ (m : ℕ). length (joined_lists f m)) (sym (add-one n)) ∙ ap length (joined_lists_next f n) ∙ length-append (joined_lists f n) (f n) ∙ (λ t. before t + each n t) ∙ sym (suc-mul n k)
 
--- the first n members, and the m behind them
+-- the first n members, and the m after them
 pub joined_lists_split : (f : ℕ → List ℕ) (n m : ℕ) → joined_lists f (n + m) ≡ joined_lists f n ++ joined_lists (λ j. f (n + j)) m
 joined_lists_split f n zero = ap (joined_lists f) (add-zero n) ∙ sym (append-nil (joined_lists f n)) ∙ ap (λ (l : List ℕ). joined_lists f n ++ l) (sym (joined_lists_none (λ (j : ℕ). f (n + j))))
 joined_lists_split f n (suc m) =

@@ -1,4 +1,4 @@
-//! What key derivation rejects, and which of its faults a rejection further down becomes.
+//! What key derivation rejects, and which of its errors a rejection further down becomes.
 
 ghost use Rattle.std.specs.Prelude.{◌≡◌, Some, codes};
 
@@ -65,7 +65,7 @@ impl From<AllocError> for KdfError {
     }
 }
 
-/// The fault of the output's length.
+/// The error of the output's length.
 impl From<InvalidOutputLen> for KdfError {
     ghost use Rattle.minisign_kdf.specs.declared.errors.KdfError.TheVariants.{InvalidOutputLen};
 

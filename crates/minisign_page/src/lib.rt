@@ -142,7 +142,7 @@ pub extern "C" fn page_verdict(state: &mut State, first: u32, second: u32) -> u3
     }
 }
 
-// The number of a rejection. It is forgotten and not dropped: it has no memory to give back, and the type of a fault,
+// The number of a rejection. It is forgotten and not dropped: it has no memory to give back, and the type of an error,
 // which may have a text of its own, would have the module call for giving memory back.
 fn number_of(refusal: Refusal) -> u32
     ensures { result ≡ refusal_number fault_number refusal }

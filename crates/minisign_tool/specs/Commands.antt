@@ -26,7 +26,7 @@ AsksFor words (VerifyRaw pk sig) = words ≡ codes "verify-raw" ∷ pk.now ∷ s
 AsksFor words (Cat pk file sig) = words ≡ codes "cat" ∷ pk.now ∷ file.now ∷ sig.now ∷ []
 AsksFor words Usage = ¬ (IsForm words)
 
--- what was read behind the program's name asks for this command, and for the usage where an argument is not UTF-8
+-- what was read after the program's name asks for this command, and for the usage where an argument is not UTF-8
 abbrev pub ReadAsksFor : Option (List (List ℕ)) → Command → Type 0
 ReadAsksFor None command = command ≡ Usage
 ReadAsksFor (Some words) command = AsksFor words command

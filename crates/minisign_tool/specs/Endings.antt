@@ -32,13 +32,13 @@ HoldsAfter accepts Usage = ⊥
 abbrev pub ShowsCommand : Verifier → Command → ℕ → Type 0
 ShowsCommand accepts command status = status ≡ 0 → HoldsAfter accepts command
 
--- what a command says that is quiet where it ends well: the warning, and with status 1 the line of a fault behind it
+-- what a command says that is quiet where it ends well: the warning, and with status 1 the line of an error after it
 abbrev pub SaysOnlyFaults : {S : Type 0} → SinkOf S → S → S → ℕ → Type 0
 SaysOnlyFaults sink old new status =
     (status ≡ 0 → TakesOrFails sink old new warning_line) × (status ≡ 1 → ShowsOnlyFault sink old new (λ _. ⊤))
 
--- what a command says that verifies: the warning, and with status 0 the status lines of a box behind it, with 1 the
--- line of a fault at the end
+-- what a command says that verifies: the warning, and with status 0 the status lines of a box after it, with 1 the
+-- line of an error at the end
 abbrev pub SaysVerdict : {S : Type 0} → SinkOf S → S → S → ℕ → Type 0
 SaysVerdict sink old new status =
     (status ≡ 0 → (box : SignatureBoxRecord) × SaysAfterWarning sink old new (status_lines box))

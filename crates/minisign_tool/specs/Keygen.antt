@@ -10,7 +10,7 @@ use Rattle.minisign.specs.Sealing.{xored_key}
 use Rattle.minisign.specs.SecretKeyText.{secret_key_text}
 
 -- a pair was made of the random bytes that were drawn, under a password that was typed twice; one sink took
--- the text of its public key, the other that of its secret key with the comment by default, and this text
+-- the text of its public key, the other that of its secret key with the default comment, and this text
 -- opens under the password to the secret key of that public one, and to no other
 pub record MakesKeys {Z R W P K : Type 0} (public_of : List ℕ → List ℕ) (z : RandomCall Z) (p : PromptCall R W)
     (pk_sink : SinkCall P) (sk_sink : SinkCall K) : Type 0 where

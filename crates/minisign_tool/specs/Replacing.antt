@@ -17,6 +17,6 @@ pub record HoldsContents (c : Contents) (path : List ℕ) (mode : ℕ) (bytes : 
   pub mode_given : c.mode ≡ mode
   pub bytes_given : c.bytes.now ≡ bytes
 
--- memory ran out, or a call of the system failed
+-- an allocation failed, or a call of the system failed
 abbrev pub IsWriteFault : Fault → Type 0
 IsWriteFault e = (e ≡ Named OutOfMemory) ⊎ (e ≡ Named WritingFailed)

@@ -39,7 +39,7 @@ signing_call sk_file data_reader random reader writer old new = record {
 }
 
 -- the key's text gave a key, with a password that was asked for where it is sealed; all the data was read,
--- and this is the text of the box that the key signs it with, the comments being those by default; where the key is
+-- and this is the text of the box that the key signs it with, the comments being the default ones; where the key is
 -- genuine, the text is read back as a box that vouches for the data
 pub record SignsText {S K R Z A B : Type 0} (s : SchemeOf S) (scheme : S) (d : SigningCall K R Z A B)
     (sk_text : List ℕ) (moment : ℕ) (text : List ℕ) : Type 0 where

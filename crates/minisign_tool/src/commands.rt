@@ -39,7 +39,7 @@ pub enum Command<'a> {
     Usage,
 }
 
-/// The command that the words behind the program's path ask for. Words that are none of the five
+/// The command that the words after the program's path ask for. Words that are none of the five
 /// forms, as those with a word too few or too many, ask for the usage. Does not allocate.
 pub fn command_of<'a>(words: &[&'a str]) -> Command<'a>
     // Words ask for a command as the table of the program in docs/FORMATS.md says: each of its five

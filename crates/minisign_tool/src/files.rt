@@ -1,6 +1,6 @@
 //! The commands over the files that the arguments name: opens the files, runs a command's body over
 //! them and the standard streams, and returns the exit status. What fails before the body has begun
-//! is returned as a fault, with nothing said.
+//! is returned as an error, with nothing said.
 
 ghost use Rattle.std.specs.Prelude.{◌≡◌, ◌≤◌, ◌⊎◌, ℕ, List, Some, Err, IsOk, IfOk, IfErr};
 ghost use Rattle.minisign.specs.Fault.{Fault, Named};
@@ -42,10 +42,10 @@ pub fn keygen_files<S: Scheme, W: Sink>(
     // The exit status is 0 or 1.
     ensures status { IfOk result (λ s. s ≤ 1) }
 
-    // With status 0 the warning is said, with 1 the line of a fault behind it, and nothing else.
+    // With status 0 the warning is said, with 1 the line of an error after it, and nothing else.
     ensures said { IfOk result (SaysOnlyFaults W.Sink errors.old errors.new) }
 
-    // The only fault that comes before the body is `reading failed`, and nothing is said then.
+    // The only error that comes before the body is `reading failed`, and nothing is said then.
     ensures refused { IfErr result (λ e. (e ≡ Named ReadingFailed) × (errors.new ≡ errors.old)) }
 {
     let random_file = open(rt, "/dev/urandom")?;
@@ -107,10 +107,10 @@ pub fn sign_files<S: Scheme, W: Sink>(
     // The exit status is 0 or 1.
     ensures status { IfOk result (λ s. s ≤ 1) }
 
-    // With status 0 the warning is said, with 1 the line of a fault behind it, and nothing else.
+    // With status 0 the warning is said, with 1 the line of an error after it, and nothing else.
     ensures said { IfOk result (SaysOnlyFaults W.Sink errors.old errors.new) }
 
-    // The only faults that come before the body are `reading failed` and that of the clock, and
+    // The only errors that come before the body are `reading failed` and that of the clock, and
     // nothing is said then.
     ensures refused { IfErr result (λ e. ((e ≡ Named ReadingFailed) ⊎ (e ≡ Named ClockIncorrect))
         × (errors.new ≡ errors.old)) }
@@ -167,11 +167,11 @@ pub fn verify_files<S: Scheme, W: Sink>(
     // the scheme accepts.
     ensures accepted { IfOk result (λ s. s ≡ 0 → SomeTextsVouch (S.accepts scheme.now)) }
 
-    // With status 0 the status lines of a box are said behind the warning, with 1 the line of a
-    // fault comes last.
+    // With status 0 the status lines of a box are said after the warning, with 1 the line of an
+    // error comes last.
     ensures said { IfOk result (SaysVerdict W.Sink errors.old errors.new) }
 
-    // The only fault that comes before the body is `reading failed`, and nothing is said then.
+    // The only error that comes before the body is `reading failed`, and nothing is said then.
     ensures refused { IfErr result (λ e. (e ≡ Named ReadingFailed) × (errors.new ≡ errors.old)) }
 {
     let (pk_file, data_file, sig_file) = open_three(rt, pk, file, sig)?;
@@ -198,11 +198,11 @@ pub fn verify_raw_files<S: Scheme, W: Sink>(
     // for which these vouch, whatever the scheme accepts.
     ensures accepted { IfOk result (λ s. s ≡ 0 → SomeBytesVouch (S.accepts scheme.now)) }
 
-    // With status 0 the status line of a bare signature is said behind the warning, with 1 the line
-    // of a fault comes last.
+    // With status 0 the status line of a bare signature is said after the warning, with 1 the line
+    // of an error comes last.
     ensures said { IfOk result (SaysRawVerdict W.Sink errors.old errors.new) }
 
-    // The only fault that comes before the body is `reading failed`, and nothing is said then.
+    // The only error that comes before the body is `reading failed`, and nothing is said then.
     ensures refused { IfErr result (λ e. (e ≡ Named ReadingFailed) × (errors.new ≡ errors.old)) }
 {
     let pk_file = open(rt, pk)?;
@@ -235,11 +235,11 @@ pub fn cat_files<S: Scheme, W: Sink>(
     // the scheme accepts.
     ensures accepted { IfOk result (λ s. s ≡ 0 → SomeTextsVouch (S.accepts scheme.now)) }
 
-    // With status 0 the status lines of a box are said behind the warning, with 1 the line of a
-    // fault comes last.
+    // With status 0 the status lines of a box are said after the warning, with 1 the line of an
+    // error comes last.
     ensures said { IfOk result (SaysVerdict W.Sink errors.old errors.new) }
 
-    // The only faults that come before the body are `reading failed` and data from the file that
+    // The only errors that come before the body are `reading failed` and data from the file that
     // standard output leads into, and nothing is said then.
     ensures refused { IfErr result (λ e. ((e ≡ Named ReadingFailed) ⊎ (e ≡ input_is_output))
         × (errors.new ≡ errors.old)) }
@@ -258,7 +258,7 @@ pub fn cat_files<S: Scheme, W: Sink>(
 }
 
 // The exit status of a command whose body ended well and whose files were replaced, or were not: then
-// the fault is shown.
+// the error is shown.
 fn end_replacing<W: Sink>(errors: &mut W, replaced: Result<()>) -> u8
     ensures status { result ≤ 1 }
     ensures silent { result ≡ 0 → IsOk replaced × (errors.new ≡ errors.old) }

@@ -17,12 +17,12 @@ use std::alloc::Global;
 
 /// Makes a sealed pair of 72 random bytes, which are drawn first, under a password that the prompt
 /// asks for twice. Both texts are made before the first is written: the one of the public key goes
-/// to `pk_sink`, and then the one of the secret key, with the comment by default, to `sk_sink`. The
-/// warning, and then the line of a fault, go to `errors`.
+/// to `pk_sink`, and then the one of the secret key, with the default comment, to `sk_sink`. The
+/// warning, and then the line of an error, go to `errors`.
 ///
 /// Returns the exit status: 0 where both texts were written, otherwise 1. Where no pair is made, or
-/// memory runs out for its texts, both sinks are as they were; a sink that failed took a
-/// beginning of its text.
+/// an allocation fails for its texts, both sinks are as they were; a sink that failed took a
+/// prefix of its text.
 pub fn run_keygen<S: Scheme, Z: RandomSource, R: Source, W: Sink, P: Sink, K: Sink, E: Sink>(
     alloc: Global,
     scheme: &S,

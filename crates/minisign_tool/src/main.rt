@@ -33,7 +33,7 @@ use streams::hold_closed_streams;
 
 fn main(rt: HostRuntime) -> ExitCode {
     let mut errors = WriterSink::new(rt.stderr());
-    // No file may get the number of a closed stream, into which a prompt or a fault's line would
+    // No file may get the number of a closed stream, into which a prompt or an error's line would
     // go.
     let answer = match hold_closed_streams(&rt) {
         Ok(_held) => run(&rt, &ToyScheme::new(), read_arguments(&rt), &mut errors),
@@ -43,24 +43,24 @@ fn main(rt: HostRuntime) -> ExitCode {
 }
 
 // Runs the command that the arguments ask for, which were read or were not, and returns its exit
-// status. What fails before its body has begun is a fault, with nothing said.
+// status. What fails before its body has begun is an error, with nothing said.
 fn run<S: Scheme, W: Sink>(
     rt: &HostRuntime,
     scheme: &S,
     arguments: Result<Option<Vec<String>>>,
     errors: &mut W,
 ) -> Result<u8>
-    // The exit status is at most 2, and with a fault nothing was said.
+    // The exit status is at most 2, and with an error nothing was said.
     ensures status { IfOk result (λ s. s ≤ 2) }
     ensures unsaid { OnErr result (errors.new ≡ errors.old) }
 
     // There is an exit status only of arguments that were read.
     ensures read { OnOk result (IsOk arguments) }
 
-    // A run of `verify` or `cat` ends with 0 only where two texts and data are there for which they
+    // A run of `verify` or `cat` exits with status 0 only where two texts and data are there for which they
     // vouch, and one of `verify-raw` only where the bytes of a key, of a bare signature and data
-    // are; the usage ends with 2. What is said is what the command says that ends so, or the usage
-    // behind the warning.
+    // are; the usage exits with status 2. What is said is what the command says that ends so, or the usage
+    // after the warning.
     //
     // Arguments of which one is not UTF-8 ask for the usage.
     ensures ended { IfOk result (λ s. IfOk arguments (λ a. (command : Command)
@@ -81,14 +81,14 @@ fn run_arguments<S: Scheme, W: Sink>(
     arguments: &[String],
     errors: &mut W,
 ) -> Result<u8>
-    // The exit status is at most 2, and with a fault nothing was said.
+    // The exit status is at most 2, and with an error nothing was said.
     ensures status { IfOk result (λ s. s ≤ 2) }
     ensures unsaid { OnErr result (errors.new ≡ errors.old) }
 
-    // A run of `verify` or `cat` ends with 0 only where two texts and data are there for which they
+    // A run of `verify` or `cat` exits with status 0 only where two texts and data are there for which they
     // vouch, and one of `verify-raw` only where the bytes of a key, of a bare signature and data
-    // are; the usage ends with 2. What is said is what the command says that ends so, or the usage
-    // behind the warning.
+    // are; the usage exits with status 2. What is said is what the command says that ends so, or the usage
+    // after the warning.
     ensures ended { IfOk result (λ s. (command : Command) × AsksFor (map (λ a. string_bytes a) (drop 1 arguments.now)) command
         × ShowsCommand (S.accepts scheme.now) command s
         × SaysCommand W.Sink command errors.old errors.new s) }
@@ -104,14 +104,14 @@ fn run_command<S: Scheme, W: Sink>(
     command: Command<'_>,
     errors: &mut W,
 ) -> Result<u8>
-    // The exit status is at most 2, and with a fault nothing was said.
+    // The exit status is at most 2, and with an error nothing was said.
     ensures status { IfOk result (λ s. s ≤ 2) }
     ensures unsaid { OnErr result (errors.new ≡ errors.old) }
 
-    // A run of `verify` or `cat` ends with 0 only where two texts and data are there for which they
+    // A run of `verify` or `cat` exits with status 0 only where two texts and data are there for which they
     // vouch, and one of `verify-raw` only where the bytes of a key, of a bare signature and data
-    // are; the usage ends with 2. What is said is what the command says that ends so, or the usage
-    // behind the warning.
+    // are; the usage exits with status 2. What is said is what the command says that ends so, or the usage
+    // after the warning.
     ensures ended { IfOk result (ShowsCommand (S.accepts scheme.now) command.entry) }
     ensures said { IfOk result (SaysCommand W.Sink command.entry errors.old errors.new) }
 {
@@ -125,9 +125,9 @@ fn run_command<S: Scheme, W: Sink>(
     }
 }
 
-// Shows the usage behind the warning, and returns its exit status.
+// Shows the usage after the warning, and returns its exit status.
 fn show_usage<W: Sink>(errors: &mut W) -> u8
-    // The usage is said behind the warning, and its exit status is 2.
+    // The usage is said after the warning, and its exit status is 2.
     ensures status { result ≡ 2 }
     ensures said { ShowsWarningAndUsage W.Sink errors.old errors.new }
 {

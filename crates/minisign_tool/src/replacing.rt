@@ -45,7 +45,7 @@ enum Place {
     Stream,
 }
 
-// The path behind all links, and the file that is there.
+// The path after all links, and the file that is there.
 #[derive(Drop)]
 struct FilePlace {
     path: String,
@@ -107,7 +107,7 @@ impl Stage {
 /// Replaces the file that the path leads to, links followed, in one step: a new one is made beside
 /// it under a name of its own, written, synced, and renamed. It gets the permissions, and
 /// where that is allowed the owner and the group, of the file that was there, or else `mode`; but
-/// its group gets no right that not all others have. What is no regular file is written as it is.
+/// its group gets no permission that not all others have. What is no regular file is written as it is.
 ///
 /// Where that fails, which is out of memory or `WritingFailed`, the older one is as it was
 /// and nothing is left beside it. Only where the directory cannot be synced the new one
@@ -248,7 +248,7 @@ fn find_place(rt: &HostRuntime, path: &str) -> Result<Place>
     })
 }
 
-// The path behind all links, or none where a link stands for a stream of the program's own, as
+// The path after all links, or none where a link stands for a stream of the program's own, as
 // `/dev/stdout`.
 fn follow_links(rt: &HostRuntime, path: &str) -> Result<Option<String>>
     ensures { IfErr result IsWriteFault }
@@ -360,8 +360,8 @@ fn write_stream(rt: &HostRuntime, contents: Contents<'_>) -> Result<()>
     }
 }
 
-// What the system returns from a call of writing: each error, except running out of
-// memory, is `WritingFailed`.
+// What the system returns from a call of writing: each error, except a
+// failed allocation, is `WritingFailed`.
 fn written<T>(answer: io::Result<T>) -> Result<T>
     ensures { IfErr result IsWriteFault }
 {

@@ -38,10 +38,10 @@ pub fn usage<W: Sink>(errors: &mut W) -> u8
     2
 }
 
-/// Shows a fault, and returns the exit status of one. Does not allocate.
+/// Shows an error, and returns the exit status of one. Does not allocate.
 pub fn report<W: Sink>(errors: &mut W, fault: &PError) -> u8
-    // The line of a fault is `error: ` and the text of the very fault that ended the run, for each
-    // fault that there is; it is written whole, or the error stream failed and took a prefix.
+    // The line of an error is `error: ` and the text of the very error that ended the run, for each
+    // error that there is; it is written whole, or the error stream failed and took a prefix.
     // Its exit status is 1.
     ensures status { result ≡ 1 }
     ensures said { ShowsFault W.Sink errors.old errors.new fault.now }
@@ -51,11 +51,11 @@ pub fn report<W: Sink>(errors: &mut W, fault: &PError) -> u8
     1
 }
 
-/// The exit status of a command: its own, or that of a fault that came before its body, which is
-/// shown behind the warning.
+/// The exit status of a command: its own, or that of an error that came before its body, which is
+/// shown after the warning.
 pub fn end<W: Sink>(errors: &mut W, answer: Result<u8>) -> u8
-    // The exit status of a command is its own; of a fault that came before its body the warning and
-    // the fault are shown, and it is 1.
+    // The exit status of a command is its own; of an error that came before its body the warning and
+    // the error are shown, and it is 1.
     ensures { MatchResult answer (λ s. (result ≡ s) × (errors.new ≡ errors.old))
         (λ e. (result ≡ 1) × ((warned : W) × TakesOrFails W.Sink errors.old warned warning_line
         × ShowsFault W.Sink warned errors.new e)) }
@@ -69,8 +69,8 @@ pub fn end<W: Sink>(errors: &mut W, answer: Result<u8>) -> u8
     }
 }
 
-// Puts the line of a fault with this text: in one call of `write_all` where the text takes at most
-// 504 bytes, as that of every named fault does, and otherwise in three.
+// Puts the line of an error with this text: in one call of `write_all` where the text takes at most
+// 504 bytes, as that of every named error does, and otherwise in three.
 fn put_fault<W: Sink>(errors: &mut W, text: &[u8]) -> std::result::Result<(), DeviceFault>
     ensures bytes { OnOk result (Appends (W.taken errors.old) (W.taken errors.new) (codes "error: " ++ line text.now)) }
     ensures no_new_fault { OnOk result (W.sink_faults errors.new ≡ W.sink_faults errors.old) }

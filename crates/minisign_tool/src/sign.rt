@@ -33,8 +33,8 @@ pub struct SigningDevices<K, R, Z, A, B> {
 
 /// Signs the data of `devices` with the text of their secret key, and hands the text of the
 /// signature to `signature`, which is flushed. The key's file is read whole first and has to be
-/// UTF-8; where its key is sealed, the prompt asks for the password. The comments are those by
-/// default, with the moment in seconds since 1970. The warning and the line of a fault go to
+/// UTF-8; where its key is sealed, the prompt asks for the password. The comments are the default
+/// ones, with the moment in seconds since 1970. The warning and the line of an error go to
 /// `errors`. Returns the exit status: 0 where `signature` took the whole text, otherwise 1.
 /// `signature` is not touched before the text is made.
 pub fn run_sign<
@@ -63,7 +63,7 @@ pub fn run_sign<
         (signing_call K.Source R.Source Z.RandomSource A.Source B.Sink devices.old devices.new)
         (sink_call G.Sink signature.old signature.new) }
 
-    // That is the text that `sign_texts` says, with the default comments, of what was read, behind
+    // That is the text that `sign_texts` says, with the default comments, of what was read, after
     // the warning: of the key that the file's text gives, under the password that was typed where it
     // is sealed; and where this very key is genuine, the text is read back as above.
     ensures signed { result ≡ 0 → HasWrittenSigned S.Scheme scheme.now
@@ -113,8 +113,8 @@ fn write_signature<S: Scheme, K: Source, R: Source, Z: RandomSource, A: Source, 
     write_text(signature, &text)
 }
 
-// Reads the key's text, and makes the text of the signature with it. The comments are those by
-// default.
+// Reads the key's text, and makes the text of the signature with it. The comments are the default
+// ones.
 fn make_text<S: Scheme, K: Source, R: Source, Z: RandomSource, A: Source, B: Sink>(
     alloc: Global,
     scheme: &S,

@@ -28,7 +28,7 @@ pub struct VerifyingDevices<P, Q, R> {
 
 /// Verifies the data of `devices` with the texts of their public key and their signature; legacy
 /// signatures are rejected. Both files are read whole, the key first, and have to be UTF-8, before
-/// the data is read. The warning, and then the status lines or the line of a fault, go to `errors`.
+/// the data is read. The warning, and then the status lines or the line of an error, go to `errors`.
 /// Returns the exit status: 0 where the texts vouch for the data, otherwise 1.
 pub fn run_verify<S: Scheme, P: Source, Q: Source, R: Rereader, W: Sink>(
     alloc: Global,
@@ -46,7 +46,7 @@ pub fn run_verify<S: Scheme, P: Source, Q: Source, R: Rereader, W: Sink>(
         (SaysAfterWarning W.Sink errors.old errors.new) }
 
     // The exit status is 1 only because a file gave no text, with no data read, or verifying fails,
-    // as `verify_texts` says, between the warning and the line of the fault.
+    // as `verify_texts` says, between the warning and the line of the error.
     ensures refused { result ≡ 1 → EndsWithFault W.Sink errors.old errors.new
         (FilesFail (S.accepts scheme.now)
         (verifying_call P.Source Q.Source R.Source R.steady devices.old devices.new)) }

@@ -22,7 +22,7 @@ use std::alloc::Global;
 /// Verifies the data ahead of `data_reader` with the public key of 42 bytes and the signature of 74
 /// that `pk_file` and `sig_file` hold; later bytes of the two are ignored. Both files are read
 /// whole, the key first, before the data is read. The warning, and then the status line or the line
-/// of a fault, go to `errors`. Returns the exit status: 0 where the signature vouches for the data,
+/// of an error, go to `errors`. Returns the exit status: 0 where the signature vouches for the data,
 /// otherwise 1.
 pub fn run_verify_raw<S: Scheme, P: Source, Q: Source, R: Rereader, W: Sink>(
     alloc: Global,
@@ -35,7 +35,7 @@ pub fn run_verify_raw<S: Scheme, P: Source, Q: Source, R: Rereader, W: Sink>(
     // The exit status is 0 or 1.
     ensures status { result ≤ 1 }
 
-    // The exit status is 0 only if the two files and the data were read whole, without a fault, and
+    // The exit status is 0 only if the two files and the data were read whole, without an error, and
     // what the files held vouches for the data, with the warning written, or the prefix that the
     // error stream took, and then the status line, and nothing else.
     ensures accepted { result ≡ 0 → RawFilesVouch (S.accepts scheme.now)
@@ -44,10 +44,10 @@ pub fn run_verify_raw<S: Scheme, P: Source, Q: Source, R: Rereader, W: Sink>(
         (rereader_call R.Source R.steady data_reader.old data_reader.new)
         (SaysAfterWarning W.Sink errors.old errors.new) }
 
-    // The exit status is 1 only if the key file was not read whole (memory ran out, or it failed),
+    // The exit status is 1 only if the key file was not read whole (an allocation failed, or it failed),
     // with the signature file left alone, or the signature file was not, after the key file was,
     // both with no data read; or because verifying with the bytes of both fails, as `verify_raw`
-    // says. Between the warning and the line of that fault at most a prefix of the status line
+    // says. Between the warning and the line of that error at most a prefix of the status line
     // was written.
     ensures refused { result ≡ 1 → EndsWithFault W.Sink errors.old errors.new
         (RawFilesFail (S.accepts scheme.now)

@@ -70,7 +70,7 @@ fn the_comment_of_bytes_is_returned(rt: HostRuntime) {
     }
 }
 
-// Whether this comes of verifying the bytes with two texts without memory, in a buffer as long as the text of the
+// Whether this comes of verifying the bytes with two texts without allocating, in a buffer as long as the text of the
 // signature.
 fn is_told_in_place(
     alloc: Global,
@@ -245,7 +245,7 @@ fn signed_with(
     signed(alloc, &sk, message, comment)
 }
 
-// Whether the text is the worked one but for its untrusted comment, which is the one by default.
+// Whether the text is the worked one but for its untrusted comment, which is the default one.
 fn is_worked_out(text: &str) -> bool {
     let lines = text.strip_prefix("untrusted comment: signature from rsign secret key");
     lines == SIGNATURE_TEXT.strip_prefix("untrusted comment: c")

@@ -121,7 +121,7 @@ fn updates_are_installed_one_after_another(rt: HostRuntime) {
     }
 }
 
-// Why the second update is rejected behind the first one, which stays.
+// Why the second update is rejected after the first one, which stays.
 fn rejection(
     alloc: Global,
     drawn: &[u8],

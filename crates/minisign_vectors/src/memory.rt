@@ -303,7 +303,7 @@ fn copy_from(held: &[u8], at: u64, buf: &mut [u8]) -> usize
     copy_front(rest, buf)
 }
 
-// Copies a beginning, as far as there is room.
+// Copies a prefix, as far as there is room.
 fn copy_front(rest: &[u8], buf: &mut [u8]) -> usize
     ensures bound { result ≤ length buf.new }
     ensures within { result ≤ length rest.now }

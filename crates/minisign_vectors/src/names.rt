@@ -171,7 +171,7 @@ fn is_filled() -> bool {
     filled.is_ok() && front == *b"ab"
 }
 
-// Whether a password is asked for, and what is put behind the question.
+// Whether a password is asked for, and what is put after the question.
 fn is_asked(alloc: Global) -> Result<bool> {
     let mut prompt = Prompt::new(SliceSource::new(b"p\n"), VecSink::new(alloc));
     let password = get_password(alloc, &mut prompt, "Password: ")?;

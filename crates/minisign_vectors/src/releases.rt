@@ -29,7 +29,7 @@ fn read_box(alloc: Global, text: &str) -> Result<SignatureBox> {
     SignatureBox::from_string(alloc, text)
 }
 
-// Whether the text of the signature has the comments by default.
+// Whether the text of the signature has the default comments.
 fn has_comments(alloc: Global, sig_text: &str) -> bool {
     let read = read_box(alloc, sig_text);
     match &read {
@@ -40,13 +40,13 @@ fn has_comments(alloc: Global, sig_text: &str) -> bool {
     }
 }
 
-// Whether the untrusted comment is the one by default.
+// Whether the untrusted comment is the default one.
 fn is_from_rsign(alloc: Global, signature_box: &SignatureBox) -> bool {
     let untrusted = signature_box.untrusted_comment(alloc);
     is_text(&untrusted, "signature from rsign secret key")
 }
 
-// Whether the trusted comment is the one by default at second 0.
+// Whether the trusted comment is the default one at second 0.
 fn is_dated(alloc: Global, signature_box: &SignatureBox) -> bool {
     let trusted = signature_box.trusted_comment(alloc);
     is_text(&trusted, "timestamp:0")

@@ -32,7 +32,7 @@ fn key_of(alloc: Global, sk_text: &str) -> Result<SecretKey> {
     open_with_password(alloc, sk_text, "password")
 }
 
-// Whether the text is the worked one but for its untrusted comment, which is the one by default.
+// Whether the text is the worked one but for its untrusted comment, which is the default one.
 fn is_worked_out(text: &str) -> bool {
     let lines = text.strip_prefix("untrusted comment: signature from rsign secret key");
     lines == SIGNATURE_TEXT.strip_prefix("untrusted comment: c")

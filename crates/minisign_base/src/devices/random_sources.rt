@@ -12,13 +12,13 @@ pub trait RandomSource {
     // The bytes that draws will give, where they are known.
     ghost random_ahead: { Self → Option (List ℕ) };
 
-    // How many faults there were.
+    // How many errors there were.
     ghost random_faults: { Self → ℕ };
 
-    /// Fills `buf` with the next bytes. Too few bytes is a fault. After a fault some bytes of the
+    /// Fills `buf` with the next bytes. Too few bytes is an error. After an error some bytes of the
     /// front may be gone, or the bytes are known no more, and what `buf` holds is left open.
     fn fill(&mut self, buf: &mut [u8]) -> Result<(), DeviceFault>
-        // A draw fills the buffer with the next random bytes, or is a fault that raises the count.
+        // A draw fills the buffer with the next random bytes, or is an error that raises the count.
         ensures { HasFilled random_ahead random_faults self.old self.new buf.new result };
 }
 
@@ -48,7 +48,7 @@ impl<'a> RandomSource for FixedRandom<'a> {
 
     ghost random_faults = { λ s. s.faults.0 };
 
-    // A fault exactly where fewer bytes than `buf` has are left. None is then given.
+    // An error exactly where fewer bytes than `buf` has are left. None is then given.
     fn fill(&mut self, buf: &mut [u8]) -> Result<(), DeviceFault>
         ensures enough { IsOk result ↔ IsSomeAnd (⟦<FixedRandom<'a> as RandomSource>⟧.random_ahead self.old) (λ xs. length buf.old ≤ length xs) }
         ensures fill { HasFilled ⟦<FixedRandom<'a> as RandomSource>⟧.random_ahead ⟦<FixedRandom<'a> as RandomSource>⟧.random_faults self.old self.new buf.new result }
@@ -91,7 +91,7 @@ impl<S: Source> RandomSource for SourceRandom<S> {
 
     ghost random_faults = { λ s. s.faults.0 };
 
-    // A fault only where the source failed or ended; otherwise the source counts none.
+    // An error only where the source failed or ended; otherwise the source counts none.
     fn fill(&mut self, buf: &mut [u8]) -> Result<(), DeviceFault>
         ensures fill { HasFilled ⟦<SourceRandom<S> as RandomSource>⟧.random_ahead ⟦<SourceRandom<S> as RandomSource>⟧.random_faults self.old self.new buf.new result }
         ensures source_no_new_fault { OnOk result (S.faults self.new.source ≡ S.faults self.old.source) }

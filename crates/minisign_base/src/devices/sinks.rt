@@ -21,14 +21,14 @@ pub trait Sink {
     // flushed last.
     ghost flushed: { Self → Option (List ℕ) } = { λ _. None };
 
-    // How many faults there were.
+    // How many errors there were.
     ghost sink_faults: { Self → ℕ };
 
     /// Takes a prefix of `bytes` and returns how long it is: of something at least one byte.
-    /// After a fault nothing was taken. It flushes nothing.
+    /// After an error nothing was taken. It flushes nothing.
     fn write(&mut self, bytes: &[u8]) -> Result<usize, DeviceFault>
-        // It takes a prefix of what it is given, at least a byte if there is one; or it is a
-        // fault that raises the count, with nothing taken.
+        // It takes a prefix of what it is given, at least a byte if there is one; or it is an
+        // error that raises the count, with nothing taken.
         //
         // What was flushed may be known: a write flushes nothing (`unflushed`). Of the sinks of the
         // library it is not; of a sink with a buffer it can be.
@@ -81,7 +81,7 @@ impl Sink for VecSink {
 
     ghost sink_faults = { λ s. s.faults.0 };
 
-    // All of the bytes, or a fault where that allocation fails.
+    // All of the bytes, or an error where that allocation fails.
     fn write(&mut self, bytes: &[u8]) -> Result<usize, DeviceFault>
         ensures takes { IfOk result (λ n. n ≡ length bytes.now) }
         ensures bytes { OnOk result (Appends (⟦<VecSink as Sink>⟧.taken self.old) (⟦<VecSink as Sink>⟧.taken self.new) bytes.now) }
@@ -93,7 +93,7 @@ impl Sink for VecSink {
         }
     }
 
-    // Never a fault.
+    // Never an error.
     fn flush(&mut self) -> Result<(), DeviceFault>
         ensures succeeds { IsOk result }
         ensures same { self.new ≡ self.old }
@@ -165,7 +165,7 @@ impl<W: Write> Sink for WriterSink<W> {
 /// Writes a label, a text and a line feed in one call of `write_all`, so that programs that run side
 /// by side do not mix their lines: a sink that takes all that it is given gets one write.
 ///
-/// Memory is wanted for the line. Where it runs out, that is `OutOfMemory`, and the sink is as it
+/// The line is allocated. Where that fails, it is `OutOfMemory`, and the sink is as it
 /// was. Where the sink fails, that is `WritingFailed`, and the sink took a prefix of the line.
 pub fn put_line<S: Sink>(
     alloc: Global,
@@ -173,7 +173,7 @@ pub fn put_line<S: Sink>(
     label: &[u8],
     text: &[u8],
 ) -> errors::Result<()>
-    // The whole of a line is written, put together first; or memory runs out for it, with the sink
+    // The whole of a line is written, put together first; or an allocation fails for it, with the sink
     // as it was; or the sink fails, and took a prefix.
     ensures bytes { OnOk result (Appends (S.taken sink.old) (S.taken sink.new) (label.now ++ text.now ++ 10 ∷ [])) }
     ensures no_new_fault { OnOk result (S.sink_faults sink.new ≡ S.sink_faults sink.old) }
@@ -191,15 +191,15 @@ pub fn put_line<S: Sink>(
     }
 }
 
-/// Writes all of `bytes` and passes them on. After a fault the sink took a prefix of them.
+/// Writes all of `bytes` and passes them on. After an error the sink took a prefix of them.
 pub fn put_and_flush<S: Sink>(sink: &mut S, bytes: &[u8]) -> Result<(), DeviceFault>
-    // The whole of a text is written; or a prefix of it, with a fault of the sink.
+    // The whole of a text is written; or a prefix of it, with an error of the sink.
     ensures bytes { OnOk result (Appends (S.taken sink.old) (S.taken sink.new) bytes.now) }
 
     // On success all that the sink took is flushed.
     ensures flushed { OnOk result (SameWhereKnown (S.taken sink.new) (S.flushed sink.new)) }
 
-    // The count of faults rose exactly where that fails, and then a prefix was written.
+    // The count of errors rose exactly where that fails, and then a prefix was written.
     ensures no_new_fault { OnOk result (S.sink_faults sink.new ≡ S.sink_faults sink.old) }
     ensures refused { OnErr result (Rose (S.sink_faults sink.old) (S.sink_faults sink.new)) }
     ensures front { OnErr result (AppendsFront (S.taken sink.old) (S.taken sink.new) bytes.now) }
@@ -211,12 +211,12 @@ pub fn put_and_flush<S: Sink>(sink: &mut S, bytes: &[u8]) -> Result<(), DeviceFa
     }
 }
 
-/// Writes all of `bytes`, and flushes nothing. After a fault the sink took a prefix of them.
+/// Writes all of `bytes`, and flushes nothing. After an error the sink took a prefix of them.
 pub fn write_all<S: Sink>(sink: &mut S, bytes: &[u8]) -> Result<(), DeviceFault>
-    // The whole of a text is written; or a prefix of it, with a fault of the sink.
+    // The whole of a text is written; or a prefix of it, with an error of the sink.
     ensures bytes { OnOk result (Appends (S.taken sink.old) (S.taken sink.new) bytes.now) }
 
-    // The count of faults rose exactly where that fails, and then a prefix was written.
+    // The count of errors rose exactly where that fails, and then a prefix was written.
     ensures no_new_fault { OnOk result (S.sink_faults sink.new ≡ S.sink_faults sink.old) }
     ensures refused { OnErr result (Rose (S.sink_faults sink.old) (S.sink_faults sink.new)) }
     ensures front { OnErr result (AppendsFront (S.taken sink.old) (S.taken sink.new) bytes.now) }

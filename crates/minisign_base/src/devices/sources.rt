@@ -25,17 +25,17 @@ pub trait Source {
     // How many bytes it can still give.
     ghost left: { Self → ℕ };
 
-    // How many faults there were.
+    // How many errors there were.
     ghost faults: { Self → ℕ };
 
     /// Moves the next bytes to the start of `buf`, as many as it likes up to all of it, and returns
-    /// how many. The result is 0 only where `buf` is empty or no byte is left. After a fault the
+    /// how many. The result is 0 only where `buf` is empty or no byte is left. After an error the
     /// bytes ahead are those before the call, or are known no more.
     fn read(&mut self, buf: &mut [u8]) -> Result<usize, DeviceFault>
         // The next bytes are given, and 0 only at the end or without room (fields `bound`, `bytes`,
         // `end`, `left` of `HasRead`).
         //
-        // A read that succeeds leaves the mark and the count of faults as they were. After one that
+        // A read that succeeds leaves the mark and the count of errors as they were. After one that
         // failed the count rose, and the bytes ahead stay or are known no more; nothing is said
         // then of what going back would bring. Whether a place is marked stays in both cases
         // (`mark`, `no_new_fault`, `fault`, `kept`, `err_left`, `marked`).
@@ -51,23 +51,23 @@ pub trait Rereader: Source {
     // Going back brings the bytes that were ahead at the mark.
     ghost steady: { Self → Type 0 };
 
-    /// Remembers the place. The bytes ahead stay; after a fault they stay or are known no more, and
+    /// Remembers the place. The bytes ahead stay; after an error they stay or are known no more, and
     /// no place is marked.
     fn mark(&mut self) -> Result<(), DeviceFault>
-        // A steady source remembers what is ahead; a fault raises the count.
+        // A steady source remembers what is ahead; an error raises the count.
         //
-        // The place is then marked, and after a fault none is (`marked`, `unmarked`); no byte was
+        // The place is then marked, and after an error none is (`marked`, `unmarked`); no byte was
         // given since (`since`).
         ensures { HasMarked steady Self.ahead Self.behind Self.since Self.is_marked Self.faults self.old self.new result };
 
-    /// Returns to the place that was marked last, which stays marked. Without a mark it is a
-    /// fault. After a fault no place is marked.
+    /// Returns to the place that was marked last, which stays marked. Without a mark it is an
+    /// error. After an error no place is marked.
     fn back(&mut self) -> Result<(), DeviceFault>
         // A steady source has ahead again what it remembered at the mark, which stays remembered,
-        // so that going back once more brings the same (`bytes`, `mark`); a fault raises the count.
+        // so that going back once more brings the same (`bytes`, `mark`); an error raises the count.
         //
-        // Going back without a mark is a fault of every source. The place is then marked, and after
-        // a fault none is (`needs_mark`, `marked`, `unmarked`); no byte was given since (`since`).
+        // Going back without a mark is an error of every source. The place is then marked, and after
+        // an error none is (`needs_mark`, `marked`, `unmarked`); no byte was given since (`since`).
         ensures { HasGoneBack Self.ahead Self.behind Self.since Self.is_marked Self.faults self.old self.new result };
 }
 
@@ -114,7 +114,7 @@ impl<'a> Source for SliceSource<'a> {
 
     ghost faults = { λ s. s.faults.0 };
 
-    // As many bytes as there is room for, or are left, and never a fault.
+    // As many bytes as there is room for, or are left, and never an error.
     #[tactic(auto, using(crate::proofs::GivenParts::rest_given, crate::proofs::GivenParts::front_given))]
     fn read(&mut self, buf: &mut [u8]) -> Result<usize, DeviceFault>
         ensures gives { IsOkAnd result (λ n. n ≡ min (length buf.new) (⟦<SliceSource<'a> as Source>⟧.left self.old)) }
@@ -133,7 +133,7 @@ impl<'a> Source for SliceSource<'a> {
 impl<'a> Rereader for SliceSource<'a> {
     ghost steady = { λ _. ⊤ };
 
-    // Never a fault.
+    // Never an error.
     fn mark(&mut self) -> Result<(), DeviceFault>
         ensures succeeds { IsOk result }
         ensures mark { HasMarked ⟦<SliceSource<'a> as Rereader>⟧.steady ⟦<SliceSource<'a> as Source>⟧.ahead ⟦<SliceSource<'a> as Source>⟧.behind ⟦<SliceSource<'a> as Source>⟧.since ⟦<SliceSource<'a> as Source>⟧.is_marked ⟦<SliceSource<'a> as Source>⟧.faults
@@ -146,7 +146,7 @@ impl<'a> Rereader for SliceSource<'a> {
         Ok(())
     }
 
-    // A fault exactly where nothing was marked. The bytes ahead then stay.
+    // An error exactly where nothing was marked. The bytes ahead then stay.
     fn back(&mut self) -> Result<(), DeviceFault>
         ensures succeeds { IsOk result ↔ IsTrue (⟦<SliceSource<'a> as Source>⟧.is_marked self.old) }
         ensures back { HasGoneBack ⟦<SliceSource<'a> as Source>⟧.ahead ⟦<SliceSource<'a> as Source>⟧.behind ⟦<SliceSource<'a> as Source>⟧.since ⟦<SliceSource<'a> as Source>⟧.is_marked ⟦<SliceSource<'a> as Source>⟧.faults self.old self.new result }
@@ -180,8 +180,8 @@ impl Source for NoSource {
     }
 }
 
-/// The bytes of any reader of std, 2^63 - 1 at most: a read after that is a fault. Its bytes
-/// are known where the reader's are, until the first fault. It can't go back.
+/// The bytes of any reader of std, 2^63 - 1 at most: a read after that is an error. Its bytes
+/// are known where the reader's are, until the first error. It can't go back.
 #[derive(Drop)]
 pub struct ReaderSource<R> {
     reader: R,
@@ -229,7 +229,7 @@ impl<R: Read> Source for ReaderSource<R> {
 impl<R: Read> Rereader for ReaderSource<R> {
     ghost steady = { λ _. ⊥ };
 
-    // Always a fault. No byte is known after it.
+    // Always an error. No byte is known after it.
     fn mark(&mut self) -> Result<(), DeviceFault>
         ensures fails { IsErr result }
         ensures refused { Rose (⟦<ReaderSource<R> as Source>⟧.faults self.old) (⟦<ReaderSource<R> as Source>⟧.faults self.new) }
@@ -239,7 +239,7 @@ impl<R: Read> Rereader for ReaderSource<R> {
         Err(no_way_back)
     }
 
-    // Always a fault. No byte is known after it.
+    // Always an error. No byte is known after it.
     fn back(&mut self) -> Result<(), DeviceFault>
         ensures fails { IsErr result }
         ensures refused { Rose (⟦<ReaderSource<R> as Source>⟧.faults self.old) (⟦<ReaderSource<R> as Source>⟧.faults self.new) }
@@ -250,7 +250,7 @@ impl<R: Read> Rereader for ReaderSource<R> {
 }
 
 /// The bytes of a file, or of anything else of std that is read and seeks, 2^63 - 1 at most: a read
-/// after that is a fault. It marks its place and goes back by seeking. No byte is known, since
+/// after that is an error. It marks its place and goes back by seeking. No byte is known, since
 /// none of std's files is, and so it is not known to be steady: a file may change between two
 /// readings.
 #[derive(Drop)]
@@ -273,7 +273,7 @@ impl<F: Read + Seek> FileSource<F> {
         }
     }
 
-    // One more fault, and no place is marked.
+    // One more error, and no place is marked.
     fn lose_mark(&mut self) -> DeviceFault
         ensures unmarked { self.new.marked ≡ None }
         ensures raised { self.new.reader.faults.0 ≡ min (self.old.reader.faults.0 + 1) (2 ^ 64 - 1) }
@@ -310,7 +310,7 @@ impl<F: Read + Seek> Rereader for FileSource<F> {
         }
     }
 
-    // Where nothing is marked, the file is left where it is. It is a fault too where the file is
+    // Where nothing is marked, the file is left where it is. It is an error too where the file is
     // not at the marked place after seeking it.
     fn back(&mut self) -> Result<(), DeviceFault> {
         if let Some(marked) = self.marked {
@@ -326,7 +326,7 @@ impl<F: Read + Seek> Rereader for FileSource<F> {
 
 /// Fills `buf` with the next bytes of a source. It fails where the source fails or ends before.
 pub fn fill_from<S: Source>(source: &mut S, buf: &mut [u8]) -> Result<(), DeviceFault>
-    // The buffer is filled with the next bytes of a source, which counts no fault; or the source
+    // The buffer is filled with the next bytes of a source, which counts no error; or the source
     // failed or ended.
     ensures bytes { OnOk result (Consumes (S.ahead source.old) (S.ahead source.new) buf.new) }
     ensures no_new_fault { OnOk result (S.faults source.new ≡ S.faults source.old) }

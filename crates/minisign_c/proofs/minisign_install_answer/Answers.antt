@@ -15,7 +15,7 @@ use Rattle.minisign_install.specs.declared.faults.InstallFault.TheVariants.{Libr
 use Rattle.minisign_install.specs.declared.hosted.Installation.{Installation}
 use Rattle.minisign_c.proofs.minisign_install_answer.Goals as goal
 
--- no fault has the number of success
+-- no error has the number of success
 named_positive : (f : NamedFault) → 0 < (fault_row f).number
 named_positive OutOfMemory = lit< tt
 named_positive _ = lit< tt
@@ -28,7 +28,7 @@ positive : (e : InstallFault) → 0 < install_number e
 positive (Library e) = library_positive e
 positive _ = lit< tt
 
--- what is no update is rejected for a fault
+-- what is no update is rejected for an error
 refused_positive : (T : Type 0) (accepts : Verifier) (terms : Terms) (kept : ℕ) (message : List ℕ) (new : Installation) (r : Refusal InstallFault)
     → GivesUpdate {T = T} accepts terms kept message new (Err r) → 0 < refusal_number install_number r
 refused_positive T accepts terms kept message new (WrongUse m) none = absurd none

@@ -15,7 +15,7 @@ positive : (first : Bool) (e : Fault) → e ≡ (if first then Named CommentSign
 positive true e is = subst (λ x. 0 < fault_number x) (sym is) (lit< tt)
 positive false e is = subst (λ x. 0 < fault_number x) (sym is) (lit< tt)
 
--- a verdict that is no success has the number of its fault
+-- a verdict that is no success has the number of its error
 given_number : (accepts : Verifier) (pk_text sig_text message : List ℕ) (legacy first : Bool) (old new : State) (r : Refusal Fault) (n : ℕ) → n ≡ refusal_number fault_number r
     → IsFaultOf (λ f. verdict accepts pk_text sig_text message legacy ≡ Err f) r → IsVerdictRefusal old new first r → GivesNumber accepts pk_text sig_text message legacy n
 given_number accepts pk_text sig_text message legacy first old new (WrongUse m) n is refuses refused = absurd refuses

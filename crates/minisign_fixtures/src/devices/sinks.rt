@@ -45,7 +45,7 @@ impl LimitedSink {
         self
     }
 
-    /// The same, but each flush behind so many fails.
+    /// The same, but each flush after so many fails.
     pub fn flushed(mut self, times: usize) -> LimitedSink
         ensures taken { ⟦<LimitedSink as Sink>⟧.taken result ≡ ⟦<LimitedSink as Sink>⟧.taken self }
     {
@@ -53,7 +53,7 @@ impl LimitedSink {
         self
     }
 
-    /// The same, but the call behind so many writes and flushes fails, and those after it pass.
+    /// The same, but the call after so many writes and flushes fails, and those after it pass.
     pub fn failing_after(mut self, calls: usize) -> LimitedSink
         ensures taken { ⟦<LimitedSink as Sink>⟧.taken result ≡ ⟦<LimitedSink as Sink>⟧.taken self }
     {

@@ -54,7 +54,7 @@ fn says<T: fmt::Display>(alloc: Global, fault: &T, text: &str) -> bool {
     }
 }
 
-// Whether this is its text, without memory.
+// Whether this is its text, without allocating.
 fn is_text(fault: &PError, text: &str) -> bool {
     let mut room = [0u8; TEXT_ROOM];
     fault.text(&mut room) == text.as_bytes()

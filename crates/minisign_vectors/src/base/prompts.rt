@@ -63,7 +63,7 @@ fn line(
     Ok(bytes)
 }
 
-// How many of which letter are typed, and what behind them; what comes of it.
+// How many of which letter are typed, and what after them; what comes of it.
 const LINES: [(usize, u8, &str, Outcome); 8] = [
     (1024, b'a', "", Accepted),
     (1025, b'a', "", Refused(PasswordTooLong)),

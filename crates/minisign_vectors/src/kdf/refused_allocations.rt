@@ -19,7 +19,7 @@ fn rows_are_reserved_in_one_request(rt: HostRuntime) {
     }
 }
 
-// Whether the key was derived, or memory ran out and the buffer stays.
+// Whether the key was derived, or an allocation failed and the buffer stays.
 fn is_right(fault: Option<KdfError>, key: &[u8; 8]) -> bool {
     match fault {
         None => *key == FRONT,

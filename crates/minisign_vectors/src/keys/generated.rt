@@ -28,7 +28,7 @@ const SHOWN: &str =
 
 type Typed<'a> = Prompt<FailsAfter<'a>, LimitedSink>;
 
-// A prompt that gives these bytes, one a read, until a read behind so many fails.
+// A prompt that gives these bytes, one a read, until a read after so many fails.
 fn prompt_of<'a>(typed: &'a [u8], reads: u64, writer: LimitedSink) -> Typed<'a> {
     Prompt::new(FailsAfter::new(typed, reads), writer)
 }
@@ -95,7 +95,7 @@ fn prompts_that_cannot_be_written_to(rt: HostRuntime) {
     }
 }
 
-// It fails at each flush before the derivation: the text before it is whole. It fails behind the
+// It fails at each flush before the derivation: the text before it is whole. It fails after the
 // derivation too: the pair that was made is not written.
 #[test]
 fn prompts_that_cannot_be_flushed_or_told_that_it_is_done(rt: HostRuntime) {

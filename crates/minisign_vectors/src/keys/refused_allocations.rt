@@ -31,7 +31,7 @@ fn public_text(alloc: Global, key: &PublicKey) -> Result<String> {
     Ok(pk_box.into_string())
 }
 
-// The text of a secret key, with the comment by default.
+// The text of a secret key, with the default comment.
 fn secret_text(alloc: Global, key: &SecretKey) -> Result<String> {
     let sk_box = key.to_box(alloc, None)?;
     Ok(sk_box.into_string())

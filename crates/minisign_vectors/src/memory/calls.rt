@@ -14,7 +14,7 @@ use std::alloc::{AllocError, Global};
 pub(crate) enum Call {
     // A stage was created under a name.
     Created(Vec<u8>),
-    // Bytes were written behind what a file holds.
+    // Bytes were written after what a file holds.
     Written(usize, Vec<u8>),
     // A file was brought to the disk.
     Synced(usize),

@@ -8,7 +8,7 @@ use minisign_install::StageName;
 use std::snapshot::Snapshot;
 
 // The stages that were made and let go of. The proofs see the names, and at run time nothing is
-// kept of them: so letting go of one takes no memory.
+// kept of them: so letting go of one does not allocate.
 #[derive(Drop)]
 pub(crate) enum Owned {
     // No stage was made.

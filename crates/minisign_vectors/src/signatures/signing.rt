@@ -33,7 +33,7 @@ const UNDER_SC: &str =
 const CORRUPTED: &str =
     "c\nRWQAAEIyAAAAAAAAAAAAAAAAAAAAAAAAAAAAAAAAAAAAAAAAAAAAAAAAAAAAAAAAAAAAAAAAAQIDBAUGBwgAAAAAAAAAAAAAAAAAAAAAAAAAAAAAAAAAAAAAAAAAAFpaWlpaWlpaWlpaWlpaWlpaWlpaWlpaWlpaWlpaWlpaAAAAAAAAAAAAAAAAAAAAAAAAAAAAAAAAAAAAAAAAAAA=\n";
 
-// Whether signing over data that fails behind so many reads is rejected so where a password is
+// Whether signing over data that fails after so many reads is rejected so where a password is
 // typed, and the prompt is told this, and read where it is told anything.
 fn is_refused(
     alloc: Global,

@@ -17,7 +17,7 @@ use std::alloc::Global;
 // A line without an end.
 const LONG: [u8; 1026] = [b'a'; 1026];
 
-// Whether this call rejects the text so over a prompt whose reader fails behind so many reads, and
+// Whether this call rejects the text so over a prompt whose reader fails after so many reads, and
 // whose writer has this room.
 fn is_refused_by(
     alloc: Global,

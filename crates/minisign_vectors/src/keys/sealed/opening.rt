@@ -125,7 +125,7 @@ fn fills(alloc: Global, room: usize, memory: u64, bytes: &[u8], outcome: Outcome
     came && prompt.writer.as_slice() == beginning(DONE, room).as_bytes()
 }
 
-// A writer that fails at the line behind the derivation is told before a wrong password, and after
+// A writer that fails at the line after the derivation is told before a wrong password, and after
 // the limits.
 #[test]
 fn failing_writers_are_told_in_their_place(rt: HostRuntime) {

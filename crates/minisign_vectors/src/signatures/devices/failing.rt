@@ -63,9 +63,9 @@ const CALLS: [Call; 2] = [Call::WithTexts, Call::WithBox];
 // Which sink fails.
 #[derive(Clone, Copy)]
 enum Fails {
-    // The status, which takes so many bytes a write, behind so many calls.
+    // The status, which takes so many bytes a write, after so many calls.
     Status(usize, usize),
-    // The output, which takes one byte a write, behind so many calls.
+    // The output, which takes one byte a write, after so many calls.
     Out(usize),
 }
 
@@ -161,7 +161,7 @@ fn the_status_fails(rt: HostRuntime) {
 
 // The output is written, one byte a write, and then flushed, but for data that changed: the flush
 // would be its fourth call. Each row: the text, what a second reading gives, what is copied in all,
-// how many calls there are, and what comes of it behind them.
+// how many calls there are, and what comes of it after them.
 #[test]
 fn the_output_fails(rt: HostRuntime) {
     let alloc = rt.alloc();
@@ -185,8 +185,8 @@ fn the_output_fails(rt: HostRuntime) {
     }
 }
 
-// Whether signing with a text and this prompt, over data that fails behind so many reads and random
-// bytes that fail behind so many draws, has this outcome, tells so much, leaves so many bytes of what
+// Whether signing with a text and this prompt, over data that fails after so many reads and random
+// bytes that fail after so many draws, has this outcome, tells so much, leaves so many bytes of what
 // is typed and of the data, and draws nothing where that is said.
 fn is_signed(
     alloc: Global,
@@ -220,7 +220,7 @@ fn is_signed(
 }
 
 // Until a sealed key is opened its prompt alone is used. The reader is read up to the line feed, so
-// that an `x` behind it is left, and the writer writes and flushes three texts.
+// that an `x` after it is left, and the writer writes and flushes three texts.
 #[test]
 fn the_prompt_of_signing_fails(rt: HostRuntime) {
     let alloc = rt.alloc();
@@ -280,7 +280,7 @@ fn the_data_and_the_random_bytes_of_signing_fail(rt: HostRuntime) {
     }
 }
 
-// Whether signing with a raw key is rejected where random bytes fail behind so many draws.
+// Whether signing with a raw key is rejected where random bytes fail after so many draws.
 fn is_undrawn(alloc: Global, draws: usize) -> Result<bool> {
     let secret = key_a()?;
     let mut data = SliceSource::new(b"abc");
@@ -303,7 +303,7 @@ fn the_random_bytes_of_a_raw_key_fail(rt: HostRuntime) {
     assert!(rt; is_so(is_undrawn(rt.alloc(), 1)));
 }
 
-// Whether opening the text, with a prompt of which the reader and the writer fail behind so many
+// Whether opening the text, with a prompt of which the reader and the writer fail after so many
 // calls, has this outcome, and tells this.
 fn opens(
     alloc: Global,
@@ -323,7 +323,7 @@ fn opens(
 }
 
 // The prompt where a password is typed: its reader is read up to the line feed, and its writer
-// writes and flushes three texts. Behind the last call the key opens.
+// writes and flushes three texts. After the last call the key opens.
 #[test]
 fn the_prompt_of_opening_fails(rt: HostRuntime) {
     let alloc = rt.alloc();

@@ -77,7 +77,7 @@ fn signed(alloc: Global, sk_text: &str) -> Result<bool> {
     has_text(text, SIGNATURE_TEXT)
 }
 
-// The box that is made with a public key to test, and with the comments by default.
+// The box that is made with a public key to test, and with the default comments.
 fn made_by_default(alloc: Global) -> Result<SignatureBox> {
     let secret = key_a()?;
     let public = PublicKey::from_secret_key(&secret)?;
@@ -102,14 +102,14 @@ fn read_again(alloc: Global, made: Result<SignatureBox>) -> Result<SignatureBox>
     read_box(alloc, text.as_str())
 }
 
-// Whether this is the trusted comment of the box, and its untrusted one is that by default.
+// Whether this is the trusted comment of the box, and its untrusted one is the default one.
 fn has_comments(alloc: Global, signature_box: &SignatureBox, trusted: &str) -> Result<bool> {
     let is_trusted = has_text(signature_box.trusted_comment(alloc), trusted)?;
     let untrusted = signature_box.untrusted_comment(alloc);
     Ok(has_text(untrusted, "signature from rsign secret key")? && is_trusted)
 }
 
-// Whether a box that is made with a public key to test, and with the comments by default, has its
+// Whether a box that is made with a public key to test, and with the default comments, has its
 // own.
 fn made(alloc: Global) -> Result<bool> {
     let again = read_again(alloc, made_by_default(alloc))?;
