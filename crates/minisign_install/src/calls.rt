@@ -8,7 +8,7 @@ use crate::directories::{Directory, Handle, Name};
 use crate::faults::InstallFault;
 use crate::judging::{judge, read_back};
 use crate::order::{Due, Outcome};
-use crate::recording::{MOST_WRITTEN, read_number, write_record};
+use crate::recording::{MAX_WRITTEN, read_number, write_record};
 use crate::stage_names::StageName;
 use crate::staging::{fill, write_all};
 use crate::wanted::Wanted;
@@ -220,7 +220,7 @@ fn write_number<F: Directory>(
         (λ _. WritesInPart (F.Handle.file stage.now.handle) (F.run directory.old) (F.run directory.new))) }
     ensures counted { HasCounted (F.directory_faults directory.old) (F.directory_faults directory.new) result }
 {
-    let mut buffer = [0u8; MOST_WRITTEN];
+    let mut buffer = [0u8; MAX_WRITTEN];
     let written = write_record(numbering, number, &mut buffer);
     let (text, _) = buffer.split_at(written);
     write_all(directory, &stage.handle, text)

@@ -10,10 +10,10 @@ use minisign_base::NamedFault;
 use std::alloc::Global;
 
 // A record of more bytes is damaged.
-const MOST_OF_RECORD: usize = 64;
+const MAX_RECORD: usize = 64;
 
 // The longest record that is written: the longer label, and the digits of the greatest number.
-pub(crate) const MOST_WRITTEN: usize = 30;
+pub(crate) const MAX_WRITTEN: usize = 30;
 
 // The number that the record holds for the field. Where it holds none and this is the first
 // installation, that is 0.
@@ -102,7 +102,7 @@ fn number_for(bytes: &[u8], numbering: Numbering) -> Option<u64>
 fn record_text(bytes: &[u8]) -> &[u8]
     ensures { result.now ≡ record_text bytes.now }
 {
-    if bytes.len() > MOST_OF_RECORD {
+    if bytes.len() > MAX_RECORD {
         return &[];
     }
     match bytes.split_last() {

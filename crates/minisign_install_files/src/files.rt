@@ -22,10 +22,10 @@ use std::{fs, io};
 const FOR_THE_OWNER: u32 = 0o600;
 
 // How long the record may be: more than the label of a field and the 20 digits of the greatest number.
-const MOST_OF_RECORD: u64 = 64;
+const MAX_RECORD: u64 = 64;
 
 // How often a lock file is opened that others remove or make meanwhile.
-const MOST_OPENINGS: u32 = 100;
+const MAX_OPENINGS: u32 = 100;
 
 // How many hexadecimal digits the name of a stage has.
 const DIGITS: usize = 32;
@@ -287,7 +287,7 @@ impl<'a> FileDirectory<'a> {
 
     // The lock file, locked; none where another run holds the lock.
     fn locked_file(&self) -> Result<Option<File>, DeviceFault> {
-        for _ in 0..MOST_OPENINGS {
+        for _ in 0..MAX_OPENINGS {
             let Some((file, is_new)) = self.open_lock()? else {
                 continue;
             };
@@ -472,9 +472,9 @@ impl Directory for FileDirectory<'_> {
                 return Ok(None);
             };
             let mut bytes = Vec::new(alloc);
-            let mut most = (&file).take(MOST_OF_RECORD + 1);
+            let mut most = (&file).take(MAX_RECORD + 1);
             it.on(Part::Record, || most.read_to_end(&mut bytes))?;
-            if bytes.len() as u64 > MOST_OF_RECORD {
+            if bytes.len() as u64 > MAX_RECORD {
                 return it.fails(Part::Record, Error::other("it is too long for a number"));
             }
             Ok(Some(bytes))

@@ -15,7 +15,7 @@ use std::alloc::{AllocError, Global};
 use std::marker::Model;
 
 // The most words that memory has room for: fewer than 2^63 bytes.
-const MOST_WORDS: usize = 2305843009213693951;
+const MAX_WORDS: usize = 2305843009213693951;
 
 /// Every k-th row of scryptROMix (RFC 7914, section 5) of one block, the rows V_0, V_k, V_2k, ..
 /// with numbers below N. A contract sees them as bytes in the RFC's order, with r, N and k.
@@ -107,7 +107,7 @@ pub(crate) fn room_for_rows(
     let Some(len) = (32 * r).checked_mul(kept_count(n_log2, k)) else {
         return Err(KdfError::OutOfMemory);
     };
-    if len > MOST_WORDS {
+    if len > MAX_WORDS {
         return Err(KdfError::OutOfMemory);
     }
     Ok(Vec::with_capacity(alloc, len)?)

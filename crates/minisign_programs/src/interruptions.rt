@@ -4,7 +4,7 @@ use std::io;
 use std::io::{ErrorKind, Read};
 
 // How often a call is made again that a signal interrupts.
-const MOST_INTERRUPTIONS: u32 = 1_000_000;
+const MAX_INTERRUPTIONS: u32 = 1_000_000;
 
 /// A reader that reads on where a signal interrupts it.
 #[derive(Drop)]
@@ -23,7 +23,7 @@ impl<R: Read + Drop> Read for Uninterrupted<R> {
 pub fn again<T, F: FnMut() -> io::Result<T>>(mut call: F) -> io::Result<T>
     requires { F.IsAlwaysCallable call }
 {
-    for _ in 0..MOST_INTERRUPTIONS {
+    for _ in 0..MAX_INTERRUPTIONS {
         match call() {
             Err(error) if error.kind() == ErrorKind::Interrupted => {}
             answer => return answer,

@@ -19,10 +19,10 @@ pub const FOR_ALL: u32 = 0o666;
 pub const FOR_THE_OWNER: u32 = 0o600;
 
 // How many links are followed one after another, as the system does.
-const MOST_LINKS: u32 = 40;
+const MAX_LINKS: u32 = 40;
 
 // How many names are tried for a stage.
-const MOST_NAMES: u64 = 100;
+const MAX_NAMES: u64 = 100;
 
 /// What a file is to hold.
 #[derive(Clone, Copy)]
@@ -254,7 +254,7 @@ fn follow_links(rt: &HostRuntime, path: &str) -> Result<Option<String>>
     ensures { IfErr result IsWriteFault }
 {
     let mut path = String::from_str(rt.alloc(), path)?;
-    for _ in 0..MOST_LINKS {
+    for _ in 0..MAX_LINKS {
         let link = match fs::symlink_metadata(rt, path.as_str()) {
             Ok(found) if found.is_symlink() => found,
             Ok(_) => return Ok(Some(path)),
@@ -317,7 +317,7 @@ fn create_beside(rt: &HostRuntime, path: &str, mode: u32) -> Result<(File, Strin
     let mut number = [0u8; 8];
     written(rt.fill_bytes(&mut number))?;
     let number = u64::from_le_bytes(number);
-    for more in 0..MOST_NAMES {
+    for more in 0..MAX_NAMES {
         let name = format!(in rt.alloc(); ".minisign_tool-{:016x}", number.wrapping_add(more))?;
         let staged = beside(rt, path, &name)?;
         let made = OpenOptions::new()
