@@ -1,6 +1,6 @@
 -- What an installation over a directory holds between two calls, and what each call that is due does to it.
 use Rattle.std.specs.Prelude.{◌≡◌, ◌≢◌, ◌-◌, ⊤, ℕ, Bool, true, false, not, ◌&&◌, List, Option, is_some, nat_le, IsTrue, IsSome, IfSome, Result, Ok, Err}
-use Rattle.minisign_install.specs.Common.{IsFedState, Stage, Work}
+use Rattle.minisign_install.specs.Common.{Stage, Work, blake2b_digest}
 use Rattle.minisign_install.specs.Faults.{Named, OutOfMemory, InstallFault, Library}
 use Rattle.minisign_install.specs.Installing.{Verifier, IsVouched, Terms}
 use Rattle.minisign_install.specs.Directories.{drawn_bytes, Run}
@@ -38,10 +38,10 @@ HasMade (Refused e) work = ⊤
 HasMade due work =
     (is_some work.stage ≡ is_from (Copy 0) due) × (is_some work.record_stage ≡ is_from (WriteRecord 0) due)
 
--- What is known there of any directory: where the answers are due, the state was fed what was read back; and behind
--- them it is an update, as long as no call fails.
+-- What is known there of any directory: where the answers are due, the digest of what was read back; and behind them it
+-- is an update, as long as no call fails.
 abbrev pub Knows : {E H : Type 0} → Verifier → Terms → Due E → Work H → List ℕ → Type 0
-Knows accepts terms (Answer kept) work read = IsFedState work.state read
+Knows accepts terms (Answer kept) work read = work.digest ≡ blake2b_digest 64 read
 Knows accepts terms (Remove e) work read = ⊤
 Knows accepts terms (Refused e) work read = ⊤
 Knows accepts terms due work read = IsTrue (is_from (TakePermissions 0) due) → IsVouched accepts terms

@@ -17,7 +17,6 @@ use minisign_base::devices::DeviceFault;
 use minisign_base::devices::random_sources::RandomSource;
 use minisign_base::devices::sources::Source;
 use minisign_base::scheme::Scheme;
-use minisign_external::state::State;
 use std::alloc::Global;
 
 // A stage that was made: its name, and its file.
@@ -34,8 +33,8 @@ pub(crate) struct Work<H: Drop> {
     pub(crate) stage: Option<Stage<H>>,
     // The stage of the record, once it was made.
     pub(crate) record_stage: Option<Stage<H>>,
-    // What was read back of the former.
-    pub(crate) state: State,
+    // The digest of what was read back of the former.
+    pub(crate) digest: [u8; 64],
 }
 
 // Makes the call that is due, and says how it went. Nothing is due of a run that has ended.
@@ -68,9 +67,14 @@ pub(crate) fn make<S: Scheme, Z: RandomSource, R: Source, F: Directory>(
         Due::Create(_) => done_or(create(random, directory, &mut work.stage)),
         Due::Copy(_) => done_or(fill(alloc, directory, &made(&work.stage).handle, update)),
         Due::ReadBack(_) => {
-            done_or(read_back(alloc, directory, &made(&work.stage).handle, &mut work.state))
+            done_or(read_back(
+                alloc,
+                directory,
+                &made(&work.stage).handle,
+                &mut work.digest,
+            ))
         }
-        Due::Answer(kept) => number_or(judge(alloc, scheme, wanted, *kept, &mut work.state)),
+        Due::Answer(kept) => number_or(judge(alloc, scheme, wanted, *kept, &work.digest)),
         Due::TakePermissions(_) => writing_or(take_permissions(directory, made(&work.stage))),
         Due::Sync(_) => writing_or(directory.sync(&made(&work.stage).handle)),
         Due::CreateRecord(_) => done_or(create(random, directory, &mut work.record_stage)),

@@ -11,7 +11,6 @@ use crate::wanted::Wanted;
 use minisign_base::devices::random_sources::RandomSource;
 use minisign_base::devices::sources::Source;
 use minisign_base::scheme::Scheme;
-use minisign_external::state::State;
 use std::alloc::Global;
 
 /// Installs the data ahead of `update` at the directory's place, if the texts of `wanted` vouch for it as the update
@@ -108,7 +107,7 @@ pub fn install_update<S: Scheme, Z: RandomSource, R: Source, F: Directory>(
     let mut work = Work {
         stage: None,
         record_stage: None,
-        state: State::new(),
+        digest: [0; 64],
     };
     let mut due = Due::Lock;
     'calls: loop {

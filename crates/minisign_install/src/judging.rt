@@ -1,7 +1,7 @@
 //! What a file holds is read back, and judged: whether it is an update, and which comment the key has signed.
 
 ghost use Rattle.std.specs.Prelude.{◌≡◌, ◌⊎◌, ◌<◌, ◌+◌, ◌≤◌, ℕ, List, false, true, length, option_map, IfOk, IfErr, OnOk, OnErr, MatchResult};
-ghost use Rattle.minisign_install.specs.Words.{accepts_comments, verdict, SignatureTextRecord, box_of, view_of, map_ok, IsFedState, digest_verdict, signed_comment, Named, OutOfMemory, Known, TextsVouchWith, IsUpdate, terms_of, IsDataRefused, IsLibraryFault, IsReadingFault};
+ghost use Rattle.minisign_install.specs.Words.{accepts_comments, verdict, SignatureTextRecord, box_of, view_of, map_ok, blake2b_digest, digest_verdict, signed_comment, Named, OutOfMemory, Known, Library, TextsVouchWith, IsUpdate, terms_of, IsDataRefused, IsLibraryFault, IsReadingFault};
 
 use crate::comments::check_comment;
 use crate::directories::{Directory, Handle};
@@ -15,106 +15,115 @@ use minisign_base::NamedFault;
 use minisign_base::devices::DeviceFault;
 use minisign_base::scheme::Scheme;
 use minisign_external::public_keys::PublicKeyValue;
-use minisign_external::state::State;
 use minisign_external::texts::test;
 use minisign_external::verdict::{comment_verdict, verdict};
+use minisign_hash::blake2b::Blake2b;
 use std::alloc::{AllocError, Global};
 
-// Reads all that the file holds, and feeds it to a new state. A fault of reading it is counted. Memory runs out only
+// Reads all that the file holds, and stores its digest. An error of reading it is counted. An allocation fails only
 // before anything is read.
 pub(crate) fn read_back<F: Directory>(
     alloc: Global,
     directory: &mut F,
     handle: &F::Handle,
-    state: &mut State,
+    digest: &mut [u8; 64],
 ) -> Result<(), InstallFault>
     ensures still { F.run directory.new ≡ F.run directory.old }
-    ensures fed { OnOk result ((m : List ℕ) × IsFedState state.new m × Known (F.run directory.old) ((F.run directory.old).now.holds (F.Handle.file handle.now) ≡ m)) }
+    ensures read { OnOk result ((m : List ℕ) × (digest.new ≡ blake2b_digest 64 m) × Known (F.run directory.old) ((F.run directory.old).now.holds (F.Handle.file handle.now) ≡ m)) }
     ensures refused { IfErr result (IsLibraryFault (IsReadingFault (F.directory_faults directory.old) (F.directory_faults directory.new))) }
     ensures no_new_fault { OnOk result (F.directory_faults directory.new ≡ F.directory_faults directory.old) }
 {
     let Ok(mut buf) = zeros(alloc, PIECE) else {
         return Err(NamedFault::OutOfMemory.into());
     };
-    let Ok(fed) = feed(directory, handle, &mut buf) else {
+    let Ok(found) = digest_of(directory, handle, &mut buf) else {
         directory.count_fault();
         return Err(NamedFault::ReadingFailed.into());
     };
-    *state = fed;
+    *digest = found;
     Ok(())
 }
 
-// Feeds a new state all that the stage holds.
-fn feed<F: Directory>(
+// The digest of all that the file holds.
+fn digest_of<F: Directory>(
     directory: &F,
     handle: &F::Handle,
     buf: &mut [u8],
-) -> Result<State, DeviceFault>
+) -> Result<[u8; 64], DeviceFault>
     requires { 0 < length buf.old }
-    ensures fed { IfOk result (λ s. (m : List ℕ) × IsFedState s m × Known (F.run directory.now) ((F.run directory.now).now.holds (F.Handle.file handle.now) ≡ m)) }
+    ensures read { IfOk result (λ d. (m : List ℕ) × (d ≡ blake2b_digest 64 m) × Known (F.run directory.now) ((F.run directory.now).now.holds (F.Handle.file handle.now) ≡ m)) }
     ensures failed { OnErr result (F.read_fails ≡ true) }
 {
-    let mut state = State::new();
+    let mut hasher = Blake2b::new(64);
     let mut at = 0;
     'pieces: loop {
         let n = directory.read_at(handle, at, buf)?;
         if n == 0 {
-            return Ok(state);
+            let mut digest = [0u8; 64];
+            hasher.finalize(&mut digest);
+            return Ok(digest);
         }
-        // A state that is being fed takes each piece.
-        let Ok(()) = state.update(&buf[..n]) else {
-            return Err(DeviceFault);
-        };
+        hasher.update(&buf[..n]);
         at += n as u64;
     }
 }
 
-// Whether what the state was fed is an update: the texts vouch for it, and the comment that was signed with it is
-// judged. Returns the number of the update. Memory runs out only before anything is asked: what says so then may have
-// given up.
+// Whether the data of this digest is an update: its number, or why it is none. What says that an allocation failed may
+// have given up.
 pub(crate) fn judge<S: Scheme>(
     alloc: Global,
     scheme: &S,
     wanted: Wanted<'_>,
     kept: u64,
-    state: &mut State,
+    digest: &[u8; 64],
 ) -> Result<u64, InstallFault>
-    ensures judged { (m : List ℕ) → IsFedState state.old m
+    ensures judged { (m : List ℕ) → digest.now ≡ blake2b_digest 64 m
         → MatchResult result (IsUpdate (S.accepts scheme.now) (terms_of wanted.entry) kept m)
-        (λ e. IsLibraryFault (λ f. (f ≡ Named OutOfMemory) × (state.new ≡ state.old)) e ⊎ IsDataRefused (S.accepts scheme.now) (terms_of wanted.entry) kept m e) }
+        (λ e. (e ≡ Library (Named OutOfMemory)) ⊎ IsDataRefused (S.accepts scheme.now) (terms_of wanted.entry) kept m e) }
 {
-    match vouched_comment(alloc, scheme, wanted, state) {
-        Ok(Ok(comment)) => {
+    let Ok(mut message) = zeros(alloc, wanted.sig_text.len()) else {
+        return Err(NamedFault::OutOfMemory.into());
+    };
+    judge_digest(scheme, wanted, kept, digest, &mut message)
+}
+
+// The texts have to vouch for the data of this digest, and the comment that was signed with it is judged.
+fn judge_digest<S: Scheme>(
+    scheme: &S,
+    wanted: Wanted<'_>,
+    kept: u64,
+    digest: &[u8; 64],
+    message: &mut [u8],
+) -> Result<u64, InstallFault>
+    requires { length wanted.sig_text.now ≤ length message.old }
+    ensures judged { (m : List ℕ) → digest.now ≡ blake2b_digest 64 m
+        → MatchResult result (IsUpdate (S.accepts scheme.now) (terms_of wanted.entry) kept m) (IsDataRefused (S.accepts scheme.now) (terms_of wanted.entry) kept m) }
+{
+    match vouched_comment(scheme, wanted, digest, message) {
+        Ok(comment) => {
             check_comment(comment, wanted.file, wanted.numbering, wanted.moment, kept)
         }
-        Ok(Err(fault)) => Err(InstallFault::Library(fault)),
-        Err(_) => Err(NamedFault::OutOfMemory.into()),
+        Err(fault) => Err(InstallFault::Library(fault)),
     }
 }
 
-// Whether the two texts vouch for what the state was fed, not by a signature over the data itself: the comment that was
-// signed with it. The outer error is want of memory, before anything is asked.
+// Whether the two texts vouch for the data of this digest, not by a signature over the data itself: the comment that was
+// signed with it. What the comment signature is over is written to `message`.
 pub(crate) fn vouched_comment<'a, S: Scheme>(
-    alloc: Global,
     scheme: &S,
     wanted: Wanted<'a>,
-    state: &mut State,
-) -> Result<Result<&'a str, PError>, AllocError>
-    ensures vouched { IfOk result (λ r. (m : List ℕ) → IsFedState state.old m
-        → MatchResult r (λ c. TextsVouchWith (S.accepts scheme.now) wanted.entry.pk_text.now wanted.entry.sig_text.now m false c.now)
-        (λ f. verdict (S.accepts scheme.now) wanted.entry.pk_text.now wanted.entry.sig_text.now m false ≡ Err f)) }
-    ensures unasked { OnErr result (state.new ≡ state.old) }
+    digest: &[u8; 64],
+    message: &mut [u8],
+) -> Result<&'a str, PError>
+    requires { length wanted.sig_text.now ≤ length message.old }
+    ensures { (m : List ℕ) → digest.now ≡ blake2b_digest 64 m
+        → MatchResult result (λ c. TextsVouchWith (S.accepts scheme.now) wanted.entry.pk_text.now wanted.entry.sig_text.now m false c.now)
+        (λ f. verdict (S.accepts scheme.now) wanted.entry.pk_text.now wanted.entry.sig_text.now m false ≡ Err f) }
 {
-    let mut message = zeros(alloc, wanted.sig_text.len())?;
-    let mut digest = [0u8; 64];
-    // A state that was fed tells its digest.
-    let Ok(()) = state.digest(&mut digest) else {
-        return Ok(Err(NamedFault::SignatureRefused.into()));
-    };
-    Ok(decide(scheme, wanted, Some(&digest), &mut message))
+    decide(scheme, wanted, Some(digest), message)
 }
 
-// The comment that the key has signed. The outer error is want of memory.
+// The comment that the key has signed. The outer error is a failed allocation.
 pub(crate) fn signed_comment<'a, S: Scheme>(
     alloc: Global,
     scheme: &S,

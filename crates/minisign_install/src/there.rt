@@ -1,7 +1,7 @@
 //! Installing an update, unless it stands at the place already: then nothing is written.
 
 ghost use Rattle.std.specs.Prelude.{◌≡◌, ℕ, List, Option, Some, IfErr, IfOk, OnOk};
-ghost use Rattle.minisign_install.specs.Words.{Calls, CallsNothing, Finds, HasInstalled, HasLocked, HasLooked, InstallsOnlyUpdates, InstallsUnlessThere, IsCauseUnlessThere, IsFedState, IsLibraryFault, IsReadingFault, IsStanding, IsVouched, Known, LooksInPart, Place, Run, counts, terms_of};
+ghost use Rattle.minisign_install.specs.Words.{Calls, CallsNothing, Finds, HasInstalled, HasLocked, HasLooked, InstallsOnlyUpdates, InstallsUnlessThere, IsCauseUnlessThere, blake2b_digest, IsLibraryFault, IsReadingFault, IsStanding, IsVouched, Known, LooksInPart, Place, Run, counts, terms_of};
 
 use crate::calls::lock;
 use crate::checking::{Offer, check};
@@ -9,12 +9,12 @@ use crate::directories::Directory;
 use crate::faults::InstallFault;
 use crate::installing::install_update;
 use crate::judging::{read_back, vouched_comment};
+use crate::staging::zeros;
 use crate::wanted::Wanted;
 use minisign_base::NamedFault;
 use minisign_base::devices::random_sources::RandomSource;
 use minisign_base::devices::sources::Source;
 use minisign_base::scheme::Scheme;
-use minisign_external::state::State;
 use std::alloc::{AllocError, Global};
 
 /// Which way an update is installed.
@@ -145,33 +145,30 @@ fn look_at_place<S: Scheme, F: Directory>(
     let Some(handle) = found else {
         return Ok(Standing::Replaceable);
     };
-    let mut state = State::new();
-    read_back(alloc, directory, &handle, &mut state)?;
-    match judge_found(alloc, scheme, wanted, again, &mut state) {
+    let mut digest = [0u8; 64];
+    read_back(alloc, directory, &handle, &mut digest)?;
+    match judge_found(alloc, scheme, wanted, again, &digest) {
         Ok(standing) => Ok(standing),
         Err(_) => Err(NamedFault::OutOfMemory.into()),
     }
 }
 
-// What that is of which the state was fed all.
+// What the data of this digest is.
 fn judge_found<S: Scheme>(
     alloc: Global,
     scheme: &S,
     wanted: Wanted<'_>,
     again: bool,
-    state: &mut State,
+    digest: &[u8; 64],
 ) -> Result<Standing, AllocError>
-    ensures { IfOk result (λ standing. (m : List ℕ) → IsFedState state.old m → IsStanding (S.accepts scheme.now) (terms_of wanted.entry) again standing (Some m)) }
+    ensures { IfOk result (λ standing. (m : List ℕ) → digest.now ≡ blake2b_digest 64 m → IsStanding (S.accepts scheme.now) (terms_of wanted.entry) again standing (Some m)) }
 {
-    match vouched_comment(alloc, scheme, wanted, state) {
-        Ok(Ok(_)) => Ok(Standing::Update),
-        Ok(Err(_)) => {
-            if again {
-                Ok(Standing::Replaceable)
-            } else {
-                Ok(Standing::Other)
-            }
-        }
-        Err(fault) => Err(fault),
-    }
+    let mut message = zeros(alloc, wanted.sig_text.len())?;
+    Ok(
+        match vouched_comment(scheme, wanted, digest, &mut message) {
+            Ok(_) => Standing::Update,
+            Err(_) if again => Standing::Replaceable,
+            Err(_) => Standing::Other,
+        },
+    )
 }

@@ -40,7 +40,7 @@ returns-in-Copy-clause-went g c = rw (c.in-Copy.is, c.done_or-in-Copy.ensures) (
 pub returns-in-ReadBack-clause-went : goal.returns-in-ReadBack-clause-went
 returns-in-ReadBack-clause-went g c = rw (c.in-ReadBack.is, c.done_or-in-ReadBack.ensures) (λ going read has knows.
     let read_back = c.read_back.ensures in
-    gave _ c.read_back.result (joined _ _ _ _ _ read_back.fed (joined _ _ _ _ _ read_back.refused read_back.no_new_fault))
+    gave _ c.read_back.result (joined _ _ _ _ _ read_back.read (joined _ _ _ _ _ read_back.refused read_back.no_new_fault))
     (λ x ((m, is_fed, all), (u, calm)).
     record { stays = λ named is. is; then = m; has = has; knows = is_fed; made = λ named is known may. (read_back.still, rw (rw c.made-in-ReadBack.ensures at is.0).1 (all known)); explained = λ named. ap (counts _ _) calm; memory = tt })
     (λ e (u, ((fault, is, why), v)).
@@ -51,7 +51,7 @@ returns-in-Answer-clause-went g c = rw (c.in-Answer.is, c.number_or-in-Answer.en
     gave _ c.judge.result (c.judge.ensures.judged read knows)
     (λ n judged.
     record { stays = λ named is. is; then = read; has = has; knows = λ from. (read, n, record { comment = judged.comment; vouched = judged.vouched; says = judged.says; newer = omega (arith) }); made = λ named is known may. (refl, judged); explained = λ named. refl; memory = tt })
-    (λ e why. record { stays = λ named is. is; then = read; has = has.0; knows = tt; made = λ named is known may. refl; explained = λ named. ⊎_elim (λ (fault, is, memory). inr (fault, is, inl (memory.0, refl))) (λ refused. inl refused) why; memory = λ no. absurd (true≢false no) }))
+    (λ e why. record { stays = λ named is. is; then = read; has = has.0; knows = tt; made = λ named is known may. refl; explained = λ named. ⊎_elim (λ memory. inr (_, memory, inl (refl, refl))) (λ refused. inl refused) why; memory = λ no. absurd (true≢false no) }))
 
 pub returns-in-CreateRecord-clause-went : goal.returns-in-CreateRecord-clause-went
 returns-in-CreateRecord-clause-went g c = rw (c.in-CreateRecord.is, c.done_or-in-CreateRecord.ensures) (λ going read has knows.
