@@ -164,11 +164,9 @@ fn judge_found<S: Scheme>(
     ensures { IfOk result (λ standing. (m : List ℕ) → digest.now ≡ blake2b_digest 64 m → IsStanding (S.accepts scheme.now) (terms_of wanted.entry) again standing (Some m)) }
 {
     let mut message = zeros(alloc, wanted.sig_text.len())?;
-    Ok(
-        match vouched_comment(scheme, wanted, digest, &mut message) {
-            Ok(_) => Standing::Update,
-            Err(_) if again => Standing::Replaceable,
-            Err(_) => Standing::Other,
-        },
-    )
+    match vouched_comment(scheme, wanted, digest, &mut message) {
+        Ok(_) => Ok(Standing::Update),
+        Err(_) if again => Ok(Standing::Replaceable),
+        Err(_) => Ok(Standing::Other),
+    }
 }
