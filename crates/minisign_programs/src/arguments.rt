@@ -38,7 +38,13 @@ pub fn read_arguments<R: Env + AllocGlobal>(rt: &R) -> Result<Option<Vec<String>
     ensures { IfErr result (λ e. e ≡ Named OutOfMemory) }
 {
     match env::args(&(UnnamedProgram(rt), rt.alloc())) {
-        Ok(arguments) => Ok(Some(arguments.collect(rt.alloc())?)),
+        Ok(arguments) => {
+            let mut words = Vec::new(rt.alloc());
+            'words: for word in arguments {
+                words.push(word)?;
+            }
+            Ok(Some(words))
+        }
         Err(error) if error.kind() == io::ErrorKind::OutOfMemory => {
             Err(NamedFault::OutOfMemory.into())
         }
