@@ -1,4 +1,1 @@
-mod Bounds
 mod Facts
-mod InMemory
-mod Pasts

@@ -1,7 +1,7 @@
 //! Tests where no request to `minisign_compare` says it: calls that no request makes, devices that fail in ways that none
-//! describes, failed allocations, callers, and installing over a directory in memory. All else of the library is rows of
-//! `tests/rows/`, and what stands over a scheme outside is called from C in `tests/c`; over real files `tests/installer`
-//! installs.
+//! describes, failed allocations, and callers. All else of the library is rows of `tests/rows/`, what stands over a scheme
+//! outside is called from C in `tests/c`, and installing is tried in memory by `minisign_install_memory` and over real files
+//! by `tests/installer`.
 //!
 //! Each expected value comes from outside: from a standard, from Python's hashlib, from the upstream tool, or worked out by
 //! hand from a definition. None is what a crate of this repository answered.
@@ -15,12 +15,9 @@ mod callers;
 #[cfg(test)]
 mod hash;
 #[cfg(test)]
-mod installing;
-#[cfg(test)]
 mod kdf;
 #[cfg(test)]
 mod keys;
-pub mod memory;
 #[cfg(test)]
 mod names;
 pub mod passwords;
