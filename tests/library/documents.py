@@ -330,11 +330,11 @@ def check_layers(report, index, files):
 
 
 def reasons_of(shown, lines):
-    """The lines of an edit that say why it is wrong and of which function it is, and all others. Of an edit of must-fail/,
-    which `rt check` reads too, they stand in the README.md beside it."""
+    """The lines of an edit that say why it is wrong and of which function it is, and all others but the one that says by what it
+    is rejected. Of an edit of must-fail/, which `rt check` reads too, they stand in the README.md beside it."""
     if "/wrong-bodies/" in shown:
         reasons = [it for it in lines if it.startswith(("why: ", "fn: "))]
-        return reasons, [it for it in lines if it not in reasons]
+        return reasons, [it for it in lines if it not in reasons and not it.startswith("by: ")]
     name = os.path.basename(shown).removesuffix(".edit")
     told = re.findall(rf"(?m)^- `{re.escape(name)}`, in `(\S+)`: (.+)$", read(f"{os.path.dirname(shown)}/README.md"))
     return [part for fn, why in told for part in (f"why: {why}", f"fn: {fn}")], lines

@@ -4,7 +4,8 @@
 An edit has the form of the kit's, a first line `why:`, and a line `fn:` with the function that has to be rejected, as
 `rt check` prints it. `rt ci` would give each a check of its own, as it does with those of must-fail/; here many share
 one: each is written into a copy of its function, which stands after it under a name of its own, with the same
-contract and a copy of its written proof. So what calls the function is not proved again. A method of a trait's impl has
+contract and a copy of its written proof. Where a search proves the clause that `why:` says is false, the copy ensures this
+one alone, without a written proof, so that it is rejected for it. So what calls the function is not proved again. A method of a trait's impl has
 no second name and is changed where it stands, and an edit that reaches beyond the body of its function is tried alone.
 The crate has to be proved as it stands, by `rt ci` where this runs beside it (tests/shared/proved.py), and else by a check
 of the functions that the edits change. What is proved so is assumed in the copies: its body is a loop without an end, and
@@ -12,9 +13,10 @@ its proof a hole, so that a check tries the wrong bodies alone. An edit that is 
 
 An edit passes if the search for a proof of one of the function's own goals came to its end and found none. It fails if
 the search gave up at one of its limits, so that the goal may hold, or if only the function's written proof no longer fits:
-both happen to right bodies too. But some limits of a search are limits of time and come sooner where other work goes on: an
-edit whose search gave up is tried once more alone, when all else of the gate has ended. It fails too if the function is
-proved, if the prover could not tell, and if all that is left is a limit at which it stopped in a written proof.
+both happen to right bodies too. The few edits for which no smaller function makes a search end say so by a line `by:`, and
+pass where they are rejected as it says. But some limits of a search are limits of time and come sooner where other work goes
+on: another edit whose search gave up is tried once more alone, when all else of the gate has ended. An edit fails too if the
+function is proved, if the prover could not tell, and if all that is left is a limit at which it stopped in a written proof.
 tests/proofs/wrong_bodies.txt says how many edits each crate has: it fails too on other numbers.
 
 usage: wrong_bodies.py [--unchanged] [CRATE[/NAME]..]
@@ -62,6 +64,9 @@ WELL = ("proved", "no holes", "depends on a hole in")
 # Where a function begins, with the attributes above it.
 HEADER = re.compile(r"(?m)^(?: *#\[.*\]\n)*(?P<indent> *)(?:pub(?:\(\w+\))? )?(?:const )?(?:unsafe )?"
                     r'(?:extern "C" )?(?P<fn>fn) (?P<name>\w+)')
+# What a function ensures: a clause, with its name where it has one. And the clause that a line `why:` names.
+ENSURES = re.compile(r"(?m)^ *ensures(?: (?P<name>\w+))? \{")
+FALSE = re.compile(r"`(\w+)` is false")
 # A goal of the function for which a search found no proof.
 SEARCHED = re.compile(r"did not prove `|it is not proved that")
 # A search for a proof did not come to its end.
@@ -75,7 +80,7 @@ class WrongBody:
 
     def __init__(self, crate, file, number):
         self.label = f"{crate}/{os.path.basename(file)[: -len('.edit')]}"
-        self.path = self.function = self.why_not = ""
+        self.path = self.function = self.clause = self.by = self.why_not = ""
         self.changes, self.is_alone, self.is_unchanged, old = [], False, False, ""
         # Where its function begins and ends in the file, if it is written into a copy of it, and what the name gets.
         self.copied, self.suffix = None, f"{COPY}{number}"
@@ -83,16 +88,24 @@ class WrongBody:
             lines = it.read().splitlines()
         for line in lines:
             key, _, value = line.partition(": ") if ": " in line else line.partition(":")
-            if key == "file":
+            if key == "why" and FALSE.match(value):
+                self.clause = FALSE.match(value)[1]
+            elif key == "file":
                 self.path = value
             elif key == "fn":
                 self.function = value
+            elif key == "by":
+                self.by = value
             elif key == "old":
                 old = value
             elif key == "new":
                 self.changes.append((old, value))
+        if not is_searched(f"crates/{crate}/proofs/{self.function.replace('::', '/')}", self.clause):
+            self.clause = ""
         if not (file.endswith(".edit") and self.path and self.function and self.changes):
             self.why_not = "it is no file .edit with the lines `file:`, `fn:`, `old:` and `new:`"
+        if self.by and f"rejected by {self.by}" not in (Verdict.GAVE_UP, Verdict.APART):
+            self.why_not = "nothing is rejected by what its line `by:` names"
 
     def leave_unchanged(self):
         """Has its function stand as it is."""
@@ -109,6 +122,8 @@ class WrongBody:
             around = function_at(text, at)
             self.is_alone |= not around or around[2] != self.function.rpartition("::")[2]
             self.copied = around[:2] if around and not self.is_alone and not is_of_trait(text, around[0]) else None
+            if self.copied and f" ensures {self.clause} {{" not in text[slice(*self.copied)]:
+                self.clause = ""
             found.append((at, at + len(old), new))
         return found
 
@@ -123,13 +138,16 @@ class WrongBody:
             return places
         begin, end = self.copied
         copy = replaced(text[begin:end], [(one - begin, other - begin, new) for one, other, new in places])
+        if self.clause:
+            body = body_of(copy, HEADER.match(copy))[0]
+            copy = clause_alone(copy[:body], self.clause) + copy[body:]
         name = HEADER.match(copy).end()
         return [(end, end, f"\n\n{copy[:name]}{self.suffix}{copy[name:]}")]
 
     def copy_proof(self, directory):
         """Copies the written proof of its function, where it has one and is copied, in a crate's directory."""
         proof, copy = (f"{directory}/proofs/{it.replace('::', '/')}" for it in (self.function, self.checked()))
-        if not self.copied or not os.path.isdir(proof):
+        if not self.copied or self.clause or not os.path.isdir(proof):
             return
         shutil.copytree(proof, copy)
         named = re.compile(rf"\b{re.escape(self.function.replace('::', '.'))}\b")
@@ -150,6 +168,8 @@ class Verdict:
 
     def __init__(self, body, outcome, why):
         self.body, self.label, self.crate, self.outcome = body, body.label, body.label.partition("/")[0], outcome
+        # Whether it is what it has to be: a search came to its end, or it is rejected as the edit says.
+        self.is_well = outcome in (self.REJECTED, self.PROVED, f"rejected by {body.by}")
         self.text = f"wrong body {body.label}: {outcome}: {why[:240]}"
 
 
@@ -195,6 +215,33 @@ def body_of(text, header):
     begin = re.compile(rf"(?m)(?:\A.*|^{indent}(?:\).*)?)\{{$").search(text[header.end():])
     end = re.compile(rf"(?m)^{indent}\}}").search(text, header.end() + begin.end()) if begin else None
     return (header.end() + begin.end(), end.start()) if end else None
+
+
+def is_searched(directory, clause):
+    """Whether a search proves this clause of a function that has its written proof in this directory: all that is written is
+    of other clauses."""
+    if not os.path.isdir(directory):
+        return True
+    if os.listdir(directory) != ["Answers.antt"]:
+        return False
+    with open(f"{directory}/Answers.antt", encoding="utf-8") as it:
+        written = re.findall(r"(?m)^pub (\S+) :", it.read())
+    return all(re.fullmatch(rf"returns\S*-clause-(?!{clause}$)\w+", it) for it in written)
+
+
+def clause_alone(head, name):
+    """Returns the head of a function with the one of its clauses `ensures` alone that has this name."""
+    others = [it for it in ENSURES.finditer(head) if it["name"] != name]
+    return replaced(head, [(it.start(), end_of_braces(head, it.end()), "") for it in others])
+
+
+def end_of_braces(text, at):
+    """Returns where the braces end that are open there."""
+    depth = 1
+    while depth:
+        depth += {"{": 1, "}": -1}.get(text[at], 0)
+        at += 1
+    return at
 
 
 def loops(text, changed):
@@ -415,7 +462,7 @@ def try_all(tasks):
             with suppress(queue.Empty):
                 verdict = told.get(timeout=1)
                 left -= 1
-                if verdict.outcome != Verdict.GAVE_UP:
+                if verdict.outcome != Verdict.GAVE_UP or verdict.is_well:
                     yield verdict
                 else:
                     gave_up.append(verdict.body)
@@ -448,11 +495,12 @@ def main(words):
     for it in (it for crate in tasks for it in tasks[crate] if is_unchanged):
         it.leave_unchanged()
     tasks = {crate: tasks[crate] for crate in tasks if tasks[crate]}
-    outcomes = {crate: Counter() for crate in tasks}
+    outcomes, passed = {crate: Counter() for crate in tasks}, 0
     for verdict in try_all(tasks):
         print(verdict.text, flush=True)
         outcomes[verdict.crate][verdict.outcome] += 1
-        if verdict.outcome in (Verdict.GAVE_UP, Verdict.APART):
+        passed += verdict.is_well
+        if verdict.outcome in (Verdict.GAVE_UP, Verdict.APART) and not verdict.is_well:
             wrong.append(f"{verdict.label} is {verdict.outcome}: aim it at a smaller function")
     for crate, counted in outcomes.items():
         kinds = (Verdict.REJECTED, Verdict.GAVE_UP, Verdict.APART, Verdict.FAILED)
@@ -460,7 +508,6 @@ def main(words):
         print(f"{crate}: " + ", ".join(f"{counted[it]} {it}" for it in kinds))
     for it in wrong:
         print(f"FAILED: {it}")
-    passed = sum(it[Verdict.REJECTED] + it[Verdict.PROVED] for it in outcomes.values())
     failed = sum(it[Verdict.FAILED] for it in outcomes.values()) + len(wrong)
     print(f"{passed} passed, {failed} failed")
     return 1 if failed or not tasks else 0
