@@ -47,7 +47,7 @@ MEMORY = 3_000_000_000
 # MEMORY more.
 BESIDE, FREE = 2, 5_000_000_000
 # How many wrong bodies share a check at the most.
-GROUP = 24
+GROUP = 40
 # What a check of a crate reads.
 PARTS = ("src", "specs", "proofs")
 # What stands after the name of a function in that of a copy with a wrong body, before the number of this.
