@@ -2,50 +2,22 @@
  * Calls of the library in the wrong order, on states that were never begun and with answers that are none: each
  * is an error number, and changes nothing. Also right calls beside them, so that it is the use that is rejected.
  *
- * Prints a line for each check that failed; the last line is `N passed, M failed`. What Ed25519 would answer is made
- * up here: no check depends on it.
+ * Prints a line for each check that failed; the last line is `N passed, M failed`.
  */
 #include <stdio.h>
 #include <stdlib.h>
 #include <string.h>
 
 #include "minisign.h"
+#include "texts_for_tests.h"
 
-static unsigned passed, failed;
-
-#define CHECK(condition) check((condition), #condition, __LINE__)
-
-static void check(int holds, const char *condition, int line)
-{
-    if (holds) {
-        passed++;
-    } else {
-        failed++;
-        printf("line %d: not so: %s\n", line, condition);
-    }
-}
-
-/* The published key, and its signatures of `test`, prehashed and over the data itself. */
-static const char KEY[] = "untrusted comment: minisign public key E7620F1842B4E81F\n"
-                          "RWQf6LRCGA9i53mlYecO4IzT51TGPpvWucNSCh1CBM0QTaLn73Y7GFO3\n";
-static const char PREHASHED[] =
-    "untrusted comment: signature from minisign secret key\n"
-    "RUQf6LRCGA9i559r3g7V1qNyJDApGip8MfqcadIgT9CuhV3EMhHoN1mGTkUidF/z7SrlQgXdy8ofjb7bNJJylDOocrCo8KLzZwo=\n"
-    "trusted comment: timestamp:1556193335\tfile:test\n"
-    "y/rUw2y8/hOUYjZU71eHp/Wo1KZ40fGy2VJEDl34XMJM+TX48Ss/17u3IvIfbVR1FkZZSNCisQbuQY+bHwhEBg==";
+/* The signature of `test` over the data itself. */
 static const char LEGACY[] =
     "untrusted comment: signature from minisign secret key\n"
     "RWQf6LRCGA9i59SLOFxz6NxvASXDJeRtuZykwQepbDEGt87ig1BNpWaVWuNrm73YiIiJbq71Wi+dP9eKL8OC351vwIasSSbXxwA=\n"
     "trusted comment: timestamp:1555779966\tfile:test\n"
     "QtKMXWyYcwdpZAlPF7tE2ENJkRd1ujvKjlj1m9RtHTBnZPa5WKU5uWRs5GoP5M/VqE81QFuMKI5k/SfNQUaOAA==";
-/* A secret key that Minisign made with -G -W, for these checks alone. */
-static const char SECRET_KEY[] =
-    "untrusted comment: minisign encrypted secret key\n"
-    "RWQAAEIyAAAAAAAAAAAAAAAAAAAAAAAAAAAAAAAAAAAAAAAAAAAAAAAAAAAAAAAAAAAAAAAAu82A"
-    "eu/lPqv5tw414tB2l3S0AV4BthpWrWHyA+ItsehisjsR8AROg+V8Ng82TAEWPpchqblhFFay7/kQ"
-    "ioiXfnOLD1OmyTi9AAAAAAAAAAAAAAAAAAAAAAAAAAAAAAAAAAAAAAAAAAA=\n";
 #define COMMENT "timestamp:1556193335\tfile:test"
-#define MESSAGE_LEN (64 + sizeof COMMENT - 1)
 
 #define YES MINISIGN_ANSWER_YES
 #define NO MINISIGN_ANSWER_NO
@@ -64,15 +36,6 @@ static const uint8_t DIGEST_OF_ABC[64] = {
 static minisign_questions questions;
 static uint8_t message[1024], digest[64];
 
-static minisign_public_key key_of(const char *text)
-{
-    minisign_public_key key;
-
-    memset(&key, 0, sizeof key);
-    CHECK(minisign_read_public_key((const uint8_t *) text, strlen(text), &key) == MINISIGN_OK);
-    return key;
-}
-
 static enum minisign_error ask_for(minisign_state *state, const char *sig_text, uint32_t allow_legacy, size_t room)
 {
     const minisign_public_key key = key_of(KEY);
@@ -82,7 +45,7 @@ static enum minisign_error ask_for(minisign_state *state, const char *sig_text, 
 
 static enum minisign_error ask(minisign_state *state)
 {
-    return ask_for(state, PREHASHED, 0, sizeof message);
+    return ask_for(state, SIGNATURE, 0, sizeof message);
 }
 
 static enum minisign_error feed(minisign_state *state)
@@ -185,16 +148,16 @@ static void before_asking(void)
     CHECK(minisign_verdict(&state, NO, NO) == MINISIGN_NOT_ASKED);
     CHECK(minisign_verdict(&state, 2, 2) == MINISIGN_BAD_ANSWER);
     CHECK(minisign_comment_verdict(&state, YES) == MINISIGN_NOT_ASKED);
-    CHECK(ask_for(&state, PREHASHED, 2, sizeof message) == MINISIGN_BAD_LEGACY_FLAG);
-    CHECK(ask_for(&state, PREHASHED, UINT32_MAX, sizeof message) == MINISIGN_BAD_LEGACY_FLAG);
+    CHECK(ask_for(&state, SIGNATURE, 2, sizeof message) == MINISIGN_BAD_LEGACY_FLAG);
+    CHECK(ask_for(&state, SIGNATURE, UINT32_MAX, sizeof message) == MINISIGN_BAD_LEGACY_FLAG);
     CHECK(ask_for(&state, "", 0, sizeof message) == MINISIGN_MISSING_UNTRUSTED_COMMENT);
     CHECK(ask_for(&state, "\xff", 0, sizeof message) == MINISIGN_NOT_UTF8);
     CHECK(ask_for(&state, LEGACY, 0, sizeof message) == MINISIGN_LEGACY_NOT_ACCEPTED);
     for (size_t room = 0; room < MESSAGE_LEN; room++) {
-        CHECK(ask_for(&state, PREHASHED, 0, room) == MINISIGN_NO_ROOM);
+        CHECK(ask_for(&state, SIGNATURE, 0, room) == MINISIGN_NO_ROOM);
     }
     CHECK(memcmp(&before, &state, sizeof before) == 0);
-    CHECK(ask_for(&state, PREHASHED, 0, MESSAGE_LEN) == MINISIGN_OK);
+    CHECK(ask_for(&state, SIGNATURE, 0, MESSAGE_LEN) == MINISIGN_OK);
     CHECK(questions.message_len == MESSAGE_LEN);
     CHECK(memcmp(message, questions.signature, 64) == 0);
     CHECK(memcmp(message + 64, COMMENT, sizeof COMMENT - 1) == 0);
@@ -295,7 +258,7 @@ static void before_opening(void)
     CHECK(open_for(SECRET_KEY, 1) == MINISIGN_KEY_NOT_SEALED);
     CHECK(open_for("", 0) == MINISIGN_MISSING_SECRET_KEY_COMMENT);
     CHECK(open_for("\xff", 0) == MINISIGN_NOT_UTF8);
-    CHECK(open_for(PREHASHED, 0) == MINISIGN_RECORD_TOO_SHORT);
+    CHECK(open_for(SIGNATURE, 0) == MINISIGN_RECORD_TOO_SHORT);
     CHECK(memcmp(&nothing, &key, sizeof nothing) == 0);
     CHECK(make_short_text(&key, "t", "u", sizeof text) == MINISIGN_KEY_NOT_OPENED);
     CHECK(open_for(SECRET_KEY, 0) == MINISIGN_OK);
@@ -322,7 +285,7 @@ static void keys_of_no_text(void)
         CHECK(minisign_open_secret_key(&other, 2, NULL, 0, 1, 1, &opened) == MINISIGN_BAD_PASSWORD_FLAG);
         CHECK(memcmp(&opened, &none, sizeof none) == 0);
         CHECK(minisign_read_secret_key((const uint8_t *) "\xff", 1, &other) == MINISIGN_NOT_UTF8);
-        CHECK(minisign_read_secret_key((const uint8_t *) PREHASHED, strlen(PREHASHED), &other) == MINISIGN_RECORD_TOO_SHORT);
+        CHECK(minisign_read_secret_key((const uint8_t *) SIGNATURE, strlen(SIGNATURE), &other) == MINISIGN_RECORD_TOO_SHORT);
         CHECK(memcmp(&other, &before, sizeof other) == 0);
     }
     /* Nor where a bit of its mark is another. */
@@ -461,14 +424,14 @@ static void texts_of_signatures(void)
 {
     static const char *const rejected[][2] = { { "t\n", "u" }, { "t ", "u" }, { "\tt", "u" }, { "t", "u\r" }, { "t", "\n" } };
     static const char untrusted[] = "signature from minisign secret key";
-    static char expected[sizeof PREHASHED + 1];
+    static char expected[sizeof SIGNATURE + 1];
     const size_t second_line = strlen("untrusted comment: ") + sizeof untrusted;
     minisign_secret_key before = key;
     minisign_state state;
 
     minisign_init(&state);
     CHECK(ask(&state) == MINISIGN_OK);
-    for (size_t room = 0; room < sizeof PREHASHED; room++) {
+    for (size_t room = 0; room < sizeof SIGNATURE; room++) {
         CHECK(make_short_text(&key, COMMENT, untrusted, room) == MINISIGN_NO_ROOM);
     }
     for (size_t i = 0; i < sizeof rejected / sizeof rejected[0]; i++) {
@@ -477,11 +440,11 @@ static void texts_of_signatures(void)
     CHECK(make_short_text(&key, "\xff", "u\r", 0) == MINISIGN_NOT_UTF8);
     CHECK(make_short_text(&key, "t\n", "\xff", 0) == MINISIGN_NOT_UTF8);
     CHECK(text_len == 0 && text[0] == 0);
-    CHECK(make_short_text(&key, COMMENT, untrusted, sizeof PREHASHED) == MINISIGN_OK);
-    memcpy(expected, PREHASHED, sizeof PREHASHED - 1);
-    expected[sizeof PREHASHED - 1] = '\n';
+    CHECK(make_short_text(&key, COMMENT, untrusted, sizeof SIGNATURE) == MINISIGN_OK);
+    memcpy(expected, SIGNATURE, sizeof SIGNATURE - 1);
+    expected[sizeof SIGNATURE - 1] = '\n';
     write_record(expected + second_line, key.key_id, questions.signature);
-    CHECK(text_len == sizeof PREHASHED && memcmp(text, expected, text_len) == 0);
+    CHECK(text_len == sizeof SIGNATURE && memcmp(text, expected, text_len) == 0);
     CHECK(memcmp(&before, &key, sizeof before) == 0);
     for (size_t room = 0; room < MESSAGE_LEN; room++) {
         CHECK(minisign_comment_message(questions.signature, (const uint8_t *) COMMENT, sizeof COMMENT - 1, text, room)

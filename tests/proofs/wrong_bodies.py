@@ -45,7 +45,7 @@ LIST = "tests/proofs/wrong_bodies.txt"
 MEMORY = 3_000_000_000
 # How many checks run beside `rt ci`, and what has to be free for the first of them, in bytes; each further one needs
 # MEMORY more.
-BESIDE, FREE = 2, 5_000_000_000
+BESIDE, FREE = 3, 5_000_000_000
 # How many wrong bodies share a check at the most.
 GROUP = 40
 # What a check of a crate reads.

@@ -1,13 +1,13 @@
--- Where each failing call says why it failed, a run that is rejected says the first reason; and where memory ran out, nothing
--- was published.
+-- Where each failing call says why it failed, a run that is rejected says the first reason; and where an allocation failed,
+-- nothing was published.
 use Rattle.minisign_install.proofs.Common.{◌≡◌, ◌≢◌, inl, inr, ℕ, true, List, Option, ap, ◌∙◌, refl, ⊎_elim, Verifier, Terms, HasKept, HasLocked, Run, Counts, HasCleared, HasPublishedUpdate, IsDataRefusal, IsRefusal, PublishesNothing, InstallFault, DeviceFails, Explains, Host, Makes, Setting, next, Due, Lock, Clear, ReadRecord, Create, Copy, ReadBack, Answer, RenameRecord, Rename, SyncName, RemoveRecord, Remove, Installed, Outcome, Done, Failed, Place, Named, OutOfMemory, Library, WantsNoMemory, OnlyLocked}
 use Rattle.minisign_install.proofs.Works.{IsQuiet, publishes_nothing, publishes_trans, quiet_trans, renamed_stands}
 use Rattle.minisign_install.specs.Order.{Refused}
 use Rattle.minisign_install.proofs.Installs.{found_first}
 use Rattle.minisign_install.proofs.Orders.{Holds, Nothing, Q, SoFar, at_most_record, cleared_since, fails, calm, reached, reached_more, removed, stay}
 
--- why the data is not installed, by what was found to be kept; and where memory ran out, nothing was published, if only
--- calls that ask for memory want it
+-- why the data is not installed, by what was found to be kept; and where an allocation failed, nothing was published, if only
+-- calls that allocate say so
 abbrev pub Unfit : Type 0 → Setting → Host → Host → InstallFault → Type 0
 Unfit M s a h e =
     (locked : Run) × HasLocked a.run locked × ((kept : HasKept s.terms s.first locked.now) × HasCleared locked h.run
@@ -29,7 +29,7 @@ data_more ahead more (inr (inr (publishes, rose, why))) =
     inr (inr (publishes_trans _ _ _ _ publishes (publishes_nothing _ _ _ more), rose, ⊎_elim (λ writing. inl writing) (λ placed. inr (placed.0, reached_more placed.1 more)) why))
 
 module _ (M : Type 0) (s : Setting) (a : Host) (known : a.run.known ≡ true) (h h' : Host) where
-  -- a device failed, or memory ran out, when at most the record was published, or nothing
+  -- a device failed, or an allocation, when at most the record was published, or nothing
   late_unfit : {names : List (List ℕ)} {e : InstallFault} → SoFar s a (Q s a) names h'.run → h.faults ≡ a.faults → DeviceFails e h h' → (M → e ≢ Library (Named OutOfMemory)) → Unfit M s a h' e
   late_unfit x same fails wants = (x.locked, x.lock, (x.kept, x.cleared, inr (inl (x.publishes, rw same at fails)), λ m is. absurd (wants m is)))
 

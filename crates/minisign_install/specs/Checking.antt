@@ -53,7 +53,7 @@ IsAnswered accepts terms first old new r =
     ⊎ ((comment : List ℕ) × (found : Option (List ℕ)) × (signed_comment accepts terms ≡ Ok comment)
     × IsOffered terms first found comment r × Known old (Calls (Finds Record found) old new))
 
--- Why there is no answer. Memory runs out, before anything is asked of the directory; or reading the record failed.
+-- Why there is no answer. An allocation failed, before anything is asked of the directory; or reading the record did.
 abbrev pub IsUnanswered : Verifier → Terms → ℕ → ℕ → Run → Run → InstallFault → Type 0
 IsUnanswered accepts terms before after old new e =
     ((e ≡ Library (Named OutOfMemory)) × (new ≡ old) × (after ≡ before))

@@ -103,7 +103,7 @@ is_device_error e =
     (OutOfMemory ∷ ReadingFailed ∷ WritingFailed ∷ RandomSourceFailed ∷ [])
 
 -- What a run is rejected for where a call failed for the error of this number, if it can fail so: a device failed or
--- memory ran out; and the lock may be held by another. Where the target's name could not be synced, it is that.
+-- an allocation did; and the lock may be held by another. Where the target's name could not be synced, it is that.
 abbrev pub failure : Due ℕ → ℕ → Option ℕ
 failure ended.Installed e = None
 failure (ended.Refused first) e = None

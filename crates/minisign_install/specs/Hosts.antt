@@ -101,7 +101,7 @@ HasRun call due h ((o, mid) ∷ more) due' h' = call due o h mid × HasRun call 
 
 -- == Why a call failed ==
 
--- the device failed that the error speaks of; or memory ran out, and no device failed
+-- the device failed that the error speaks of; or an allocation failed, and no device
 abbrev pub DeviceFails : InstallFault → Host → Host → Type 0
 DeviceFails e h h' = IsLibraryFault (IsCallFault h.faults h'.faults) e
 

@@ -68,7 +68,7 @@ pub record HasKept (terms : Terms) (first : Bool) (m : Moment) : Type 0 where
   pub number : ℕ
   pub held : IsKeptNumber terms.numbering first found number
 
--- The number goes first. Up to some point of the run nothing was brought to the place. From there on only updates of
+-- The number goes first. Up to some point of the run nothing was published at the place. From there on only updates of
 -- one number are, while the record has that number or a greater one, at each moment and after a crash at any.
 pub record RecordsFirst (accepts : Verifier) (terms : Terms) (kept : ℕ) (old new : Run) : Type 0 where
   pub n : ℕ
@@ -108,7 +108,7 @@ InstallsOnlyUpdates accepts terms first old new =
 
 -- An update stands at the place, through any crash: the data that was ahead, in a file that was given the permissions of
 -- the one before. It is not older than the number that the record held when this run got the lock, and what killed runs
--- had left was removed. Its number was brought to the record, to stay there through any crash, before the update got its
+-- had left was removed. Its number was published in the record, to stay there through any crash, before the update got its
 -- name.
 pub record HasInstalled (accepts : Verifier) (terms : Terms) (first : Bool) (ahead : Option (List ℕ))
     (old new : Run) : Type 0 where

@@ -24,7 +24,7 @@ abbrev pub HasFailed : Counts → Counts → Type 0
 HasFailed before after =
     Rose before.random after.random ⊎ Rose before.update after.update ⊎ Rose before.directory after.directory
 
--- why a call failed, or a run: memory ran out, and no device failed; or the device did that the error speaks of
+-- why a call failed, or a run: an allocation failed, and no device; or the device did that the error speaks of
 abbrev pub IsCallFault : Counts → Counts → Fault → Type 0
 IsCallFault before after e =
     ((e ≡ Named OutOfMemory) × (after ≡ before))
@@ -32,7 +32,7 @@ IsCallFault before after e =
     ⊎ ((e ≡ Named WritingFailed) × Rose before.directory after.directory)
     ⊎ ((e ≡ Named RandomSourceFailed) × Rose before.random after.random)
 
--- the device failed that a stage is read from; or memory ran out, and none failed
+-- the device failed that a stage is read from; or an allocation failed, and no device
 abbrev pub IsReadingFault : ℕ → ℕ → Fault → Type 0
 IsReadingFault before after e =
     ((e ≡ Named OutOfMemory) × (after ≡ before)) ⊎ ((e ≡ Named ReadingFailed) × Rose before after)
@@ -73,7 +73,7 @@ HasPublishedUpdate accepts terms kept =
     HasReached (λ m. (bytes : List ℕ) × (n : ℕ) × IsUpdate accepts terms kept bytes n × HasOnDisk m Place bytes)
 
 -- Why the data ahead is not installed where the lock is held and the kept number is known, and what is published then.
--- The data is rejected: nothing. A device failed, or memory ran out: at most the record. The renaming failed, or the
+-- The data is rejected: nothing. A device or an allocation failed: at most the record. The renaming failed, or the
 -- directory could not be synced: at most what a whole installation publishes. In the last case the update stands at the
 -- place, and a crash may still bring back what stood there.
 abbrev pub IsDataRefusal : Verifier → Terms → ℕ → Option (List ℕ) → Counts → Counts → Run → Run → InstallFault → Type 0
@@ -146,7 +146,7 @@ IsReadRefusal numbering first old new e =
     × Known old (HasStepped old new (Finds Record found))
 
 -- why an installation is rejected: the lock is held by another, or the record is rejected, or a device failed, or
--- memory ran out, or some data is rejected, or the directory could not be synced
+-- an allocation did, or some data is rejected, or the directory could not be synced
 abbrev pub IsCause : Verifier → Terms → Bool → Counts → Counts → InstallFault → Type 0
 IsCause accepts terms first before after e =
     (e ≡ PlaceInUse) ⊎ ((found : Option (List ℕ)) × IsRecordRefused terms.numbering first found e)

@@ -97,8 +97,8 @@ pub fn install_update<S: Scheme, Z: RandomSource, R: Source, F: Directory>(
     // of the data only where some data has it.
     ensures causes { IfErr result (IsCause (S.accepts scheme.now) (terms_of wanted.entry) is_first (counts (Z.random_faults random.old) (R.faults update.old) (F.directory_faults directory.old)) (counts (Z.random_faults random.new) (R.faults update.new) (F.directory_faults directory.new))) }
 
-    // Memory runs out only with the lock held, and before anything is brought to the place or to the record. A run that
-    // says so may have given up there.
+    // Out of memory comes only with the lock held, and before anything is published. A run that says so may have
+    // given up there.
     ensures memory { IfErr result (λ e. e ≡ Library (Named OutOfMemory) → Known (F.run directory.old) (OnlyLocked (F.run directory.old) (F.run directory.new))) }
 
     // On success no device failed.

@@ -13,8 +13,8 @@ use std::alloc::{AllocError, Global};
 // The size of the pieces in which data is copied.
 pub(crate) const PIECE: usize = 65536;
 
-// Copies all the data ahead behind what the stage holds, in pieces. Memory runs out only before anything is read or
-// written.
+// Copies all the data ahead behind what the stage holds, in pieces. An allocation fails only before anything is
+// read or written.
 pub(crate) fn fill<F: Directory, R: Source>(
     alloc: Global,
     directory: &mut F,

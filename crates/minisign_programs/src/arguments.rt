@@ -32,9 +32,9 @@ impl<R: Env> Env for UnnamedProgram<'_, R> {
 }
 
 /// The arguments, the first of which stands for the program, or none where another one is not
-/// UTF-8. It fails only where memory runs out.
+/// UTF-8. It fails only where an allocation fails.
 pub fn read_arguments<R: Env + AllocGlobal>(rt: &R) -> Result<Option<Vec<String>>>
-    // Reading the arguments fails only where memory runs out.
+    // Reading the arguments fails only where an allocation fails.
     ensures { IfErr result (λ e. e ≡ Named OutOfMemory) }
 {
     match env::args(&(UnnamedProgram(rt), rt.alloc())) {
@@ -52,7 +52,7 @@ pub fn read_arguments<R: Env + AllocGlobal>(rt: &R) -> Result<Option<Vec<String>
     }
 }
 
-/// The words of the arguments behind the first one, which is the program. It fails only where memory runs out.
+/// The words of the arguments behind the first one, which is the program. It fails only where an allocation fails.
 pub fn words_of(alloc: Global, arguments: &[String]) -> std::result::Result<Vec<&str>, AllocError>
     ensures { IfOk result (λ v. map (λ w. w.now) v.items ≡ map (λ s. string_bytes s) (drop 1 arguments.now)) }
 {

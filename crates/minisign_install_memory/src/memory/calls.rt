@@ -16,11 +16,11 @@ pub(crate) enum Call {
     Created(Vec<u8>),
     // Bytes were written after what a file holds.
     Written(usize, Vec<u8>),
-    // A file was brought to the disk.
+    // A file was synced.
     Synced(usize),
     // The file of a stage's name got a lasting one.
     Renamed(Vec<u8>, Name),
-    // The names were brought to the disk.
+    // The directory was synced.
     DirectorySynced,
     // A stage's name was removed.
     Removed(Vec<u8>),
