@@ -4,12 +4,13 @@
 An edit has the form of the kit's, a first line `why:`, and a line `fn:` with the function that has to be rejected, as
 `rt check` prints it. `rt ci` would give each a check of its own, as it does with those of must-fail/; here many share
 one: each is written into a copy of its function, which stands after it under a name of its own, with the same
-contract and a copy of its written proof. Where a search proves the clause that `why:` says is false, the copy ensures this
-one alone, without a written proof, so that it is rejected for it. So what calls the function is not proved again. A method of a trait's impl has
-no second name and is changed where it stands, and an edit that reaches beyond the body of its function is tried alone.
-The crate has to be proved as it stands, by `rt ci` where this runs beside it (tests/shared/proved.py), and else by a check
-of the functions that the edits change. What is proved so is assumed in the copies: its body is a loop without an end, and
-its proof a hole, so that a check tries the wrong bodies alone. An edit that is not rejected beside others is tried once more alone.
+contract and a copy of its written proof. So what calls the function is not proved again. Where a search proves the clause
+that `why:` names as false, the copy ensures this clause alone, and has no written proof: so it is rejected for this one. A
+method of a trait's impl has no second name and is changed where it stands, and an edit that reaches beyond the body of its
+function is tried alone. The crate has to be proved as it stands, by `rt ci` where this runs beside it
+(tests/shared/proved.py), and else by a check of the functions that the edits change. What is proved so is assumed in the
+copies: its body is a loop without an end, and its proof a hole, so that a check tries the wrong bodies alone. An edit that
+is not rejected beside others is tried once more alone.
 
 An edit passes if the search for a proof of one of the function's own goals came to its end and found none. It fails if
 the search gave up at one of its limits, so that the goal may hold, or if only the function's written proof no longer fits:
@@ -64,7 +65,7 @@ WELL = ("proved", "no holes", "depends on a hole in")
 # Where a function begins, with the attributes above it.
 HEADER = re.compile(r"(?m)^(?: *#\[.*\]\n)*(?P<indent> *)(?:pub(?:\(\w+\))? )?(?:const )?(?:unsafe )?"
                     r'(?:extern "C" )?(?P<fn>fn) (?P<name>\w+)')
-# What a function ensures: a clause, with its name where it has one. And the clause that a line `why:` names.
+# A clause that a function ensures, with its name where it has one; and the clause that a line `why:` names as false.
 ENSURES = re.compile(r"(?m)^ *ensures(?: (?P<name>\w+))? \{")
 FALSE = re.compile(r"`(\w+)` is false")
 # A goal of the function for which a search found no proof.
