@@ -70,6 +70,8 @@ ENSURES = re.compile(r"(?m)^ *ensures(?: (?P<name>\w+))? \{")
 FALSE = re.compile(r"`(\w+)` is false")
 # A goal of the function for which a search found no proof.
 SEARCHED = re.compile(r"did not prove `|it is not proved that")
+# Such a goal is what a clause says.
+ENSURED = "what the function ensures"
 # A search for a proof did not come to its end.
 GAVE_UP = re.compile(r"gave up at one of its limits")
 # The prover stopped, so that the goal may hold.
@@ -395,7 +397,10 @@ class Trial:
         above = [it for it in lines[begin:at] if it.startswith("note: ") and SEARCHED.search(it)]
         proof = f"./proofs/{body.checked().replace('::', '/')}/"
         errors = [it for it in lines if it.startswith(proof) and ": error: " in it]
-        is_searched = bool(above or SEARCHED.search(line))
+        if body.clause:
+            # (not for what a call requires, nor for an invariant)
+            above = [it for it in above if ENSURED in it]
+        is_searched = bool(above or not body.clause and SEARCHED.search(line))
         ended = [it for it in above if not GAVE_UP.search(it)]
         if is_searched and (ended or not above) and "could not tell" not in line:
             return Verdict(body, Verdict.REJECTED, (ended or [line])[0])
