@@ -1,9 +1,12 @@
--- The definitions against published values: where the initialization vector comes from, and digests of
--- 64 and of 32 bytes, which Python's hashlib and b2sum give too. A wrong constant or step in the
--- definitions does not check.
-use Rattle.std.proofs.Common.{◌≡◌, ℕ, ◌+◌, ◌*◌, ◌^◌, ◌&&◌, nat_le, nat_lt, Bool, true, List, [], ◌∷◌, codes, refl, slice_index}
+-- Values of the definitions that are known from outside: where the initialization vector comes from, and digests
+-- of 64 and of 32 bytes, which Python's hashlib and b2sum give too. A wrong constant or step in a definition does
+-- not check, nor does a wrong byte here.
+use Rattle.std.proofs.Common.{◌≡◌, refl, ℕ, ◌+◌, ◌-◌, ◌*◌, ◌^◌, ◌&&◌, nat_le, nat_lt, Bool, true}
+use Rattle.std.proofs.Common.{if◌then◌else◌, List, [], ◌∷◌, ◌++◌, codes, slice_index}
+use Prim.Native.String.{String}
 use Rattle.std.specs.List.{list_all, range_with_len}
-use Rattle.minisign_hash.specs.Blake2b.{blake2b_digest, padded_block, compress, iv, mix, round, rounds, sigma, state_after, work_vector}
+use Rattle.minisign_hash.specs.Blake2b.{blake2b_digest, padded_block, compress, iv, mix, round, rounds, sigma}
+use Rattle.minisign_hash.specs.Blake2b.{state_after, work_vector}
 use Rattle.minisign_hash.specs.Words.{bytes_of_words64, words64_of}
 
 -- the first eight primes, and the whole parts of their square roots
@@ -19,75 +22,76 @@ is_root p k x =
     let root = k * 2 ^ 64 + x in
     nat_le (root ^ 2) (p * 2 ^ 128) && nat_lt (p * 2 ^ 128) ((root + 1) ^ 2) && nat_lt x (2 ^ 64)
 
--- the words of the initialization vector are these bits of the first eight primes (RFC 7693, 2.6), as
--- the first words of SHA-512 are
-pub iv-square_roots : list_all (λ i. is_root (slice_index primes i) (slice_index whole_roots i) (slice_index iv i)) (range_with_len 0 8) ≡ true
+-- the words of the initialization vector are these bits of the first eight primes (RFC 7693, 2.6), as the first
+-- words of SHA-512 are
+pub iv-square_roots :
+    list_all (λ i. is_root (slice_index primes i) (slice_index whole_roots i) (slice_index iv i))
+    (range_with_len 0 8)
+    ≡ true
 unfolding iv
 iv-square_roots = refl
 
+-- bytes as RFC 7693 prints them, two digits each
+abbrev digit : ℕ → ℕ
+digit c = if nat_le 65 c then c - 55 else c - 48
+
+abbrev spelled : List ℕ → List ℕ
+spelled (a ∷ b ∷ []) = (16 * digit a + digit b) ∷ []
+spelled (a ∷ b ∷ space ∷ rest) = (16 * digit a + digit b) ∷ spelled rest
+spelled _ = []
+
+abbrev hex : String → List ℕ
+hex text = spelled (codes text)
+
+-- what the facts of digests open: who opens this opens all that it opens
+unfoldable digests : ℕ
+unfolding blake2b_digest state_after padded_block compress work_vector rounds round mix iv sigma words64_of
+    bytes_of_words64
+digests = 0
+
 pub digest_of_nothing : blake2b_digest 64 [] ≡
-    0x78 ∷ 0x6A ∷ 0x02 ∷ 0xF7 ∷ 0x42 ∷ 0x01 ∷ 0x59 ∷ 0x03 ∷ 0xC6 ∷ 0xC6 ∷ 0xFD ∷ 0x85 ∷ 0x25 ∷
-    0x52 ∷ 0xD2 ∷ 0x72 ∷ 0x91 ∷ 0x2F ∷ 0x47 ∷ 0x40 ∷ 0xE1 ∷ 0x58 ∷ 0x47 ∷ 0x61 ∷ 0x8A ∷ 0x86 ∷
-    0xE2 ∷ 0x17 ∷ 0xF7 ∷ 0x1F ∷ 0x54 ∷ 0x19 ∷ 0xD2 ∷ 0x5E ∷ 0x10 ∷ 0x31 ∷ 0xAF ∷ 0xEE ∷ 0x58 ∷
-    0x53 ∷ 0x13 ∷ 0x89 ∷ 0x64 ∷ 0x44 ∷ 0x93 ∷ 0x4E ∷ 0xB0 ∷ 0x4B ∷ 0x90 ∷ 0x3A ∷ 0x68 ∷ 0x5B ∷
-    0x14 ∷ 0x48 ∷ 0xB7 ∷ 0x55 ∷ 0xD5 ∷ 0x6F ∷ 0x70 ∷ 0x1A ∷ 0xFE ∷ 0x9B ∷ 0xE2 ∷ 0xCE ∷ []
-unfolding blake2b_digest state_after padded_block compress work_vector rounds round mix iv sigma words64_of bytes_of_words64
+    hex "78 6A 02 F7 42 01 59 03 C6 C6 FD 85 25 52 D2 72 91 2F 47 40 E1 58 47 61 8A 86 E2 17 F7 1F 54 19" ++
+    hex "D2 5E 10 31 AF EE 58 53 13 89 64 44 93 4E B0 4B 90 3A 68 5B 14 48 B7 55 D5 6F 70 1A FE 9B E2 CE"
+unfolding digests
 digest_of_nothing = refl
 
 -- RFC 7693, appendix A
 pub digest_of_abc : blake2b_digest 64 (codes "abc") ≡
-    0xBA ∷ 0x80 ∷ 0xA5 ∷ 0x3F ∷ 0x98 ∷ 0x1C ∷ 0x4D ∷ 0x0D ∷ 0x6A ∷ 0x27 ∷ 0x97 ∷ 0xB6 ∷ 0x9F ∷
-    0x12 ∷ 0xF6 ∷ 0xE9 ∷ 0x4C ∷ 0x21 ∷ 0x2F ∷ 0x14 ∷ 0x68 ∷ 0x5A ∷ 0xC4 ∷ 0xB7 ∷ 0x4B ∷ 0x12 ∷
-    0xBB ∷ 0x6F ∷ 0xDB ∷ 0xFF ∷ 0xA2 ∷ 0xD1 ∷ 0x7D ∷ 0x87 ∷ 0xC5 ∷ 0x39 ∷ 0x2A ∷ 0xAB ∷ 0x79 ∷
-    0x2D ∷ 0xC2 ∷ 0x52 ∷ 0xD5 ∷ 0xDE ∷ 0x45 ∷ 0x33 ∷ 0xCC ∷ 0x95 ∷ 0x18 ∷ 0xD3 ∷ 0x8A ∷ 0xA8 ∷
-    0xDB ∷ 0xF1 ∷ 0x92 ∷ 0x5A ∷ 0xB9 ∷ 0x23 ∷ 0x86 ∷ 0xED ∷ 0xD4 ∷ 0x00 ∷ 0x99 ∷ 0x23 ∷ []
-unfolding blake2b_digest state_after padded_block compress work_vector rounds round mix iv sigma words64_of bytes_of_words64
+    hex "BA 80 A5 3F 98 1C 4D 0D 6A 27 97 B6 9F 12 F6 E9 4C 21 2F 14 68 5A C4 B7 4B 12 BB 6F DB FF A2 D1" ++
+    hex "7D 87 C5 39 2A AB 79 2D C2 52 D5 DE 45 33 CC 95 18 D3 8A A8 DB F1 92 5A B9 23 86 ED D4 00 99 23"
+unfolding digests
 digest_of_abc = refl
 
 -- the bytes 0 to 127: one whole block, which is the last
 pub digest_of_one_block : blake2b_digest 64 (range_with_len 0 128) ≡
-    0x23 ∷ 0x19 ∷ 0xE3 ∷ 0x78 ∷ 0x9C ∷ 0x47 ∷ 0xE2 ∷ 0xDA ∷ 0xA5 ∷ 0xFE ∷ 0x80 ∷ 0x7F ∷ 0x61 ∷
-    0xBE ∷ 0xC2 ∷ 0xA1 ∷ 0xA6 ∷ 0x53 ∷ 0x7F ∷ 0xA0 ∷ 0x3F ∷ 0x19 ∷ 0xFF ∷ 0x32 ∷ 0xE8 ∷ 0x7E ∷
-    0xEC ∷ 0xBF ∷ 0xD6 ∷ 0x4B ∷ 0x7E ∷ 0x0E ∷ 0x8C ∷ 0xCF ∷ 0xF4 ∷ 0x39 ∷ 0xAC ∷ 0x33 ∷ 0x3B ∷
-    0x04 ∷ 0x0F ∷ 0x19 ∷ 0xB0 ∷ 0xC4 ∷ 0xDD ∷ 0xD1 ∷ 0x1A ∷ 0x61 ∷ 0xE2 ∷ 0x4A ∷ 0xC1 ∷ 0xFE ∷
-    0x0F ∷ 0x10 ∷ 0xA0 ∷ 0x39 ∷ 0x80 ∷ 0x6C ∷ 0x5D ∷ 0xCC ∷ 0x0D ∷ 0xA3 ∷ 0xD1 ∷ 0x15 ∷ []
-unfolding blake2b_digest state_after padded_block compress work_vector rounds round mix iv sigma words64_of bytes_of_words64
+    hex "23 19 E3 78 9C 47 E2 DA A5 FE 80 7F 61 BE C2 A1 A6 53 7F A0 3F 19 FF 32 E8 7E EC BF D6 4B 7E 0E" ++
+    hex "8C CF F4 39 AC 33 3B 04 0F 19 B0 C4 DD D1 1A 61 E2 4A C1 FE 0F 10 A0 39 80 6C 5D CC 0D A3 D1 15"
+unfolding digests
 digest_of_one_block = refl
 
 -- the bytes 0 to 128, of which the last stands in a second block
 pub digest_of_two_blocks : blake2b_digest 64 (range_with_len 0 129) ≡
-    0xF5 ∷ 0x97 ∷ 0x11 ∷ 0xD4 ∷ 0x4A ∷ 0x03 ∷ 0x1D ∷ 0x5F ∷ 0x97 ∷ 0xA9 ∷ 0x41 ∷ 0x3C ∷ 0x06 ∷
-    0x5D ∷ 0x1E ∷ 0x61 ∷ 0x4C ∷ 0x41 ∷ 0x7E ∷ 0xDE ∷ 0x99 ∷ 0x85 ∷ 0x90 ∷ 0x32 ∷ 0x5F ∷ 0x49 ∷
-    0xBA ∷ 0xD2 ∷ 0xFD ∷ 0x44 ∷ 0x4D ∷ 0x3E ∷ 0x44 ∷ 0x18 ∷ 0xBE ∷ 0x19 ∷ 0xAE ∷ 0xC4 ∷ 0xE1 ∷
-    0x14 ∷ 0x49 ∷ 0xAC ∷ 0x1A ∷ 0x57 ∷ 0x20 ∷ 0x78 ∷ 0x98 ∷ 0xBC ∷ 0x57 ∷ 0xD7 ∷ 0x6A ∷ 0x1B ∷
-    0xCF ∷ 0x35 ∷ 0x66 ∷ 0x29 ∷ 0x2C ∷ 0x20 ∷ 0xC6 ∷ 0x83 ∷ 0xA5 ∷ 0xC4 ∷ 0x64 ∷ 0x8F ∷ []
-unfolding blake2b_digest state_after padded_block compress work_vector rounds round mix iv sigma words64_of bytes_of_words64
+    hex "F5 97 11 D4 4A 03 1D 5F 97 A9 41 3C 06 5D 1E 61 4C 41 7E DE 99 85 90 32 5F 49 BA D2 FD 44 4D 3E" ++
+    hex "44 18 BE 19 AE C4 E1 14 49 AC 1A 57 20 78 98 BC 57 D7 6A 1B CF 35 66 29 2C 20 C6 83 A5 C4 64 8F"
+unfolding digests
 digest_of_two_blocks = refl
 
 pub short_digest_of_nothing : blake2b_digest 32 [] ≡
-    0x0E ∷ 0x57 ∷ 0x51 ∷ 0xC0 ∷ 0x26 ∷ 0xE5 ∷ 0x43 ∷ 0xB2 ∷ 0xE8 ∷ 0xAB ∷ 0x2E ∷ 0xB0 ∷ 0x60 ∷
-    0x99 ∷ 0xDA ∷ 0xA1 ∷ 0xD1 ∷ 0xE5 ∷ 0xDF ∷ 0x47 ∷ 0x77 ∷ 0x8F ∷ 0x77 ∷ 0x87 ∷ 0xFA ∷ 0xAB ∷
-    0x45 ∷ 0xCD ∷ 0xF1 ∷ 0x2F ∷ 0xE3 ∷ 0xA8 ∷ []
-unfolding blake2b_digest state_after padded_block compress work_vector rounds round mix iv sigma words64_of bytes_of_words64
+    hex "0E 57 51 C0 26 E5 43 B2 E8 AB 2E B0 60 99 DA A1 D1 E5 DF 47 77 8F 77 87 FA AB 45 CD F1 2F E3 A8"
+unfolding digests
 short_digest_of_nothing = refl
 
 pub short_digest_of_abc : blake2b_digest 32 (codes "abc") ≡
-    0xBD ∷ 0xDD ∷ 0x81 ∷ 0x3C ∷ 0x63 ∷ 0x42 ∷ 0x39 ∷ 0x72 ∷ 0x31 ∷ 0x71 ∷ 0xEF ∷ 0x3F ∷ 0xEE ∷
-    0x98 ∷ 0x57 ∷ 0x9B ∷ 0x94 ∷ 0x96 ∷ 0x4E ∷ 0x3B ∷ 0xB1 ∷ 0xCB ∷ 0x3E ∷ 0x42 ∷ 0x72 ∷ 0x62 ∷
-    0xC8 ∷ 0xC0 ∷ 0x68 ∷ 0xD5 ∷ 0x23 ∷ 0x19 ∷ []
-unfolding blake2b_digest state_after padded_block compress work_vector rounds round mix iv sigma words64_of bytes_of_words64
+    hex "BD DD 81 3C 63 42 39 72 31 71 EF 3F EE 98 57 9B 94 96 4E 3B B1 CB 3E 42 72 62 C8 C0 68 D5 23 19"
+unfolding digests
 short_digest_of_abc = refl
 
 pub short_digest_of_one_block : blake2b_digest 32 (range_with_len 0 128) ≡
-    0xC3 ∷ 0x58 ∷ 0x2F ∷ 0x71 ∷ 0xEB ∷ 0xB2 ∷ 0xBE ∷ 0x66 ∷ 0xFA ∷ 0x5D ∷ 0xD7 ∷ 0x50 ∷ 0xF8 ∷
-    0x0B ∷ 0xAA ∷ 0xE9 ∷ 0x75 ∷ 0x54 ∷ 0xF3 ∷ 0xB0 ∷ 0x15 ∷ 0x66 ∷ 0x3C ∷ 0x8B ∷ 0xE3 ∷ 0x77 ∷
-    0xCF ∷ 0xCB ∷ 0x24 ∷ 0x88 ∷ 0xC1 ∷ 0xD1 ∷ []
-unfolding blake2b_digest state_after padded_block compress work_vector rounds round mix iv sigma words64_of bytes_of_words64
+    hex "C3 58 2F 71 EB B2 BE 66 FA 5D D7 50 F8 0B AA E9 75 54 F3 B0 15 66 3C 8B E3 77 CF CB 24 88 C1 D1"
+unfolding digests
 short_digest_of_one_block = refl
 
 pub short_digest_of_two_blocks : blake2b_digest 32 (range_with_len 0 129) ≡
-    0xF7 ∷ 0xF3 ∷ 0xC4 ∷ 0x6B ∷ 0xA2 ∷ 0x56 ∷ 0x4F ∷ 0xF4 ∷ 0xC4 ∷ 0xC1 ∷ 0x62 ∷ 0xDA ∷ 0x1F ∷
-    0x5B ∷ 0x60 ∷ 0x5F ∷ 0x9F ∷ 0x1C ∷ 0x4A ∷ 0xA6 ∷ 0xA2 ∷ 0x06 ∷ 0x52 ∷ 0xA9 ∷ 0xF9 ∷ 0xA3 ∷
-    0x37 ∷ 0xC1 ∷ 0xA2 ∷ 0xF5 ∷ 0xB9 ∷ 0xC9 ∷ []
-unfolding blake2b_digest state_after padded_block compress work_vector rounds round mix iv sigma words64_of bytes_of_words64
+    hex "F7 F3 C4 6B A2 56 4F F4 C4 C1 62 DA 1F 5B 60 5F 9F 1C 4A A6 A2 06 52 A9 F9 A3 37 C1 A2 F5 B9 C9"
+unfolding digests
 short_digest_of_two_blocks = refl

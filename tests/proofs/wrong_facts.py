@@ -1,0 +1,146 @@
+#!/usr/bin/env python3
+"""Tries wrong facts: the prover has to reject each value of crates/*/proofs/Facts.antt with another letter, byte, number or
+named error in its place.
+
+A fact says what a definition gives: `LEFT ≡ RIGHT`. Here the last literal of RIGHT is changed, and where it has none, that of
+a value of the same file that the fact names, in a copy of this value. All facts of a crate share a check, in which each has to
+be rejected by its name because two values differ. Those that are joined of other facts are changed in a second check, in which
+these stand as they are. What has no value, as a law, is not tried.
+
+Needs Python 3.9 or later and the kit.
+
+usage: wrong_facts.py [CRATE..]
+"""
+
+import os
+import re
+import sys
+import tempfile
+
+HERE = os.path.dirname(os.path.realpath(__file__))
+sys.path.append(os.path.join(HERE, "..", "shared"))
+sys.path.append(os.path.join(HERE, "..", "..", "tools"))
+
+import proved
+import sources
+from checks import Checks
+from wrong_bodies import HOLE, Trial
+
+FACTS = "proofs/Facts.antt"
+# The type of a fact: what stands between its name and what it opens, or its proof.
+STATEMENT = re.compile(r"(?ms)^(?:pub )?\S+ :\s(?P<left>.*)≡(?P<right>.*?)(?=^unfolding |^\S+ = )")
+# What may end a value: a text, a number, a named error, an empty list that ends no other one.
+LITERAL = re.compile(r'"[^"]+"|\b0x[0-9A-Fa-f]+\b|(?<![\w.])\d+\b|(?<=\bNamed )[A-Z]\w+|(?<=\bnamed\.)\w+|(?<!∷ )\[\]')
+# A proof by computation alone.
+COMPUTED = re.compile(r"(?m)^\S+ = [(]?refl(?:, refl)*[)]?\Z")
+# The named errors that a file imports.
+IMPORTED = re.compile(r"TheVariants\.\{([^}]*)\}")
+# What is said of a fact whose value is another one.
+DIFFERS = re.compile(r"(?m)^\./proofs/Facts\.antt:\d+:\d+: error: `([^`]+)`: .*(?:\bdiffer only\b|\bexpected type\b)")
+
+
+class Facts:
+    """The facts of a crate, and their file with wrong values."""
+
+    def __init__(self, crate):
+        self.text = sources.read(f"crates/{crate}/{FACTS}")
+        self.definitions = sources.read_module(os.path.join(sources.ROOT, "crates", crate, FACTS)).definitions
+        # By the name of each fact that has a value its text with another one, the facts that are computed, and the others.
+        self.wrong = {name: wrong for name in self.definitions if (wrong := self.with_wrong_value(name))}
+        computed = {name for name in self.wrong if COMPUTED.search(self.definitions[name].text)}
+        self.groups = [group for group in (computed, {*self.wrong} - computed) if group]
+
+    def with_wrong_value(self, name):
+        """The text of a fact with a wrong value, and before it the wrong copy of what it names; nothing where it has none."""
+        text = self.definitions[name].text
+        found = STATEMENT.match(text)
+        if not found:
+            return ""
+        begin, end = found.span("right")
+        if wrong := self.changed(found["right"]):
+            return text[:begin] + wrong + text[end:]
+        named = [it for it in re.findall(r"\w+", found[0]) if it in self.definitions and it != name]
+        for value in reversed(named):
+            lines = self.definitions[value].lines
+            if wrong := self.changed("\n".join(lines[1:])):
+                copy = re.sub(rf"\b{value}\b", f"wrong_{name}", "\n".join([lines[0], wrong]))
+                at = found[0].rindex(value)
+                return f"{copy}\n\n{text[:at]}wrong_{name}{text[at + len(value):]}"
+        return ""
+
+    def changed(self, value):
+        """The text of a value with its last literal changed; nothing where it has none."""
+        found = ([*LITERAL.finditer(value)] or [None])[-1]
+        return value[:found.start()] + self.other(found[0]) + value[found.end():] if found else ""
+
+    def other(self, literal):
+        """Another literal of its kind."""
+        if literal == "[]":
+            return "(0 ∷ [])"
+        if literal[0] == '"':
+            return literal[:-2] + ("1" if literal[-2] == "0" else "0") + '"'
+        if literal[0].isdigit():
+            return literal[:-1] + ("1" if literal[-1] == "0" else "0")
+        imported = re.findall(r"\w+", " ".join(IMPORTED.findall(self.text))) or ["OutOfMemory", "ReadingFailed"]
+        return next(it for it in imported if it != literal)
+
+    def written(self, names):
+        """The text of the file in which these facts are wrong."""
+        text = self.text
+        for name in names:
+            right = self.definitions[name].text.rstrip()
+            assert text.count(right) == 1, name
+            text = text.replace(right, self.wrong[name].rstrip())
+        return text
+
+
+def function_of(crate):
+    """The path of a function of the crate whose proof is written."""
+    proofs = f"crates/{crate}/proofs"
+    return next(os.path.relpath(at, proofs) for at, _, files in sorted(os.walk(proofs)) if "Answers.antt" in files)
+
+
+def said_of(crate, text):
+    """What a check says of the crate with these facts: it proves them alone, for a function whose proof names them."""
+    path = function_of(crate)
+    with tempfile.TemporaryDirectory(prefix="wrong-facts-") as room:
+        Trial(crate, None, None).copy_into(room, [])
+        for at in (os.path.join(at, it) for at, _, files in os.walk(f"{room}/proofs/{path}") for it in files):
+            os.remove(at)
+        *_, name = names = path.split(os.sep)
+        with open(f"{room}/proofs/{path}/Proof.antt", "w", encoding="utf-8") as it:
+            it.write(f"use Rattle.{crate}.proofs.Facts\n" + HOLE.format(path=".".join([crate, "proofs", *names]), name=name))
+        with open(f"{room}/{FACTS}", "w", encoding="utf-8") as it:
+            it.write(text)
+        words = ("--allow-holes", "--only", "::".join(names))
+        return proved.rattle("check", crate, room, *words, before=("nice", "-n", "19")).stdout
+
+
+def try_facts(report, crate):
+    """Tries each fact of a crate with a wrong value. (As they stand `rt ci` proves them.)"""
+    facts = Facts(crate)
+    if not facts.groups:
+        return
+    proved.wait_for([crate])
+    why = proved.supply(proved.crates()[crate].below)
+    if not report.check(not why, crate, why):
+        return
+    for group in facts.groups:
+        said = said_of(crate, facts.written(group))
+        for name in sorted(group):
+            report.check(name in DIFFERS.findall(said), f"{crate}/{FACTS}", f"{name} is not rejected with a wrong value")
+
+
+def main(names):
+    os.chdir(proved.ROOT)
+    report, with_facts = Checks(), [it for it in proved.crates() if os.path.exists(f"crates/{it}/{FACTS}")]
+    for crate in with_facts:
+        if not names or crate in names:
+            try_facts(report, crate)
+    for it in names:
+        report.check(it in with_facts, it, "it has no facts")
+    return report.end()
+
+
+if __name__ == "__main__":
+    sys.exit(main(sys.argv[1:]))
