@@ -1,5 +1,6 @@
 #!/usr/bin/env python3
-"""Tries the must-fail edits of crates/*/wrong-bodies/*.edit: the prover has to reject each.
+"""Tries the must-fail edits of crates/*/wrong-bodies/*.edit: the prover has to reject each. It knows those of must-fail/ too,
+and tries one of these where it is named: `rt ci` tries them all.
 
 An edit has the form of the kit's, a first line `why:`, and a line `fn:` with the function that has to be rejected, as
 `rt check` prints it. `rt ci` would give each a check of its own, as it does with those of must-fail/; here many share
@@ -42,6 +43,8 @@ sys.path.append(os.path.join(HERE, "..", "shared"))
 import proved
 
 LIST = "tests/proofs/wrong_bodies.txt"
+# Where a crate has its edits: those that are tried here, and those that `rt ci` tries.
+HERE_TRIED, KIT_TRIED = "wrong-bodies", "must-fail"
 # What a check of one of these crates takes at the most, in bytes.
 MEMORY = 3_000_000_000
 # How many checks run beside `rt ci`, and what has to be free for the first of them, in bytes; each further one needs
@@ -85,6 +88,7 @@ class WrongBody:
         self.label = f"{crate}/{os.path.basename(file)[: -len('.edit')]}"
         self.path = self.function = self.clause = self.by = self.why_not = ""
         self.changes, self.is_alone, self.is_unchanged, old = [], False, False, ""
+        self.is_for_kit = os.path.basename(os.path.dirname(file)) == KIT_TRIED
         # Where its function begins and ends in the file, if it is written into a copy of it, and what the name gets.
         self.copied, self.suffix = None, f"{COPY}{number}"
         with open(file, encoding="utf-8") as it:
@@ -178,9 +182,9 @@ class Verdict:
 
 def bodies_of(crate):
     """Returns the wrong bodies of a crate."""
-    directory = f"crates/{crate}/wrong-bodies"
-    files = sorted(os.listdir(directory)) if os.path.isdir(directory) else []
-    return [WrongBody(crate, f"{directory}/{it}", number) for number, it in enumerate(files)]
+    directories = [it for it in (f"crates/{crate}/{HERE_TRIED}", f"crates/{crate}/{KIT_TRIED}") if os.path.isdir(it)]
+    files = [f"{directory}/{it}" for directory in directories for it in sorted(os.listdir(directory))]
+    return [WrongBody(crate, it, number) for number, it in enumerate(files)]
 
 
 def listed():
@@ -496,7 +500,7 @@ def main(words):
     wrong = wrong_numbers(bodies, names)
     found = {name for crate in bodies for name in (crate, *(it.label for it in bodies[crate]))}
     wrong += [f"no wrong body is named {it}" for it in names if it not in found]
-    is_tried = lambda it: not names or it.label in names or it.label.partition("/")[0] in names
+    is_tried = lambda it: it.label in names or not it.is_for_kit and (not names or it.label.partition("/")[0] in names)
     tasks = {crate: [it for it in bodies[crate] if is_tried(it)] for crate in bodies}
     for it in (it for crate in tasks for it in tasks[crate] if is_unchanged):
         it.leave_unchanged()

@@ -31,7 +31,7 @@ pub given_opening : {R W : Type 0} (p : PromptCall R W) (password text : List �
     → p.new ≡ p.old → and_then (read_secret_key text) sealed_by_scrypt ≡ Ok k → (r ≡ open_sealed k password bound) ⊎ ((r ≡ Err (Named OutOfMemory)) × IsOk (allowed_work k bound))
     → IsOpening p (Some password) text bound r
 given_opening p password text bound k r same read (inl is) = (same, inl (is ∙ sym (open_text text password bound k read)))
-given_opening p password text bound k r same read (inr memory) = (same, inr memory.0)
+given_opening p password text bound k r same read (inr memory) = (same, inr (memory.0, rw read memory.1))
 
 -- the headline of an opening
 pub headline_of : {R W : Type 0} (p : PromptCall R W) (given : Option (List ℕ)) (text : List ℕ) (bound : Option ℕ) (r : Result SecretKeyRecord Fault)

@@ -4,11 +4,9 @@ use Rattle.minisign.proofs.Common.{option_map_or, result_ok, Fault, PromptCall}
 use Rattle.minisign.specs.Records.{SecretKeyRecord}
 use Rattle.minisign.specs.SecretKeyText.{read_secret_key}
 use Rattle.minisign.specs.Sealing.{no_kdf, wants_password}
-use Rattle.minisign.specs.Opening.{IsOpening, is_sealed_text, key_with_password, open_key, read_unencrypted_key}
+use Rattle.minisign.specs.Opening.{IsOpenedOrNoMemory, IsOpening, is_sealed_text, key_with_password, open_key, read_unencrypted_key}
 use Rattle.minisign.specs.SigningTexts.{GivesKey, IsKeyOf}
-use Rattle.minisign.specs.Texts.{IsReadOrNoMemory}
 use Rattle.minisign.proofs.Openings.{unread_unencrypted}
-use Rattle.minisign.proofs.ReadTexts.{read_value}
 
 -- whether a text is that of a sealed key
 is_sealed : (text : List ℕ) (r : Result SecretKeyRecord Fault) → read_secret_key text ≡ r
@@ -40,14 +38,21 @@ unread_key p given text e same read = inr (is_sealed text (Err e) read, same, sy
 
 -- with a password it is what the text gives under it
 pub with_password : {Same : Type 0} (password text : List ℕ) (r : Result SecretKeyRecord Fault)
-    → ((is_sealed_text text ≡ true) × (Same × IsReadOrNoMemory r (open_key text password None)))
-    ⊎ ((is_sealed_text text ≡ false) × Same × (r ≡ read_unencrypted_key text)) → IsReadOrNoMemory r (key_with_password text password)
-with_password password text r (inl (sealed, (same, h))) = rw sealed h
+    → ((is_sealed_text text ≡ true) × (Same × IsOpenedOrNoMemory text None r (open_key text password None)))
+    ⊎ ((is_sealed_text text ≡ false) × Same × (r ≡ read_unencrypted_key text)) → IsOpenedOrNoMemory text None r (key_with_password text password)
+with_password password text r (inl (sealed, (same, inl h))) = rw sealed (inl h)
+with_password password text r (inl (sealed, (same, inr memory))) = rw sealed (inr memory)
 with_password password text r (inr (plain, same, h)) = rw plain (inl h)
+
+-- a key that was given is what the text gives
+given_value : (text : List ℕ) (key : SecretKeyRecord) (given : Result SecretKeyRecord Fault)
+    → IsOpenedOrNoMemory text None (Ok key) given → given ≡ Ok key
+given_value text key given (inl is) = sym is
+given_value text key given (inr memory) = absurd (cc memory.0)
 
 -- a key that was given with a prompt or a password is one of the text
 pub key_of_given : {R W : Type 0} (p : PromptCall R W) (given : Option (List ℕ)) (text : List ℕ) (key : SecretKeyRecord)
     → GivesKey p given text (Ok key) → IsKeyOf text key
-key_of_given p (Some password) text key h = (password, read_value key _ (with_password password text (Ok key) h))
+key_of_given p (Some password) text key h = (password, given_value text key _ (with_password password text (Ok key) h))
 key_of_given p None text key (inl (sealed, (k, bytes, password, read, typed, opens, ended))) = (password, rw sealed opens)
 key_of_given p None text key (inr (plain, same, h)) = ([], rw plain (sym h))

@@ -11,6 +11,7 @@ pub mod PublicKeyTexts
 pub mod ReadTexts
 pub mod WrittenLines
 pub mod Facts
+pub mod ToyFacts
 pub mod SecretKeyTexts
 pub mod SecretKeyFronts
 pub mod Openings
@@ -28,3 +29,4 @@ pub mod Laws
 pub mod VouchedTexts
 pub mod MadeKeys
 pub mod GeneratedKeys
+pub mod RowBounds

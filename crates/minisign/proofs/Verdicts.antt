@@ -78,7 +78,7 @@ module _ (accepts : Verifier) (pk : PublicKeyRecord) (x : SignatureBoxRecord) (m
 
   -- bytes that a signature is over where one is allowed are judged as the message
   pub judged_held : (bytes : List ℕ) → AreSigned bytes x legacy message → (r : Result ⊤ Fault)
-      → IsReadOrNoMemory r (and_then (judge_key pk x.signature legacy) (λ _. judge_answers (accepts bytes pk.key x.signature.signature) (accepts_comments accepts pk x)))
+      → IsReadOrNoMemory r (and_then (judge_key pk.keynum x.signature legacy) (λ _. judge_answers (accepts bytes pk.key x.signature.signature) (accepts_comments accepts pk x)))
       → IsReadOrNoMemory r (judge accepts pk x message legacy)
   judged_held bytes held r =
       subst (IsReadOrNoMemory r) (judged_alike (bytes_eq x.signature.keynum pk.keynum) (is_prehashed x.signature || legacy) _ _ _ _

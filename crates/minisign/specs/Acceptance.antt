@@ -39,11 +39,11 @@ abbrev pub accepts_comments : Verifier → PublicKeyRecord → SignatureBoxRecor
 accepts_comments accepts pk x = option_map_or (λ c. nat_le 64 (length c.signature)
     && accepts (x.signature.signature ++ c.trusted) pk.key (take 64 c.signature)) x.comments true
 
--- what key and signature alone decide, in this order: the signature is made by the key of this key ID, and it is over
--- the digest of the data, where one over the data itself will not do
-abbrev pub judge_key : PublicKeyRecord → SignatureRecord → Bool → Result ⊤ Fault
-judge_key pk s legacy =
-    require (bytes_eq s.keynum pk.keynum) (DifferentKeyIds s.keynum pk.keynum)
+-- what the key ID of a key and a signature alone decide, in this order: the signature is made by the key of this key
+-- ID, and it is over the digest of the data, where one over the data itself will not do
+abbrev pub judge_key : List ℕ → SignatureRecord → Bool → Result ⊤ Fault
+judge_key key_id s legacy =
+    require (bytes_eq s.keynum key_id) (DifferentKeyIds s.keynum key_id)
     (require (is_prehashed s || legacy) LegacyNotAccepted
     (Ok tt))
 
@@ -57,7 +57,7 @@ judge_answers signature comments =
 -- whether the box vouches for the message under the key, or the first condition that fails
 abbrev pub judge : Verifier → PublicKeyRecord → SignatureBoxRecord → List ℕ → Bool → Result ⊤ Fault
 judge accepts pk x message legacy =
-    and_then (judge_key pk x.signature legacy) (λ _.
+    and_then (judge_key pk.keynum x.signature legacy) (λ _.
     judge_answers (accepts (signed_bytes x message) pk.key x.signature.signature) (accepts_comments accepts pk x))
 
 -- the box vouches for the message under every public key that has these 32 bytes and this key ID

@@ -6,7 +6,7 @@ use Rattle.std.specs.Prelude.{◌≡◌, ℕ, Bool, true, List, Option, Some, Ok
 use Rattle.minisign.specs.Common.{Fault, IsFlushed, IsSteady, RereaderCall, SinkFails, SinkCall, SourceFails, Takes}
 use Rattle.minisign.specs.Records.{PublicKeyRecord, SecretKeyRecord, SignatureBoxRecord}
 use Rattle.minisign.specs.Acceptance.{Verifier, Vouches, VouchesUnderEachKey, judge}
-use Rattle.minisign.specs.Opening.{open_key}
+use Rattle.minisign.specs.Opening.{IsOpenedOrNoMemory, open_key}
 use Rattle.minisign.specs.Signing.{ChosenComments, IsGenuine}
 use Rattle.minisign.specs.PublicKeyText.{read_public_key}
 use Rattle.minisign.specs.SignatureText.{AreOneLine, box_of, read_signature, read_signature_box}
@@ -50,10 +50,10 @@ pub record CopyIsVouchedFor {O : Type 0} (accepts : Verifier) (pk_text sig_text 
   pub flushed : IsFlushed out
   pub vouched : TextsVouchFor accepts pk_text sig_text copy legacy
 
--- opening: with a password that is passed in, the answer is what the text opens to, or out of memory; the bound is on
--- the parallelization, where there is one
+-- opening: with a password that is passed in, the answer is what the text opens to, or out of memory where that
+-- derives; the bound is on the parallelization, where there is one
 abbrev pub OpeningHeadline : Option (List ℕ) → List ℕ → Option ℕ → Result SecretKeyRecord Fault → Type 0
-OpeningHeadline password text bound answer = IfSome password (λ p. IsReadOrNoMemory answer (open_key text p bound))
+OpeningHeadline password text bound answer = IfSome password (λ p. IsOpenedOrNoMemory text bound answer (open_key text p bound))
 
 -- signing: where the key is a genuine one, and neither comment has a line feed and the trusted one is trimmed,
 -- the text reads as a box that every public key of its seed and key ID vouches for the message with

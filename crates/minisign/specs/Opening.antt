@@ -1,10 +1,10 @@
 -- How opening the text of a sealed key ends, with a password that is passed in or asked for.
 use Rattle.std.specs.Prelude.{◌≡◌, ◌⊎◌, ℕ, List, [], ◌∷◌, ◌++◌, Option, None, Some, Result, Ok, Err, codes, Bool, false, if◌then◌else◌, IsOk}
-use Rattle.minisign.specs.Common.{result_err, Fault, PromptCall, Allocate, ConversationEnds, Say, Step, Test, asking_steps, password_of, typed_password, option_map_or, result_ok, WorkTooHigh}
+use Rattle.minisign.specs.Common.{result_err, Fault, Named, OutOfMemory, PromptCall, Allocate, ConversationEnds, Say, Step, Test, asking_steps, password_of, typed_password, option_map_or, result_ok, WorkTooHigh}
 use Rattle.minisign.specs.Records.{SecretKeyRecord}
 use Rattle.minisign.specs.Sealing.{allowed_work, restored_key, sealed_by_scrypt, xored_key, checksum_of, is_within, no_kdf, open_sealed, scrypt_kdf, unencrypted_key, wants_password}
 use Rattle.minisign.specs.SecretKeyText.{read_secret_key, SecretKeyText}
-use Rattle.minisign.specs.Texts.{IsReadOrNoMemory, and_then, require, line}
+use Rattle.minisign.specs.Texts.{and_then, require, line}
 
 -- the text that asks, the text before the derivation, and the line after it
 unfoldable pub asking_text : List ℕ
@@ -76,13 +76,22 @@ telling_steps k password bound = Say deriving_text ∷ Test (result_err (allowed
 abbrev pub opening_steps : SecretKeyRecord → Option ℕ → List ℕ → List Step
 opening_steps k bound bytes = asking_steps asking_text bytes ++ telling_steps k (typed_password bytes) bound
 
+-- opening the key of the text derives: it is sealed by scrypt, with limits that are allowed and within the bound
+abbrev pub TakesDerivation : List ℕ → Option ℕ → Type 0
+TakesDerivation text bound = IsOk (and_then (and_then (read_secret_key text) sealed_by_scrypt) (λ k. allowed_work k bound))
+
+-- the answer is what the text gives; or out of memory, where opening its key derives
+abbrev pub IsOpenedOrNoMemory : List ℕ → Option ℕ → Result SecretKeyRecord Fault → Result SecretKeyRecord Fault → Type 0
+IsOpenedOrNoMemory text bound answer given =
+    (answer ≡ given) ⊎ ((answer ≡ Err (Named OutOfMemory)) × TakesDerivation text bound)
+
 -- how opening the key of a text ends, within a bound on the parallelization, where there is one. With a password that
--- is passed in the prompt is as it was, and the answer is what the text opens to, or out of memory. Otherwise it is
--- asked for one: the answer is what the text opens to with what was typed; or the conversation of opening stopped; or
+-- is passed in the prompt is as it was, and the answer is what the text opens to, or out of memory where that derives.
+-- Otherwise it is asked for one: the answer is what the text opens to with what was typed; or the conversation of opening stopped; or
 -- the text reads as no sealed key, with the prompt as it was
 abbrev pub IsOpening : {R W : Type 0} → PromptCall R W → Option (List ℕ) → List ℕ → Option ℕ
     → Result SecretKeyRecord Fault → Type 0
-IsOpening p (Some password) text bound answer = (p.new ≡ p.old) × IsReadOrNoMemory answer (open_key text password bound)
+IsOpening p (Some password) text bound answer = (p.new ≡ p.old) × IsOpenedOrNoMemory text bound answer (open_key text password bound)
 IsOpening p None text bound (Ok opened) = (k : SecretKeyRecord) × (bytes : List ℕ) × (password : List ℕ)
     × (and_then (read_secret_key text) sealed_by_scrypt ≡ Ok k) × (password_of bytes ≡ Ok password)
     × (open_key text password bound ≡ Ok opened) × ConversationEnds p (opening_steps k bound bytes) (Ok tt)

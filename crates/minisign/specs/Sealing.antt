@@ -1,10 +1,11 @@
 -- The checksum of a secret key, whether the key is still sealed, and what sealing and opening do: the
 -- last 104 bytes of its record, as one list, are xored with a stream of scrypt (RFC 7914, section 6).
-use Rattle.std.specs.Prelude.{ℕ, ◌^◌, Bool, true, not, ◌&&◌, nat_lt, List, [], ◌∷◌, ◌++◌, take, drop, Option, None, Result, Ok, bit_xor, bytes_eq, codes, if◌then◌else◌}
+use Rattle.std.specs.Prelude.{ℕ, ◌*◌, ◌^◌, Bool, true, not, ◌&&◌, nat_lt, List, [], ◌∷◌, ◌++◌, take, drop, Option, None, Result, Ok, bit_xor, bytes_eq, codes, if◌then◌else◌}
 use Rattle.minisign.specs.Common.{option_map_or, result_ok, w64, from_le_bytes, blake2b_digest, numbers, sealing_limits, Fault}
 use Rattle.std.specs.Simd.Lanes.{zip2}
 use Rattle.minisign_kdf.specs.Scrypt.{scrypt}
 use Rattle.minisign_kdf.specs.Params.{Numbers}
+use Rattle.minisign_kdf.specs.Room.{wanted_bytes, wanted_words}
 use Rattle.minisign.specs.Records.{SecretKeyRecord}
 use Rattle.minisign.specs.Texts.{and_then, require}
 use Rattle.minisign_base.specs.declared.faults.NamedFault.TheVariants as fault
@@ -56,6 +57,11 @@ is_within bound p = option_map_or (λ max_p. not (nat_lt max_p p)) bound true
 abbrev pub allowed_work : SecretKeyRecord → Option ℕ → Result Numbers Fault
 allowed_work k bound = and_then (key_limits k) (λ v. require (is_within bound v.p) fault.WorkTooHigh (Ok v))
 
+-- the same, where the rows that are made, N for each part, are at most so many
+abbrev pub allowed_rows : SecretKeyRecord → ℕ → Result Numbers Fault
+allowed_rows k most =
+    and_then (key_limits k) (λ v. require (not (nat_lt most (2 ^ v.n_log2 * v.p))) fault.WorkTooHigh (Ok v))
+
 -- an opened key, where its checksum is restored
 abbrev pub restored_key : SecretKeyRecord → Result SecretKeyRecord Fault
 restored_key k = require (bytes_eq k.checksum (checksum_of k)) fault.WrongPassword (Ok k)
@@ -70,6 +76,10 @@ sealed_by_scrypt k =
 abbrev pub open_sealed : SecretKeyRecord → List ℕ → Option ℕ → Result SecretKeyRecord Fault
 open_sealed k password bound = and_then (allowed_work k bound) (λ _. restored_key (xored_key k password))
 
+-- the same, where at most so many rows are made
+abbrev pub open_within_rows : SecretKeyRecord → List ℕ → ℕ → Result SecretKeyRecord Fault
+open_within_rows k password most = and_then (allowed_rows k most) (λ _. restored_key (xored_key k password))
+
 -- the key, where it was never sealed and its checksum matches
 abbrev pub unencrypted_key : SecretKeyRecord → Result SecretKeyRecord Fault
 unencrypted_key k =
@@ -81,3 +91,9 @@ unencrypted_key k =
 abbrev pub opening_work : SecretKeyRecord → ℕ × ℕ
 opening_work k =
     option_map_or (λ v. (v.n_log2, v.p)) (if wants_password k then result_ok (key_limits k) else None) (0, 0)
+
+-- the memory that opening in place takes where every k-th row is kept, in words of 32 bits and in bytes: zeros where the
+-- key wants no password, or its limits are rejected
+abbrev pub opening_memory : SecretKeyRecord → ℕ → ℕ × ℕ
+opening_memory key k =
+    option_map_or (λ v. (wanted_words v k, wanted_bytes v)) (if wants_password key then result_ok (key_limits key) else None) (0, 0)

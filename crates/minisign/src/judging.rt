@@ -16,15 +16,18 @@ use minisign_base::scheme::Scheme;
 use minisign_base::{NamedFault, Result};
 use minisign_hash::blake2b::Blake2b;
 
-// What key and signature alone decide.
-pub(crate) fn judge_key(pk: &PublicKey, signature: &Signature, allow_legacy: bool) -> Result<()>
-    ensures { result ≡ judge_key pk.now signature.now allow_legacy }
+/// What the key ID of a key and a signature alone decide, before a scheme is asked. Rejected are, in this order: a
+/// signature of another key ID, `DifferentKeyIds`; one over the data itself, unless `allow_legacy`,
+/// `LegacyNotAccepted`. Does not allocate.
+pub fn judge_key(key_id: &[u8; 8], signature: &Signature, allow_legacy: bool) -> Result<()>
+    // A signature is taken exactly if it has this key ID and is over the digest of the data, or may be over the data
+    // itself; otherwise it is the first reason.
+    ensures { result ≡ judge_key key_id.now signature.now allow_legacy }
 {
-    let keynum = &pk.keynum_pk.keynum;
-    if signature.keynum != *keynum {
+    if signature.keynum != *key_id {
         return Err(NamedFault::DifferentKeyIds {
             signature: signature.keynum,
-            key: *keynum,
+            key: *key_id,
         }
         .into());
     }
@@ -48,7 +51,7 @@ pub(crate) fn judge_view<S: Scheme>(
     ensures { (t : SignatureTextRecord) → view.now ≡ view_of t
         → result ≡ judge (S.accepts scheme.now) pk.now (box_of t) message.now allow_legacy }
 {
-    judge_key(pk, view.signature(), allow_legacy)?;
+    judge_key(pk.key_id(), view.signature(), allow_legacy)?;
     if !accepts_message(scheme, pk, view.signature(), message) {
         return Err(NamedFault::SignatureRefused.into());
     }

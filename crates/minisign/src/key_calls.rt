@@ -14,8 +14,7 @@ ghost use Rattle.minisign.specs.Reading.{ReadsWhole};
 ghost use Rattle.minisign.specs.Sealing.{is_encrypted};
 ghost use Rattle.minisign.specs.Signing.{SigningFails, given_comments};
 ghost use Rattle.minisign.specs.SigningTexts.{HasSignedText, IsSignedText};
-ghost use Rattle.minisign.specs.Opening.{key_with_password};
-ghost use Rattle.minisign.specs.Texts.{IsReadOrNoMemory};
+ghost use Rattle.minisign.specs.Opening.{IsOpenedOrNoMemory, key_with_password};
 
 use crate::keypair::{KeyPair, draw_with_salt, make_sealed_pair};
 use crate::memory::MemorySource;
@@ -36,19 +35,21 @@ use std::rt::Files;
 ///
 /// Rejected are, in this order: a text that reads as no key; of a key that was never sealed a
 /// checksum that does not match, `CorruptedKey`; of any other what `SecretKey::from_box` rejects
-/// with a password that is passed in, `WrongPassword` among it. An allocation may fail at any
-/// time: a sealed key takes 128 * 8 * N bytes, 32 MiB with the usual limits.
+/// with a password that is passed in, `WrongPassword` among it. An allocation may fail only where a
+/// sealed key is opened, which takes 128 * 8 * N bytes, 32 MiB with the usual limits. The password
+/// is not copied.
 ///
 /// ```
 /// let sk = open_with_password(alloc, sk_text, password)?;
 /// ```
 pub fn open_with_password(alloc: Global, sk_text: &str, password: &str) -> Result<SecretKey>
     // What the text gives to who has its password: a key that was never sealed as it stands, where
-    // its checksum matches, and any other one opened; otherwise the first error, or out of memory.
-    ensures { IsReadOrNoMemory result (key_with_password sk_text.now password.now) }
+    // its checksum matches, and any other one opened; otherwise the first error. Only a text whose key
+    // is sealed by scrypt, with limits that are allowed, may meet out of memory.
+    ensures { IsOpenedOrNoMemory sk_text.now None result
+        (key_with_password sk_text.now password.now) }
 {
-    let passed_in = Some(String::from_str(alloc, password)?);
-    key_of_text(alloc, sk_text, passed_in, &mut Prompt::silent())
+    key_of_text(alloc, sk_text, Some(password), &mut Prompt::silent())
 }
 
 impl KeyPair {

@@ -20,6 +20,7 @@ pub mod keypair;
 pub mod making;
 mod memory;
 mod opening;
+pub mod opening_in_place;
 pub mod options;
 pub mod parts;
 pub mod public_key;
@@ -48,6 +49,7 @@ pub use constants::{
     SIG_DEFAULT_SKFILE, SIG_SUFFIX,
 };
 pub use in_place::{SignatureView, read_bare_public_key, read_public_key, read_signature};
+pub use judging::judge_key;
 pub use key_calls::{open_with_password, sign_bytes, sign_file, sign_reader};
 pub use keypair::KeyPair;
 pub use making::{Sealing, make_public_key, make_secret_key};
@@ -60,6 +62,7 @@ pub use minisign_base::{
 };
 pub use minisign_hash;
 pub use minisign_hash as hash;
+pub use minisign_kdf::clear_memory;
 pub use options::VerifyOptions;
 pub use parts::write_comment_message;
 pub use public_key::PublicKey;

@@ -150,7 +150,7 @@ impl SecretKey {
         max_p: u32,
     ) -> Result<SecretKey>
         // With a password that is passed in: what the text opens to under it within the bound, key
-        // or first error, or out of memory. The prompt is left untouched.
+        // or first error; or out of memory, but only where that derives. The prompt is left untouched.
         //
         // With a password that is asked for: what was typed opens the key so, and the prompt wrote
         // what docs/FORMATS.md says; a text that no password opens leaves the prompt untouched;
@@ -231,21 +231,21 @@ impl SecretKey {
             (option_map string_bytes password) sk_box derivation.bound result }
     {
         let sk = SecretKey::from_text(sk_box.as_str())?;
-        sk.open(alloc, password, prompt, derivation)
+        sk.open(alloc, password.as_deref(), prompt, derivation)
     }
 
     // Opens the sealed key that a text reads as, with a password that is passed in or asked for.
     pub(crate) fn open<R: Source, W: Sink>(
         self,
         alloc: Global,
-        password: Option<String>,
+        password: Option<&str>,
         prompt: &mut Prompt<R, W>,
         derivation: Derivation,
     ) -> Result<SecretKey>
         requires { 1 ≤ derivation.k }
         ensures opens { (text : List ℕ) → read_secret_key text ≡ Ok self →
             IsOpening (prompt_call R.Source W.Sink prompt.old prompt.new)
-            (option_map string_bytes password) text derivation.bound result }
+            (option_map (λ p. p.now) password.entry) text derivation.bound result }
         ensures opened { IfOk result (λ v. is_encrypted v ≡ false) }
     {
         self.test_sealed()?;
@@ -337,7 +337,7 @@ impl SecretKey {
     }
 
     // Tests that opening restored the checksum.
-    fn test_restored(&self) -> Result<()>
+    pub(crate) fn test_restored(&self) -> Result<()>
         ensures { MatchResult result (λ _. restored_key self.now ≡ Ok self.now) (λ e. restored_key self.now ≡ Err e) }
     {
         if self.keynum_sk.chk != self.read_checksum() {

@@ -1,11 +1,11 @@
 //! The parts of keys and boxes that a caller needs whose signature scheme stands outside.
 
-ghost use Rattle.std.specs.Prelude.{◌≡◌, ◌≤◌, ◌+◌, ◌++◌, ◌⊎◌, None, Some, Err, IsOk, IfOk, IfErr, MatchOption, IsSomeAnd, length, take};
+ghost use Rattle.std.specs.Prelude.{◌≡◌, ◌≤◌, ◌+◌, ◌*◌, ◌^◌, ◌++◌, ◌⊎◌, None, Some, Err, IsOk, IfOk, IfErr, MatchOption, IsSomeAnd, length, nat_lt, take, drop};
 ghost use Rattle.minisign_base.specs.Fault.{Named};
 ghost use Rattle.minisign_base.specs.declared.faults.NamedFault.TheVariants.{OutOfMemory};
 ghost use Rattle.minisign.specs.Records.{prehashed_algorithm};
 ghost use Rattle.minisign_base.specs.Steps.{without_value};
-ghost use Rattle.minisign.specs.Sealing.{allowed_work, open_sealed, opening_work, sealed_by_scrypt, unencrypted_key, wants_password};
+ghost use Rattle.minisign.specs.Sealing.{allowed_rows, allowed_work, open_sealed, opening_work, sealed_by_scrypt, unencrypted_key, wants_password};
 ghost use Rattle.minisign.specs.Texts.{and_then};
 
 use crate::constants::{KDF_NONE, SIGALG_PREHASHED};
@@ -14,7 +14,7 @@ use crate::sealing::{Derivation, key_params};
 use crate::secret_key::SecretKey;
 use crate::signature::Signature;
 use crate::signature_box::{Comments, SignatureBox};
-use minisign_base::{NamedFault, Result};
+use minisign_base::{NamedFault, Params, Result};
 use std::alloc::Global;
 
 impl PublicKey {
@@ -101,6 +101,18 @@ impl SecretKey {
         }
     }
 
+    /// The greatest parallelization p with which opening the key makes at most so many rows, N for each of the p parts;
+    /// 0 where opening rejects the limits of the key. Does not allocate.
+    pub fn times_within(&self, most_rows: u64) -> u32
+        // Within that p opening allows what it allows where at most so many rows are made.
+        ensures { allowed_work self.now (Some result) ≡ allowed_rows self.now most_rows }
+    {
+        match key_params(self) {
+            Ok(params) => times(most_rows, &params),
+            Err(_) => 0,
+        }
+    }
+
     /// Opens a sealed key that was read with a password, within a bound on the work and with every k-th of scrypt's rows
     /// kept, for k from 1 on: as `from_box_keeping_within` does with its text. Nobody is asked for a password.
     ///
@@ -130,17 +142,34 @@ impl SecretKey {
     }
 }
 
+// The greatest p with which at most so many rows are made, cut to 32 bits.
+fn times(most_rows: u64, params: &Params) -> u32
+    ensures { nat_lt result params.now.p ≡ nat_lt most_rows (2 ^ params.now.n_log2 * params.now.p) }
+{
+    let times = most_rows >> params.n_log2();
+    times.min(u64::from(u32::MAX)) as u32
+}
+
 /// Writes the message of a comment signature to the front of `message`: the signature of the data followed by the
 /// trusted comment, 64 bytes more than the comment has. Does not allocate.
 pub fn write_comment_message(signature: &[u8; 64], trusted: &[u8], message: &mut [u8])
     requires room { 64 + length trusted.now ≤ length message.old }
 
-    // The message stands at the front of the buffer, whose length stays.
+    // The message stands at the front of the buffer, whose length stays; so does what stands behind the message.
     ensures size { length message.new ≡ length message.old }
     ensures written { take (64 + length trusted.now) message.new ≡ signature.now ++ trusted.now }
+    ensures rest { drop (64 + length trusted.now) message.new ≡ drop (64 + length trusted.now) message.old }
 {
-    let (front, rest) = message.split_at_mut(64);
-    let (back, _) = rest.split_at_mut(trusted.len());
+    let (whole, _) = message.split_at_mut(64 + trusted.len());
+    fill(whole, signature, trusted);
+}
+
+// Fills the buffer with both, one after the other.
+fn fill(to: &mut [u8], signature: &[u8; 64], trusted: &[u8])
+    requires { length to.old ≡ 64 + length trusted.now }
+    ensures { to.new ≡ signature.now ++ trusted.now }
+{
+    let (front, back) = to.split_at_mut(64);
     front.copy_from_slice(signature);
     back.copy_from_slice(trusted);
 }

@@ -73,7 +73,7 @@ impl SecretKey {
 
     // Xors the last 104 bytes of the record, as one list. Once more with the same stream restores
     // them.
-    fn xor_keynum(&mut self, stream: &[u8; 104])
+    pub(crate) fn xor_keynum(&mut self, stream: &[u8; 104])
         ensures xored { self.new ≡ key_xor self.old stream.now }
         ensures restores { key_xor self.new stream.now ≡ self.old }
     {
@@ -126,7 +126,7 @@ fn derive_stream(
 // The parameters that the key's limits lead to, where these are allowed and p is within the bound,
 // where there is one.
 #[tactic(auto, using(crate::proofs::SealingLimits::allowed_numbers))]
-fn bounded_params(sk: &SecretKey, bound: Option<u32>) -> Result<Params>
+pub(crate) fn bounded_params(sk: &SecretKey, bound: Option<u32>) -> Result<Params>
     ensures { MatchResult result
         (λ v. (numbers (from_le_bytes w64 sk.now.memory_limit) (from_le_bytes w64 sk.now.operations_limit) ≡ v)
         × (allowed_work sk.now bound ≡ Ok v))

@@ -90,7 +90,7 @@ pub fn sign_texts<S: Scheme, P: Source, Q: Sink, R: Source, Z: RandomSource>(
     ensures given { HasGiven (R.ahead data_reader.old) (R.ahead data_reader.new) }
     ensures drawn { HasGiven (Z.random_ahead random.old) (Z.random_ahead random.new) }
 {
-    let sk = key_of_text(alloc, sk_text, password, prompt)?;
+    let sk = key_of_text(alloc, sk_text, password.as_deref(), prompt)?;
     let comments = GivenComments {
         trusted: trusted_comment,
         untrusted: untrusted_comment,
@@ -129,13 +129,13 @@ pub(crate) fn sign_opened<S: Scheme, R: Source, Z: RandomSource>(
 pub(crate) fn key_of_text<P: Source, Q: Sink>(
     alloc: Global,
     text: &str,
-    password: Option<String>,
+    password: Option<&str>,
     prompt: &mut Prompt<P, Q>,
 ) -> Result<SecretKey>
     ensures opened { IfOk result (λ v. is_encrypted v ≡ false) }
     ensures gives { GivesKey (prompt_call P.Source Q.Sink prompt.old prompt.new)
-        (option_map string_bytes password) text.now result }
-    ensures untouched { IfSome password (λ _. prompt.new ≡ prompt.old) }
+        (option_map (λ p. p.now) password.entry) text.now result }
+    ensures untouched { IfSome password.entry (λ _. prompt.new ≡ prompt.old) }
 {
     let sk = SecretKey::from_text(text)?;
     if sk.kdf_alg == KDF_NONE {

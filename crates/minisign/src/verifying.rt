@@ -231,12 +231,12 @@ fn judge<S: Scheme>(
     signed: &[u8],
     allow_legacy: bool,
 ) -> Result<()>
-    ensures { IsReadOrNoMemory result (and_then (judge_key pk.now signature_box.now.signature allow_legacy) (λ _.
+    ensures { IsReadOrNoMemory result (and_then (judge_key pk.now.keynum signature_box.now.signature allow_legacy) (λ _.
         judge_answers (S.accepts scheme.now signed.now pk.now.key signature_box.now.signature.signature)
         (accepts_comments (S.accepts scheme.now) pk.now signature_box.now))) }
 {
     let signature = &signature_box.signature;
-    judge_key(pk, signature, allow_legacy)?;
+    judge_key(pk.key_id(), signature, allow_legacy)?;
     if !scheme.verify(signed, &pk.keynum_pk.pk, &signature.sig) {
         return Err(NamedFault::SignatureRefused.into());
     }

@@ -3,22 +3,24 @@
 
 #![tactic(auto)]
 
-ghost use Rattle.std.specs.Prelude.{◌≡◌, ◌≢◌, IfSome, ◌==◌, ◌⊎◌, ◌<◌, ◌≤◌, ◌+◌, ◌++◌, ℕ, Bool, List, [], Some, None, Ok, Err, IfErr, true, false, MatchOption, length, take};
+ghost use Rattle.std.specs.Prelude.{◌≡◌, ◌≢◌, IfSome, ◌==◌, ◌⊎◌, ◌<◌, ◌≤◌, ◌+◌, ◌++◌, ℕ, Bool, List, [], Some, None, Ok, Err, IfErr, true, false, MatchOption, length, replicate, take, drop};
 ghost use Rattle.std.specs.Option.{option_map};
 ghost use Rattle.std.specs.Str.{IsUtf8};
 ghost use Rattle.minisign_hash.specs.Blake2b.{blake2b_digest};
 ghost use Rattle.minisign.specs.PublicKeyText.{read_bare_public_key, read_public_key};
-ghost use Rattle.minisign.specs.Records.{SecretKeyRecord};
 ghost use Rattle.minisign.specs.SecretKeyText.{read_secret_key};
 ghost use Rattle.minisign.specs.SignatureText.{SignatureTextRecord, read_signature};
 ghost use Rattle.minisign.specs.Acceptance.{Verifier};
 ghost use Rattle.minisign_external.specs.Questions.{AnswersComment, HoldsMessage, IsKeyText, comment_verdict_under, read_under, verdict_under};
+ghost use Rattle.minisign_base.specs.Fault.{Named};
+ghost use Rattle.minisign_base.specs.declared.faults.NamedFault.TheVariants.{OutOfMemory};
 ghost use Rattle.minisign_external.specs.Numbers.{IsAnswer, WritesCut, answer_yes, misuse_number};
 ghost use Rattle.minisign_external.specs.PublicKeys.{read_utf8, told_key_number};
 ghost use Rattle.minisign_external.specs.Making.{HoldsPublicKey, HoldsSecretKey, IsMakingNumber, IsPublicKeyNumber};
-ghost use Rattle.minisign_external.specs.SecretKeys.{HoldsKey, IsOpeningNumber, OpensAs, is_opened, is_read, open_read_key, passed_in, public_value_of, read_value, reading_number, unopened_record, taken_key, told_public_key};
+ghost use Rattle.minisign_external.specs.SecretKeys.{DerivesWithin, OpensAs, is_opened, opened_in_place, opened_sealed, opened_unsealed, passed_in, public_value_of, read_value, reading_number, unopened_record, taken_key, told_opened, told_public_key, value_memory};
 ghost use Rattle.minisign_external.specs.Signing.{AreReadByMinisign, HoldsText, IsWritingNumber, comments_of};
 ghost use Rattle.minisign_external.specs.declared.public_keys.PublicKeyValue.{PublicKeyValue};
+ghost use Rattle.minisign_external.specs.declared.state.Refusal.TheVariants.{Refused};
 ghost use Rattle.minisign_external.specs.declared.state.Misuse.TheVariants.{BadAnswer, BadFirstFlag, BadNumbering, BadPasswordFlag, NoRoom, NotDue};
 ghost use Rattle.minisign_install.specs.Checking.{HasChecked, IsCheckNumber};
 ghost use Rattle.minisign_install.specs.Comments.{Says};
@@ -30,7 +32,7 @@ ghost use Rattle.minisign_install.specs.declared.faults.InstallFault.{InstallFau
 ghost use Rattle.minisign_install.specs.declared.order.Due.TheVariants.{Answer, ReadRecord, TakePermissions, WriteRecord};
 ghost use Rattle.minisign_install.specs.declared.order.Due.TheVariants as ended;
 ghost use Rattle.minisign_install.specs.declared.order.Outcome.TheVariants.{Done, Failed, More};
-ghost use Rattle.minisign_external.specs.States.{AnswersTextsBy, AreQuestions, GivesNumber, HasAsked, HasEnded, HasToldDigest, IsAnswered, IsBlank, IsCommentVerdictNumber, IsFedState, IsMarkedFed, IsMarkedTold, IsVerdictNumber, KeepsAsked, asking_number, feeding_misuse, is_asked, is_begun, questions_of, verdict_number};
+ghost use Rattle.minisign_external.specs.States.{AnswersTextsBy, AreQuestions, GivesNumber, HasAsked, HasToldDigest, IsAnswered, IsBlank, IsFedState, IsMarkedFed, IsMarkedTold, KeepsAsked, asking_number, comment_number, feeding_misuse, is_asked, is_begun, questions_of, told_verdict_number, verdict_number};
 
 use minisign::Sealing;
 use minisign_external::making::{write_public_key, write_secret_key};
@@ -39,7 +41,10 @@ use minisign_external::public_keys::{PublicKeyValue, tell_bare_public_key, tell_
 use minisign_external::secrets::SecretKeyValue;
 use minisign_external::signed_texts::{write_comment_message, write_signed_text};
 use minisign_external::state::{Misuse, Questions, Refusal, State};
-use minisign_external::unopened_keys::{UnopenedKeyValue, open_secret_key, read_unopened_key};
+use minisign_external::unopened_keys::{
+    UnopenedKeyValue, memory_to_open, open_sealed_key, open_sealed_key_in_place, open_unsealed_key,
+    read_unopened_key,
+};
 use minisign_install::Numbering;
 use minisign_install::checking::check_comment_offer;
 use minisign_install::hosted::{Installation, write_error_text};
@@ -51,7 +56,8 @@ use std::alloc::Global;
 #[unsafe(no_mangle)]
 pub extern "C" fn minisign_error_text(error: u32, text: &mut [u8]) -> usize
     // The text of a number is that of the usage error, that of the error of installing, or what the error of the
-    // library says without its key IDs; it has less than 128 bytes, is cut to its room and ended by a 0.
+    // library says without its key IDs; it has less than 128 bytes, is cut to its room and ended by a 0, behind which the
+    // buffer stays.
     ensures written { (meaning : List ℕ) × IsHostMeaning error meaning × (result ≡ length meaning) × WritesCut meaning text.old text.new }
     ensures room { result < 128 }
 {
@@ -148,8 +154,9 @@ pub extern "C" fn minisign_ask(
     ensures asking { result ≡ 0 → HasAsked state.new key.now sig_text.now (allow_legacy == 1) }
     ensures fed { (m : List ℕ) → IsFedState state.old m → IsFedState state.new m }
 
-    // After a rejection state and message buffer are as they were; with an `allow_legacy` of 0 or 1, of a state that
-    // may be asked and a text that reads, both key IDs are told.
+    // What stands behind the message stays. After a rejection state and message buffer are as they were; with an
+    // `allow_legacy` of 0 or 1, of a state that may be asked and a text that reads, both key IDs are told.
+    ensures rest { result ≡ 0 → drop questions.new.message_len message.new ≡ drop questions.new.message_len message.old }
     ensures kept { 0 < result → (state.new ≡ state.old) × (message.new ≡ message.old) }
     ensures key_ids { allow_legacy < 2 → IsMarkedFed state.old → is_asked state.old ≡ false
         → (t : SignatureTextRecord) → read_utf8 read_signature sig_text.now ≡ Ok t
@@ -177,10 +184,9 @@ pub extern "C" fn minisign_comment_verdict(state: &State, second: u32) -> u32
         → AnswersComment accepts v sig_text (second == answer_yes)
         → result ≡ verdict_number (comment_verdict_under accepts v sig_text legacy) }
 
-    // An answer is 7955827 for yes or 28271 for no, and no other number is taken; a state that has not asked, or was
-    // ended, gives none.
-    ensures asked { result ≡ 0 → (is_asked state.now ≡ true) × (is_begun state.now ≡ true) × IsAnswer second }
-    ensures refused { 0 < result → IsCommentVerdictNumber state.now second result }
+    // What is answered is one number, a function of the state and the answer. An answer is 7955827 for yes or 28271 for
+    // no, and no other number is taken; a state that has not asked, or was ended, gives none.
+    ensures number { result ≡ comment_number state.now second }
 {
     if !is_answer(second) {
         return Misuse::BadAnswer.number();
@@ -206,10 +212,10 @@ pub extern "C" fn minisign_verdict(state: &mut State, first: u32, second: u32) -
         → IsAnswered state.old accepts v sig_text message legacy first second → IsKeyText pk_text v
         → GivesNumber accepts pk_text sig_text message legacy result }
 
-    // An answer is 7955827 for yes or 28271 for no, and no other number is taken; a verdict ends the state, and a usage
-    // error has its number and changes nothing.
-    ensures ended { result ≡ 0 → HasEnded state.old state.new × IsAnswer first × IsAnswer second }
-    ensures refused { 0 < result → IsVerdictNumber state.old state.new first second result }
+    // What is answered, and the state after it, are a function of the state and the answers. An answer is 7955827 for yes
+    // or 28271 for no, and no other number is taken; a verdict ends the state, and a usage error has its number and
+    // changes nothing.
+    ensures number { (result, state.new) ≡ told_verdict_number state.old first second }
 {
     if !is_answer(first) || !is_answer(second) {
         return Misuse::BadAnswer.number();
@@ -241,42 +247,82 @@ pub extern "C" fn minisign_read_secret_key(sk_text: &[u8], unopened: &mut Unopen
     }
 }
 
-/// Opens a secret key that was read.
+/// Opens a secret key that was read and was never sealed. Does not allocate.
 #[unsafe(no_mangle)]
-pub extern "C" fn minisign_open_secret_key(
-    alloc: Global,
+pub extern "C" fn minisign_open_unsealed_key(
     unopened: &UnopenedKeyValue,
-    with_password: u32,
-    password: &[u8],
-    keep_every: u64,
-    greatest_work: u32,
     key: &mut SecretKeyValue,
 ) -> u32
-    // The secret and the key ID are those of the key that the one which was read gives, with the mark of one that was
-    // opened.
-    ensures opened { result ≡ 0 → (is_read unopened.now ≡ true) × ((k : SecretKeyRecord)
-        × (open_read_key (unopened_record unopened.now) (passed_in with_password password.now) greatest_work ≡ Ok k)
-        × HoldsKey key.new k) }
-    ensures number { result ≡ 0 → with_password < 2 }
-    ensures flag { 1 < with_password → result ≡ misuse_number BadPasswordFlag }
-
-    // What is rejected comes in this order: a number that is neither 0 nor 1; a key that was not read; a password that
-    // is not UTF-8; and the first reason for which the key gives none within the greatest work; only with a password
-    // may an allocation fail. The key is then as it was.
-    ensures refused { 0 < result → IsOpeningNumber unopened.now (passed_in with_password password.now) with_password greatest_work result }
-    ensures kept { 0 < result → key.new ≡ key.old }
+    // The number, and the key: 0 exactly where the key was read, was never sealed, and has a checksum that matches, or
+    // zeros; it is then the key that was opened, with the mark of one that was. Otherwise the number is that of the first
+    // reason, and the key is as it was.
+    ensures { (result, key.new) ≡ told_opened (opened_unsealed unopened.now) key.old }
 {
-    if with_password > 1 {
-        return Misuse::BadPasswordFlag.number();
+    match open_unsealed_key(unopened, key) {
+        Ok(()) => 0,
+        Err(refusal) => refusal.number(),
     }
-    match open_secret_key(
-        alloc,
-        unopened,
-        given(with_password, password),
-        keep_every,
-        greatest_work,
-        key,
-    ) {
+}
+
+/// Opens a sealed secret key that was read, with its password.
+#[unsafe(no_mangle)]
+pub extern "C" fn minisign_open_sealed_key(
+    alloc: Global,
+    unopened: &UnopenedKeyValue,
+    password: &[u8],
+    keep_every: u64,
+    most_rows: u64,
+    key: &mut SecretKeyValue,
+) -> u32
+    // The number, and the key, whatever number of rows is kept: 0 exactly where the key was read, and the password opens
+    // it within the number of rows that may be made; it is then the key that was opened, with the mark of one that was.
+    // Otherwise the number is that of the first reason, and the key is as it was. Only where opening derives is it
+    // possibly out of memory instead.
+    ensures { ((result, key.new) ≡ told_opened (opened_sealed unopened.now password.now most_rows) key.old)
+        ⊎ (((result, key.new) ≡ told_opened (Err (Refused (Named OutOfMemory))) key.old) × DerivesWithin unopened.now password.now most_rows) }
+{
+    match open_sealed_key(alloc, unopened, password, keep_every, most_rows, key) {
+        Ok(()) => 0,
+        Err(refusal) => refusal.number(),
+    }
+}
+
+/// Tells how much memory of the caller's opening a secret key in place takes.
+#[unsafe(no_mangle)]
+pub extern "C" fn minisign_opening_memory(
+    unopened: &UnopenedKeyValue,
+    keep_every: u64,
+    words_wanted: &mut u64,
+    bytes_wanted: &mut u64,
+)
+    // So many words of 32 bits and so many bytes are wanted, with every so many-th row kept.
+    ensures { (words_wanted.new, bytes_wanted.new) ≡ value_memory unopened.now keep_every }
+{
+    let (words, bytes) = memory_to_open(unopened, keep_every);
+    *words_wanted = words;
+    *bytes_wanted = bytes;
+}
+
+/// Opens a sealed secret key that was read, with its password, in memory of the caller's. Does not allocate.
+#[unsafe(no_mangle)]
+pub extern "C" fn minisign_open_sealed_key_in_place(
+    unopened: &UnopenedKeyValue,
+    password: &[u8],
+    keep_every: u64,
+    most_rows: u64,
+    words: &mut [u32],
+    bytes: &mut [u8],
+    key: &mut SecretKeyValue,
+) -> u32
+    // The number, and the key, as `minisign_open_sealed_key` tells them, whatever the memory held, and never out of
+    // memory; where the memory is less than is wanted, the number says so, before anything is derived.
+    ensures opened { (result, key.new) ≡ told_opened (opened_in_place unopened.now password.now keep_every most_rows (length words.old) (length bytes.old)) key.old }
+
+    // That memory then holds zeros, all of it, whatever the number.
+    ensures words_cleared { words.new ≡ replicate (length words.old) 0 }
+    ensures bytes_cleared { bytes.new ≡ replicate (length bytes.old) 0 }
+{
+    match open_sealed_key_in_place(unopened, password, keep_every, most_rows, words, bytes, key) {
         Ok(()) => 0,
         Err(refusal) => refusal.number(),
     }
@@ -342,6 +388,9 @@ pub extern "C" fn minisign_secret_key_text(
     ensures number { result ≡ 0 → (with_password < 2) × (is_opened key.now ≡ true) }
     ensures flag { 1 < with_password → result ≡ misuse_number BadPasswordFlag }
 
+    // What stands behind the text stays: no byte of a secret is left there.
+    ensures rest { result ≡ 0 → drop text_len.new text.new ≡ drop text_len.new text.old }
+
     // What is rejected comes in this order: a number that is neither 0 nor 1; a key that was not opened; a comment or a
     // password that is not UTF-8; a comment of two lines; one that Minisign does not read whole; too short a buffer;
     // limits that sealing does not allow; out of memory. Buffer and length are then as they were.
@@ -377,8 +426,10 @@ pub extern "C" fn minisign_public_key_text(
     text: &mut [u8],
     text_len: &mut usize,
 ) -> u32
-    // The text of the public key stands at the start of the buffer, as `write_public_key` says.
+    // The text of the public key stands at the start of the buffer, as `write_public_key` says; what stands behind it
+    // stays.
     ensures opened { result ≡ 0 → is_opened key.now ≡ true }
+    ensures rest { result ≡ 0 → drop text_len.new text.new ≡ drop text_len.new text.old }
     ensures text { result ≡ 0 → HoldsPublicKey key.now.key_id key.now.secret comment.now text.new text_len.new }
 
     // What is rejected comes in the same order, less what concerns a password. Buffer and length are then as they were.
@@ -401,10 +452,11 @@ pub extern "C" fn minisign_comment_message(
     trusted: &[u8],
     message: &mut [u8],
 ) -> u32
-    // The message of the second question is the first signature followed by the trusted comment; where there is no room
-    // for it, it stays as it was.
+    // The message of the second question is the first signature followed by the trusted comment, behind which the buffer
+    // stays; where there is no room for it, it stays as it was.
     ensures message { result ≡ 0 → (64 + length trusted.now ≤ length message.new)
         × (take (64 + length trusted.now) message.new ≡ first.now ++ trusted.now) }
+    ensures rest { result ≡ 0 → drop (64 + length trusted.now) message.new ≡ drop (64 + length trusted.now) message.old }
     ensures refused { 0 < result → (result ≡ misuse_number NoRoom)
         × (length message.old < 64 + length trusted.now) × (message.new ≡ message.old) }
 {
@@ -433,6 +485,9 @@ pub extern "C" fn minisign_signed_text(
     ensures text { result ≡ 0 → (is_opened key.now ≡ true)
         × HoldsText key.now.key_id (comments_of trusted.now untrusted.now) first.now second.now text.new text_len.new }
     ensures readable { result ≡ 0 → AreReadByMinisign (comments_of trusted.now untrusted.now) }
+
+    // What stands behind the text stays.
+    ensures rest { result ≡ 0 → drop text_len.new text.new ≡ drop text_len.new text.old }
 
     // No text is written, in this order, for a key that was not opened, for comments that are not UTF-8, that would
     // not be read back, or that Minisign 0.11 would not read back, or where there is no room; for all others it is,
@@ -590,11 +645,17 @@ pub extern "C" fn minisign_install_ask(
     ensures chosen { installation.new.chosen ≡ installation.old.chosen }
 
     // The number is that of the first reason of `Installation::ask`: a usage error changes nothing, and for any other
-    // reason the stage is to be removed. The message buffer is as it was.
+    // reason the stage is to be removed. The message buffer is as it was; what stands behind a message that is written
+    // stays.
     ensures refused { 0 < result → IsNumberOf (λ r. IfErr r (IsAskRefusal installation.old installation.new key.now sig_text.now file.now (length message.old))) result }
     ensures kept { 0 < result → message.new ≡ message.old }
+    ensures rest { result ≡ 0 → drop questions.new.message_len message.new ≡ drop questions.new.message_len message.old }
 
+    // Where the answers are due and the name is UTF-8, both key IDs are told of a text that reads, also after a rejection.
     // Where the answers are not due the questions stay.
+    ensures key_ids { (kept : ℕ) → IsDue installation.old (Answer kept) → (m : List ℕ) → IsFedState installation.old.state m → IsUtf8 file.now
+        → (t : SignatureTextRecord) → read_utf8 read_signature sig_text.now ≡ Ok t
+        → (questions.new.public_key_id ≡ key.now.key_id) × (questions.new.signature_key_id ≡ t.signature.keynum) }
     ensures unasked { (questions.new ≡ questions.old) ⊎ ((kept : ℕ) × IsDue installation.old (Answer kept)) }
 {
     match installation.ask(key, sig_text, file, moment, questions, message) {
@@ -620,9 +681,10 @@ pub extern "C" fn minisign_install_answer(
         → IsNumberOf (GivesUpdate accepts terms kept message installation.new) result }
 
     // An answer is 7955827 for yes or 28271 for no, and no other number is taken; the permissions are due only where
-    // the answers were, and a usage error has its number and changes nothing.
+    // the answers were, and the state that was asked is ended then, as its verdict says. A usage error has its number and
+    // changes nothing.
     ensures due { result ≡ 0 → ((kept : ℕ) × IsDue installation.old (Answer kept)) × ((n : ℕ) × IsDue installation.new (TakePermissions n))
-        × HasEnded installation.old.state installation.new.state × IsAnswer first × IsAnswer second }
+        × ((0, installation.new.state) ≡ told_verdict_number installation.old.state first second) }
     ensures refused { 0 < result → ((result ≡ misuse_number BadAnswer) × (¬ (IsAnswer first) ⊎ ¬ (IsAnswer second)) × (installation.new ≡ installation.old))
         ⊎ (IsAnswer first × IsAnswer second × IsNumberOf (λ r. IfErr r (IsAnswerRefusal installation.old installation.new)) result) }
 
@@ -646,9 +708,10 @@ pub extern "C" fn minisign_install_number_text(
     text: &mut [u8],
 ) -> usize
     // The label of the field and the digits of the number stand at the start of the buffer where they are to be written
-    // and have room, and otherwise nothing is written.
+    // and have room, and otherwise nothing is written; the rest of the buffer stays.
     ensures written { 0 < result → (n : ℕ) × IsDue installation.now (WriteRecord n) × (result ≤ length text.new)
         × (take result text.new ≡ record_of (numbering_of installation.now) n) }
+    ensures rest { drop result text.new ≡ drop result text.old }
     ensures unwritten { result ≡ 0 → (text.new ≡ text.old)
         × ((n : ℕ) → IsDue installation.now (WriteRecord n) → length text.old < length (record_of (numbering_of installation.now) n)) }
 {

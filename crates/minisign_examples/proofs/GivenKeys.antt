@@ -6,11 +6,11 @@ use Rattle.std.specs.declared.result.Result.{Result}
 use Rattle.std.specs.declared.result.Result.TheVariants.{Ok, Err}
 use Rattle.minisign.specs.Fault.{Fault, Named}
 use Rattle.minisign.specs.NamedFaults.{KeyNotEncrypted, OutOfMemory, UnsupportedEncryptionAlgorithm}
-use Rattle.minisign.specs.Opening.{is_sealed_text, key_with_password, open_key}
+use Rattle.minisign.specs.Opening.{IsOpenedOrNoMemory, is_sealed_text, key_with_password, open_key}
 use Rattle.minisign.specs.Records.{SecretKeyRecord}
 use Rattle.minisign.specs.Sealing.{no_kdf, open_sealed, scrypt_kdf, sealed_by_scrypt, wants_password}
 use Rattle.minisign.specs.SecretKeyText.{read_secret_key}
-use Rattle.minisign.specs.Texts.{IsReadOrNoMemory, and_then, require}
+use Rattle.minisign.specs.Texts.{and_then, require}
 
 -- a text that opens is that of a sealed key
 sealed_text : (text password : List ℕ) (key : SecretKeyRecord) → open_key text password None ≡ Ok key → is_sealed_text text ≡ true
@@ -29,21 +29,21 @@ sealed_text text password key h = of (read_secret_key text) h
     of (Err e) h = cc h
 
 -- what is given is the key that the text opens to
-pub same_key : (text password : List ℕ) (k key : SecretKeyRecord) → IsReadOrNoMemory (Ok k) (key_with_password text password)
+pub same_key : (text password : List ℕ) (k key : SecretKeyRecord) → IsOpenedOrNoMemory text None (Ok k) (key_with_password text password)
     → open_key text password None ≡ Ok key → k ≡ key
 same_key text password k key (inl given) opens =
     let sealed = sealed_text text password key opens in
     let opened : key_with_password text password ≡ Ok key = rw sealed opens in
     let both = given ∙ opened in
     cc both
-same_key text password k key (inr memory) opens = cc memory
+same_key text password k key (inr memory) opens = cc memory.0
 
 -- and where none is given an allocation failed
 pub refused_memory : (text password : List ℕ) (e : Fault) (key : SecretKeyRecord)
-    → IsReadOrNoMemory {V = SecretKeyRecord} (Err e) (key_with_password text password) → open_key text password None ≡ Ok key → e ≡ Named OutOfMemory
+    → IsOpenedOrNoMemory text None (Err e) (key_with_password text password) → open_key text password None ≡ Ok key → e ≡ Named OutOfMemory
 refused_memory text password e key (inl refused) opens =
     let sealed = sealed_text text password key opens in
     let opened : key_with_password text password ≡ Ok key = rw sealed opens in
     let both = refused ∙ opened in
     cc both
-refused_memory text password e key (inr memory) opens = cc memory
+refused_memory text password e key (inr memory) opens = cc memory.0

@@ -1,5 +1,6 @@
 -- The box of two answers: it is the one that signing makes, and it vouches for the message where they are accepted.
 use Rattle.std.proofs.Common.{◌≡◌, ◌∙◌, ℕ, List, length, Ok, inl, refl, sym, subst, arith}
+use Rattle.std.specs.Str.{IsUtf8}
 use Rattle.std.proofs.lemmas.List.{take_all}
 use Rattle.minisign.specs.Records.{SecretKeyRecord}
 use Rattle.minisign.specs.SignatureText.{read_signature_box, signature_text}
@@ -26,11 +27,12 @@ answered_vouches accepts public message key_id chosen first second long answers 
     })
 
 -- a text that is that of the answers, and reads as their box
-pub answered_text : (key_id : List ℕ) (chosen : ChosenComments) (first second text : List ℕ) → length second ≡ 64
+pub answered_text : (key_id : List ℕ) (chosen : ChosenComments) (first second text : List ℕ) → length second ≡ 64 → IsUtf8 text
     → text ≡ signature_text (answered_signature key_id first) (answered_comments chosen second) → read_signature_box text ≡ Ok (answered_box key_id chosen first second)
     → IsAnsweredText key_id chosen first second text
-answered_text key_id chosen first second text long same read = record {
+answered_text key_id chosen first second text long utf8 same read = record {
   written = same;
+  utf8 = utf8;
   read_back = read;
   signed = λ sign key message z1 z2 owner answers.
       subst (λ x. read_signature_box text ≡ Ok x) (answered_is_signed sign key message z1 z2 key_id chosen first second owner answers) read;

@@ -4,13 +4,11 @@ use Rattle.std.specs.Str.{is_utf8}
 use Rattle.minisign_base.specs.Fault.{Fault}
 use Rattle.minisign_base.specs.declared.faults.NamedFault.{NamedFault}
 use Rattle.minisign_base.specs.declared.faults.NamedFault.TheVariants.{NotUtf8}
-use Rattle.minisign.specs.Opening.{open_key}
 use Rattle.minisign.specs.Records.{SecretKeyRecord}
-use Rattle.minisign.specs.Sealing.{open_sealed, sealed_by_scrypt}
 use Rattle.minisign.specs.SecretKeyText.{read_secret_key}
 use Rattle.minisign.specs.Texts.{and_then, require}
 use Rattle.minisign_external.specs.PublicKeys.{read_utf8}
-use Rattle.minisign_external.specs.SecretKeys.{OpensAs, open_unsealed, unopened_record}
+use Rattle.minisign_external.specs.SecretKeys.{OpensAs, open_unsealed, open_within, unopened_record}
 use Rattle.minisign_external.specs.declared.unopened_keys.UnopenedKeyValue.{UnopenedKeyValue}
 
 required : {V : Type 0} (b : Bool) (f : NamedFault) (r : Result V Fault) (v : V) → require b f r ≡ Ok v → r ≡ Ok v
@@ -18,8 +16,8 @@ required true f r v h = h
 required false f r v h = cc h
 
 pub opens_as : (v : UnopenedKeyValue) (text : List ℕ) → read_utf8 read_secret_key text ≡ Ok (unopened_record v) → OpensAs v text
-unfolding open_key
-opens_as v text read None work = sym (ap (λ x. and_then x open_unsealed) (required (is_utf8 text) NotUtf8 (read_secret_key text) (unopened_record v) read))
-opens_as v text read (Some password) work =
-    sym (ap (λ x. and_then (and_then x sealed_by_scrypt) (λ s. open_sealed s password (Some work)))
-    (required (is_utf8 text) NotUtf8 (read_secret_key text) (unopened_record v) read))
+opens_as v text read =
+    let same : read_secret_key text ≡ Ok (unopened_record v) = required (is_utf8 text) NotUtf8 (read_secret_key text) (unopened_record v) read in (
+      sym (ap (λ x. and_then x open_unsealed) same),
+      λ password most_rows. sym (ap (λ x. and_then x (λ k. open_within k password most_rows)) same),
+    )

@@ -35,8 +35,8 @@ then_same (Ok _) s t h = cc h
 then_same (Err e) s t h = cc h
 
 opened_of : (r : Result SignatureTextRecord Fault) (v : PublicKeyValue) (legacy : Bool) (t : SignatureTextRecord)
-    → and_then r (λ s. and_then (judge_key (key_of v) s.signature legacy) (λ _. Ok s)) ≡ Ok t → r ≡ Ok t
-opened_of (Ok s) v legacy t h = ap (λ x. Ok x) (then_same (judge_key (key_of v) s.signature legacy) s t h)
+    → and_then r (λ s. and_then (judge_key v.key_id s.signature legacy) (λ _. Ok s)) ≡ Ok t → r ≡ Ok t
+opened_of (Ok s) v legacy t h = ap (λ x. Ok x) (then_same (judge_key v.key_id s.signature legacy) s t h)
 opened_of (Err e) v legacy t h = cc h
 
 -- what the text reads as under a key it reads as, and is UTF-8
@@ -128,7 +128,7 @@ module _ (accepts : Verifier) (pk_text sig_text message : List ℕ) (legacy : Bo
   as_tested : (t : SignatureTextRecord) → read_signature sig_text ≡ Ok t
       → verdict_under accepts (value_of key) sig_text message legacy ≡ tested accepts key t message legacy
   as_tested t read = rw (sym as_read ∙ read)
-      (chained (judge_key (key_of (value_of key)) t.signature legacy) t
+      (chained (judge_key (value_of key).key_id t.signature legacy) t
       (λ (s : SignatureTextRecord). and_then (judge_answers (accepts (signed_bytes (box_of s) message) key.key s.signature.signature)
       (accepts_comments accepts (key_of (value_of key)) (box_of s))) (λ _. Ok s.comments.trusted)))
 

@@ -1,6 +1,6 @@
 -- The numbers by which a program in another language knows rejections, and what they mean. The numbers of named errors
 -- stand in their table.
-use Rattle.std.specs.Prelude.{◌≡◌, ◌⊎◌, ℕ, ◌<◌, ◌-◌, ◌+◌, List, [], ◌∷◌, ◌++◌, codes, length, take, min}
+use Rattle.std.specs.Prelude.{◌≡◌, ◌==◌, ◌||◌, ℕ, Bool, true, ◌<◌, ◌-◌, ◌+◌, List, [], ◌∷◌, ◌++◌, codes, length, take, drop, min}
 use Rattle.minisign_base.specs.Fault.{Fault, Named, Worded}
 use Rattle.minisign_base.specs.Faults.{fault_row}
 use Rattle.minisign_base.specs.declared.faults.NamedFault.{NamedFault}
@@ -50,8 +50,11 @@ abbrev pub answer_no : ℕ
 answer_no = 28271
 
 -- the number is an answer
+abbrev pub is_answer : ℕ → Bool
+is_answer n = (n == answer_yes) || (n == answer_no)
+
 abbrev pub IsAnswer : ℕ → Type 0
-IsAnswer n = (n ≡ answer_yes) ⊎ (n ≡ answer_no)
+IsAnswer n = is_answer n ≡ true
 
 -- the number of an error: 255 where it has no name, which no call answers
 abbrev pub fault_number : Fault → ℕ
@@ -69,8 +72,10 @@ pub record IsMeaning (n : ℕ) (text : List ℕ) : Type 0 where
   pub misuse : (m : Misuse) → n ≡ misuse_number m → text ≡ misuse_text m
   pub fault : (f : NamedFault) → n ≡ (fault_row f).number → text ≡ (fault_row f).summary
 
--- the text, or as much of it as there is room for, and then a 0; where there is no byte nothing is written
+-- at the front the text, or as much of it as there is room for, and then a 0, and what stands behind it stays; where
+-- there is no byte nothing is written
 abbrev pub WritesCut : List ℕ → List ℕ → List ℕ → Type 0
 WritesCut text old new =
-    (length new ≡ length old) × (0 < length old → take (1 + min (length text) (length old - 1)) new ≡ take
-    (length old - 1) text ++ 0 ∷ [])
+    let n = 1 + min (length text) (length old - 1) in
+    (length new ≡ length old)
+    × (0 < length old → (take n new ≡ take (length old - 1) text ++ 0 ∷ []) × (drop n new ≡ drop n old))

@@ -18,7 +18,7 @@ use Rattle.minisign_external.specs.declared.public_keys.PublicKeyValue.{PublicKe
 abbrev pub read_under : PublicKeyValue → Bool → List ℕ → Result SignatureTextRecord Fault
 read_under v legacy sig_text =
     and_then (read_utf8 read_signature sig_text) (λ t.
-    and_then (judge_key (key_of v) t.signature legacy) (λ _.
+    and_then (judge_key v.key_id t.signature legacy) (λ _.
     Ok t))
 
 -- the verdict on a key, the bytes of a signature's text and a message: the trusted comment, which was signed with the

@@ -1,22 +1,23 @@
 -- A secret key as a value: what a text reads as, which is not opened yet; what opening that gives; and a key that was
 -- opened or taken in.
-use Rattle.std.specs.Prelude.{◌≡◌, ◌==◌, ◌⊎◌, ◌<◌, ◌&&◌, ℕ, Bool, true, false, if◌then◌else◌, bytes_eq, List, drop}
+use Rattle.std.specs.Prelude.{◌≡◌, ◌==◌, ◌⊎◌, ◌<◌, ◌&&◌, ℕ, max, not, nat_le, Bool, true, false, if◌then◌else◌, bytes_eq, List, drop}
 use Rattle.std.specs.Prelude.{Option, None, Some, Result, Ok, Err, IfNone, IfSome, IsOk, replicate}
 use Rattle.std.specs.Str.{IsUtf8}
 use Rattle.minisign_base.specs.Fault.{Fault, Named}
 use Rattle.minisign_base.specs.declared.faults.NamedFault.TheVariants.{OutOfMemory, NotUtf8}
 use Rattle.minisign.specs.Opening.{open_key}
 use Rattle.minisign.specs.Records.{SecretKeyRecord}
-use Rattle.minisign.specs.Sealing.{allowed_work, no_kdf, open_sealed, opening_work, sealed_by_scrypt, unencrypted_key}
+use Rattle.minisign.specs.Sealing.{allowed_rows, allowed_work, no_kdf, open_sealed, open_within_rows, opening_memory, opening_work, sealed_by_scrypt, unencrypted_key}
 use Rattle.minisign.specs.Sealing.{wants_password}
 use Rattle.minisign.specs.SecretKeyText.{read_secret_key, secret_key_of_bytes}
 use Rattle.minisign.specs.Texts.{and_then}
 use Rattle.minisign_external.specs.Numbers.{fault_number, misuse_number, refusal_number}
+use Rattle.minisign_external.specs.PublicKeys.{read_utf8}
 use Rattle.minisign_external.specs.declared.public_keys.PublicKeyValue.{PublicKeyValue}
 use Rattle.minisign_external.specs.declared.secrets.SecretKeyValue.{SecretKeyValue}
 use Rattle.minisign_external.specs.declared.unopened_keys.UnopenedKeyValue.{UnopenedKeyValue}
 use Rattle.minisign_external.specs.declared.state.Misuse.{Misuse}
-use Rattle.minisign_external.specs.declared.state.Misuse.TheVariants.{BadPasswordFlag, KeyNotOpened, KeyNotRead}
+use Rattle.minisign_external.specs.declared.state.Misuse.TheVariants.{BadPasswordFlag, KeyNotOpened, KeyNotRead, NoRoom}
 use Rattle.minisign_external.specs.declared.state.Refusal.{Refusal}
 use Rattle.minisign_external.specs.declared.state.Refusal.TheVariants.{WrongUse, Refused}
 
@@ -51,61 +52,6 @@ abbrev pub reading_number : Result SecretKeyRecord Fault → ℕ
 reading_number (Ok k) = 0
 reading_number (Err e) = fault_number e
 
--- == What opening gives ==
-
--- a key that was never sealed, with 32 zeros in place of its checksum, as Minisign writes it
-abbrev pub lacks_checksum : SecretKeyRecord → Bool
-lacks_checksum k = bytes_eq k.kdf no_kdf && bytes_eq k.checksum (replicate 32 0)
-
--- the key that was never sealed: such a key as it stands, or one whose checksum matches
-abbrev pub open_unsealed : SecretKeyRecord → Result SecretKeyRecord Fault
-open_unsealed k = if lacks_checksum k then Ok k else unencrypted_key k
-
--- what a key that was read gives: without a password one that was never sealed, with one a sealed one that it opens
--- within the greatest work
-abbrev pub open_read_key : SecretKeyRecord → Option (List ℕ) → ℕ → Result SecretKeyRecord Fault
-open_read_key k None greatest_work = open_unsealed k
-open_read_key k (Some password) greatest_work =
-    and_then (sealed_by_scrypt k) (λ s. open_sealed s password (Some greatest_work))
-
--- what a text gives: the same of the key that it reads as
-abbrev pub read_key_to_sign : List ℕ → Option (List ℕ) → ℕ → Result SecretKeyRecord Fault
-read_key_to_sign text None greatest_work = and_then (read_secret_key text) open_unsealed
-read_key_to_sign text (Some password) greatest_work = open_key text password (Some greatest_work)
-
--- opening the value gives what its text gives, under each password and within each bound on the work
-abbrev pub OpensAs : UnopenedKeyValue → List ℕ → Type 0
-OpensAs v text =
-    (password : Option (List ℕ)) (greatest_work : ℕ)
-    → open_read_key (unopened_record v) password greatest_work ≡ read_key_to_sign text password greatest_work
-
--- a key that was read was not opened: the password is not UTF-8; or an allocation failed, with a password, for a
--- derivation, which a key takes that is sealed by scrypt, with limits that are allowed and within the work; or it
--- gives no key
-abbrev pub IsOpeningFault : SecretKeyRecord → Option (List ℕ) → ℕ → Fault → Type 0
-IsOpeningFault k password greatest_work e =
-    ((e ≡ Named NotUtf8) × ¬ (IfSome password IsUtf8))
-    ⊎ (IfSome password IsUtf8 × (((e ≡ Named OutOfMemory) × IfNone password ⊥
-    × IsOk (and_then (sealed_by_scrypt k) (λ s. allowed_work s (Some greatest_work))))
-    ⊎ (open_read_key k password greatest_work ≡ Err e)))
-
--- opening was rejected: the key was not read, or else as above
-abbrev pub IsOpeningRefusal : UnopenedKeyValue → Option (List ℕ) → ℕ → Refusal Fault → Type 0
-IsOpeningRefusal v password greatest_work (WrongUse m) = (m ≡ KeyNotRead) × (is_read v ≡ false)
-IsOpeningRefusal v password greatest_work (Refused e) =
-    (is_read v ≡ true) × IsOpeningFault (unopened_record v) password greatest_work e
-
--- the number of such a rejection: a number that is no flag, with nothing looked at, and only then the other reasons
-abbrev pub IsOpeningNumber : UnopenedKeyValue → Option (List ℕ) → ℕ → ℕ → ℕ → Type 0
-IsOpeningNumber v password with_password greatest_work n =
-    ((n ≡ misuse_number BadPasswordFlag) × (1 < with_password))
-    ⊎ ((with_password < 2) × (r : Refusal Fault) × (n ≡ refusal_number fault_number r)
-    × IsOpeningRefusal v password greatest_work r)
-
--- the password that a caller passes in by two arguments: none with 0, these bytes with 1
-abbrev pub passed_in : ℕ → List ℕ → Option (List ℕ)
-passed_in with_password bytes = if with_password == 0 then None else Some bytes
-
 -- == A key that is open ==
 
 -- the mark of a key that was opened or taken in: "minissec"
@@ -119,10 +65,6 @@ is_opened v = v.mark == opened_mark
 abbrev pub taken_key : List ℕ → List ℕ → SecretKeyValue
 taken_key key_id secret = record { mark = opened_mark; key_id = key_id; secret = secret }
 
--- the value is that of the key, and has the mark of one that was opened
-abbrev pub HoldsKey : SecretKeyValue → SecretKeyRecord → Type 0
-HoldsKey v key = v ≡ taken_key key.keynum key.secret
-
 -- the public key of a key that was opened: the last 32 of its 64 secret bytes
 abbrev pub public_value_of : SecretKeyValue → Result PublicKeyValue Misuse
 public_value_of v = if is_opened v then Ok (record { key = drop 32 v.secret; key_id = v.key_id }) else Err KeyNotOpened
@@ -131,3 +73,72 @@ public_value_of v = if is_opened v then Ok (record { key = drop 32 v.secret; key
 abbrev pub told_public_key : Result PublicKeyValue Misuse → PublicKeyValue → ℕ × PublicKeyValue
 told_public_key (Ok v) old = (0, v)
 told_public_key (Err m) old = (misuse_number m, old)
+
+-- == What opening gives ==
+
+-- a key that was never sealed, with 32 zeros in place of its checksum, as Minisign writes it
+abbrev pub lacks_checksum : SecretKeyRecord → Bool
+lacks_checksum k = bytes_eq k.kdf no_kdf && bytes_eq k.checksum (replicate 32 0)
+
+-- the key that was never sealed: such a key as it stands, or one whose checksum matches
+abbrev pub open_unsealed : SecretKeyRecord → Result SecretKeyRecord Fault
+open_unsealed k = if lacks_checksum k then Ok k else unencrypted_key k
+
+-- what a sealed key that was read gives: the one that the password opens, where at most so many rows are made
+abbrev pub open_within : SecretKeyRecord → List ℕ → ℕ → Result SecretKeyRecord Fault
+open_within k password most_rows = and_then (sealed_by_scrypt k) (λ s. open_within_rows s password most_rows)
+
+-- opening the value gives what its text gives: without a password, and under each one, within each number of rows
+abbrev pub OpensAs : UnopenedKeyValue → List ℕ → Type 0
+OpensAs v text = (open_unsealed (unopened_record v) ≡ and_then (read_secret_key text) open_unsealed)
+    × ((password : List ℕ) (most_rows : ℕ) → open_within (unopened_record v) password most_rows
+    ≡ and_then (read_secret_key text) (λ k. open_within k password most_rows))
+
+-- an error of the library as a reason for which a call rejects
+abbrev pub with_refusal : Result SecretKeyRecord Fault → Result SecretKeyRecord (Refusal Fault)
+with_refusal (Ok key) = Ok key
+with_refusal (Err e) = Err (Refused e)
+
+-- what opening a value gives without a password: a key that was read has to be one that was never sealed
+abbrev pub opened_unsealed : UnopenedKeyValue → Result SecretKeyRecord (Refusal Fault)
+opened_unsealed v = if is_read v then with_refusal (open_unsealed (unopened_record v)) else Err (WrongUse KeyNotRead)
+
+-- and with one, where at most so many rows are made: the password has to be UTF-8, and the key a sealed one
+abbrev pub opened_sealed : UnopenedKeyValue → List ℕ → ℕ → Result SecretKeyRecord (Refusal Fault)
+opened_sealed v password most_rows =
+    if is_read v then with_refusal (read_utf8 (λ p. open_within (unopened_record v) p most_rows) password)
+    else Err (WrongUse KeyNotRead)
+
+-- opening a value with a password derives: it was read, the password is UTF-8, and the key is sealed by scrypt, with
+-- limits that are allowed and lead to at most so many rows
+abbrev pub DerivesWithin : UnopenedKeyValue → List ℕ → ℕ → Type 0
+DerivesWithin v password most_rows = (is_read v ≡ true) × IsUtf8 password
+    × IsOk (and_then (sealed_by_scrypt (unopened_record v)) (λ s. allowed_rows s most_rows))
+
+-- the memory that opening a value in place takes where every k-th row is kept, in words of 32 bits and in bytes; 0 is
+-- for 1
+abbrev pub value_memory : UnopenedKeyValue → ℕ → ℕ × ℕ
+value_memory v k = opening_memory (unopened_record v) (max k 1)
+
+-- so much memory is enough for that
+abbrev pub is_enough : UnopenedKeyValue → ℕ → ℕ → ℕ → Bool
+is_enough v k words bytes = nat_le (value_memory v k).0 words && nat_le (value_memory v k).1 bytes
+
+-- what opening a value in so much memory gives: first it was read, and then the memory is enough
+abbrev pub opened_in_place : UnopenedKeyValue → List ℕ → ℕ → ℕ → ℕ → ℕ → Result SecretKeyRecord (Refusal Fault)
+opened_in_place v password k most_rows words bytes =
+    if is_read v && not (is_enough v k words bytes) then Err (WrongUse NoRoom) else opened_sealed v password most_rows
+
+-- what a call that opens answers, and the key that it leaves: the one that was opened, or else the one that was there
+abbrev pub opened_or_kept : Result SecretKeyRecord (Refusal Fault) → SecretKeyValue → Result Unit (Refusal Fault) × SecretKeyValue
+opened_or_kept (Ok key) old = (Ok tt, taken_key key.keynum key.secret)
+opened_or_kept (Err r) old = (Err r, old)
+
+-- the same as a number, and the key
+abbrev pub told_opened : Result SecretKeyRecord (Refusal Fault) → SecretKeyValue → ℕ × SecretKeyValue
+told_opened (Ok key) old = (0, taken_key key.keynum key.secret)
+told_opened (Err r) old = (refusal_number fault_number r, old)
+
+-- the password that a caller passes in by two arguments: none with 0, these bytes with 1
+abbrev pub passed_in : ℕ → List ℕ → Option (List ℕ)
+passed_in with_password bytes = if with_password == 0 then None else Some bytes

@@ -1,9 +1,10 @@
 -- What a signature scheme has to be asked for a signature of a message, and the text that its answers make.
-use Rattle.std.specs.Prelude.{◌≡◌, ◌⊎◌, ◌<◌, ◌≤◌, ℕ, true, false, List, ◌++◌, length, take, Some, Ok}
+use Rattle.std.specs.Prelude.{◌≡◌, ◌⊎◌, ◌<◌, ◌≤◌, ℕ, true, false, List, ◌++◌, length, take, None, Some, Ok}
 use Rattle.std.specs.Str.{IsUtf8}
 use Rattle.std.specs.Str.Iter.{LacksByte}
 use Rattle.minisign_hash.specs.Blake2b.{blake2b_digest}
 use Rattle.minisign_base.specs.Fault.{Fault, Named}
+use Rattle.minisign_base.specs.Scheme.{IsBytes}
 use Rattle.minisign_base.specs.declared.faults.NamedFault.TheVariants.{OutOfMemory, NotUtf8}
 use Rattle.minisign.specs.Records.{CommentsRecord, SecretKeyRecord, SignatureRecord, SignatureBoxRecord, prehashed_algorithm}
 use Rattle.minisign.specs.Acceptance.{Verifier, VouchesUnderEachKey}
@@ -40,11 +41,26 @@ pub record AcceptsAnswers (accepts : Verifier) (public message trusted first sec
   pub to_first : accepts (blake2b_digest 64 message) public first ≡ true
   pub to_second : accepts (first ++ trusted) public second ≡ true
 
--- the text is that of the two answers: it reads as their box. For every scheme that answers the questions so, that is
+-- the signatures that a scheme makes of a message with a secret of 64 bytes and no random ones: of its digest, and of
+-- that signature followed by the trusted comment
+abbrev pub first_signature : Signer → List ℕ → List ℕ → List ℕ
+first_signature sign secret message = sign (blake2b_digest 64 message) secret None
+
+abbrev pub second_signature : Signer → List ℕ → List ℕ → List ℕ → List ℕ
+second_signature sign secret message trusted = sign (first_signature sign secret message ++ trusted) secret None
+
+-- the secret of the key is a seed and the seed's public key
+pub record IsPairOf (public_of : List ℕ → List ℕ) (seed : List ℕ) (v : SecretKeyValue) : Type 0 where
+  pub seed_length : length seed ≡ 32
+  pub seed_bytes : IsBytes seed
+  pub secret : v.secret ≡ seed ++ public_of seed
+
+-- the text is that of the two answers: it is UTF-8, and reads as their box. For every scheme that answers the questions so, that is
 -- the box that signing makes; and where the answers are accepted under a public key, it vouches for the message
 -- under it. So what is promised of the texts that signing makes holds of this one
 pub record IsAnsweredText (key_id : List ℕ) (chosen : ChosenComments) (first second text : List ℕ) : Type 0 where
   pub written : text ≡ signature_text (answered_signature key_id first) (answered_comments chosen second)
+  pub utf8 : IsUtf8 text
   pub read_back : read_signature_box text ≡ Ok (answered_box key_id chosen first second)
   pub signed : (sign : Signer) (key : SecretKeyRecord) (message z1 z2 : List ℕ) → key_id ≡ key.keynum
       → SignsSo sign key message chosen.trusted z1 z2 first second

@@ -2,14 +2,15 @@
 use Rattle.std.specs.Prelude.{◌≡◌, ⊤, ◌==◌, ◌⊎◌, ◌<◌, ◌≤◌, ◌||◌, ◌&&◌, not, nat_le, ℕ, Bool, true, false, if◌then◌else◌, List, ◌+◌, length, replicate, MatchResult, Result, Ok, Err}
 use Rattle.std.specs.Str.{IsUtf8}
 use Rattle.minisign_hash.specs.Stored.{WasFed}
-use Rattle.minisign_base.specs.Fault.{Fault, Named}
-use Rattle.minisign_base.specs.declared.faults.NamedFault.TheVariants.{SignatureRefused, CommentSignatureRefused}
+use Rattle.minisign_base.specs.Fault.{Fault}
+use Rattle.minisign_base.specs.declared.faults.NamedFault.TheVariants.{CommentSignatureRefused}
 use Rattle.minisign.specs.Records.{is_prehashed}
-use Rattle.minisign.specs.Acceptance.{Verifier}
+use Rattle.minisign.specs.Acceptance.{Verifier, judge_answers}
 use Rattle.minisign.specs.Headline.{TextsVouchFor, verdict}
 use Rattle.minisign.specs.SignatureText.{SignatureTextRecord}
+use Rattle.minisign.specs.Texts.{require}
 use Rattle.minisign_external.specs.Questions.{Answers, AnswersTexts, HoldsMessage, IsKeyText, has_whole_signature, read_under, told_signature}
-use Rattle.minisign_external.specs.Numbers.{IsAnswer, answer_yes, fault_number, misuse_number, refusal_number}
+use Rattle.minisign_external.specs.Numbers.{IsAnswer, answer_yes, is_answer, fault_number, misuse_number, refusal_number}
 use Rattle.minisign_external.specs.declared.public_keys.PublicKeyValue.{PublicKeyValue}
 use Rattle.minisign_external.specs.declared.state.Misuse.{Misuse}
 use Rattle.minisign_external.specs.declared.state.Misuse.TheVariants.{NotBegun, AlreadyAsked, NotAsked, BadAnswer, NoRoom, BadLegacyFlag}
@@ -138,6 +139,30 @@ asking_result s v sig_text legacy room =
 abbrev pub verdict_misuse : State → Misuse
 verdict_misuse s = if is_begun s then NotAsked else NotBegun
 
+-- what was decided, of which an error of the library is a rejection
+abbrev pub decision : Result ⊤ Fault → Result Unit (Refusal Fault)
+decision (Ok t) = Ok tt
+decision (Err e) = Err (Refused e)
+
+-- the second question was asked with a comment signature of 64 bytes
+abbrev pub has_asked_whole : State → Bool
+has_asked_whole s = s.asked.whole == 1
+
+-- the verdict of a state from two answers, and the state after it. One that has asked and told its digest gives what the
+-- answers decide, and is ended; another is rejected, and stays
+abbrev pub told_verdict : State → Bool → Bool → Result Unit (Refusal Fault) × State
+told_verdict s first second =
+    if is_asked s && (s.mark == told_mark)
+    then (decision (judge_answers first (has_asked_whole s && second)), record s { mark = 0 })
+    else (Err (WrongUse (verdict_misuse s)), s)
+
+-- what the second answer is worth by itself, of a state that has asked and was not ended
+abbrev pub comment_result : State → Bool → Result Unit (Refusal Fault)
+comment_result s second =
+    if is_asked s && is_begun s
+    then decision (require (has_asked_whole s && second) CommentSignatureRefused (Ok tt))
+    else Err (WrongUse (verdict_misuse s))
+
 -- the rejection is an error of the library, of this kind
 abbrev pub IsFaultOf : (Fault → Type 0) → Refusal Fault → Type 0
 IsFaultOf holds (WrongUse m) = ⊥
@@ -189,26 +214,6 @@ AnswersTextsBy accepts pk_text sig_text message first second =
     IsAnswer first × IsAnswer second
     × AnswersTexts accepts pk_text sig_text message (first == answer_yes) (second == answer_yes)
 
--- a state that had asked and told its digest was ended
-pub record HasEnded (old new : State) : Type 0 where
-  pub asked : old.asked.mark ≡ asked_mark
-  pub told : old.mark ≡ told_mark
-  pub ended : new.mark ≡ 0
-
--- what the second answer is worth is not told, or is nothing: the state has not asked or was ended; or it has asked,
--- and the comment signature is rejected
-abbrev pub IsCommentRefusal : State → Refusal Fault → Type 0
-IsCommentRefusal s (WrongUse m) = (m ≡ verdict_misuse s) × ((is_asked s && is_begun s) ≡ false)
-IsCommentRefusal s (Refused e) = (e ≡ Named CommentSignatureRefused) × (is_asked s ≡ true) × (is_begun s ≡ true)
-
--- no success: where the state has not asked or not told its digest, it stays as it was; where it has, the first
--- question was answered by no, or else the second
-abbrev pub IsVerdictRefusal : State → State → Bool → Refusal Fault → Type 0
-IsVerdictRefusal old new first (WrongUse m) =
-    (m ≡ verdict_misuse old) × (new ≡ old) × ((is_asked old && (old.mark == told_mark)) ≡ false)
-IsVerdictRefusal old new first (Refused e) =
-    HasEnded old new × (e ≡ (if first then Named CommentSignatureRefused else Named SignatureRefused))
-
 -- == The same by numbers ==
 
 -- the number of a result: 0 of a success
@@ -223,11 +228,10 @@ GivesNumber accepts pk_text sig_text message legacy n =
     ((n ≡ 0) × TextsVouchFor accepts pk_text sig_text message legacy)
     ⊎ ((0 < n) × (e : Fault) × (n ≡ fault_number e) × (verdict accepts pk_text sig_text message legacy ≡ Err e))
 
--- the number of what the second answer is not worth: it is no answer, or it is one
-abbrev pub IsCommentVerdictNumber : State → ℕ → ℕ → Type 0
-IsCommentVerdictNumber s second n =
-    ((n ≡ misuse_number BadAnswer) × ¬ (IsAnswer second))
-    ⊎ (IsAnswer second × (r : Refusal Fault) × (n ≡ refusal_number fault_number r) × IsCommentRefusal s r)
+-- a number that is no answer is rejected, and only then the other reasons come
+abbrev pub comment_number : State → ℕ → ℕ
+comment_number s second =
+    if is_answer second then result_number (comment_result s (second == answer_yes)) else misuse_number BadAnswer
 
 -- a number that is no flag is rejected, and only then the other reasons come
 abbrev pub asking_number : State → PublicKeyValue → List ℕ → ℕ → ℕ → ℕ
@@ -240,10 +244,12 @@ abbrev pub verdict_number : Result (List ℕ) Fault → ℕ
 verdict_number (Ok trusted) = 0
 verdict_number (Err e) = fault_number e
 
--- the number of a verdict that is no success: an answer is none, and the state stays as it was; or both are, and the
--- number is that of the rejection
-abbrev pub IsVerdictNumber : State → State → ℕ → ℕ → ℕ → Type 0
-IsVerdictNumber old new first second n =
-    ((n ≡ misuse_number BadAnswer) × (¬ (IsAnswer first) ⊎ ¬ (IsAnswer second)) × (new ≡ old))
-    ⊎ (IsAnswer first × IsAnswer second × (r : Refusal Fault) × (n ≡ refusal_number fault_number r)
-    × IsVerdictRefusal old new (first == answer_yes) r)
+-- the number of a verdict from two numbers, and the state after it: where one of them is no answer, the state stays
+abbrev pub numbered : Result Unit (Refusal Fault) × State → ℕ × State
+numbered (r, s) = (result_number r, s)
+
+abbrev pub told_verdict_number : State → ℕ → ℕ → ℕ × State
+told_verdict_number s first second =
+    if is_answer first && is_answer second
+    then numbered (told_verdict s (first == answer_yes) (second == answer_yes))
+    else (misuse_number BadAnswer, s)

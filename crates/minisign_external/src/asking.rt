@@ -1,12 +1,12 @@
 //! Asking, and the verdict, over the state that a program in another language holds.
 
-ghost use Rattle.std.specs.Prelude.{◌≡◌, ◌⊎◌, ◌<◌, ◌≤◌, ◌+◌, ℕ, Bool, List, Ok, true, false, OnOk, OnErr, IfOk, IfErr, length};
+ghost use Rattle.std.specs.Prelude.{◌≡◌, ◌⊎◌, ◌<◌, ◌≤◌, ◌+◌, ℕ, Bool, List, Ok, true, false, OnOk, OnErr, IfOk, IfErr, length, drop};
 ghost use Rattle.minisign_hash.specs.Blake2b.{blake2b_digest};
 ghost use Rattle.minisign.specs.Acceptance.{Verifier};
 ghost use Rattle.minisign.specs.SignatureText.{view_of, SignatureTextRecord, read_signature};
 ghost use Rattle.minisign_external.specs.PublicKeys.{read_utf8};
 ghost use Rattle.minisign_external.specs.Questions.{Answers, AnswersComment, IsKeyText, comment_verdict_under, has_whole_signature, read_under, verdict_under};
-ghost use Rattle.minisign_external.specs.States.{AreAsked, AreQuestions, GivesVerdict, HasAsked, HasEnded, HasToldDigest, IsAskFedRefusal, IsCommentRefusal, IsFedState, IsMarkedFed, IsMarkedTold, IsTextRefusal, IsVerdictRefusal, asked_of, asking_misuse, asking_result, fed_mark, given_verdict, is_asked, is_begun, questions_of, verdict_misuse};
+ghost use Rattle.minisign_external.specs.States.{AreAsked, AreQuestions, GivesVerdict, HasAsked, HasToldDigest, IsAskFedRefusal, IsFedState, IsMarkedFed, IsMarkedTold, IsTextRefusal, asked_of, asking_misuse, asking_result, comment_result, fed_mark, given_verdict, is_asked, is_begun, questions_of, told_verdict, verdict_misuse};
 ghost use Rattle.minisign_external.specs.declared.public_keys.PublicKeyValue.{PublicKeyValue};
 ghost use Rattle.minisign_external.specs.declared.state.Misuse.TheVariants.{NoRoom};
 ghost use Rattle.minisign_external.specs.declared.state.Refusal.TheVariants.{WrongUse};
@@ -14,9 +14,9 @@ ghost use Rattle.minisign_external.specs.declared.state.Refusal.TheVariants.{Wro
 use crate::public_keys::PublicKeyValue;
 use crate::signed_texts::write_comment_message;
 use crate::state::{ASKED, Asked, FED, Misuse, Questions, Refusal, State, TOLD};
-use crate::texts::{legacy_number, read_bytes, test, told_comment_signature};
+use crate::texts::{legacy_number, read_bytes, told_comment_signature};
 use crate::verdict::{comment_verdict, verdict};
-use minisign::SignatureView;
+use minisign::{SignatureView, judge_key};
 
 impl State {
     /// Asks, mostly before any data: what a scheme has to answer before it is known whether the key and the text of the
@@ -53,8 +53,9 @@ impl State {
         // every message.
         ensures texts { IfErr result (IsTextRefusal key.now sig_text.now allow_legacy) }
 
-        // After a rejection the state and the message buffer are as they were; of a state that may be asked, and a text
-        // that reads, both key IDs are told.
+        // What stands behind the message stays. After a rejection the state and the message buffer are as they were; of a
+        // state that may be asked, and a text that reads, both key IDs are told.
+        ensures rest { OnOk result (drop questions.new.message_len message.new ≡ drop questions.new.message_len message.old) }
         ensures kept { OnErr result ((self.new ≡ self.old) × (message.new ≡ message.old)) }
         ensures key_ids { (self.old.mark ≡ fed_mark) → is_asked self.old ≡ false → (t : SignatureTextRecord) → read_utf8 read_signature sig_text.now ≡ Ok t
             → (questions.new.public_key_id ≡ key.now.key_id) × (questions.new.signature_key_id ≡ t.signature.keynum) }
@@ -90,13 +91,17 @@ impl State {
         ensures asking { OnOk result (HasAsked self.new key.now sig_text.now allow_legacy × IsMarkedTold self.new) }
 
         // A state that is not being fed is rejected first, and then what `ask` rejects of the texts and the room. State
-        // and message buffer are then as they were.
+        // and message buffer are then as they were; what stands behind a message that is written stays.
         ensures refused { IfErr result (IsAskFedRefusal self.old key.now sig_text.now allow_legacy (length message.old)) }
         ensures room { length sig_text.now ≤ length message.old → IfErr result (λ r. ¬ (r ≡ WrongUse NoRoom)) }
         ensures texts { IfErr result (IsTextRefusal key.now sig_text.now allow_legacy) }
         ensures kept { OnErr result ((self.new ≡ self.old) × (message.new ≡ message.old)) }
+        ensures rest { OnOk result (drop questions.new.message_len message.new ≡ drop questions.new.message_len message.old) }
 
-        // Of a state that is not being fed the questions stay.
+        // Of a state that is being fed, and a text that reads, both key IDs are told, also after a rejection. Of a state
+        // that is not being fed the questions stay.
+        ensures key_ids { (m : List ℕ) → IsFedState self.old m → (t : SignatureTextRecord) → read_utf8 read_signature sig_text.now ≡ Ok t
+            → (questions.new.public_key_id ≡ key.now.key_id) × (questions.new.signature_key_id ≡ t.signature.keynum) }
         ensures unasked { (questions.new ≡ questions.old) ⊎ IsMarkedFed self.old }
     {
         let mut told = *self;
@@ -126,13 +131,14 @@ impl State {
         ensures refused { IfErr result (λ r. asked_of (read_under key.now allow_legacy sig_text.now) (length message.old) ≡ Err r) }
         ensures room { length sig_text.now ≤ length message.old → IfErr result (λ r. ¬ (r ≡ WrongUse NoRoom)) }
         ensures kept { OnErr result ((self.new ≡ self.old) × (message.new ≡ message.old)) }
+        ensures rest { OnOk result (drop questions.new.message_len message.new ≡ drop questions.new.message_len message.old) }
         ensures key_ids { (t : SignatureTextRecord) → read_utf8 read_signature sig_text.now ≡ Ok t
             → (questions.new.public_key_id ≡ key.now.key_id) × (questions.new.signature_key_id ≡ t.signature.keynum) }
     {
         let signature = read_bytes(sig_text)?;
         questions.public_key_id = key.key_id;
         questions.signature_key_id = signature.signature().keynum;
-        test(key, &signature, allow_legacy)?;
+        judge_key(&key.key_id, signature.signature(), allow_legacy)?;
         let whole = write_questions(key, &signature, questions, message)?;
         self.asked = Asked {
             mark: ASKED,
@@ -151,9 +157,9 @@ impl State {
             → HasAsked self.now v sig_text legacy → AnswersComment accepts v sig_text second
             → is_begun self.now ≡ true → result ≡ given_verdict (comment_verdict_under accepts v sig_text legacy) }
 
-        // A state that has not asked, or was ended, gives none.
-        ensures asked { OnOk result ((is_asked self.now ≡ true) × (is_begun self.now ≡ true)) }
-        ensures refused { IfErr result (IsCommentRefusal self.now) }
+        // What is answered is a function of the state and the answer: a state that has not asked, or was ended, is
+        // rejected, and otherwise the comment signature has its 64 bytes and is accepted, or else is rejected.
+        ensures value { result ≡ comment_result self.now second }
     {
         if !self.is_begun() || !self.is_asked() {
             return Err(Refusal::WrongUse(self.verdict_misuse()));
@@ -181,9 +187,10 @@ impl State {
             → HasAsked self.old v sig_text legacy → IsMarkedTold self.old → IsKeyText pk_text v → Answers accepts v sig_text message first second
             → GivesVerdict accepts pk_text sig_text message legacy result }
 
-        // A verdict ends the state; a state that has not asked or not told its digest gives none, and stays as it was.
-        ensures ended { OnOk result (HasEnded self.old self.new) }
-        ensures refused { IfErr result (IsVerdictRefusal self.old self.new first) }
+        // What is answered, and the state after it, are a function of the state and the answers. One that has not asked or
+        // not told its digest is rejected, and stays as it was; otherwise the state is ended, and what the answers decide
+        // is told.
+        ensures value { (result, self.new) ≡ told_verdict self.old first second }
     {
         if self.mark != TOLD || !self.is_asked() {
             return Err(Refusal::WrongUse(self.verdict_misuse()));
@@ -231,6 +238,7 @@ fn write_questions(
         × AreAsked questions.new message.new key.now t × (whole ≡ has_whole_signature t.comments)) }
     ensures room { (t : SignatureTextRecord) → signature.now ≡ view_of t
         → IfErr result (λ m. (m ≡ NoRoom) × (length message.old < 64 + length t.comments.trusted)) }
+    ensures rest { OnOk result (drop questions.new.message_len message.new ≡ drop questions.new.message_len message.old) }
     ensures kept { OnErr result ((message.new ≡ message.old) × (questions.new ≡ questions.old)) }
 {
     let trusted = signature.trusted_comment().as_bytes();
@@ -248,8 +256,9 @@ fn questions_of(
     comment_signature: [u8; 64],
     message_len: u64,
 ) -> Questions
-    ensures { (t : SignatureTextRecord) → signature.now ≡ view_of t
+    ensures questions { (t : SignatureTextRecord) → signature.now ≡ view_of t
         → result ≡ record (questions_of key.now t) { comment_signature = comment_signature; message_len = message_len } }
+    ensures len { result.message_len ≡ message_len }
 {
     let of_signature = signature.signature();
     Questions {

@@ -6,6 +6,7 @@
 pub mod asking;
 pub mod making;
 pub mod numbers;
+pub mod pieces;
 pub mod public_keys;
 pub mod secrets;
 pub mod signed_texts;

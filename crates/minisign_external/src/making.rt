@@ -1,7 +1,7 @@
 //! The texts of keys that were opened or taken in, written to a buffer: so a key gets another
 //! password, or its public key is written again.
 
-ghost use Rattle.std.specs.Prelude.{◌≡◌, ◌⊎◌, ◌<◌, ◌≤◌, ◌+◌, List, ℕ, Some, length, true, false, OnOk, OnErr, IfOk, IfErr};
+ghost use Rattle.std.specs.Prelude.{◌≡◌, ◌⊎◌, ◌<◌, ◌≤◌, ◌+◌, List, ℕ, Some, length, drop, true, false, OnOk, OnErr, IfOk, IfErr};
 ghost use Rattle.std.specs.Option.{option_map};
 ghost use Rattle.minisign_base.specs.Fault.{Named};
 ghost use Rattle.minisign_base.specs.declared.faults.NamedFault.TheVariants.{OutOfMemory};
@@ -46,6 +46,9 @@ pub fn write_secret_key(
     // the key with exactly this key ID and these 64 secret bytes, and to no other.
     ensures opened { OnOk result (is_opened key.now ≡ true) }
     ensures text { IfOk result (HoldsSecretKey key.now.key_id key.now.secret (option_map (λ p. p.now) password.entry) sealing.now comment.now to.new) }
+
+    // What stands behind the text stays: no byte of a secret is left there.
+    ensures rest { IfOk result (λ len. drop len to.new ≡ drop len to.old) }
 
     // What is rejected comes in this order: a key that was not opened; a comment or a password that is not UTF-8; a
     // comment with a line feed; one with a carriage return or a zero byte, or of more than 1003 bytes, which Minisign
@@ -92,6 +95,7 @@ fn write_made(
     to: &mut [u8],
 ) -> std::result::Result<usize, Refusal>
     ensures text { IfOk result (HoldsSecretKey key_id secret (option_map (λ p. p.now) password.entry) sealing.now comment.now to.new) }
+    ensures rest { IfOk result (λ len. drop len to.new ≡ drop len to.old) }
     ensures refused { IfErr result (IsMadeRefusal (option_map (λ p. p.now) password.entry) sealing.now comment.now to.old) }
     ensures kept { OnErr result (to.new ≡ to.old) }
 {
@@ -114,9 +118,10 @@ pub fn write_public_key(
     to: &mut [u8],
 ) -> std::result::Result<usize, Refusal>
     // The text of a public key stands at the start of the buffer, in 77 bytes more than the comment has, and reads as
-    // the public key of every secret key of these parts.
+    // the public key of every secret key of these parts; what stands behind it stays.
     ensures opened { OnOk result (is_opened key.now ≡ true) }
     ensures text { IfOk result (HoldsPublicKey key.now.key_id key.now.secret comment.now to.new) }
+    ensures rest { IfOk result (λ len. drop len to.new ≡ drop len to.old) }
 
     // What is rejected comes in the order of `write_secret_key`, less what concerns a password. The buffer is then as
     // it was.

@@ -1,8 +1,8 @@
 //! The numbers by which a program in another language knows rejections, and what they mean. None of it allocates.
 
-ghost use Rattle.std.specs.Prelude.{◌≡◌, ◌==◌, ◌<◌, List, ℕ, true, false, find, length};
+ghost use Rattle.std.specs.Prelude.{◌≡◌, ◌==◌, ◌<◌, List, ℕ, find, length};
 ghost use Rattle.minisign_base.specs.Faults.{fault_row};
-ghost use Rattle.minisign_external.specs.Numbers.{IsAnswer, IsMeaning, WritesCut, fault_number, misuse_number, misuse_text, refusal_number};
+ghost use Rattle.minisign_external.specs.Numbers.{IsMeaning, WritesCut, is_answer, fault_number, misuse_number, misuse_text, refusal_number};
 
 use crate::state::{Misuse, Refusal};
 use minisign_base::{NamedFault, PError};
@@ -16,8 +16,7 @@ pub const ANSWER_NO: u32 = 28271;
 
 /// Whether a number is an answer: `ANSWER_YES` or `ANSWER_NO`.
 pub fn is_answer(number: u32) -> bool
-    ensures answer { result ≡ true → IsAnswer number }
-    ensures none { result ≡ false → ¬ (IsAnswer number) }
+    ensures { result ≡ is_answer number }
 {
     number == ANSWER_YES || number == ANSWER_NO
 }
@@ -135,11 +134,11 @@ impl Misuse {
 }
 
 /// Writes what a number means, in English, to the start of `to`, ended by a 0 and cut where there
-/// is no room for more: returns the length of the whole text, which is at most 127 bytes. Where
-/// `to` has no byte nothing is written.
+/// is no room for more: returns the length of the whole text, which is at most 127 bytes. What stands
+/// behind the 0 stays; where `to` has no byte nothing is written.
 pub fn write_error_text(number: u32, to: &mut [u8]) -> usize
     // The text of a number is that of the usage error, or what the error of this number says without its key IDs; it
-    // has less than 128 bytes, is cut to its room and ended by a 0.
+    // has less than 128 bytes, is cut to its room and ended by a 0, behind which the buffer stays.
     ensures written { (text : List ℕ) × IsMeaning number text × (result ≡ length text) × WritesCut text to.old to.new }
     ensures room { result < 128 }
 {
@@ -148,7 +147,8 @@ pub fn write_error_text(number: u32, to: &mut [u8]) -> usize
 
 /// Writes a text, cut where there is no room for more, and a 0. Returns the length of the text.
 pub fn write_cut(text: &str, to: &mut [u8]) -> usize
-    // The text stands at the start of the buffer, cut where there is no room for more, and a 0 after it.
+    // The text stands at the start of the buffer, cut where there is no room for more, and a 0 after it; the rest of the
+    // buffer stays.
     ensures length { result ≡ length text.now }
     ensures cut { WritesCut text.now to.old to.new }
 {

@@ -1,6 +1,6 @@
 //! The text of a signature, from the answers of a signature scheme.
 
-ghost use Rattle.std.specs.Prelude.{◌≡◌, ◌⊎◌, ◌<◌, ◌≤◌, ◌+◌, ◌++◌, Some, Ok, true, false, string_bytes, length, take, OnOk, OnErr, IfOk, IfErr, IfNone, IfSome, MatchOption, MatchResult};
+ghost use Rattle.std.specs.Prelude.{◌≡◌, ◌⊎◌, ◌<◌, ◌≤◌, ◌+◌, ◌++◌, Some, Ok, true, false, string_bytes, length, take, drop, OnOk, OnErr, IfOk, IfErr, IfNone, IfSome, MatchOption, MatchResult};
 ghost use Rattle.minisign_base.specs.Fault.{Named};
 ghost use Rattle.minisign_base.specs.declared.faults.NamedFault.TheVariants.{OutOfMemory};
 ghost use Rattle.minisign.specs.Signing.{AreChosenReadBack};
@@ -57,9 +57,11 @@ pub fn write_signed_text(
     untrusted: &[u8],
     to: &mut [u8],
 ) -> std::result::Result<usize, Refusal>
-    // The text is that of `signed_text`, under the key ID of the key, which was opened, at the start of the buffer.
+    // The text is that of `signed_text`, under the key ID of the key, which was opened, at the start of the buffer, behind
+    // which the buffer stays.
     ensures text { IfOk result (λ len. (is_opened key.now ≡ true)
         × HoldsText key.now.key_id (comments_of trusted.now untrusted.now) first.now second.now to.new len) }
+    ensures rest { IfOk result (λ len. drop len to.new ≡ drop len to.old) }
     ensures readable { OnOk result (AreReadByMinisign (comments_of trusted.now untrusted.now)) }
 
     // Rejected are, in this order: a key that was not opened, comments that are not UTF-8, what `signed_text`
@@ -88,6 +90,7 @@ pub(crate) fn write_front(bytes: &[u8], to: &mut [u8]) -> Option<usize>
     ensures written { MatchOption result (length to.old < length bytes.now)
         (λ n. (n ≤ length to.new) × (take n to.new ≡ bytes.now)) }
     ensures count { IfSome result (λ n. n ≡ length bytes.now) }
+    ensures rest { IfSome result (λ n. drop n to.new ≡ drop n to.old) }
     ensures unwritten { IfNone result (to.new ≡ to.old) }
 {
     if to.len() < bytes.len() {
@@ -106,10 +109,11 @@ pub fn write_comment_message(
     trusted: &[u8],
     message: &mut [u8],
 ) -> Result<usize, Misuse>
-    // The message of the second question is the first signature followed by the trusted comment; where there is no room
-    // for it, it stays as it was.
+    // The message of the second question is the first signature followed by the trusted comment, behind which the buffer
+    // stays; where there is no room for it, it stays as it was.
     ensures message { IfOk result (λ n. (n ≡ 64 + length trusted.now) × (n ≤ length message.new)
         × (take n message.new ≡ first.now ++ trusted.now)) }
+    ensures rest { IfOk result (λ n. drop n message.new ≡ drop n message.old) }
     ensures room { OnOk result (64 + length trusted.now ≤ length message.old) }
     ensures refused { IfErr result (λ m. (m ≡ NoRoom) × (length message.old < 64 + length trusted.now) × (message.new ≡ message.old)) }
 {

@@ -2,13 +2,11 @@
 //! it has to be asked. None of it allocates.
 
 ghost use Rattle.std.specs.Prelude.{◌≡◌, if◌then◌else◌, ◌≤◌, ◌+◌, ℕ, List, Ok, Err, length, IfOk, IfErr};
-ghost use Rattle.minisign.specs.Acceptance.{judge_key};
 ghost use Rattle.minisign.specs.SignatureText.{first_64, view_of, SignatureTextRecord, read_signature};
 ghost use Rattle.minisign.specs.Records.{CommentsRecord, is_prehashed};
-ghost use Rattle.minisign_external.specs.PublicKeys.{key_of, read_utf8};
+ghost use Rattle.minisign_external.specs.PublicKeys.{read_utf8};
 ghost use Rattle.minisign_external.specs.Questions.{has_whole_signature, told_signature};
 
-use crate::public_keys::PublicKeyValue;
 use minisign::{Result, SignatureView, read_signature};
 use minisign_base::NamedFault;
 
@@ -24,25 +22,6 @@ pub fn read_bytes(sig_text: &[u8]) -> Result<SignatureView<'_>>
         Ok(text) => read_signature(text),
         Err(_) => Err(NamedFault::NotUtf8.into()),
     }
-}
-
-/// Tests what needs no scheme. Rejected are, in this order: key IDs that differ, a signature over the data itself
-/// unless `allow_legacy`.
-pub fn test(key: &PublicKeyValue, signature: &SignatureView<'_>, allow_legacy: bool) -> Result<()>
-    ensures { result ≡ judge_key (key_of key.now) signature.now.signature allow_legacy }
-{
-    let of_signature = signature.signature().keynum;
-    if of_signature != key.key_id {
-        return Err(NamedFault::DifferentKeyIds {
-            signature: of_signature,
-            key: key.key_id,
-        }
-        .into());
-    }
-    if !signature.is_prehashed() && !allow_legacy {
-        return Err(NamedFault::LegacyNotAccepted.into());
-    }
-    Ok(())
 }
 
 /// 1 where the signature is over the data itself, otherwise 0.

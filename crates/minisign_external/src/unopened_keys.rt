@@ -1,18 +1,23 @@
 //! A secret key as its text has it: read once into a value, which tells what opening takes, and opened from that.
 
-ghost use Rattle.std.specs.Prelude.{◌≡◌, if◌then◌else◌, true, Some, Ok, OnOk, OnErr, IfOk, IfErr};
+ghost use Rattle.std.specs.Prelude.{◌≡◌, ◌⊎◌, if◌then◌else◌, true, false, Some, Ok, Err, OnOk, OnErr, IfOk, IfErr, IsOk, length, replicate};
 ghost use Rattle.std.specs.Option.{option_map};
+ghost use Rattle.std.specs.Str.{IsUtf8};
+ghost use Rattle.minisign_base.specs.Fault.{Named};
 ghost use Rattle.minisign_base.specs.Steps.{without_value};
-ghost use Rattle.minisign.specs.Sealing.{opening_work, wants_password};
+ghost use Rattle.minisign_base.specs.declared.faults.NamedFault.TheVariants.{OutOfMemory};
+ghost use Rattle.minisign.specs.Sealing.{allowed_rows, opening_work, sealed_by_scrypt, wants_password};
 ghost use Rattle.minisign.specs.Records.{SecretKeyRecord};
 ghost use Rattle.minisign.specs.SecretKeyText.{read_secret_key, secret_key_of_bytes};
-ghost use Rattle.minisign.specs.Texts.{map_ok};
+ghost use Rattle.minisign.specs.Texts.{and_then, map_ok};
 ghost use Rattle.minisign_external.specs.PublicKeys.{read_utf8};
-ghost use Rattle.minisign_external.specs.SecretKeys.{HoldsKey, IsOpeningFault, IsOpeningRefusal, OpensAs, is_read, lacks_checksum, open_read_key, open_unsealed, read_value, unopened_record};
+ghost use Rattle.minisign_external.specs.declared.state.Misuse.TheVariants.{KeyNotRead, NoRoom};
+ghost use Rattle.minisign_external.specs.declared.state.Refusal.TheVariants.{Refused};
+ghost use Rattle.minisign_external.specs.SecretKeys.{DerivesWithin, OpensAs, is_enough, is_read, lacks_checksum, open_unsealed, open_within, opened_in_place, opened_or_kept, opened_sealed, opened_unsealed, read_value, unopened_record, value_memory, with_refusal};
 
 use crate::secrets::SecretKeyValue;
 use crate::state::{Misuse, Refusal};
-use minisign::{Result, SecretKey, read_secret_key};
+use minisign::{PError, Result, SecretKey, clear_memory, read_secret_key};
 use minisign_base::NamedFault;
 use std::alloc::Global;
 
@@ -135,40 +140,134 @@ fn read(sk_text: &[u8]) -> Result<[u8; 158]>
     }
 }
 
-/// Opens a secret key that was read. Without a password it has to be one that was never sealed, with one a sealed one.
+/// Opens a secret key that was read and that was never sealed. It takes no memory and no password.
 ///
-/// A sealed key takes the memory and the time of scrypt by its limits. `keep_every` is k, where
-/// every k-th of scrypt's rows is kept, 1 KiB each, of at most 2^20; 0 and 1 keep them all.
-/// `greatest_work` is the greatest parallelization that is allowed: the number of times that
-/// all rows are made.
-///
-/// What is rejected, and in which order, its clause `refused` says. Without a password it does not allocate.
-pub fn open_secret_key(
-    alloc: Global,
+/// Rejected are, in this order: a key that was not read, `KeyNotRead`; a sealed one, `KeyMightBeEncrypted`; one whose
+/// checksum does not match and is not 32 zeros, as Minisign writes them, `CorruptedKey`. Does not allocate.
+pub fn open_unsealed_key(
     unopened: &UnopenedKeyValue,
-    password: Option<&[u8]>,
-    keep_every: u64,
-    greatest_work: u32,
     value: &mut SecretKeyValue,
 ) -> std::result::Result<(), Refusal>
-    // The secret and the key ID are those of the key that the one which was read gives, whatever number of rows is
-    // kept, and the value has the mark of one that was opened.
-    ensures opened { OnOk result ((is_read unopened.now ≡ true) × ((key : SecretKeyRecord)
-        × (open_read_key (unopened_record unopened.now) (option_map (λ p. p.now) password.entry) greatest_work ≡ Ok key)
-        × HoldsKey value.new key)) }
-
-    // What is rejected comes in this order: a key that was not read; a password that is not UTF-8; and the first reason
-    // for which the key that was read gives none within the greatest work, as `SecretKey::from_unencrypted_box` says
-    // without a password, but for a key without a checksum, and `SecretKey::from_box_keeping_within` with one. An
-    // allocation fails only with a password, for a key that is sealed by scrypt, whose limits are allowed and within the
-    // work. The value is then as it was.
-    ensures refused { IfErr result (IsOpeningRefusal unopened.now (option_map (λ p. p.now) password.entry) greatest_work) }
-    ensures kept { OnErr result (value.new ≡ value.old) }
+    // What is answered, and the key: a key that was read and was never sealed is the one opened, with the mark of one
+    // that was; otherwise it is the first reason, and the key as it was.
+    ensures { (result, value.new) ≡ opened_or_kept (opened_unsealed unopened.now) value.old }
 {
-    if !unopened.is_read() {
-        return Err(Refusal::WrongUse(Misuse::KeyNotRead));
+    if unopened.is_read() {
+        take_opened(open_unsealed(unopened), value)
+    } else {
+        Err(Refusal::WrongUse(Misuse::KeyNotRead))
     }
-    match open(alloc, unopened, password, keep_every, greatest_work) {
+}
+
+/// Opens a sealed secret key that was read, with its password.
+///
+/// It takes the memory and the time of scrypt by the key's limits. `keep_every` is k, where every k-th of scrypt's rows
+/// is kept, 1 KiB each, of at most 2^20; 0 and 1 keep them all. `most_rows` is how many rows may be made in all: N for
+/// each of scrypt's p parts, at most 2^20 for a key of Minisign's own.
+///
+/// Rejected are, in this order: a key that was not read, `KeyNotRead`; a password that is not UTF-8, `NotUtf8`; a key
+/// that was never sealed, `KeyNotEncrypted`; one that is not sealed by scrypt, `UnsupportedEncryptionAlgorithm`; limits,
+/// with `ParametersTooHigh` or `InvalidParameters`; more rows, `WorkTooHigh`; another password, `WrongPassword`. Where
+/// all of these but the last let it derive, an allocation may fail.
+#[tactic(auto, using(crate::proofs::WithinRows::sealed_or_none))]
+pub fn open_sealed_key(
+    alloc: Global,
+    unopened: &UnopenedKeyValue,
+    password: &[u8],
+    keep_every: u64,
+    most_rows: u64,
+    value: &mut SecretKeyValue,
+) -> std::result::Result<(), Refusal>
+    // What is answered, and the key, whatever number of rows is kept: a key that was read and that the password opens is
+    // the one opened, with the mark of one that was; otherwise it is the first reason, and the key as it was. Only where
+    // opening derives is it possibly out of memory instead.
+    ensures { ((result, value.new) ≡ opened_or_kept (opened_sealed unopened.now password.now most_rows) value.old)
+        ⊎ (((result, value.new) ≡ opened_or_kept (Err (Refused (Named OutOfMemory))) value.old)
+        × DerivesWithin unopened.now password.now most_rows) }
+{
+    if unopened.is_read() {
+        let opened = derive(alloc, unopened, password, keep_every, most_rows);
+        take_opened(opened, value)
+    } else {
+        Err(Refusal::WrongUse(Misuse::KeyNotRead))
+    }
+}
+
+/// How much memory `open_sealed_key_in_place` takes with every k-th of scrypt's rows kept, where k is `keep_every`: so
+/// many words of 32 bits and so many bytes. Zeros for a key that wants no password, and where its limits are rejected.
+/// Does not allocate.
+pub fn memory_to_open(unopened: &UnopenedKeyValue, keep_every: u64) -> (u64, u64)
+    // The memory is that of the key in the value.
+    ensures { result ≡ value_memory unopened.now keep_every }
+{
+    match key_of(&unopened.bytes) {
+        Ok(key) => key.opening_memory(keep_every.max(1)),
+        Err(_fault) => (0, 0),
+    }
+}
+
+/// Opens a sealed secret key that was read, with its password, in memory that is passed in, as `open_sealed_key` does,
+/// and allocates none: `words` and `bytes` have at least the lengths that `memory_to_open` tells. What they held is not
+/// read, and all of both is left with zeros, after an error too.
+///
+/// Rejected is what `open_sealed_key` rejects, and behind a key that was not read too little memory, `NoRoom`.
+pub fn open_sealed_key_in_place(
+    unopened: &UnopenedKeyValue,
+    password: &[u8],
+    keep_every: u64,
+    most_rows: u64,
+    words: &mut [u32],
+    bytes: &mut [u8],
+    value: &mut SecretKeyValue,
+) -> std::result::Result<(), Refusal>
+    // What is answered, and the key, whatever the memory held and whatever number of rows is kept: a key that was read
+    // and that the password opens is the one opened, with the mark of one that was; otherwise it is the first reason,
+    // which is never out of memory, and the key as it was.
+    ensures opened { (result, value.new) ≡ opened_or_kept (opened_in_place unopened.now password.now keep_every most_rows (length words.old) (length bytes.old)) value.old }
+
+    // That memory then holds zeros, all of it, whatever the result.
+    ensures words_cleared { words.new ≡ replicate (length words.old) 0 }
+    ensures bytes_cleared { bytes.new ≡ replicate (length bytes.old) 0 }
+{
+    if let Err(misuse) = test_room(unopened, keep_every, words, bytes) {
+        clear_memory(words, bytes);
+        return Err(Refusal::WrongUse(misuse));
+    }
+    let opened = derive_in_place(unopened, password, keep_every, most_rows, words, bytes);
+    take_opened(opened, value)
+}
+
+// Tests that the key was read, and that there is memory enough to open it in place.
+fn test_room(
+    unopened: &UnopenedKeyValue,
+    keep_every: u64,
+    words: &[u32],
+    bytes: &[u8],
+) -> std::result::Result<(), Misuse>
+    ensures passed { OnOk result ((is_read unopened.now ≡ true) × (is_enough unopened.now keep_every (length words.now) (length bytes.now) ≡ true)) }
+    ensures refused { IfErr result (λ m. ((m ≡ KeyNotRead) × (is_read unopened.now ≡ false))
+        ⊎ ((m ≡ NoRoom) × (is_read unopened.now ≡ true) × (is_enough unopened.now keep_every (length words.now) (length bytes.now) ≡ false))) }
+{
+    let is_read = unopened.is_read();
+    if !is_read {
+        return Err(Misuse::KeyNotRead);
+    }
+    let (wanted_words, wanted_bytes) = memory_to_open(unopened, keep_every);
+    if wanted_words <= words.len() as u64 && wanted_bytes <= bytes.len() as u64 {
+        Ok(())
+    } else {
+        Err(Misuse::NoRoom)
+    }
+}
+
+// Leaves the key that was opened in the value.
+fn take_opened(
+    opened: Result<SecretKey>,
+    value: &mut SecretKeyValue,
+) -> std::result::Result<(), Refusal>
+    ensures { (result, value.new) ≡ opened_or_kept (with_refusal opened) value.old }
+{
+    match opened {
         Ok(key) => {
             *value = SecretKeyValue::take(key.key_id(), key.secret());
             Ok(())
@@ -177,21 +276,49 @@ pub fn open_secret_key(
     }
 }
 
-// The key that a value gives, whether it was read or not.
-fn open(
+// The key opened with a password, which has to be UTF-8.
+fn derive(
     alloc: Global,
     unopened: &UnopenedKeyValue,
-    password: Option<&[u8]>,
+    password: &[u8],
     keep_every: u64,
-    greatest_work: u32,
+    most_rows: u64,
 ) -> Result<SecretKey>
-    ensures opened { IfOk result (λ key. open_read_key (unopened_record unopened.now) (option_map (λ p. p.now) password.entry) greatest_work ≡ Ok key) }
-    ensures refused { IfErr result (IsOpeningFault (unopened_record unopened.now) (option_map (λ p. p.now) password.entry) greatest_work) }
+    ensures { (result ≡ read_utf8 (λ p. open_within (unopened_record unopened.now) p most_rows) password.now)
+        ⊎ ((result ≡ Err (Named OutOfMemory)) × IsUtf8 password.now
+        × IsOk (and_then (sealed_by_scrypt (unopened_record unopened.now)) (λ s. allowed_rows s most_rows))) }
 {
-    match password {
-        Some(password) => open_sealed(alloc, unopened, password, keep_every, greatest_work),
-        None => open_unsealed(unopened),
-    }
+    let Ok(text) = str::from_utf8(password) else {
+        let fault: PError = NamedFault::NotUtf8.into();
+        return Err(fault);
+    };
+    let key = key_of(&unopened.bytes)?;
+    let times = key.times_within(most_rows);
+    key.open_keeping_within(alloc, text.as_bytes(), keep_every.max(1), times)
+}
+
+// The same in memory that is passed in and is enough.
+fn derive_in_place(
+    unopened: &UnopenedKeyValue,
+    password: &[u8],
+    keep_every: u64,
+    most_rows: u64,
+    words: &mut [u32],
+    bytes: &mut [u8],
+) -> Result<SecretKey>
+    requires { is_enough unopened.now keep_every (length words.old) (length bytes.old) ≡ true }
+    ensures opened { result ≡ read_utf8 (λ p. open_within (unopened_record unopened.now) p most_rows) password.now }
+    ensures words_cleared { words.new ≡ replicate (length words.old) 0 }
+    ensures bytes_cleared { bytes.new ≡ replicate (length bytes.old) 0 }
+{
+    let Ok(typed) = str::from_utf8(password) else {
+        clear_memory(words, bytes);
+        let refused: PError = NamedFault::NotUtf8.into();
+        return Err(refused);
+    };
+    let key = key_of(&unopened.bytes)?;
+    let times = key.times_within(most_rows);
+    key.open_in_place(typed.as_bytes(), keep_every.max(1), times, words, bytes)
 }
 
 // The key that was never sealed: one with 32 zeros in place of its checksum, as Minisign writes it, or else what
@@ -214,22 +341,4 @@ fn lacks_checksum(key: &SecretKey) -> bool
     ensures { result ≡ lacks_checksum key.now }
 {
     *key.key_derivation() == UNSEALED && *key.checksum() == NO_CHECKSUM
-}
-
-// The key opened with a password, which has to be UTF-8.
-fn open_sealed(
-    alloc: Global,
-    unopened: &UnopenedKeyValue,
-    password: &[u8],
-    keep_every: u64,
-    greatest_work: u32,
-) -> Result<SecretKey>
-    ensures opened { IfOk result (λ key. open_read_key (unopened_record unopened.now) (Some password.now) greatest_work ≡ Ok key) }
-    ensures refused { IfErr result (IsOpeningFault (unopened_record unopened.now) (Some password.now) greatest_work) }
-{
-    let Ok(password) = str::from_utf8(password) else {
-        return Err(NamedFault::NotUtf8.into());
-    };
-    let key = key_of(&unopened.bytes)?;
-    key.open_keeping_within(alloc, password.as_bytes(), keep_every.max(1), greatest_work)
 }

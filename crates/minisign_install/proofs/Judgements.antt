@@ -1,5 +1,5 @@
 -- What the texts of a key and of a signature decide of data, of its digest, and of the comment alone.
-use Rattle.minisign_install.proofs.Common.{◌≡◌, ◌||◌, ◌∙◌, ℕ, Bool, true, false, List, Option, Some, None, take, ap, sym, refl, cond, MatchResult, Result, Ok, Err, blake2b_digest, Fault, NamedFault, Verifier, TextsVouchWith, Terms, read_public_key, PublicKeyRecord, is_prehashed, SignatureTextRecord, box_of, read_signature, AnswersTexts, IsKeyText, read_under, AreQuestions, PublicKeyValue, Questions, accepts_comments, and_then, require, signed_comment, ⊤, subst, is_utf8, NotUtf8, SignatureBoxRecord, read_signature_box, key_of, read_utf8, judge_key}
+use Rattle.minisign_install.proofs.Common.{◌≡◌, ◌||◌, ◌∙◌, ℕ, Bool, true, false, List, Option, Some, None, take, ap, sym, refl, cond, MatchResult, Result, Ok, Err, blake2b_digest, Fault, NamedFault, Verifier, TextsVouchWith, Terms, read_public_key, PublicKeyRecord, is_prehashed, SignatureTextRecord, box_of, read_signature, AnswersTexts, IsKeyText, read_under, AreQuestions, PublicKeyValue, Questions, accepts_comments, and_then, require, signed_comment, ⊤, subst, is_utf8, NotUtf8, SignatureBoxRecord, read_signature_box, read_utf8, judge_key}
 use Rattle.minisign.specs.Acceptance.{judge, judge_answers}
 use Rattle.minisign.specs.Headline.{verdict}
 use Rattle.minisign.specs.Texts.{map_ok}
@@ -36,7 +36,7 @@ pub opened : (v : PublicKeyValue) (sig_text : List ℕ) (t : SignatureTextRecord
     → (read_signature sig_text ≡ Ok t) × (is_prehashed t.signature ≡ true)
 opened v sig_text t h =
     let (s, read, rest) = then_ok (read_utf8 read_signature sig_text) _ t h in
-    let (u, judged, same) = then_ok (judge_key (key_of v) s.signature false) _ t rest in
+    let (u, judged, same) = then_ok (judge_key v.key_id s.signature false) _ t rest in
     let one : s ≡ t = cc same in
     let (known, allowed) = required _ _ _ u judged in (
       (required (is_utf8 sig_text) NotUtf8 (read_signature sig_text) s read).1 ∙ same,

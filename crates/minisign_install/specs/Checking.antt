@@ -12,7 +12,7 @@ use Rattle.minisign_install.specs.Refusals.{IsCommentRefused, IsRecordRefused}
 -- it is accepted for the digest, where one is given; and the comment signature is
 abbrev pub judge_digest : Verifier → Option (List ℕ) → PublicKeyRecord → SignatureTextRecord → Result ⊤ Fault
 judge_digest accepts digest key t =
-    and_then (judge_key key t.signature false) (λ _.
+    and_then (judge_key key.keynum t.signature false) (λ _.
     judge_answers (option_map_or (λ d. accepts d key.key t.signature.signature) digest true)
     (accepts_comments accepts key (box_of t)))
 

@@ -2,10 +2,11 @@
 pub use Rattle.minisign.specs.SignatureText.{view_of}
 pub use Rattle.minisign.specs.Texts.{map_ok}
 pub use Rattle.minisign_external.specs.Numbers.{WritesCut}
-pub use Rattle.minisign_external.specs.States.{HasEnded}
+pub use Rattle.minisign_external.specs.PublicKeys.{read_utf8}
+pub use Rattle.minisign_external.specs.States.{told_verdict}
 pub use Rattle.minisign_install.specs.Checking.{ChecksSo, IsAnswered, IsOffered, IsUnanswered, digest_verdict, offer_beside, signed_comment}
 pub use Rattle.minisign_install.specs.Comments.{ExpiresAt, HasNumber, IsExpiryRefused, IsNumberText, IsUnexpired, Numbering, Says, Timestamp, Version, expiry_label, fields, file_label, number_label, strip, value_of, values_of}
-pub use Rattle.minisign_install.specs.Common.{AnswersTexts, AreQuestions, CommentsRecord, Consumes, Installation, IsAtEnd, IsFedState, IsKeyText, PublicKeyRecord, PublicKeyValue, Questions, Refusal, Same, SignatureBoxRecord, SignatureTextRecord, Stage, Work, WrongUse, accepts_comments, and_then, blake2b_digest, box_of, concat, judge_key, read_public_key, read_signature, read_signature_box, read_under, verdict}
+pub use Rattle.minisign_install.specs.Common.{AnswersTexts, AreQuestions, CommentsRecord, Consumes, Installation, IsAtEnd, IsFedState, IsKeyText, PublicKeyRecord, PublicKeyValue, Questions, Refusal, Same, SignatureBoxRecord, SignatureTextRecord, Stage, Work, WrongUse, IsUtf8, accepts_comments, and_then, blake2b_digest, box_of, concat, judge_key, read_public_key, read_signature, read_signature_box, read_under, verdict}
 pub use Rattle.minisign_install.specs.Directories.{Appends, Calls, CallsOwning, ClearsAll, FileStays, Finds, GivesPermissions, HasCounted, HasCreated, HasLocked, HasOnDisk, HasRenamed, HasStepped, HasTried, Held, IsApart, IsBusy, IsFound, IsStill, Known, MayFind, MayLead, MaySyncDirectory, Moment, Name, OtherProcesses, OwnsTheSame, Perhaps, Place, Record, RecordUnchanged, Removes, Renames, Run, RunStep, Sees, Sets, Spoils, Syncs, SyncsDirectory, TouchesOnly, TouchesStages, drawn_bytes}
 pub use Rattle.minisign_install.specs.Driving.{AreNamed, HasCalled, HasMade, IsNamed, Knows, MayCall, WantsNoMemory, calls_left, host, made_or, outcome_by, setting}
 pub use Rattle.minisign_install.specs.Faults.{BadExpiry, Expired, Fault, InstallFault, IsOwn, Library, Named, NoNumber, NotUtf8, OlderUpdate, OtherFile, OutOfMemory, PlaceInUse, RandomSourceFailed, ReadingFailed, Rose, SameNumber, WritingFailed, install_number, install_row}

@@ -2,7 +2,7 @@
 //! went, and hands over what it reads back; the numbers by which the host knows errors and choices; and the law that
 //! such a host makes a run of the law on runs. None of it allocates.
 
-ghost use Rattle.std.specs.Prelude.{◌≡◌, ◌≢◌, false, None, ◌<◌, ◌≤◌, ℕ, List, Some, option_map, if◌then◌else◌, OnOk, IfErr, MatchOption, length, take};
+ghost use Rattle.std.specs.Prelude.{◌≡◌, ◌≢◌, false, None, ◌<◌, ◌≤◌, ℕ, List, Some, option_map, if◌then◌else◌, OnOk, IfErr, MatchOption, length, take, drop};
 ghost use Rattle.minisign_install.specs.Words.{CannotBeFed, HasGone, HasBegun, HasObeyed, HasReadBack, HasReadRecord, HasRun, Host, IsBegun, IsDue, IsHostMeaning, IsNotDue, IsUnused, RestUnchanged, WasDone, WritesCut, call_of, due_number, due_of, failure, is_device_error, may_go, numbering_number, numbering_of, offer_number, Due, Lock, Makes, ReadRecord, Setting, WriteRecord, Done, Failed, More, record_of};
 ghost use Rattle.minisign_install.specs.declared.order.Due.TheVariants as ended;
 
@@ -210,8 +210,9 @@ impl Installation {
     /// no number is to be written or there is no room.
     pub fn write_number(&self, to: &mut [u8]) -> usize
         // The label of the field and the digits of the number of the update stand at the front of the buffer where they
-        // are to be written and have room, and otherwise nothing is written.
+        // are to be written and have room, and otherwise nothing is written; the rest of the buffer stays.
         ensures written { 0 < result → (n : ℕ) × IsDue self.now (WriteRecord n) × (result ≤ length to.new) × (take result to.new ≡ record_of (numbering_of self.now) n) }
+        ensures rest { drop result to.new ≡ drop result to.old }
         ensures unwritten { result ≡ 0 → (to.new ≡ to.old) × ((n : ℕ) → IsDue self.now (WriteRecord n) → length to.old < length (record_of (numbering_of self.now) n)) }
     {
         match self.due() {
@@ -314,10 +315,10 @@ pub fn error_text(number: u32) -> &'static str
 }
 
 /// Writes what a number means, in English, to the front of `to`, ended by a 0 and cut where there
-/// is no room for more: returns the length of the whole text, which is at most 127 bytes. Where
-/// `to` has no byte nothing is written.
+/// is no room for more: returns the length of the whole text, which is at most 127 bytes. What stands
+/// behind the 0 stays; where `to` has no byte nothing is written.
 pub fn write_error_text(number: u32, to: &mut [u8]) -> usize
-    // The text is that of `error_text`, cut to its room and ended by a 0.
+    // The text is that of `error_text`, cut to its room and ended by a 0, behind which the buffer stays.
     ensures written { (text : List ℕ) × IsHostMeaning number text × (result ≡ length text) × WritesCut text to.old to.new }
     ensures room { result < 128 }
 {

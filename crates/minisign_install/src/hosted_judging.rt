@@ -1,7 +1,7 @@
 //! Asking a signature scheme about what a host has read back, and judging the signed comment. None of it allocates.
 
-ghost use Rattle.std.specs.Prelude.{◌≡◌, ◌⊎◌, ℕ, List, false, OnOk, OnErr, IfErr, [], Ok, length};
-ghost use Rattle.minisign_install.specs.Words.{blake2b_digest, Verifier, Terms, SignatureTextRecord, AnswersTexts, IsKeyText, read_under, AreQuestions, HasEnded, IsFedState, install_number, GivesUpdate, IsAnswerRefusal, IsAskRefusal, IsAsking, IsWorth, ReadsTexts, IsJudged, RestUnchanged, IsDue, numbering_of, wanted_by, Answer, Remove, TakePermissions};
+ghost use Rattle.std.specs.Prelude.{◌≡◌, ◌⊎◌, ℕ, List, false, OnOk, OnErr, IfErr, [], Ok, length, drop};
+ghost use Rattle.minisign_install.specs.Words.{blake2b_digest, Verifier, Terms, SignatureTextRecord, AnswersTexts, IsKeyText, IsUtf8, read_utf8, read_signature, read_under, told_verdict, AreQuestions, IsFedState, install_number, GivesUpdate, IsAnswerRefusal, IsAskRefusal, IsAsking, IsWorth, ReadsTexts, IsJudged, RestUnchanged, IsDue, numbering_of, wanted_by, Answer, Remove, TakePermissions};
 ghost use Rattle.minisign_external.specs.declared.state.Refusal.TheVariants.{Refused};
 
 use crate::comments::{Numbering, check_comment};
@@ -40,12 +40,20 @@ impl Installation {
 
         // The reasons of a rejection come in one order: answers that are not due; a name that is not UTF-8; what
         // `State::ask_fed` rejects, in its order. A wrong use and a buffer without room leave the installation as it was.
-        // For any other the stage is to be removed, and the run is rejected for that. The message buffer is as it was;
-        // where the answers are not due, the questions are too; and what the host has chosen stays in any case.
+        // For any other the stage is to be removed, and the run is rejected for that. The message buffer is as it was, and
+        // what stands behind a message that is written stays; where the answers are not due, the questions do too; and what
+        // the host has chosen stays in any case.
         ensures refused { IfErr result (IsAskRefusal self.old self.new key.now sig_text.now file.now (length message.old)) }
         ensures kept { OnErr result (message.new ≡ message.old) }
+        ensures rest { OnOk result (drop questions.new.message_len message.new ≡ drop questions.new.message_len message.old) }
         ensures unasked { (questions.new ≡ questions.old) ⊎ ((kept : ℕ) × IsDue self.old (Answer kept)) }
         ensures chosen { self.new.chosen ≡ self.old.chosen }
+
+        // Where the answers are due and the name is UTF-8, both key IDs are told of a text that reads, also after a
+        // rejection.
+        ensures key_ids { (kept : ℕ) → IsDue self.old (Answer kept) → (m : List ℕ) → IsFedState self.old.state m → IsUtf8 file.now
+            → (t : SignatureTextRecord) → read_utf8 read_signature sig_text.now ≡ Ok t
+            → (questions.new.public_key_id ≡ key.now.key_id) × (questions.new.signature_key_id ≡ t.signature.keynum) }
     {
         let Some(Due::Answer(kept)) = self.due() else {
             return Err(Refusal::WrongUse(Misuse::NotDue));
@@ -75,10 +83,10 @@ impl Installation {
             → IsAsking self.old terms kept → AnswersTexts accepts terms.pk_text terms.sig_text message first second
             → GivesUpdate accepts terms kept message self.new result }
 
-        // The permissions are due only where the answers were, and what was asked is ended then. A wrong use changes
-        // nothing. What the host has chosen stays.
+        // The permissions are due only where the answers were, and the state that was asked is ended then, as its verdict
+        // says. A wrong use changes nothing. What the host has chosen stays.
         ensures due { OnOk result (((kept : ℕ) × IsDue self.old (Answer kept)) × ((n : ℕ) × IsDue self.new (TakePermissions n))
-            × HasEnded self.old.state self.new.state) }
+            × ((Ok tt, self.new.state) ≡ told_verdict self.old.state first second)) }
         ensures refused { IfErr result (IsAnswerRefusal self.old self.new) }
         ensures chosen { self.new.chosen ≡ self.old.chosen }
     {

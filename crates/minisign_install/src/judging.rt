@@ -9,13 +9,12 @@ use crate::faults::InstallFault;
 use crate::staging::{PIECE, zeros};
 use crate::wanted::Wanted;
 use minisign::{
-    PError, PublicKey, SignatureView, read_public_key, read_signature, write_comment_message,
+    PError, PublicKey, SignatureView, judge_key, read_public_key, read_signature,
+    write_comment_message,
 };
 use minisign_base::NamedFault;
 use minisign_base::devices::DeviceFault;
 use minisign_base::scheme::Scheme;
-use minisign_external::public_keys::PublicKeyValue;
-use minisign_external::texts::test;
 use minisign_external::verdict::{comment_verdict, verdict};
 use minisign_hash::blake2b::Blake2b;
 use std::alloc::{AllocError, Global};
@@ -148,11 +147,7 @@ fn decide<'a, S: Scheme>(
 {
     let pk = read_public_key(wanted.pk_text)?;
     let view = read_signature(wanted.sig_text)?;
-    let value = PublicKeyValue {
-        key: *pk.key(),
-        key_id: *pk.key_id(),
-    };
-    test(&value, &view, false)?;
+    judge_key(pk.key_id(), view.signature(), false)?;
     let second = accepts_comment(scheme, &pk, &view, message);
     match digest {
         Some(digest) => {

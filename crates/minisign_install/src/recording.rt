@@ -1,6 +1,6 @@
 //! The number of the newest update is kept beside the place, behind the label of its field.
 
-ghost use Rattle.std.specs.Prelude.{option_map, ◌≡◌, ◌⊎◌, ◌<◌, ◌≤◌, ℕ, false, List, Option, Some, None, IfOk, IfErr, OnOk, OnErr, MatchOption, MatchResult, length, take};
+ghost use Rattle.std.specs.Prelude.{option_map, ◌≡◌, ◌⊎◌, ◌<◌, ◌≤◌, ◌+◌, ◌++◌, ℕ, false, List, Option, Some, None, IfOk, IfErr, OnOk, OnErr, MatchOption, MatchResult, length, take, drop};
 ghost use Rattle.minisign_install.specs.Words.{Rose, Named, ReadingFailed, Library, IsNumberText, HasStepped, IsStill, Finds, Known, Calls, IsKeptNumber, IsKeptOrNone, HasNoNumber, IsNumberFor, IsUnfit, kept_by, record_of, record_text, IsReadRefusal, IsRecordRefused};
 
 use crate::comments::{Numbering, number_of, strip};
@@ -113,9 +113,9 @@ fn record_text(bytes: &[u8]) -> &[u8]
 
 // Writes what is to be written into a record to the front of `to`, and returns how long that is; where it has no room,
 // nothing.
-#[tactic(auto, using(crate::proofs::RecordTexts::take_two))]
 pub(crate) fn write_record(numbering: Numbering, number: u64, to: &mut [u8]) -> usize
     ensures written { 0 < result → (result ≤ length to.new) × (take result to.new ≡ record_of numbering number) }
+    ensures rest { drop result to.new ≡ drop result to.old }
     ensures unwritten { result ≡ 0 → (to.new ≡ to.old) × (length to.old < length (record_of numbering number)) }
 {
     let mut buffer = itoa::Buffer::new();
@@ -124,9 +124,17 @@ pub(crate) fn write_record(numbering: Numbering, number: u64, to: &mut [u8]) -> 
     if to.len() < label.len() + digits.len() {
         return 0;
     }
-    let (front, rest) = to.split_at_mut(label.len());
-    front.copy_from_slice(label);
-    let (behind, _) = rest.split_at_mut(digits.len());
-    behind.copy_from_slice(digits);
+    let (whole, _) = to.split_at_mut(label.len() + digits.len());
+    fill(whole, label, digits);
     label.len() + digits.len()
+}
+
+// Fills the buffer with both, one after the other.
+fn fill(to: &mut [u8], label: &[u8], digits: &[u8])
+    requires { length to.old ≡ length label.now + length digits.now }
+    ensures { to.new ≡ label.now ++ digits.now }
+{
+    let (front, back) = to.split_at_mut(label.len());
+    front.copy_from_slice(label);
+    back.copy_from_slice(digits);
 }

@@ -13,4 +13,5 @@ pub mod Parts
 pub mod Kept
 pub mod Remade
 pub mod KeyFacts
+pub mod RowsOnce
 pub mod Facts

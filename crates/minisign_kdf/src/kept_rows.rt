@@ -1,7 +1,7 @@
 //! The rows of scryptROMix (RFC 7914, section 5) of which every k-th is kept, in one vector of
 //! words: the words of each block stand in diagonal order.
 
-ghost use Rattle.std.specs.Prelude.{◌≡◌, ℕ, ◌+◌, ◌*◌, ◌%◌, ◌/◌, ◌^◌, ◌<◌, ◌≤◌, ◌++◌, IfErr, IfOk, OnOk, length, vec_capacity, vec_len};
+ghost use Rattle.std.specs.Prelude.{◌≡◌, ℕ, ◌+◌, ◌*◌, ◌%◌, ◌/◌, ◌^◌, ◌<◌, ◌≤◌, IfErr, IfOk, OnOk, length, vec_capacity, vec_len};
 ghost use Rattle.std.specs.Int.{div_ceil};
 ghost use Rattle.minisign_kdf.specs.Blocks.{block};
 ghost use Rattle.minisign_kdf.specs.Diagonal.{diagonal_bytes};
@@ -11,6 +11,7 @@ ghost use Rattle.minisign_kdf.specs.Scrypt.{row_at};
 use crate::block_mix::mix_times;
 use crate::errors::KdfError;
 use crate::order::load_part;
+use crate::row_rooms::RowRoom;
 use std::alloc::{AllocError, Global};
 use std::marker::Model;
 
@@ -32,7 +33,7 @@ impl Model for Rows {
 
     ghost view = { λ s. record { r = s.r; n = 2 ^ s.n_log2; k = s.k; rows = rows_of s.r (div_ceil (2 ^ s.n_log2) s.k) s.words.items } };
 
-    ghost invariant = { λ s. (s.n_log2 < 64) × (1 ≤ s.k) × (vec_len s.words ≡ 32 * s.r * div_ceil (2 ^ s.n_log2) s.k) };
+    ghost invariant = { λ s. (s.n_log2 < 64) × (1 ≤ s.k) × (length s.words.items ≡ 32 * s.r * div_ceil (2 ^ s.n_log2) s.k) };
 }
 
 impl Rows {
@@ -114,10 +115,10 @@ pub(crate) fn room_for_rows(
 }
 
 // How many rows of 32 * r words these are.
-pub(crate) fn rows_in(words: &Vec<u32>, r: usize) -> u64
+pub(crate) fn rows_in(words: &[u32], r: usize) -> u64
     requires some { 1 ≤ r }
     requires small { 32 * r < 2 ^ 64 }
-    ensures { (count : ℕ) → vec_len words.now ≡ 32 * r * count → result ≡ count }
+    ensures { (count : ℕ) → length words.now ≡ 32 * r * count → result ≡ count }
 {
     (words.len() / (32 * r)) as u64
 }
@@ -130,18 +131,25 @@ pub(crate) fn zeros(alloc: Global, len: usize) -> Result<Vec<u32>, AllocError>
 }
 
 // Makes the kept rows of a block. What the rows and `work` held is not read.
-pub(crate) fn keep_rows(block: &[u8], n_log2: u8, k: u64, rows: &mut Vec<u32>, work: &mut [u32])
+pub(crate) fn keep_rows<S: RowRoom>(
+    block: &[u8],
+    n_log2: u8,
+    k: u64,
+    rows: &mut S,
+    work: &mut [u32],
+)
     requires some { 0 < length block.now }
     requires whole { length block.now % 128 ≡ 0 }
     requires cost { n_log2 < 64 }
     requires kept { 1 ≤ k }
-    requires room { 32 * (length block.now / 128) * div_ceil (2 ^ n_log2) k
-        ≤ vec_capacity rows.old }
+    requires room { 32 * (length block.now / 128) * div_ceil (2 ^ n_log2) k ≤ S.room rows.old }
     requires work_len { 2 * length block.now ≤ 4 * length work.old }
-    ensures len { vec_len rows.new ≡ 32 * (length block.now / 128) * div_ceil (2 ^ n_log2) k }
+    ensures len { length (S.words rows.new)
+        ≡ 32 * (length block.now / 128) * div_ceil (2 ^ n_log2) k }
     ensures rows { let r = length block.now / 128 in
-        rows_of r (div_ceil (2 ^ n_log2) k) rows.new.items ≡ kept_rows r (2 ^ n_log2) k block.now }
-    ensures room { vec_capacity rows.old ≤ vec_capacity rows.new }
+        rows_of r (div_ceil (2 ^ n_log2) k) (S.words rows.new)
+        ≡ kept_rows r (2 ^ n_log2) k block.now }
+    ensures room { S.room rows.old ≤ S.room rows.new }
 {
     let len = block.len() / 4;
     let (x, rest) = work.split_at_mut(len);
@@ -169,35 +177,31 @@ pub(crate) fn row_count(n_log2: u8) -> usize
 
 // Makes so many kept rows: x, and each further one by mixing the one before it k times. What the
 // rows and `work` held is not read, and x is left with the last row.
-fn fill_rows(r: usize, count: usize, k: usize, rows: &mut Vec<u32>, x: &mut [u32], work: &mut [u32])
+fn fill_rows<S: RowRoom>(
+    r: usize,
+    count: usize,
+    k: usize,
+    rows: &mut S,
+    x: &mut [u32],
+    work: &mut [u32],
+)
     requires some { 1 ≤ r }
     requires count { 1 ≤ count }
     requires kept { 1 ≤ k }
-    requires room { 32 * r * count ≤ vec_capacity rows.old }
+    requires room { 32 * r * count ≤ S.room rows.old }
     requires x_len { length x.old ≡ 32 * r }
     requires work_len { length work.old ≡ 32 * r }
-    ensures len { vec_len rows.new ≡ 32 * r * count }
+    ensures len { length (S.words rows.new) ≡ 32 * r * count }
     ensures rows { (i : ℕ) → i < count
-        → diagonal_bytes (block (32 * r) rows.new.items i)
+        → diagonal_bytes (block (32 * r) (S.words rows.new) i)
         ≡ row_at r (diagonal_bytes x.old) (k * i) }
-    ensures room { vec_capacity rows.old ≤ vec_capacity rows.new }
+    ensures room { S.room rows.old ≤ S.room rows.new }
 {
     let len = 32 * r;
     rows.clear();
-    push_row(rows, x);
+    rows.push(x);
     'rows: for i in 1..count {
-        mix_times(r, k, &rows[len * (i - 1)..], x, work);
-        push_row(rows, x);
+        mix_times(r, k, &rows.words()[len * (i - 1)..], x, work);
+        rows.push(x);
     }
-}
-
-// Appends a row for which there is room.
-#[inline(always)]
-fn push_row(rows: &mut Vec<u32>, row: &[u32])
-    requires { vec_len rows.old + length row.now ≤ vec_capacity rows.old }
-    ensures items { rows.new.items ≡ rows.old.items ++ row.now }
-    ensures len { vec_len rows.new ≡ vec_len rows.old + length row.now }
-    ensures room { vec_capacity rows.old ≤ vec_capacity rows.new }
-{
-    let _ = rows.extend_from_slice(row);
 }

@@ -1,9 +1,10 @@
 //! scrypt (RFC 7914, section 6).
 
-ghost use Rattle.std.specs.Prelude.{◌≡◌, ◌+◌, ◌*◌, ◌/◌, ◌%◌, ◌^◌, ◌<◌, ◌≤◌, IfErr, IfOk, IsTrue, OnErr, OnOk, if◌then◌else◌, is_ok, length, vec_capacity, vec_len};
+ghost use Rattle.std.specs.Prelude.{◌≡◌, ◌+◌, ◌*◌, ◌/◌, ◌%◌, ◌^◌, ◌<◌, ◌≤◌, IfErr, IfOk, IsTrue, OnErr, OnOk, if◌then◌else◌, is_ok, length, replicate, vec_capacity, vec_len};
 ghost use Rattle.std.specs.Int.{div_ceil};
 ghost use Rattle.minisign_kdf.specs.Blocks.{block, joined_lists};
 ghost use Rattle.minisign_kdf.specs.Pbkdf2.{longest_key};
+ghost use Rattle.minisign_kdf.specs.Room.{wanted_bytes, wanted_words};
 ghost use Rattle.minisign_kdf.specs.Scrypt.{is_key_length, rom_mix, scrypt};
 
 use crate::errors::{InvalidOutputLen, KdfError};
@@ -11,6 +12,7 @@ use crate::kept_rows::{keep_rows, room_for_rows, rows_in, zeros};
 use crate::params::Params;
 use crate::pbkdf2::pbkdf2_once;
 use crate::rom_mix::mix_kept;
+use crate::row_rooms::{Passed, RowRoom};
 use std::alloc::{AllocError, Global};
 
 // The greatest length of a derived key: 2^32 - 1 blocks of 32 bytes.
@@ -145,6 +147,75 @@ pub fn scrypt_keeping(
     Ok(rows_in(&rows, params.r() as usize))
 }
 
+/// Derives the same key in memory that is passed in, with every k-th row of a part kept, for k from
+/// 1 on, as `scrypt_keeping` does, and allocates none: so nothing can fail.
+///
+/// `words` has at least as many words as `Params::wanted_words` says, and `bytes` as many bytes as
+/// `Params::wanted_bytes`. What they held is not read, and all of both is left with zeros. `out` has
+/// from 1 to 137438953440 bytes.
+pub fn scrypt_in(
+    password: &[u8],
+    salt: &[u8],
+    params: &Params,
+    k: u64,
+    words: &mut [u32],
+    bytes: &mut [u8],
+    out: &mut [u8],
+)
+    requires kept { 1 ≤ k }
+    requires words { wanted_words params.now k ≤ length words.old }
+    requires bytes { wanted_bytes params.now ≤ length bytes.old }
+    requires len { IsTrue (is_key_length (length out.old)) }
+
+    // In memory that is passed in, whatever it held and for every k from 1 on, `out` holds the
+    // value of RFC 7914.
+    ensures derived { out.new ≡ scrypt password.now salt.now
+        (2 ^ params.now.n_log2) params.now.r params.now.p (length out.old) }
+
+    // That memory then holds zeros, all of it.
+    ensures words_cleared { words.new ≡ replicate (length words.old) 0 }
+    ensures bytes_cleared { bytes.new ≡ replicate (length bytes.old) 0 }
+{
+    derive_in(password, salt, params, k, words, bytes, out);
+    clear_memory(words, bytes);
+}
+
+/// Writes zeros over memory that a derivation may work in. Does not allocate.
+pub fn clear_memory(words: &mut [u32], bytes: &mut [u8])
+    // All of it holds zeros.
+    ensures words { words.new ≡ replicate (length words.old) 0 }
+    ensures bytes { bytes.new ≡ replicate (length bytes.old) 0 }
+{
+    words.fill(0);
+    bytes.fill(0);
+}
+
+// Derives the key in memory that was passed in. What that held is not read, and what it is left
+// with is open.
+fn derive_in(
+    password: &[u8],
+    salt: &[u8],
+    params: &Params,
+    k: u64,
+    words: &mut [u32],
+    bytes: &mut [u8],
+    out: &mut [u8],
+)
+    requires kept { 1 ≤ k }
+    requires words { wanted_words params.now k ≤ length words.old }
+    requires bytes { wanted_bytes params.now ≤ length bytes.old }
+    requires len { length out.old ≤ longest_key }
+    ensures { out.new ≡ scrypt password.now salt.now
+        (2 ^ params.now.n_log2) params.now.r params.now.p (length out.old) }
+{
+    let r = params.r() as usize;
+    let p = params.p() as usize;
+    let (work, memory) = words.split_at_mut(96 * r);
+    let (parts, _) = bytes.split_at_mut(128 * r * p);
+    let mut rows = Passed::new(memory);
+    derive(password, salt, params, k, parts, &mut rows, work, out);
+}
+
 // Rejects a length that no derived key has.
 fn check_len(len: usize) -> Result<(), InvalidOutputLen>
     ensures { is_ok result ≡ is_key_length len }
@@ -164,24 +235,25 @@ fn bytes(alloc: Global, len: usize) -> Result<Vec<u8>, AllocError>
 
 // Derives the key in buffers whose content is not read. The rows are left as the last part's kept
 // ones.
-fn derive(
+fn derive<S: RowRoom>(
     password: &[u8],
     salt: &[u8],
     params: &Params,
     k: u64,
     parts: &mut [u8],
-    rows: &mut Vec<u32>,
+    rows: &mut S,
     work: &mut [u32],
     out: &mut [u8],
 )
     requires kept { 1 ≤ k }
     requires parts_len { length parts.old ≡ 128 * params.now.r * params.now.p }
-    requires room { vec_capacity rows.old ≡ 32 * params.now.r * div_ceil (2 ^ params.now.n_log2) k }
+    requires room { 32 * params.now.r * div_ceil (2 ^ params.now.n_log2) k ≤ S.room rows.old }
     requires work_len { length work.old ≡ 96 * params.now.r }
     requires out_len { length out.old ≤ longest_key }
     ensures derived { out.new ≡ scrypt password.now salt.now
         (2 ^ params.now.n_log2) params.now.r params.now.p (length out.old) }
-    ensures held { vec_len rows.new ≡ 32 * params.now.r * div_ceil (2 ^ params.now.n_log2) k }
+    ensures held { length (S.words rows.new)
+        ≡ 32 * params.now.r * div_ceil (2 ^ params.now.n_log2) k }
 {
     let r = params.r() as usize;
     let p = params.p() as usize;
@@ -192,13 +264,13 @@ fn derive(
 
 // scryptROMix of each of the p parts, in place. What the rows and `work` held is not read; the rows
 // are left as the last part's kept ones.
-fn mix_parts(
+fn mix_parts<S: RowRoom>(
     r: usize,
     n_log2: u8,
     k: u64,
     p: usize,
     parts: &mut [u8],
-    rows: &mut Vec<u32>,
+    rows: &mut S,
     work: &mut [u32],
 )
     requires some { 1 ≤ r }
@@ -207,11 +279,11 @@ fn mix_parts(
     requires kept { 1 ≤ k }
     requires parts { 1 ≤ p }
     requires parts_len { length parts.old ≡ 128 * r * p }
-    requires room { 32 * r * div_ceil (2 ^ n_log2) k ≤ vec_capacity rows.old }
+    requires room { 32 * r * div_ceil (2 ^ n_log2) k ≤ S.room rows.old }
     requires work_len { length work.old ≡ 96 * r }
     ensures mixed { parts.new ≡ joined_lists
         (λ i. rom_mix r (2 ^ n_log2) (block (128 * r) parts.old i)) p }
-    ensures held { vec_len rows.new ≡ 32 * r * div_ceil (2 ^ n_log2) k }
+    ensures held { length (S.words rows.new) ≡ 32 * r * div_ceil (2 ^ n_log2) k }
 {
     let len = 128 * r;
     'parts: for i in 0..p {
@@ -221,18 +293,19 @@ fn mix_parts(
 }
 
 // scryptROMix of a part, in place. What the rows and `work` held is not read.
-fn rom_mix(n_log2: u8, k: u64, part: &mut [u8], rows: &mut Vec<u32>, work: &mut [u32])
+fn rom_mix<S: RowRoom>(n_log2: u8, k: u64, part: &mut [u8], rows: &mut S, work: &mut [u32])
     requires some { 0 < length part.old }
     requires whole { length part.old % 128 ≡ 0 }
     requires even { 1 ≤ n_log2 }
     requires cost { n_log2 < 64 }
     requires kept { 1 ≤ k }
-    requires room { 32 * (length part.old / 128) * div_ceil (2 ^ n_log2) k ≤ vec_capacity rows.old }
+    requires room { 32 * (length part.old / 128) * div_ceil (2 ^ n_log2) k ≤ S.room rows.old }
     requires work_len { 3 * length part.old ≤ 4 * length work.old }
     ensures mixed { part.new ≡ rom_mix (length part.old / 128) (2 ^ n_log2) part.old }
-    ensures held { vec_len rows.new ≡ 32 * (length part.old / 128) * div_ceil (2 ^ n_log2) k }
-    ensures room { vec_capacity rows.old ≤ vec_capacity rows.new }
+    ensures held { length (S.words rows.new)
+        ≡ 32 * (length part.old / 128) * div_ceil (2 ^ n_log2) k }
+    ensures room { S.room rows.old ≤ S.room rows.new }
 {
     keep_rows(part, n_log2, k, rows, work);
-    mix_kept(rows, n_log2, k, part, work);
+    mix_kept(rows.words(), n_log2, k, part, work);
 }

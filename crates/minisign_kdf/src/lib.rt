@@ -13,12 +13,13 @@ mod order;
 pub mod params;
 pub mod pbkdf2;
 pub mod rom_mix;
+mod row_rooms;
 mod salsa;
 
 pub use errors::{InvalidOutputLen, InvalidParams, KdfError};
 pub use hmac::hmac_sha256;
 pub use kept_rows::Rows;
-pub use key_derivation::{scrypt, scrypt_keeping};
+pub use key_derivation::{clear_memory, scrypt, scrypt_in, scrypt_keeping};
 pub use params::Params;
 pub use pbkdf2::pbkdf2_once;
 pub use rom_mix::mix_kept;

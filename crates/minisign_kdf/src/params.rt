@@ -2,8 +2,10 @@
 
 ghost use Rattle.std.specs.Prelude.{◌≡◌, ◌↔◌, ◌*◌, ◌^◌, ◌<◌, ◌≤◌, IsOk, IfOk, is_ok, nat_lt};
 ghost use Rattle.minisign_kdf.specs.Params.{IsAccepted, Numbers, is_accepted};
+ghost use Rattle.minisign_kdf.specs.Room.{wanted_bytes, wanted_words};
 
 use crate::errors::InvalidParams;
+use crate::kept_rows::kept_count;
 use std::marker::Model;
 
 /// Parameters of scrypt that can be used: the cost N as its logarithm to base 2, the block size r
@@ -46,9 +48,10 @@ impl Params {
         Ok(Params { n_log2, r, p })
     }
 
-    /// The logarithm of the cost N to base 2.
+    /// The logarithm of the cost N to base 2, which is below 64.
     pub fn n_log2(&self) -> u8
         ensures number { result ≡ self.now.n_log2 }
+        ensures small { result < 64 }
         ensures accepted { IsAccepted self.now }
     {
         self.n_log2
@@ -68,6 +71,26 @@ impl Params {
         ensures accepted { IsAccepted self.now }
     {
         self.p
+    }
+
+    /// How many words of 32 bits `scrypt_in` works in with every k-th row kept, for k from 1 on:
+    /// 32 * r for each kept row, N / k, rounded up, and for three more. Does not allocate.
+    pub fn wanted_words(&self, k: u64) -> u64
+        requires { 1 ≤ k }
+
+        // The words of the rows that are kept of a part, and of three more.
+        ensures { result ≡ wanted_words self.now k }
+    {
+        32 * u64::from(self.r) * (kept_count(self.n_log2, k) as u64 + 3)
+    }
+
+    /// How many bytes `scrypt_in` works in beside these words: 128 * r for each of the p parts. Does
+    /// not allocate.
+    pub fn wanted_bytes(&self) -> u64
+        // The bytes of all parts.
+        ensures { result ≡ wanted_bytes self.now }
+    {
+        128 * u64::from(self.r) * u64::from(self.p)
     }
 }
 

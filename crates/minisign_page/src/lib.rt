@@ -4,15 +4,15 @@
 
 #![tactic(auto)]
 
-ghost use Rattle.std.specs.Prelude.{◌≡◌, ◌⊎◌, ◌==◌, ◌<◌, ◌++◌, ℕ, Bool, List, [], Ok, false, length};
+ghost use Rattle.std.specs.Prelude.{◌≡◌, ◌⊎◌, ◌==◌, ◌<◌, ◌++◌, ℕ, Bool, List, [], Ok, false, length, drop};
 ghost use Rattle.minisign_hash.specs.Blake2b.{blake2b_digest};
 ghost use Rattle.minisign.specs.PublicKeyText.{read_bare_public_key, read_public_key};
 ghost use Rattle.minisign.specs.SignatureText.{SignatureTextRecord, read_signature};
 ghost use Rattle.minisign.specs.Acceptance.{Verifier};
 ghost use Rattle.minisign_external.specs.Questions.{HoldsMessage, IsKeyText, read_under, verdict_under};
-ghost use Rattle.minisign_external.specs.Numbers.{IsAnswer, IsMeaning, WritesCut, fault_number, misuse_number, refusal_number};
+ghost use Rattle.minisign_external.specs.Numbers.{IsMeaning, WritesCut, fault_number, misuse_number, refusal_number};
 ghost use Rattle.minisign_external.specs.PublicKeys.{read_utf8, told_key_number};
-ghost use Rattle.minisign_external.specs.States.{GivesNumber, HasAsked, HasEnded, HasToldDigest, IsAnswered, IsBlank, IsFedState, IsMarkedFed, IsMarkedTold, IsVerdictNumber, KeepsAsked, asking_number, feeding_misuse, is_asked, questions_of, verdict_number};
+ghost use Rattle.minisign_external.specs.States.{GivesNumber, HasAsked, HasToldDigest, IsAnswered, IsBlank, IsFedState, IsMarkedFed, IsMarkedTold, KeepsAsked, asking_number, feeding_misuse, is_asked, questions_of, told_verdict_number, verdict_number};
 ghost use Rattle.minisign_external.specs.declared.public_keys.PublicKeyValue.{PublicKeyValue};
 
 use minisign_external::numbers::{ANSWER_YES, is_answer, write_error_text};
@@ -106,6 +106,7 @@ pub extern "C" fn page_ask(
         × (questions.new ≡ questions_of key.now t) × HoldsMessage t.signature t.comments.trusted message.new questions.new.message_len }
     ensures asking { result ≡ 0 → HasAsked state.new key.now sig_text.now (allow_legacy == 1) }
     ensures fed { (m : List ℕ) → IsFedState state.old m → IsFedState state.new m }
+    ensures rest { result ≡ 0 → drop questions.new.message_len message.new ≡ drop questions.new.message_len message.old }
     ensures kept { 0 < result → (state.new ≡ state.old) × (message.new ≡ message.old) }
     ensures key_ids { allow_legacy < 2 → IsMarkedFed state.old → is_asked state.old ≡ false
         → (t : SignatureTextRecord) → read_utf8 read_signature sig_text.now ≡ Ok t
@@ -130,8 +131,7 @@ pub extern "C" fn page_verdict(state: &mut State, first: u32, second: u32) -> u3
     ensures texts { (v : PublicKeyValue) (pk_text sig_text message : List ℕ) (legacy : Bool) (accepts : Verifier)
         → IsAnswered state.old accepts v sig_text message legacy first second → IsKeyText pk_text v
         → GivesNumber accepts pk_text sig_text message legacy result }
-    ensures ended { result ≡ 0 → HasEnded state.old state.new × IsAnswer first × IsAnswer second }
-    ensures refused { 0 < result → IsVerdictNumber state.old state.new first second result }
+    ensures number { (result, state.new) ≡ told_verdict_number state.old first second }
 {
     if !is_answer(first) || !is_answer(second) {
         return Misuse::BadAnswer.number();

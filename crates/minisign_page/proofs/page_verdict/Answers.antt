@@ -1,26 +1,31 @@
-use Rattle.std.proofs.Common.{◌≡◌, ◌∙◌, ◌==◌, ◌<◌, if◌then◌else◌, ℕ, List, Bool, Result, Ok, Err, true, false, ap, inl, inr, lit<, refl, subst, sym}
-use Rattle.minisign_base.specs.Fault.{Fault, Named}
-use Rattle.minisign_base.specs.declared.faults.NamedFault.TheVariants.{CommentSignatureRefused, SignatureRefused}
+use Rattle.std.proofs.Common.{◌≡◌, ◌∙◌, ◌<◌, ℕ, List, Bool, Result, Ok, Err, ap, inl, inr, lit<, refl, subst, sym}
+use Rattle.minisign_base.specs.Fault.{Fault, Named, Worded}
+use Rattle.minisign_base.specs.Faults.{fault_row}
+use Rattle.minisign_base.specs.declared.faults.NamedFault.{NamedFault}
+use Rattle.minisign_base.specs.declared.faults.NamedFault.TheVariants.{OutOfMemory}
 use Rattle.minisign.specs.Acceptance.{Verifier}
 use Rattle.minisign.specs.Headline.{verdict}
-use Rattle.minisign_external.specs.Numbers.{answer_yes, fault_number, refusal_number}
+use Rattle.minisign_external.specs.Numbers.{fault_number, refusal_number}
 use Rattle.minisign_external.specs.Questions.{verdict_under}
-use Rattle.minisign_external.specs.States.{GivesNumber, IsFaultOf, IsVerdictRefusal, given_verdict, verdict_number}
+use Rattle.minisign_external.specs.States.{GivesNumber, IsFaultOf, given_verdict, verdict_number}
 use Rattle.minisign_external.specs.declared.state.Refusal.{Refusal}
 use Rattle.minisign_external.specs.declared.state.Refusal.TheVariants.{Refused, WrongUse}
-use Rattle.minisign_external.specs.declared.state.State.{State}
 use Rattle.minisign_page.proofs.page_verdict.Goals as goal
 
-positive : (first : Bool) (e : Fault) → e ≡ (if first then Named CommentSignatureRefused else Named SignatureRefused) → 0 < fault_number e
-positive true e is = subst (λ x. 0 < fault_number x) (sym is) (lit< tt)
-positive false e is = subst (λ x. 0 < fault_number x) (sym is) (lit< tt)
+-- no error has the number of success
+named_positive : (f : NamedFault) → 0 < (fault_row f).number
+named_positive OutOfMemory = lit< tt
+named_positive _ = lit< tt
+
+positive : (e : Fault) → 0 < fault_number e
+positive (Named f) = named_positive f
+positive (Worded kind text) = lit< tt
 
 -- a verdict that is no success has the number of its error
-given_number : (accepts : Verifier) (pk_text sig_text message : List ℕ) (legacy first : Bool) (old new : State) (r : Refusal Fault) (n : ℕ) → n ≡ refusal_number fault_number r
-    → IsFaultOf (λ f. verdict accepts pk_text sig_text message legacy ≡ Err f) r → IsVerdictRefusal old new first r → GivesNumber accepts pk_text sig_text message legacy n
-given_number accepts pk_text sig_text message legacy first old new (WrongUse m) n is refuses refused = absurd refuses
-given_number accepts pk_text sig_text message legacy first old new (Refused e) n is refuses refused =
-    inr (subst (λ k. 0 < k) (sym is) (positive first e refused.1), e, is, refuses)
+given_number : (accepts : Verifier) (pk_text sig_text message : List ℕ) (legacy : Bool) (r : Refusal Fault) (n : ℕ) → n ≡ refusal_number fault_number r
+    → IsFaultOf (λ f. verdict accepts pk_text sig_text message legacy ≡ Err f) r → GivesNumber accepts pk_text sig_text message legacy n
+given_number accepts pk_text sig_text message legacy (WrongUse m) n is refuses = absurd refuses
+given_number accepts pk_text sig_text message legacy (Refused e) n is refuses = inr (subst (λ k. 0 < k) (sym is) (positive e), e, is, refuses)
 
 -- the number of a verdict
 refused_number : (v : Result (List ℕ) Fault) (r : Refusal Fault) → Err r ≡ given_verdict v → refusal_number fault_number r ≡ verdict_number v
@@ -41,8 +46,8 @@ returns-in-Err-clause-verdict c = λ v sig_text message legacy accepts by.
 
 pub returns-in-Err-clause-texts : goal.returns-in-Err-clause-texts
 returns-in-Err-clause-texts c = λ v pk_text sig_text message legacy accepts by keyed.
-    given_number accepts pk_text sig_text message legacy (c.args.first == answer_yes) c.args.state.now c.verdict.new.self c.in-Err.refusal _ c.number_of.ensures
-    (c.in-Err.ensures.texts v pk_text sig_text message legacy accepts by.asked by.told keyed by.answers) c.in-Err.ensures.refused
+    given_number accepts pk_text sig_text message legacy c.in-Err.refusal _ c.number_of.ensures
+    (c.in-Err.ensures.texts v pk_text sig_text message legacy accepts by.asked by.told keyed by.answers)
 
 pub returns-in-Ok-clause-texts : goal.returns-in-Ok-clause-texts
 returns-in-Ok-clause-texts c = λ v pk_text sig_text message legacy accepts by keyed.

@@ -5,5 +5,6 @@
 mod calls;
 mod faults;
 pub mod in_parts;
+mod in_place;
 mod less_memory;
 mod opening;

@@ -7,7 +7,7 @@ use Rattle.minisign_kdf.proofs.Parts.{changed_all, changed_next, changed_none}
 use Rattle.minisign_kdf.proofs.key_derivation.mix_parts.Goals as goal
 
 pub parts-init : goal.parts-init
-parts-init c = (changed_none _ _ _, omega arith, λ some. absurd (omega arith))
+parts-init g c = (changed_none _ _ _, omega arith, λ some. absurd (omega arith))
 
 -- a part lies within the parts, and has their length
 part_size : (len i p : ℕ) (parts : List ℕ) → length parts ≡ len * p → i < p → length (take (len * i + len - len * i) (drop (len * i) parts)) ≡ len
@@ -15,32 +15,32 @@ part_size len i p parts whole lt =
     length-take-le (len * i + len - len * i) (drop (len * i) parts) (omega (arith, row_before len p i lt, length-drop (len * i) parts)) ∙ omega arith
 
 pub overflow_mul-at : goal.overflow_mul-at
-overflow_mul-at c = omega (arith, row_before (128 * c.args.r) c.args.p c.parts.i (omega arith))
+overflow_mul-at g c = omega (arith, row_before (128 * c.args.r) c.args.p c.parts.i (omega arith))
 
 pub overflow_add-at : goal.overflow_add-at
-overflow_add-at c = omega (arith, row_before (128 * c.args.r) c.args.p c.parts.i (omega arith))
+overflow_add-at g c = omega (arith, row_before (128 * c.args.r) c.args.p c.parts.i (omega arith))
 
 pub slice_bounds-rom_mix-end : goal.slice_bounds-rom_mix-end
-slice_bounds-rom_mix-end c = omega (arith, row_before (128 * c.args.r) c.args.p c.parts.i (omega arith))
+slice_bounds-rom_mix-end g c = omega (arith, row_before (128 * c.args.r) c.args.p c.parts.i (omega arith))
 
 pub rom_mix-requires-clause-some : goal.rom_mix-requires-clause-some
-rom_mix-requires-clause-some c = omega (arith, part_size (128 * c.args.r) c.parts.i c.args.p c.parts.parts (omega arith) (omega arith))
+rom_mix-requires-clause-some g c = omega (arith, part_size (128 * c.args.r) c.parts.i c.args.p c.parts.parts (omega arith) (omega arith))
 
 pub rom_mix-requires-clause-whole : goal.rom_mix-requires-clause-whole
-rom_mix-requires-clause-whole c = omega (arith, part_size (128 * c.args.r) c.parts.i c.args.p c.parts.parts (omega arith) (omega arith))
+rom_mix-requires-clause-whole g c = omega (arith, part_size (128 * c.args.r) c.parts.i c.args.p c.parts.parts (omega arith) (omega arith))
 
 pub rom_mix-requires-clause-work_len : goal.rom_mix-requires-clause-work_len
-rom_mix-requires-clause-work_len c = omega (arith, part_size (128 * c.args.r) c.parts.i c.args.p c.parts.parts (omega arith) (omega arith))
+rom_mix-requires-clause-work_len g c = omega (arith, part_size (128 * c.args.r) c.parts.i c.args.p c.parts.parts (omega arith) (omega arith))
 
 pub rom_mix-requires-clause-room : goal.rom_mix-requires-clause-room
-rom_mix-requires-clause-room c =
+rom_mix-requires-clause-room g c =
     let len : ℕ = 128 * c.args.r in
     let size : length (take (len * c.parts.i + len - len * c.parts.i) (drop (len * c.parts.i) c.parts.parts)) / 128 ≡ c.args.r =
     omega (arith, part_size len c.parts.i c.args.p c.parts.parts (omega arith) (omega arith)) in
     rw size (omega arith)
 
 pub parts-preserved : goal.parts-preserved
-parts-preserved c =
+parts-preserved g c =
     let r : ℕ = c.args.r in
     let n : ℕ = 2 ^ c.args.n_log2 in
     let len : ℕ = 128 * r in
@@ -59,7 +59,7 @@ parts-preserved c =
     )
 
 pub returns-clause-held : goal.returns-clause-held
-returns-clause-held c = c.parts.invariant.2 (omega arith)
+returns-clause-held g c = c.parts.invariant.2 (omega arith)
 
 pub returns-clause-mixed : goal.returns-clause-mixed
-returns-clause-mixed c = changed_all (rom_mix c.args.r (2 ^ c.args.n_log2)) (128 * c.args.r) c.parts.i c.args.p c.args.parts.now c.parts.parts c.parts.invariant.0 (omega arith) (omega arith)
+returns-clause-mixed g c = changed_all (rom_mix c.args.r (2 ^ c.args.n_log2)) (128 * c.args.r) c.parts.i c.args.p c.args.parts.now c.parts.parts c.parts.invariant.0 (omega arith) (omega arith)

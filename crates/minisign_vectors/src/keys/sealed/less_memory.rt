@@ -14,11 +14,11 @@ const TOLD: &str =
 
 // The pair of random bytes that are all 9, sealed under `password` by Python's hashlib. N is 32768
 // and p is 1.
-const MADE: &str =
+pub const MADE: &str =
     "c\nRWRTY0IyCQkJCQkJCQkJCQkJCQkJCQkJCQkJCQkJCQkJCQkJCQkAABAAAAAAAAAAAAIAAAAAdY1HWKBn010LeW41YGMTziKGY5Pm20tfKSqKx1RaT1NVOm7mrYQStRXjCDlaDbjJt6my7s8HA1hNnc81ePgmYR40irkegWz1I4xX4mKUEhI8fTRSfYSEcdd1W1ItYg79QyqNCekYjxw=\n";
 
 // The text of that key once it is opened.
-const OPENED: &str =
+pub const OPENED: &str =
     "untrusted comment: rsign encrypted secret key\nRWRTY0IyCQkJCQkJCQkJCQkJCQkJCQkJCQkJCQkJCQkJCQkJCQkAABAAAAAAAAAAAAIAAAAACQkJCQkJCQkJCQkJCQkJCQkJCQkJCQkJCQkJCQkJCQkJCQkJCQkJCVNTU1NTU1NTU1NTU1NTU1NTU1NTU1NTU1NTU1NTU1NTl01hHj4yTh1EA1233vng2mdcEMYAlvnZumxtDRWM800=\n";
 
 // With a password that is passed in and with a typed one.

@@ -1,4 +1,5 @@
-use Rattle.std.proofs.Common.{string_bytes, refl, sym, option_map}
+use Rattle.std.proofs.Common.{string_bytes, refl, subst, sym, option_map}
+use Rattle.minisign.specs.Opening.{IsOpening}
 use Rattle.minisign.proofs.Common.{err_from_is_err_and, prompt_call}
 use Rattle.minisign.proofs.Asking.{closed_opening, headline_of}
 use Rattle.minisign.proofs.Openings.{unread_text}
@@ -17,7 +18,9 @@ returns-in_err-sk-clause-headline g c =
     (option_map (λ s. string_bytes s) c.args.password) c.args.sk_box c.args.derivation.bound c.from_residual.result (returns-in_err-sk-clause-opens g c)
 
 pub returns-clause-opens : goal.returns-clause-opens
-returns-clause-opens g c = c.open.ensures.opens c.args.sk_box (sym (rw c.as_str.ensures at c.in_ok-sk.ensures))
+returns-clause-opens g c =
+    subst (λ given. IsOpening (prompt_call g.R.Source g.W.Sink c.args.prompt.now c.open.new.prompt) given c.args.sk_box c.args.derivation.bound c.open.result)
+    c.as_deref.ensures.value (c.open.ensures.opens c.args.sk_box (sym (rw c.as_str.ensures at c.in_ok-sk.ensures)))
 
 pub returns-clause-headline : goal.returns-clause-headline
 returns-clause-headline g c = headline_of (prompt_call g.R.Source g.W.Sink c.args.prompt.now c.open.new.prompt)

@@ -26,3 +26,9 @@ pub returns-in_default-from_utf8-clause-refused : goal.returns-in_default-from_u
 returns-in_default-from_utf8-clause-refused c =
     let no : ¬ (IsUtf8 c.args.file.now) = search rules in
     rw c.remove_for.ensures.refusal (c.remove_for.ensures.rest, c.in-Some-Answer.kept, (cc), c.remove_for.ensures.due, (_, c.into.ensures, inl (refl, no)))
+
+pub returns-in-Err-WrongUse-clause-key_ids : goal.returns-in-Err-WrongUse-clause-key_ids
+returns-in-Err-WrongUse-clause-key_ids c = λ kept due m fed utf8 t read. c.ask_fed.ensures.key_ids m fed t read
+
+pub returns-in-Err-Refused-clause-key_ids : goal.returns-in-Err-Refused-clause-key_ids
+returns-in-Err-Refused-clause-key_ids c = λ kept due m fed utf8 t read. c.ask_fed.ensures.key_ids m fed t read

@@ -1,0 +1,15 @@
+use Rattle.std.proofs.Common.{Result, IfOk, Ok, Err, length, arith}
+use Rattle.std.specs.List.{flat_map}
+use Rattle.minisign_external.proofs.OwnTexts.{own_verdict}
+use Rattle.minisign_external.proofs.pieces.sign_pieces.Goals as goal
+
+told : {T E : Type 0} {P Q : T → Type 0} (r : Result T E) → IfOk r P → ((v : T) → P v → Q v) → IfOk r Q
+told (Ok v) p more = more v p
+told (Err e) p more = tt
+
+pub returns-clause-verifies : goal.returns-clause-verifies
+returns-clause-verifies g c = told c.write_signed_text.result c.write_signed_text.ensures.text (λ len (opened, holds) seed w pair public.
+    let message = flat_map (λ piece. piece.now) c.args.pieces.now in
+    own_verdict (g.S.Scheme.accepts c.args.scheme.now) (g.S.Scheme.public_of c.args.scheme.now) seed c.args.key.now w pair opened public
+    message _ c.args.trusted.now c.args.untrusted.now _ _ _ len c.in_ok-digest.ensures (omega arith) holds
+    (c.in_ok-first.ensures.accepted seed pair))

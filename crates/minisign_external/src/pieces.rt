@@ -1,0 +1,152 @@
+//! Verifying and signing data that comes in pieces, by the calls that a host of another language makes, in its order: what
+//! they come to together, whatever the pieces are.
+
+ghost use Rattle.std.specs.Prelude.{◌≡◌, ◌≤◌, ◌+◌, ◌++◌, ℕ, List, [], None, Ok, true, false, length, take, drop, OnErr, IfOk, IfErr, MatchResult};
+ghost use Rattle.std.specs.List.{flat_map};
+ghost use Rattle.minisign_hash.specs.Blake2b.{blake2b_digest};
+ghost use Rattle.minisign.specs.SignatureText.{SignatureTextRecord};
+ghost use Rattle.minisign_external.specs.Questions.{read_under, verdict_under};
+ghost use Rattle.minisign_external.specs.SecretKeys.{is_opened, public_value_of};
+ghost use Rattle.minisign_external.specs.Signing.{HoldsText, IsPairOf, IsWritingRefusal, comments_of, first_signature, second_signature};
+ghost use Rattle.minisign_external.specs.States.{AreAsked, HasAsked, IsFedState, KeepsAsked, given_verdict};
+ghost use Rattle.minisign_external.specs.declared.public_keys.PublicKeyValue.{PublicKeyValue};
+
+use crate::public_keys::PublicKeyValue;
+use crate::secrets::SecretKeyValue;
+use crate::signed_texts::{write_comment_message, write_signed_text};
+use crate::state::{Misuse, Questions, Refusal, State};
+use minisign_base::scheme::Scheme;
+use std::alloc::Global;
+
+/// Verifies the joined pieces: asks about the key and the text of the signature, feeds one piece after another, tells
+/// the digest, has the scheme answer both questions, and gives the verdict. A signature over the data itself is never
+/// taken. Does not allocate: `room` has as many bytes as the text of the signature at least.
+pub fn verify_pieces<S: Scheme>(
+    scheme: &S,
+    key: &PublicKeyValue,
+    sig_text: &[u8],
+    pieces: &[&[u8]],
+    room: &mut [u8],
+) -> Result<(), Refusal>
+    requires { length sig_text.now ≤ length room.old }
+
+    // **Of every scheme, key, text and data, however it is cut, the answer is the verdict on the key, the text and the
+    // joined pieces: success exactly where they vouch for the data, otherwise the first case that fails.**
+    ensures { result ≡ given_verdict (verdict_under (S.accepts scheme.now) key.now sig_text.now (flat_map (λ piece. piece.now) pieces.now) false) }
+{
+    let mut state = State::new();
+    let mut questions = Questions::none();
+    match state.ask(key, sig_text, false, &mut questions, room) {
+        Ok(()) => {
+            feed(&mut state, pieces)?;
+            finish(scheme, &mut state, &questions, room)
+        }
+        Err(refusal) => Err(refusal),
+    }
+}
+
+/// Signs the joined pieces with a key that was opened: feeds one piece after another, tells the digest, has the scheme
+/// sign it, and that signature followed by the trusted comment, and writes the text of the signature to the start of
+/// `to`. Returns its length. `room` has 64 bytes more than the trusted comment at least.
+pub fn sign_pieces<S: Scheme>(
+    alloc: Global,
+    scheme: &S,
+    key: &SecretKeyValue,
+    pieces: &[&[u8]],
+    trusted: &[u8],
+    untrusted: &[u8],
+    room: &mut [u8],
+    to: &mut [u8],
+) -> Result<usize, Refusal>
+    requires { 64 + length trusted.now ≤ length room.old }
+
+    // **Of every scheme, key of a seed, data, however it is cut, and comments, the text verifies: the verdict on it and
+    // the joined pieces, under the public key of the key, is the trusted comment.**
+    ensures verifies { IfOk result (λ len. (seed : List ℕ) (w : PublicKeyValue) → IsPairOf (S.public_of scheme.now) seed key.now → public_value_of key.now ≡ Ok w
+        → verdict_under (S.accepts scheme.now) w (take len to.new) (flat_map (λ piece. piece.now) pieces.now) false ≡ Ok trusted.now) }
+
+    // It is the text of the two signatures that the scheme makes with the key: of the digest of the joined pieces, and of
+    // that signature followed by the trusted comment. What stands behind it stays.
+    ensures text { IfOk result (λ len. (is_opened key.now ≡ true) × HoldsText key.now.key_id (comments_of trusted.now untrusted.now)
+        (first_signature (S.signature_of scheme.now) key.now.secret (flat_map (λ piece. piece.now) pieces.now))
+        (second_signature (S.signature_of scheme.now) key.now.secret (flat_map (λ piece. piece.now) pieces.now) trusted.now) to.new len) }
+    ensures rest { IfOk result (λ len. drop len to.new ≡ drop len to.old) }
+
+    // Nothing is rejected but what `write_signed_text` rejects of this key, these comments and this room. The buffer is
+    // then as it was.
+    ensures refused { IfErr result (IsWritingRefusal key.now (comments_of trusted.now untrusted.now)
+        (first_signature (S.signature_of scheme.now) key.now.secret (flat_map (λ piece. piece.now) pieces.now))
+        (second_signature (S.signature_of scheme.now) key.now.secret (flat_map (λ piece. piece.now) pieces.now) trusted.now) to.old) }
+    ensures kept { OnErr result (to.new ≡ to.old) }
+{
+    let digest = digest_of(pieces)?;
+    let (first, second) = sign_both(scheme, key, &digest, trusted, room)?;
+    write_signed_text(alloc, key, &first, &second, trusted, untrusted, to)
+}
+
+// Feeds one piece after another.
+fn feed(state: &mut State, pieces: &[&[u8]]) -> Result<(), Misuse>
+    requires { IsFedState state.old [] }
+    ensures fed { MatchResult result (λ _. IsFedState state.new (flat_map (λ piece. piece.now) pieces.now)) (λ _. ⊥) }
+    ensures asked { KeepsAsked state.old state.new }
+{
+    'pieces: for piece in pieces {
+        state.update(*piece)?;
+    }
+    Ok(())
+}
+
+// Tells the digest, has the scheme answer, and gives the verdict.
+fn finish<S: Scheme>(
+    scheme: &S,
+    state: &mut State,
+    questions: &Questions,
+    room: &[u8],
+) -> Result<(), Refusal>
+    requires { questions.now.message_len ≤ length room.now }
+    ensures { (v : PublicKeyValue) (text m : List ℕ) (t : SignatureTextRecord) → IsFedState state.old m
+        → HasAsked state.old v text false → read_under v false text ≡ Ok t → AreAsked questions.now room.now v t
+        → result ≡ given_verdict (verdict_under (S.accepts scheme.now) v text m false) }
+{
+    let mut digest = [0u8; 64];
+    state.digest(&mut digest)?;
+    let first = scheme.verify(&digest, &questions.public_key, &questions.signature);
+    let second = scheme.verify(
+        &room[..questions.message_len as usize],
+        &questions.public_key,
+        &questions.comment_signature,
+    );
+    state.verdict(first, second)
+}
+
+// The digest of the joined pieces.
+fn digest_of(pieces: &[&[u8]]) -> Result<[u8; 64], Misuse>
+    ensures { MatchResult result (λ digest. digest ≡ blake2b_digest 64 (flat_map (λ piece. piece.now) pieces.now)) (λ _. ⊥) }
+{
+    let mut state = State::new();
+    feed(&mut state, pieces)?;
+    let mut digest = [0u8; 64];
+    state.digest(&mut digest)?;
+    Ok(digest)
+}
+
+// The signatures that the scheme makes with a key: of the digest, and of that signature followed by the trusted comment.
+fn sign_both<S: Scheme>(
+    scheme: &S,
+    key: &SecretKeyValue,
+    digest: &[u8; 64],
+    trusted: &[u8],
+    room: &mut [u8],
+) -> Result<([u8; 64], [u8; 64]), Misuse>
+    requires { 64 + length trusted.now ≤ length room.old }
+    ensures made { MatchResult result (λ both. (both.0 ≡ S.signature_of scheme.now digest.now key.now.secret None)
+        × (both.1 ≡ S.signature_of scheme.now (both.0 ++ trusted.now) key.now.secret None)) (λ _. ⊥) }
+    ensures accepted { IfOk result (λ both. (seed : List ℕ) → IsPairOf (S.public_of scheme.now) seed key.now
+        → (S.accepts scheme.now digest.now (S.public_of scheme.now seed) both.0 ≡ true)
+        × (S.accepts scheme.now (both.0 ++ trusted.now) (S.public_of scheme.now seed) both.1 ≡ true)) }
+{
+    let first = scheme.signature(digest, &key.secret, None);
+    let len = write_comment_message(&first, trusted, room)?;
+    let second = scheme.signature(&room[..len], &key.secret, None);
+    Ok((first, second))
+}

@@ -1,0 +1,12 @@
+-- The memory that a derivation works in, where it is passed in: words of 32 bits, and bytes.
+use Rattle.std.specs.Prelude.{ℕ, ◌+◌, ◌*◌, ◌^◌}
+use Rattle.std.specs.Int.{div_ceil}
+use Rattle.minisign_kdf.specs.Params.{Numbers}
+
+-- how many words are wanted where every k-th row is kept: those of the kept rows of a part, and of three rows more
+abbrev pub wanted_words : Numbers → ℕ → ℕ
+wanted_words v k = 32 * v.r * (div_ceil (2 ^ v.n_log2) k + 3)
+
+-- and how many bytes: those of all parts
+abbrev pub wanted_bytes : Numbers → ℕ
+wanted_bytes v = 128 * v.r * v.p

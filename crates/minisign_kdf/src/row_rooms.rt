@@ -1,0 +1,86 @@
+//! Where the kept rows of a part are put: a vector that was given room, or memory that was passed in.
+
+ghost use Rattle.std.specs.Prelude.{◌≡◌, ℕ, ◌+◌, ◌≤◌, ◌++◌, List, [], length, take, vec_capacity};
+
+/// Room for rows, which are put one behind another.
+pub(crate) trait RowRoom {
+    // The words of the rows that it holds, and of how many words it has room for.
+    ghost words: { Self → List ℕ };
+
+    ghost room: { Self → ℕ };
+
+    // Lets go of all rows. What memory held stays there until it is written over.
+    fn clear(&mut self)
+        ensures words { words self.new ≡ [] }
+        ensures len { length (words self.new) ≡ 0 }
+        ensures room { room self.old ≤ room self.new };
+
+    // Puts a row, for which there is room, behind the others.
+    fn push(&mut self, row: &[u32])
+        requires { length (words self.old) + length row.now ≤ room self.old }
+        ensures words { words self.new ≡ words self.old ++ row.now }
+        ensures len { length (words self.new) ≡ length (words self.old) + length row.now }
+        ensures room { room self.old ≤ room self.new };
+
+    // The words of the rows.
+    fn words(&self) -> &[u32]
+        ensures value { result.now ≡ words self.now }
+        ensures len { length result.now ≡ length (words self.now) };
+}
+
+impl RowRoom for Vec<u32> {
+    ghost words = { λ v. v.items };
+
+    ghost room = { λ v. vec_capacity v };
+
+    fn clear(&mut self) {
+        self.clear();
+    }
+
+    #[inline(always)]
+    fn push(&mut self, row: &[u32]) {
+        let _ = self.extend_from_slice(row);
+    }
+
+    fn words(&self) -> &[u32] {
+        self.as_slice()
+    }
+}
+
+/// Memory that was passed in, of which the first so many words are those of rows.
+#[derive(Drop)]
+pub(crate) struct Passed<'a> {
+    memory: &'a mut [u32],
+    used: usize,
+}
+
+impl<'a> Passed<'a> {
+    // All of it is room.
+    pub(crate) fn new(memory: &'a mut [u32]) -> Passed<'a>
+        ensures room { ⟦<Passed<'a> as RowRoom>⟧.room result ≡ length memory.old }
+    {
+        Passed { memory, used: 0 }
+    }
+}
+
+impl<'a> RowRoom for Passed<'a> {
+    ghost words = { λ s. take s.used s.memory.now };
+
+    ghost room = { λ s. length s.memory.now };
+
+    fn clear(&mut self) {
+        self.used = 0;
+    }
+
+    #[inline(always)]
+    fn push(&mut self, row: &[u32]) {
+        let at = self.used.min(self.memory.len());
+        let end = at + row.len();
+        self.memory[at..end].copy_from_slice(row);
+        self.used = end;
+    }
+
+    fn words(&self) -> &[u32] {
+        &self.memory[..self.used.min(self.memory.len())]
+    }
+}
