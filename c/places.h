@@ -10,28 +10,37 @@
 #include <sys/stat.h>
 
 struct place {
-    /* The file's name as it was given, for messages. */
+    /* The file's name as it was given, for messages, and whether a secret goes there. */
     const char *file;
+    bool is_secret;
     /* The directory, open as a path, and the name in it, in memory of malloc; -1 and NULL where the file is written in
      * place. */
     int directory;
     char *name;
-    /* What stands there, open for writing, and what it is; -1 where nothing does. */
+    /* What stands there, open as a path and from `open_older` on for writing, and what it is; -1 where nothing does. */
     int older;
     struct stat found;
 };
 
 /*
- * Finds the place of a file and opens what stands there. Links are followed as the system follows them: what it opens
- * for the name is what stands there, and no other error than that there is none means that nothing does. A link that
- * leads to nothing yet is followed where the system would follow it, and none of a stranger in a directory where all
- * may write.
+ * Finds the place of a file and looks at what stands there, without opening it, as a pipe would wait for its reader.
+ * Links are followed as the system follows them: what it finds by the name is what stands there, and no other error than
+ * that there is none means that nothing does. A link that leads to nothing yet is followed where the system would.
  *
  * What is no regular file, and a regular one that has no name any more, is written in place.
  *
- * Ends the program where there is no such place, and where the older file may not be written or replaced.
+ * A stranger is who is neither the user nor root. In a directory where others may write, and only owners may remove (as
+ * in /tmp), no link of a stranger is followed, wherever it stands in the path, and what stands there is no file or pipe of
+ * a stranger; where no secret goes there, the owner of the directory is none. In place no secret is written to a stranger in
+ * any directory, but to what the program was started with as a standard stream. All this holds by any setting of the
+ * system.
+ *
+ * Ends the program where there is no such place.
  */
-struct place find_place(const char *file);
+struct place find_place(const char *file, bool is_secret);
+
+/* Opens what stands there for writing: the very same. Ends the program where it may not be written or replaced. */
+void open_older(struct place *place);
 
 /* Whether this is written where it is. */
 bool is_written_in_place(const struct place *place);
@@ -44,5 +53,11 @@ void close_older(struct place *place);
 
 /* Closes all that is open, and forgets the place. */
 void leave_place(struct place *place);
+
+/* The path of what is open in /proc: it is opened again by that, and a file without a name gets one. */
+struct own_path {
+    char bytes[32];
+};
+struct own_path own_path_of(int fd);
 
 #endif

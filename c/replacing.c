@@ -13,6 +13,7 @@
 #include <string.h>
 #include <sys/resource.h>
 #include <sys/stat.h>
+#include <sys/syscall.h>
 #include <unistd.h>
 
 #include "ending.h"
@@ -20,6 +21,19 @@
 #include "leftovers.h"
 #include "permissions.h"
 #include "places.h"
+#include "words.h"
+
+/* Where the C library has no name for this call of the system. */
+#ifndef RENAME_NOREPLACE
+#define RENAME_NOREPLACE 1
+#define RENAME_EXCHANGE 2
+
+static int renameat2(int from, const char *name, int to, const char *other, unsigned flags)
+{
+    return (int) syscall(SYS_renameat2, from, name, to, other, flags);
+}
+
+#endif
 
 #define MAX_NAMES 100
 /* So many bytes are read at once, as far as a person can tell. */
@@ -38,7 +52,9 @@ struct stage {
     char name[STAGE_NAME_BYTES];
     volatile sig_atomic_t is_named;
     bool is_key;
+    /* Whether it takes the place of an older file, and whether it may. */
     bool has_older;
+    bool over_older;
     /* Whether it is synced, or need not be. */
     bool is_synced;
     /* Whether it is whole and waits for others. */
@@ -55,19 +71,6 @@ static struct stage stages[MAX_STAGES];
 static int waiting;
 
 /* ---- Names ---- */
-
-/* The path of an open file in /proc, by which one without a name gets one. */
-struct own_path {
-    char bytes[32];
-};
-
-static struct own_path own_path_of(int fd)
-{
-    struct own_path path;
-
-    snprintf(path.bytes, sizeof path.bytes, "/proc/self/fd/%d", fd);
-    return path;
-}
 
 /* Gives a stage without a name this one, which nothing may have. */
 static bool link_stage(const struct stage *stage, const char *name)
@@ -226,12 +229,18 @@ static bool open_named(struct stage *stage, mode_t mode)
     return false;
 }
 
-/* Gives a stage the owner, the mode and the access list of the older file. */
-static void take_over(const struct stage *stage)
+/* Gives a stage the owner, the mode and the access list of the older file, or of its mode what its owner may do. */
+static void take_over(const struct stage *stage, bool for_owner_alone)
 {
     static struct permissions older;
 
-    if (!read_permissions_of(&older, stage->place.older) || !give_permissions(stage->fd, &older)) {
+    if (!read_permissions_of(&older, stage->place.older)) {
+        fail_at(stage->place.file);
+    }
+    if (for_owner_alone) {
+        replace_mode(&older, older.mode & S_IRWXU);
+    }
+    if (!give_permissions(stage->fd, &older)) {
         fail_at(stage->place.file);
     }
 }
@@ -276,28 +285,60 @@ static void flush_stage(const struct stage *stage)
     }
 }
 
-struct stage *stage_file(const char *file, enum kind kind, const uint8_t *bytes, size_t len)
+static bool is_secret(enum kind kind)
+{
+    return kind == NEW_SECRET_KEY || kind == CHANGED_SECRET_KEY || kind == UNSEALED_SECRET_KEY;
+}
+
+void expect_no_stranger(const char *file, enum kind kind)
+{
+    struct stat found;
+    struct place place;
+
+    if (stat(file, &found) == 0 || errno == EACCES) {
+        place = find_place(file, is_secret(kind));
+        leave_place(&place);
+    }
+}
+
+/* A stage for a file, with the older one open, or NULL where that is to stay. */
+static struct stage *begin_stage(const char *file, enum kind kind, bool over_older)
 {
     struct stage *stage = free_stage();
-    bool is_secret = kind == NEW_SECRET_KEY || kind == CHANGED_SECRET_KEY;
-    mode_t mode;
 
     watch_stages();
-    stage->place = find_place(file);
+    stage->place = find_place(file, is_secret(kind));
+    stage->has_older = stage->place.older >= 0;
+    stage->over_older = over_older;
+    if (stage->has_older && !over_older) {
+        forget(stage);
+        return NULL;
+    }
+    if (stage->has_older) {
+        open_older(&stage->place);
+    }
+    return stage;
+}
+
+/* Writes it whole, beside its place or in that itself. */
+static void write_stage(struct stage *stage, enum kind kind, const uint8_t *bytes, size_t len)
+{
+    const char *file = stage->place.file;
+    mode_t mode;
+
     if (is_written_in_place(&stage->place)) {
         write_in_place(&stage->place, bytes, len);
-        return stage;
+        return;
     }
     stage->is_key = kind != SIGNATURE;
-    stage->has_older = stage->place.older >= 0;
     stage->is_synced = !stage->is_key && !stage->has_older;
-    mode = is_secret || stage->has_older ? 0600 : 0666;
+    mode = is_secret(kind) || stage->has_older ? 0600 : 0666;
     remove_leftovers(stage->place.directory);
     if (!open_unnamed(stage, mode) && !open_named(stage, mode)) {
         fail_at(file);
     }
     if (stage->has_older && kind != NEW_SECRET_KEY) {
-        take_over(stage);
+        take_over(stage, kind == UNSEALED_SECRET_KEY);
     }
     write_whole(stage->fd, file, bytes, len);
     if (stage->is_synced) {
@@ -305,6 +346,15 @@ struct stage *stage_file(const char *file, enum kind kind, const uint8_t *bytes,
     } else {
         /* The disk begins, so that less is left to wait for. */
         sync_file_range(stage->fd, 0, 0, SYNC_FILE_RANGE_WRITE);
+    }
+}
+
+struct stage *stage_file(const char *file, enum kind kind, bool over_older, const uint8_t *bytes, size_t len)
+{
+    struct stage *stage = begin_stage(file, kind, over_older);
+
+    if (stage != NULL) {
+        write_stage(stage, kind, bytes, len);
     }
     return stage;
 }
@@ -339,12 +389,12 @@ static void sync_stages(void)
 enum put { PUT, TAKEN, NOT_PUT };
 
 /* Renames a stage that has a name. */
-static enum put rename_stage(struct stage *stage, bool over_older)
+static enum put rename_stage(struct stage *stage)
 {
     const struct place *place = &stage->place;
     struct stat older;
 
-    if (!over_older) {
+    if (!stage->over_older) {
         if (renameat2(place->directory, stage->name, place->directory, place->name, RENAME_NOREPLACE) == 0) {
             stage->is_named = 0;
             return PUT;
@@ -365,20 +415,17 @@ static enum put rename_stage(struct stage *stage, bool over_older)
     return PUT;
 }
 
-static enum put put_stage(struct stage *stage, bool over_older)
+static enum put put_stage(struct stage *stage)
 {
     if (stage->fd < 0) {
         return PUT;
-    }
-    if (stage->has_older && !over_older) {
-        return TAKEN;
     }
     if (!stage->is_named) {
         if (!stage->has_older) {
             if (link_stage(stage, stage->place.name)) {
                 return PUT;
             }
-            if (errno != EEXIST || !over_older) {
+            if (errno != EEXIST || !stage->over_older) {
                 return errno == EEXIST ? TAKEN : NOT_PUT;
             }
         }
@@ -386,7 +433,7 @@ static enum put put_stage(struct stage *stage, bool over_older)
             return NOT_PUT;
         }
     }
-    return rename_stage(stage, over_older);
+    return rename_stage(stage);
 }
 
 /* Syncs the new name of a file, where the system can do that for a directory. */
@@ -410,14 +457,14 @@ static void keep_name(const struct stage *stage)
     }
 }
 
-bool put_in_place(struct stage *stage, bool over_older)
+bool put_in_place(struct stage *stage)
 {
     enum put put;
 
     if (stage->fd >= 0 && !stage->is_synced) {
         sync_stages();
     }
-    put = put_stage(stage, over_older);
+    put = put_stage(stage);
     if (put == NOT_PUT) {
         fail_at(stage->place.file);
     }
@@ -428,9 +475,16 @@ bool put_in_place(struct stage *stage, bool over_older)
     return put == PUT;
 }
 
-void replace_file(const char *file, enum kind kind, const uint8_t *bytes, size_t len)
+void replace_key(const char *file, enum kind kind, uid_t owner, const uint8_t *bytes, size_t len)
 {
-    put_in_place(stage_file(file, kind, bytes, len), true);
+    struct stage *stage = begin_stage(file, kind, true);
+
+    if (stage->has_older && stage->place.found.st_uid != owner) {
+        fprintf(stderr, "%s: another user's file stands there now, in place of the key that was read\n", visible(file));
+        exit(TROUBLE);
+    }
+    write_stage(stage, kind, bytes, len);
+    put_in_place(stage);
 }
 
 /* ---- Two that belong together ---- */
@@ -455,28 +509,28 @@ static bool exchange_stage(struct stage *stage)
 
 /* Puts a stage in its place in such a way that it loses that again where the program ends before its partner has its
  * own. */
-static enum put put_with_partner(struct stage *stage, struct stage *partner, bool over_older)
+static enum put put_with_partner(struct stage *stage, struct stage *partner)
 {
     if (stage->fd < 0) {
         return PUT;
     }
     stage->partner = partner;
-    if (stage->has_older && over_older) {
+    if (stage->has_older) {
         if (exchange_stage(stage)) {
             return PUT;
         }
         stage->partner = NULL;
     }
-    return put_stage(stage, over_older);
+    return put_stage(stage);
 }
 
-const char *put_both_in_place(struct stage *first, struct stage *last, bool over_older)
+const char *put_both_in_place(struct stage *first, struct stage *last)
 {
     const char *taken = NULL;
     enum put put;
 
     sync_stages();
-    put = put_with_partner(first, last, over_older);
+    put = put_with_partner(first, last);
     if (put == NOT_PUT) {
         fail_at(first->place.file);
     }
@@ -484,7 +538,7 @@ const char *put_both_in_place(struct stage *first, struct stage *last, bool over
         taken = first->place.file;
     } else {
         keep_name(first);
-        put = put_stage(last, over_older);
+        put = put_stage(last);
         if (put == NOT_PUT) {
             fail_at(last->place.file);
         }
@@ -507,7 +561,7 @@ const char *put_both_in_place(struct stage *first, struct stage *last, bool over
 static void finish_stages(void)
 {
     for (struct stage *stage = stages; stage < stages + MAX_STAGES; stage++) {
-        if (stage->waits && ((!stage->is_synced && fsync(stage->fd) != 0) || put_stage(stage, true) != PUT)) {
+        if (stage->waits && ((!stage->is_synced && fsync(stage->fd) != 0) || put_stage(stage) != PUT)) {
             say_at(stage->place.file);
         }
     }
@@ -544,10 +598,10 @@ static int most_waiting(void)
 
 void replace_soon(const char *file, enum kind kind, const uint8_t *bytes, size_t len)
 {
-    struct stage *stage = stage_file(file, kind, bytes, len);
+    struct stage *stage = stage_file(file, kind, true, bytes, len);
 
     if (stage->fd < 0 || stage->is_synced) {
-        put_in_place(stage, true);
+        put_in_place(stage);
         return;
     }
     close_older(&stage->place);
@@ -564,7 +618,7 @@ void replace_waiting(void)
     for (struct stage *stage = stages; stage < stages + MAX_STAGES; stage++) {
         if (stage->waits) {
             stage->waits = false;
-            put_in_place(stage, true);
+            put_in_place(stage);
         }
     }
     waiting = 0;

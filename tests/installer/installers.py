@@ -87,7 +87,7 @@ class RealInstaller:
     """`minisign-install`, with a key that Minisign's own program makes in this directory."""
 
     name = "minisign-install"
-    version = b"0.2.0"
+    version = b"0.3.0"
     failing = ("open", "openat", "write", "fsync", "renameat", "read", "pread", "flock", "readdir", "fchmod", "fstat", "fstatat",
                "getrandom", "close", "fgetxattr", "fremovexattr")
     interrupted = ("open", "openat", "read", "write", "fsync", "pread", "flock", "fchmod", "renameat", "readdir", "fstat", "fstatat",

@@ -128,18 +128,18 @@ def plant(bug, copy):
         file.write(text.replace(bug.old, bug.new))
 
 
-def build(room, library):
-    """A fresh copy of the sources, and what builds the program of it."""
+def build(room, library, name=RealInstaller.name):
+    """A fresh copy of the sources, and what builds a program of it, of this name."""
     copy = tempfile.mkdtemp(dir=room)
     shutil.copytree(os.path.join(TOP, "include"), os.path.join(copy, "include"))
     shutil.copytree(os.path.join(TOP, "c"), os.path.join(copy, "c"), ignore=shutil.ignore_patterns("out"))
 
     def make():
-        built = os.path.join(copy, "c", "out", RealInstaller.name)
+        built = os.path.join(copy, "c", "out", name)
         os.makedirs(os.path.dirname(built))
         shutil.copy(library, os.path.dirname(built))
         # (the library is newer than all that it is made of)
-        ran = subprocess.run(["make", "-C", os.path.join(copy, "c"), "-o", "out/libminisign.a", "CFLAGS=-O0", f"out/{RealInstaller.name}"],
+        ran = subprocess.run(["make", "-C", os.path.join(copy, "c"), "-o", "out/libminisign.a", "CFLAGS=-O0", f"out/{name}"],
                              stdin=subprocess.DEVNULL, stdout=subprocess.PIPE, stderr=subprocess.STDOUT, timeout=10 * SECONDS)
         if ran.returncode != 0:
             raise Failure(f"it was not built: {ran.stdout.decode(errors='replace')[-500:]}")

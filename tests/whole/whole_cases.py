@@ -110,6 +110,16 @@ def kept(name, data):
     return lambda theirs, ours: "" if ours.data(name) == data else f"ours left {ours.data(name)!r:.200}"
 
 
+def modes(name, older, newer):
+    """Minisign has left the file the mode that it had, and ours has given it another one."""
+
+    def judge(theirs, ours):
+        found = (theirs.files[name][0], ours.files[name][0])
+        return "" if found == (older, newer) else f"the modes {found[0]:o} and {found[1]:o}"
+
+    return judge
+
+
 def says(words):
     """Ours says this at its end."""
     return lambda theirs, ours: "" if (ours.ran[-1].said or ours.ran[-1].output).strip().endswith(words) else f"ours: {ours.ran[-1]}"
@@ -235,6 +245,8 @@ def changing(keys):
     ):
         yield Case(f"password removed {what}", (Step(("-CW", "-s", OPEN), typed, at_terminal=terminal),), files, row=row,
                    theirs=(0,), ours=(0,), judge=same_but(without_checksum))
+    yield Case("password removed of a key that others may read", (Step(("-CW", "-s", "readable")),), {"readable": checked[OPEN]},
+               row="a key whose password is removed", theirs=(0,), ours=(0,), judge=modes("readable", 0o644, 0o600))
     for terminal in (False, True):
         at = ", at a terminal" if terminal else ""
         yield Case(f"password removed of a sealed key{at}", (Step(("-CW", "-s", CLOSED), PASSWORD + b"\n", at_terminal=terminal),),

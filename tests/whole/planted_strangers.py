@@ -1,0 +1,160 @@
+#!/usr/bin/env python3
+"""Plants bugs in `c/minisign`, one at a time, each of which takes a step away that keeps strangers off, and runs the case of
+`whole_strangers.py` over it that has to notice it.
+
+    tests/whole/planted_strangers.py
+
+The sources are changed in a copy, which is built over the library. It prints a line for each bug that nothing noticed; the last
+line is `N passed, M failed`.
+
+Needs what `whole_minisign.py` needs, and root.
+"""
+
+import concurrent.futures
+import os
+import subprocess
+import sys
+import tempfile
+
+HERE = os.path.dirname(os.path.realpath(__file__))
+sys.path += [os.path.join(HERE, "..", it) for it in ("shared", "minisign", "tool", "installer")]
+
+import ending
+import needs
+import static_library
+from planted_bugs import Bug, build, plant
+from running import Failure, Skip, build_preload
+from whole_cases import keys_of
+from whole_running import Whole
+from whole_strangers import Strangers, cases
+
+BUGS = [
+    Bug("a stranger's file is written over", "places.c",
+        "&around, S_IWOTH | S_IWGRP)", "&around, S_ISREG(place->found.st_mode) ? 0 : S_IWOTH | S_IWGRP)",
+        "a signature by 0, over a stranger's file"),
+    Bug("a stranger's pipe is written into", "places.c",
+        "&around, S_IWOTH | S_IWGRP)", "&around, S_ISFIFO(place->found.st_mode) ? 0 : S_IWOTH | S_IWGRP)",
+        "a signature by 0, over a stranger's pipe"),
+    Bug("a group that may write is passed over", "places.c",
+        "&around, S_IWOTH | S_IWGRP)", "&around, S_IWOTH)",
+        "a signature, over a stranger's file where a group may write"),
+    Bug("a directory where all may remove is taken for one where only owners may", "places.c",
+        "(around->st_mode & S_ISVTX) != 0 && ", "",
+        "a signature over a stranger's file in a directory where all may remove"),
+    Bug("a directory where nobody else may write is looked at", "places.c",
+        "(around->st_mode & writers) != 0 && is_strangers(it)", "is_strangers(it)",
+        "a signature over a stranger's file in a directory that others may not write"),
+    Bug("the owner of a directory gets secret keys", "places.c",
+        "(place->is_secret || it->st_uid != around->st_uid)", "it->st_uid != around->st_uid",
+        "a new secret key, over a pipe of the directory's owner"),
+    Bug("the owner of a directory is a stranger to all", "places.c",
+        "(place->is_secret || it->st_uid != around->st_uid)", "(place->is_secret || true)",
+        "a signature, over a file of the directory's owner"),
+    Bug("root is a stranger", "places.c",
+        "it->st_uid != geteuid() && it->st_uid != 0", "it->st_uid != geteuid()",
+        "a signature, into a pipe of root's in another's directory"),
+    Bug("the user is a stranger", "places.c",
+        "it->st_uid != geteuid() && it->st_uid != 0", "it->st_uid != 0", "a signature by 12345, over an own file"),
+    Bug("a pipe is opened before it is looked at", "places.c",
+        ".older = open(file, O_PATH | O_CLOEXEC)", ".older = open(file, O_WRONLY | O_CLOEXEC)",
+        "a signature by 0, over a stranger's pipe that nobody reads"),
+    Bug("what was looked at is opened by its name again", "places.c",
+        "fd = open(own_path_of(place->older).bytes, how)", "fd = open(place->file, how)",
+        "a stranger's pipe that comes before each opening"),
+    Bug("a pipe is not looked for by its name", "places.c",
+        "|| (S_ISFIFO(place->found.st_mode) && !is_on(place->older, PIPE_FILE_SYSTEM))", "",
+        "a signature by 0, over a stranger's pipe"),
+    Bug("a pipe without a name is looked for by one", "places.c",
+        "&& !is_on(place->older, PIPE_FILE_SYSTEM)", "", "a stranger's pipe without a name, as another descriptor"),
+    Bug("a standard output whose name is gone is none", "places.c",
+        "if (is_pipe && is_stream(&place.found)) {", "if (is_pipe && place.older < 0) {",
+        "a pipe that has another name now, as standard output"),
+    Bug("a secret is written into any pipe and device", "places.c",
+        "if (place.is_secret && is_strangers(&place.found)", "if (place.is_secret && place.older < 0",
+        "a new secret key into a stranger's pipe in a directory where all may remove"),
+    Bug("a secret is written to any device", "places.c",
+        "if (place.is_secret && is_strangers(&place.found)",
+        "if (place.is_secret && S_ISFIFO(place.found.st_mode) && is_strangers(&place.found)",
+        "a stranger's terminal, by its name"),
+    Bug("standard streams are as other pipes", "places.c",
+        " && !is_stream(&place.found)) {\n        reject", ") {\n        reject",
+        "a stranger's pipe without a name, as standard output"),
+    Bug("links are left to the system", "places.c",
+        "if (is_put_by_stranger(place, link, &around, S_IWOTH)) {",
+        "if (place->older < 0 && is_put_by_stranger(place, link, &around, S_IWOTH)) {",
+        "a stranger's link to a directory, for a file that is there, by 0"),
+    Bug("links where a group may write are not followed", "places.c",
+        "is_put_by_stranger(place, link, &around, S_IWOTH)",
+        "is_put_by_stranger(place, link, &around, S_IWOTH | S_IWGRP)",
+        "a stranger's link to a directory where a group may write"),
+    Bug("links to directories are left to the system", "places.c",
+        "rest != NULL && is_on(place->directory, PROC_FILE_SYSTEM)", "rest != NULL",
+        "a stranger's link to a directory further up, by 0"),
+    Bug("links in /proc lead where their text says", "places.c",
+        "rest != NULL && is_on(place->directory, PROC_FILE_SYSTEM)", "rest != NULL && links > MAX_LINKS",
+        "a directory without a name"),
+    Bug("without -f a pipe that came is written into", "replacing.c",
+        "if (stage->has_older && !over_older) {",
+        "if (stage->has_older && !over_older && !is_written_in_place(&stage->place)) {",
+        "a new secret key, and an own pipe comes meanwhile"),
+    Bug("a key without its password keeps its mode", "replacing.c",
+        "    if (for_owner_alone) {\n", "    if (for_owner_alone && older.mode == 0) {\n",
+        "a key without its password, of 0 with the mode 644"),
+    Bug("a key without its password is no secret", "replacing.c",
+        " || kind == UNSEALED_SECRET_KEY;", ";", "a key that is changed, over a file of the directory's owner"),
+    Bug("a changed key goes to whoever has its place", "replacing.c",
+        "stage->has_older && stage->place.found.st_uid != owner", "stage->has_older && owner == (uid_t) -1",
+        "a key changed by -CW that is swapped meanwhile"),
+    Bug("a changed key is written before it is looked whose its place is", "replacing.c",
+        "    if (stage->has_older && stage->place.found.st_uid != owner) {\n",
+        "    write_stage(stage, kind, bytes, len);\n    if (stage->has_older && stage->place.found.st_uid != owner) {\n",
+        "a key changed by -CW that is swapped meanwhile"),
+    Bug("a key is read before its place is looked at", "keys.c",
+        "    expect_no_stranger(options->secret_file, kind);\n", "",
+        "a key that is changed by 0, over a stranger's pipe"),
+    Bug("a password is asked for before", "keys.c",
+        "    expect_no_stranger(file, kind);\n", "    (void) kind;\n",
+        "a public key written again, rejected before a password is asked for"),
+]
+
+
+def is_noticed(bug, room, library, keys):
+    """Whether the case that has to notice a bug fails."""
+    copy, make = build(room, library, "minisign")
+    plant(bug, copy)
+    strangers = Strangers(make(), tempfile.mkdtemp(dir=room), keys)
+    with strangers.kept:
+        try:
+            dict(cases(strangers))[bug.case]()
+        except Failure:
+            return True
+        return False
+
+
+def wrong_of(bug, room, library, keys):
+    """What is wrong with a bug, or nothing."""
+    try:
+        return "" if is_noticed(bug, room, library, keys) else f"nothing in `{bug.case}` notices it"
+    except (Failure, Skip, KeyError, OSError, subprocess.SubprocessError) as why:
+        return f"{type(why).__name__}: {why}"
+
+
+def run_all(room):
+    """Plants each of them: the failures, how many there were, and no rows of a document."""
+    if os.geteuid() != 0:
+        raise Skip("only root makes files of others")
+    needs.libsodium()
+    library = static_library.library(os.path.join(room, "built"))
+    keys = keys_of(Whole(needs.minisign(), "", build_preload(room, "fixed_sources")))
+    failures = []
+    # (each in a process of its own, which acts as other users)
+    with concurrent.futures.ProcessPoolExecutor(os.cpu_count() or 1) as pool:
+        count = len(BUGS)
+        for bug, wrong in zip(BUGS, pool.map(wrong_of, BUGS, [room] * count, [library] * count, [keys] * count)):
+            if wrong:
+                failures.append(f"{bug.what}: {wrong}")
+    return failures, len(BUGS), {}
+
+
+if __name__ == "__main__":
+    sys.exit(ending.main("planted-strangers", run_all, Failure, Skip))

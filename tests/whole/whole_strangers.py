@@ -1,0 +1,651 @@
+"""What `c/minisign` does where a stranger may have put something: in a directory where others may write, and only owners may
+remove, no file, pipe or link of a stranger's is used; a secret key goes to no other user in any directory; nothing waits for a
+stranger's pipe; and without -f nothing that stands there is written to.
+
+The cases need root, who makes files of others and runs the program as another user. They expect the same under each of the
+system's settings (`fs.protected_regular`, `fs.protected_fifos`, `fs.protected_symlinks`).
+"""
+
+import contextlib
+import os
+import pty
+import shutil
+import signal
+import stat
+import subprocess
+import tempfile
+from dataclasses import dataclass
+from functools import partial
+
+from permissions import list_of
+from running import NOBODY, Failure, Skip, build_preload, set_list
+from whole_breaking import MEMORY, is_public, is_secret, is_signature
+from whole_cases import CLOSED, OPEN, PASSWORD, PUBLIC
+from whole_places import Mounted
+from whole_running import AtTerminal, put_files
+
+# A run that does not end within so many seconds waits for somebody.
+SECONDS = 20
+# How often a run opens a file by its name: to look, to write, and no more often than so.
+FEWEST_OPENINGS, MAX_OPENINGS = 3, 20
+QUESTION = rb"Password: $"
+SETTINGS = ("protected_fifos", "protected_regular", "protected_symlinks")
+
+# Who is who: the stranger, the user, and who owns a directory that is neither root's nor the user's.
+ROOT, STRANGER, USER, OWNER = 0, NOBODY, 12345, 23456
+
+# What is said after the name of the file.
+IN_SHARED = "this is another user's, in a directory where others may write"
+BY_LINK = "another user's link leads there, in a directory where others may write"
+TO_ANOTHER = "this is another user's, to whom no secret key is written"
+NOW_ANOTHERS = "another user's file stands there now, in place of the key that was read"
+
+# The rows of docs/DIFFERENCES.md, and a case of each that Minisign's own program does not pass.
+ROWS = {
+    "a stranger's file or pipe": "a signature by 0, over a stranger's file",
+    "a secret key into a pipe or device": "a new secret key into a stranger's pipe in a directory where all may remove",
+    "a stranger's link": "a stranger's link to a directory further up, by 0",
+    "what comes while a password is typed": "a public key written again, and an own file comes meanwhile",
+    "a key that is swapped while its password is typed": "a key changed by -CW that is swapped meanwhile",
+}
+
+FILE, PIPE = "file", "pipe"
+OLDER = b"older"
+
+
+@dataclass(frozen=True)
+class Command:
+    """A run that writes the file `it` of a place, what that has to be, and whether it is secret. The file itself may be a key
+    that is read before."""
+
+    name: str
+    arguments: tuple
+    judge: object
+    is_secret: bool = False
+    older: bytes = OLDER
+
+    def at(self, place):
+        return tuple(it.replace("it", place) if it == "it" else it for it in self.arguments)
+
+
+@dataclass(frozen=True)
+class Standing:
+    """What stands at the place, and whose it is: in a directory of an owner, with a mode."""
+
+    what: str
+    whose: int
+    directory: int = ROOT
+    mode: int = 0o1777
+
+
+@dataclass(frozen=True)
+class Ended:
+    """How a run ended, what it said, and what came out of a pipe that it may have written to."""
+
+    status: int
+    said: str
+    read: bytes = b""
+
+
+@contextlib.contextmanager
+def acting_as(user):
+    """The system takes this script for the user's meanwhile."""
+    os.setegid(user)
+    os.seteuid(user)
+    try:
+        yield
+    finally:
+        os.seteuid(ROOT)
+        os.setegid(ROOT)
+
+
+class Strangers:
+    """Fresh directories that all reach, with what is the user's own, and what others may have put there."""
+
+    def __init__(self, program, room, keys):
+        self.keys = keys
+        self.kept = tempfile.TemporaryDirectory(dir=MEMORY if os.access(MEMORY, os.W_OK) else None)
+        os.chmod(self.kept.name, 0o711)
+        self.program = shutil.copy(program, os.path.join(self.kept.name, "minisign"))
+        self.preload = build_preload(room, "break_calls")
+        self.commands = commands_with(keys)
+
+    def directory(self, user, owner=ROOT, mode=0o1777):
+        """A directory with `own`, the user's, and `shared`, of this owner and mode; else it is as `/tmp`."""
+        made = tempfile.mkdtemp(dir=self.kept.name)
+        os.chmod(made, 0o711)
+        put_files(made, {"own/data": b"some data\n", "own/k.key": self.keys[OPEN], "own/k.pub": self.keys[PUBLIC],
+                         "own/closed.key": self.keys[CLOSED], "shared": None})
+        for name in ("own", "own/data", "own/k.key", "own/k.pub", "own/closed.key"):
+            os.chown(os.path.join(made, name), user, user)
+        os.chown(os.path.join(made, "shared"), owner, owner)
+        os.chmod(os.path.join(made, "shared"), mode)
+        return made
+
+    def run(self, directory, user, arguments, **how):
+        """Runs as a user in a directory, with nothing typed."""
+        try:
+            ran = subprocess.run([self.program, *arguments], cwd=directory, user=user, group=user, extra_groups=[], umask=0o022,
+                                 stdin=subprocess.DEVNULL, stderr=subprocess.PIPE, timeout=SECONDS,
+                                 **{"stdout": subprocess.DEVNULL, **how})
+        except subprocess.TimeoutExpired as why:
+            raise Failure("it waits for a stranger") from why
+        return Ended(ran.returncode, ran.stderr.decode(), ran.stdout or b"")
+
+    def over(self, user, command, standing):
+        """Runs a command as a user over what stands at its place: how it ended, and what stands there then."""
+        directory = self.directory(user, standing.directory, standing.mode)
+        path = os.path.join(directory, "shared", "it")
+        reader = put(path, standing, command.older)
+        ended = self.run(directory, user, command.at("shared/it"))
+        return Ended(ended.status, ended.said, take(reader)), path
+
+    # ---- Files and pipes ----
+
+    def rejected(self, user, command, standing, why=IN_SHARED):
+        """It says why, nobody gets anything, and what stands there is as it was."""
+        ended, path = self.over(user, command, standing)
+        expect_rejected(ended, "shared/it", why)
+        expect_untouched(path, standing, command.older)
+
+    def accepted(self, user, command, standing, owner=None):
+        """It is written: into the pipe, or over the file, which has this owner then."""
+        ended, path = self.over(user, command, standing)
+        if ended.status != 0:
+            raise Failure(f"it ended with {ended.status}, and said {ended.said!r}")
+        if standing.what == PIPE:
+            command.judge(ended.read)
+            return
+        command.judge(read(path))
+        if os.stat(path).st_uid != owner:
+            raise Failure(f"it is {os.stat(path).st_uid}'s in place of {owner}'s")
+
+    def never_opened(self, user, command):
+        """A stranger's pipe that nobody reads: nothing waits for that."""
+        directory = self.directory(user)
+        make(os.path.join(directory, "shared", "it"), Standing(PIPE, STRANGER), command.older)
+        expect_rejected(self.run(directory, user, command.at("shared/it")), "shared/it", IN_SHARED)
+
+    def rejected_before_asking(self, arguments):
+        """What is rejected later is rejected before a password is asked for."""
+        directory = self.directory(ROOT)
+        make(os.path.join(directory, "shared", "it"), Standing(FILE, STRANGER), OLDER)
+        expect_rejected(self.run(directory, ROOT, arguments, stdout=subprocess.PIPE), "shared/it", IN_SHARED)
+
+    # ---- What comes while a password is typed ----
+
+    def asked(self, directory, *arguments, **variables):
+        """A run of root's at a terminal that has asked for a password."""
+        at = AtTerminal(["minisign", *arguments], self.program, directory, {"HOME": "own", **variables})
+        if not at.read_until(QUESTION):
+            raise Failure(f"it never asked: {at.shown!r}")
+        at.wait_for_hiding()
+        return at
+
+    def made_meanwhile(self, arguments, typed, standing, status, said):
+        """Without -f, what is made while the password is typed is not written to."""
+        directory = self.directory(ROOT)
+        path = os.path.join(directory, "shared", "it")
+        at = self.asked(directory, *arguments)
+        reader = put(path, standing, OLDER)
+        answer(at, typed)
+        ended = at.end()
+        if ended != status or said.encode() not in at.shown or take(reader):
+            raise Failure(f"it ended with {ended}, and showed {at.shown!r}")
+        expect_untouched(path, standing, OLDER)
+
+    def swapped_meanwhile(self, arguments, typed):
+        """In a directory where all may do all: a stranger puts a file of his in the place of root's key while its password is typed.
+        It is not made his: it is written into no file, before which the program would be killed."""
+        directory = self.directory(ROOT, mode=0o777)
+        path = os.path.join(directory, "shared", "it")
+        put_files(directory, {"shared/it": self.keys[CLOSED]})
+        os.chmod(path, 0o600)
+        at = self.asked(directory, *arguments, LD_PRELOAD=self.preload, BREAK_AT="1", BREAK_CALLS="write")
+        with acting_as(STRANGER):
+            os.rename(path, path + ".older")
+        make(path, Standing(FILE, STRANGER), b"his")
+        answer(at, typed)
+        ended = at.end()
+        if ended != 2 or f"shared/it: {NOW_ANOTHERS}".encode() not in at.shown or read(path) != b"his":
+            raise Failure(f"it ended with {ended}, and showed {at.shown!r}")
+
+    def comes_at_each_opening(self):
+        """In a directory where all may do all: a stranger puts a pipe that nobody reads in the place of root's file, before each call
+        that opens one. Nothing waits for the pipe, and no key goes into it."""
+        for number in range(1, MAX_OPENINGS):
+            directory = self.directory(ROOT, mode=0o777)
+            path = os.path.join(directory, "shared", "it")
+            make(path, Standing(FILE, ROOT), OLDER)
+            process = subprocess.Popen([self.program, "-GWf", "-p", "own/a.pub", "-s", "shared/it"], cwd=directory,
+                                       env={"LD_PRELOAD": self.preload, "BREAK_AT": str(number), "BREAK_CALLS": "open",
+                                            "BREAK_SIGNAL": str(int(signal.SIGSTOP)), "BREAK_GOES_ON": "1"},
+                                       stdin=subprocess.DEVNULL, stdout=subprocess.DEVNULL, stderr=subprocess.PIPE)
+            with process:
+                _, status = os.waitpid(process.pid, os.WUNTRACED)
+                if not os.WIFSTOPPED(status):
+                    process.returncode = os.waitstatus_to_exitcode(status)
+                    break
+                os.rename(path, path + ".older")
+                make(path, Standing(PIPE, STRANGER), OLDER)
+                process.send_signal(signal.SIGCONT)
+                try:
+                    _, said = process.communicate(timeout=SECONDS)
+                except subprocess.TimeoutExpired as why:
+                    process.kill()
+                    raise Failure(f"at opening {number} it waits for a stranger") from why
+            if process.returncode == 0 and not stat.S_ISFIFO(os.lstat(path).st_mode):
+                is_secret(read(path))
+            else:
+                expect_rejected(Ended(process.returncode, said.decode()), "shared/it", TO_ANOTHER)
+        if number < FEWEST_OPENINGS or process.returncode != 0:
+            raise Failure(f"it opened {number - 1} files, and ended with {process.returncode}")
+
+    # ---- Links ----
+
+    def by_link(self, user, name, links, why=BY_LINK, owner=ROOT, mode=0o1777, command=None):
+        """Links of their owners, by name and target, through which a command writes: with `why` it is rejected, and nothing is
+        made or changed; else it is written."""
+        command = command or self.commands["a signature"]
+        directory = self.directory(user, owner, mode)
+        put_files(directory, {"own/sub": None, "own/kept": b"precious", "shared/older": b"older"})
+        for path in ("own/sub", "own/kept"):
+            os.chown(os.path.join(directory, path), user, user)
+        for whose, link, target in links:
+            os.symlink(target, os.path.join(directory, link))
+            os.lchown(os.path.join(directory, link), whose, whose)
+        before = everything(directory)
+        ended = self.run(directory, user, command.at(name))
+        if why:
+            expect_rejected(ended, name, why)
+            if everything(directory) != before:
+                raise Failure("something was made or changed")
+            return
+        if ended.status != 0:
+            raise Failure(f"it ended with {ended.status}, and said {ended.said!r}")
+        # (a link may lead by the directory that a program runs in, and the system may follow it for the user alone)
+        shown = subprocess.run(["cat", name], cwd=directory, user=user, group=user, stdout=subprocess.PIPE, check=True)
+        command.judge(shown.stdout)
+
+    # ---- Pipes and devices that have no name there ----
+
+    def into_strangers_pipe(self, as_stream):
+        """A pipe without a name that a stranger has made: root's secret key is written into it where it is the standard output,
+        and else not."""
+        directory = self.directory(ROOT)
+        with acting_as(STRANGER):
+            reader, writer = os.pipe()
+        try:
+            name = "/dev/stdout" if as_stream else f"/dev/fd/{writer}"
+            arguments = ("-GWf", "-p", "own/a.pub", "-s", name)
+            ended = self.run(directory, ROOT, arguments, **({"stdout": writer} if as_stream else {"pass_fds": [writer]}))
+        finally:
+            os.close(writer)
+        with os.fdopen(reader, "rb") as pipe:
+            expect_secret_or(ended, pipe.read(), as_stream, name)
+
+    def onto_strangers_terminal(self, as_stream, link=None):
+        """A stranger's terminal, by its name or by a link in a directory where all may do all."""
+        directory = self.directory(ROOT, mode=0o777)
+        with acting_as(STRANGER):
+            person, side = pty.openpty()
+        try:
+            name = "/dev/stdout" if as_stream else os.ttyname(side)
+            if os.stat(os.ttyname(side)).st_uid != STRANGER:
+                raise Skip("terminals have no owners here")
+            if link:
+                os.symlink(name, os.path.join(directory, link))
+                name = link
+            os.set_blocking(person, False)
+            ended = self.run(directory, ROOT, ("-GWf", "-p", "own/a.pub", "-s", name), **({"stdout": side} if as_stream else {}))
+            try:
+                shown = os.read(person, 65536).replace(b"\r", b"")
+            except BlockingIOError:
+                shown = b""
+        finally:
+            os.close(side)
+            os.close(person)
+        expect_secret_or(ended, shown, as_stream, name)
+
+    def output_is_strangers_pipe(self):
+        """A standard output that is a stranger's pipe with a name there."""
+        directory = self.directory(ROOT)
+        path = os.path.join(directory, "shared", "it")
+        reader = put(path, Standing(PIPE, STRANGER), b"")
+        writer = os.open(path, os.O_WRONLY)
+        ended = self.run(directory, ROOT, ("-GWf", "-p", "own/a.pub", "-s", "/dev/stdout"), stdout=writer)
+        os.close(writer)
+        expect_rejected(Ended(ended.status, ended.said, take(reader)), "/dev/stdout", IN_SHARED)
+
+    def output_has_lost_its_name(self):
+        """A standard output that is a pipe of which the name, by which it was opened, is gone, and another one is there."""
+        directory = self.directory(ROOT)
+        path = os.path.join(directory, "shared", "it")
+        reader = put(path, Standing(PIPE, ROOT), b"")
+        writer = os.open(path, os.O_WRONLY)
+        os.rename(path, path + ".first")
+        os.link(path + ".first", path + ".second")
+        os.remove(path + ".first")
+        ended = self.run(directory, ROOT, ("-Sm", "own/data", "-x", "/dev/stdout", "-s", "own/k.key"), stdout=writer)
+        os.close(writer)
+        if ended.status != 0:
+            raise Failure(f"it ended with {ended.status}, and said {ended.said!r}")
+        is_signature(take(reader))
+
+    def in_directory_without_name(self):
+        """A directory that is open and has no name: it is reached by the link to it in /proc, and not by the text of that."""
+        directory = self.directory(ROOT)
+        with Mounted(os.path.join(directory, "shared"), "mode=755", lazily=True):
+            opened = os.open(os.path.join(directory, "shared"), os.O_RDONLY)
+        try:
+            os.mkdir("made", 0o755, dir_fd=opened)
+            name = f"/dev/fd/{opened}/made/it"
+            ended = self.run(directory, ROOT, ("-Sm", "own/data", "-x", name, "-s", "own/k.key"), pass_fds=[opened])
+            if ended.status != 0:
+                raise Failure(f"it ended with {ended.status}, and said {ended.said!r}")
+            with open(os.open("made/it", os.O_RDONLY, dir_fd=opened), "rb") as file:
+                is_signature(file.read())
+        finally:
+            os.close(opened)
+
+    def copied_into_strangers_file(self):
+        """What was verified goes into the standard output, whatever that is: whoever started the program has opened it."""
+        directory = self.directory(ROOT)
+        path = os.path.join(directory, "shared", "it")
+        make(path, Standing(FILE, STRANGER), b"")
+        self.run(directory, ROOT, ("-Sm", "own/data", "-s", "own/k.key"))
+        with open(path, "r+b") as output:
+            ended = self.run(directory, ROOT, ("-Vom", "own/data", "-p", "own/k.pub"), stdout=output)
+        if ended.status != 0 or read(path) != b"some data\n":
+            raise Failure(f"it ended with {ended.status}, and said {ended.said!r}")
+
+    # ---- Keys whose password is removed ----
+
+    def made_its_owners(self, owner, mode, entries=""):
+        """A key whose password is removed is its owner's alone, whatever others might do with it."""
+        directory = self.directory(ROOT)
+        path = os.path.join(directory, "own", "k.key")
+        os.chown(path, owner, OWNER)
+        os.chmod(path, mode)
+        if entries:
+            set_list(path, entries)
+        ended = self.run(directory, ROOT, ("-CW", "-s", "own/k.key"))
+        found = os.stat(path)
+        if ended.status != 0 or found.st_uid != owner or stat.S_IMODE(found.st_mode) != mode & 0o700 or list_of(path) is not None:
+            raise Failure(f"it ended with {ended.status}, {ended.said!r}, and left {found.st_uid}, {found.st_mode:o}")
+        is_secret(read(path))
+
+
+def commands_with(keys):
+    """The runs that write a file, by their names."""
+    own = ("-s", "own/k.key")
+    found = [
+        Command("a new secret key", ("-GWf", "-p", "own/a.pub", "-s", "it"), is_secret, True),
+        Command("a new public key", ("-GWf", "-p", "it", "-s", "own/a.key"), is_public),
+        Command("a signature", ("-Sm", "own/data", "-x", "it", *own), is_signature),
+        Command("a public key written again", ("-Rf", "-p", "it", *own), is_public),
+        Command("a key that is changed", ("-CW", "-s", "it"), is_secret, True, keys[OPEN]),
+    ]
+    return {command.name: command for command in found}
+
+
+# ---- What stands there ----
+
+
+def make(path, standing, data):
+    """Makes a file or pipe that all may read and write."""
+    with acting_as(standing.whose) if may_make(path, standing.whose) else contextlib.nullcontext():
+        if standing.what == PIPE:
+            os.mkfifo(path)
+        else:
+            with open(path, "xb") as file:
+                file.write(data)
+    os.chown(path, standing.whose, standing.whose)
+    os.chmod(path, 0o666)
+
+
+def may_make(path, user):
+    """Whether a user may make a file there himself."""
+    found = os.stat(os.path.dirname(path))
+    return bool(found.st_mode & stat.S_IWOTH) or found.st_uid == user
+
+
+def put(path, standing, data):
+    """Makes it, and answers what its owner reads of a pipe by."""
+    make(path, standing, data)
+    if standing.what != PIPE:
+        return None
+    with acting_as(standing.whose):
+        return os.open(path, os.O_RDONLY | os.O_NONBLOCK)
+
+
+def take(reader):
+    """All that came out of a pipe, once who wrote into it has ended."""
+    if reader is None:
+        return b""
+    try:
+        return os.read(reader, 65536)
+    finally:
+        os.close(reader)
+
+
+def read(path):
+    with open(path, "rb") as file:
+        return file.read()
+
+
+def everything(directory):
+    """The names, owners and bytes of all that is in a directory."""
+    found = {}
+    for at, _, names in os.walk(directory):
+        for name in names:
+            path = os.path.join(at, name)
+            state = os.lstat(path)
+            found[path] = (state.st_ino, state.st_uid, state.st_mode, read(path) if stat.S_ISREG(state.st_mode) else None)
+    return found
+
+
+def answer(at, typed):
+    """Types a line at each question, of which the first one stands there, and waits for the end."""
+    for number, line in enumerate(typed, 1):
+        if not at.read_until(rb"(?s)(?:Password.*){%d}: $" % number):
+            raise Failure(f"it never asked again: {at.shown!r}")
+        at.wait_for_hiding()
+        at.type(line)
+    at.read_until(None)
+
+
+# ---- What has to come of it ----
+
+
+def expect_rejected(ended, name, why):
+    if ended != Ended(2, f"{name}: {why}\n"):
+        raise Failure(f"it ended with {ended.status}, said {ended.said!r}, and {ended.read!r} was read")
+
+
+def expect_untouched(path, standing, data):
+    found = os.lstat(path)
+    if found.st_uid != standing.whose or stat.S_IMODE(found.st_mode) != 0o666 or (standing.what == FILE and read(path) != data):
+        raise Failure(f"it left {found.st_uid}'s of {found.st_mode:o}")
+
+
+def expect_secret_or(ended, came, is_written, name):
+    """A secret key came out of a stream, in front of what is said there, or nothing."""
+    if is_written:
+        if ended.status != 0:
+            raise Failure(f"it ended with {ended.status}, and said {ended.said!r}")
+        is_secret(b"".join(came.splitlines(True)[:2]))
+    else:
+        expect_rejected(Ended(ended.status, ended.said, came), name, TO_ANOTHER)
+
+
+# ---- The cases ----
+
+
+def over_strangers(strangers):
+    """A stranger's file or pipe: each command, by root and by another user."""
+    for name, command in strangers.commands.items():
+        for user in (ROOT, USER):
+            for what in (FILE, PIPE):
+                yield (f"{name} by {user}, over a stranger's {what}",
+                       partial(strangers.rejected, user, command, Standing(what, STRANGER)))
+            yield f"{name} by {user}, over a stranger's pipe that nobody reads", partial(strangers.never_opened, user, command)
+        for what in (FILE, PIPE):
+            yield (f"{name}, over a stranger's {what} in another's directory",
+                   partial(strangers.rejected, ROOT, command, Standing(what, STRANGER, OWNER)))
+            yield (f"{name}, over a stranger's {what} where a group may write",
+                   partial(strangers.rejected, ROOT, command, Standing(what, STRANGER, mode=0o1775)))
+    for name, arguments in (("a new secret key", ("-Gf", "-p", "own/a.pub", "-s", "shared/it")),
+                            ("a new public key", ("-Gf", "-p", "shared/it", "-s", "own/a.key")),
+                            ("a public key written again", ("-Rf", "-p", "shared/it", "-s", "own/closed.key"))):
+        yield f"{name}, rejected before a password is asked for", partial(strangers.rejected_before_asking, arguments)
+
+
+def over_others(strangers):
+    """What is no stranger's: the user's own, root's, and the directory's owner's where it is no secret key."""
+    for name, command in strangers.commands.items():
+        for user in (ROOT, USER):
+            yield f"{name} by {user}, over an own file", partial(strangers.accepted, user, command, Standing(FILE, user), user)
+            # (a pipe in place of a key that is changed would have to bring that first)
+            for whose in {user, ROOT} if command.older == OLDER else ():
+                yield (f"{name} by {user}, into a pipe of {whose}",
+                       partial(strangers.accepted, user, command, Standing(PIPE, whose)))
+        for what in (FILE, PIPE):
+            there = Standing(what, OWNER, OWNER)
+            yield (f"{name}, over a {what} of the directory's owner",
+                   partial(strangers.rejected, ROOT, command, there) if command.is_secret
+                   else partial(strangers.accepted, ROOT, command, there, OWNER))
+    for name in ("a signature", "a new secret key"):
+        yield (f"{name}, into a pipe of root's in another's directory",
+               partial(strangers.accepted, USER, strangers.commands[name], Standing(PIPE, ROOT, OWNER)))
+
+
+def elsewhere(strangers):
+    """A stranger's file or pipe in directories where others may not write, or may remove what they like."""
+    signature, secret = strangers.commands["a signature"], strangers.commands["a new secret key"]
+    for where, owner, mode in (("that others may not write", ROOT, 0o1755), ("where all may remove", ROOT, 0o777),
+                               ("of his own", STRANGER, 0o755)):
+        file, pipe = Standing(FILE, STRANGER, owner, mode), Standing(PIPE, STRANGER, owner, mode)
+        yield (f"a signature over a stranger's file in a directory {where}",
+               partial(strangers.accepted, ROOT, signature, file, STRANGER))
+        yield f"a signature into a stranger's pipe in a directory {where}", partial(strangers.accepted, ROOT, signature, pipe)
+        yield (f"a new secret key over a stranger's file in a directory {where}",
+               partial(strangers.accepted, ROOT, secret, file, ROOT))
+        yield (f"a new secret key into a stranger's pipe in a directory {where}",
+               partial(strangers.rejected, ROOT, secret, pipe, TO_ANOTHER))
+    yield "a stranger's pipe that comes before each opening", strangers.comes_at_each_opening
+
+
+def made_meanwhile(strangers):
+    """What is made while a password is typed, without -f, and a key that is swapped then."""
+    exists = "shared/it already exists."
+    for name, arguments, typed in (
+        ("a new secret key", ("-G", "-p", "own/a.pub", "-s", "shared/it"), (b"p\n", b"p\n")),
+        ("a public key written again", ("-R", "-p", "shared/it", "-s", "own/closed.key"), (PASSWORD + b"\n",)),
+    ):
+        for what in (FILE, PIPE):
+            yield (f"{name}, and a stranger's {what} comes meanwhile",
+                   partial(strangers.made_meanwhile, arguments, typed, Standing(what, STRANGER), 2, f"shared/it: {IN_SHARED}"))
+            yield (f"{name}, and an own {what} comes meanwhile",
+                   partial(strangers.made_meanwhile, arguments, typed, Standing(what, ROOT), 1, exists))
+    for flags, typed in (("-CW", (PASSWORD + b"\n",)), ("-C", (PASSWORD + b"\n", b"p\n", b"p\n"))):
+        yield (f"a key changed by {flags} that is swapped meanwhile",
+               partial(strangers.swapped_meanwhile, (flags, "-s", "shared/it"), typed))
+
+
+def through_links(strangers):
+    """Links of strangers, and those of others."""
+    to_directory, to_nothing = (STRANGER, "shared/link", "../own"), (STRANGER, "shared/link", "made")
+    for name, links, written in (
+        ("to nothing yet", (to_nothing,), "shared/link"),
+        ("to an own file", ((STRANGER, "shared/link", "../own/kept"),), "shared/link"),
+        ("to a directory", (to_directory,), "shared/link/made"),
+        ("to a directory, for a file that is there", (to_directory,), "shared/link/kept"),
+        ("to a directory further up", (to_directory,), "shared/link/sub/made"),
+    ):
+        for user in (ROOT, USER):
+            yield f"a stranger's link {name}, by {user}", partial(strangers.by_link, user, written, links)
+    for user in (ROOT, USER):
+        yield (f"a stranger's link to which an own one leads, by {user}",
+               partial(strangers.by_link, user, "own/mine", (to_directory, (user, "own/mine", "../shared/link/made"))))
+    for name, link, written in (("to nothing yet", (OWNER, "shared/link", "made"), "shared/link"),
+                                ("to a directory", (OWNER, "shared/link", "../own"), "shared/link/made")):
+        yield f"a link of the directory's owner {name}", partial(strangers.by_link, ROOT, written, (link,), None, OWNER)
+        yield (f"a link of the directory's owner {name}, for a secret key",
+               partial(strangers.by_link, ROOT, written, (link,), BY_LINK, OWNER, command=strangers.commands["a new secret key"]))
+    for name, written, *links in (
+        ("to nothing yet", "shared/link", ("shared/link", "made")),
+        ("to a directory", "shared/link/made", ("shared/link", "../own")),
+        ("by its whole path", "shared/link/made", ("shared/link", "/proc/self/cwd/own")),
+        ("to one to a directory", "shared/link/made", ("shared/link", "../own/next"), ("own/next", "sub/")),
+    ):
+        yield f"an own link {name}", partial(strangers.by_link, USER, written, [(USER, *link) for link in links], None)
+    for mode, where in ((0o777, "all may remove"), (0o1775, "a group may write")):
+        yield (f"a stranger's link to a directory where {where}",
+               partial(strangers.by_link, ROOT, "shared/link/made", (to_directory,), None, mode=mode))
+
+
+def streams(strangers):
+    """What the program was started with, and what has no name."""
+    for as_stream, name in ((True, "as standard output"), (False, "as another descriptor")):
+        yield f"a stranger's pipe without a name, {name}", partial(strangers.into_strangers_pipe, as_stream)
+    yield "a stranger's terminal, as standard output", partial(strangers.onto_strangers_terminal, True)
+    yield "a stranger's terminal, by its name", partial(strangers.onto_strangers_terminal, False)
+    yield "a stranger's terminal, by a link", partial(strangers.onto_strangers_terminal, False, "shared/link")
+    yield "a stranger's pipe with a name, as standard output", strangers.output_is_strangers_pipe
+    yield "a pipe that has another name now, as standard output", strangers.output_has_lost_its_name
+    yield "a directory without a name", strangers.in_directory_without_name
+    yield "what was verified, into a stranger's file as standard output", strangers.copied_into_strangers_file
+
+
+def permissions(strangers):
+    """A key whose password is removed."""
+    for owner, mode, entries in ((ROOT, 0o644, ""), (ROOT, 0o660, ""), (OWNER, 0o640, ""), (OWNER, 0o604, ""),
+                                 (ROOT, 0o440, ""), (ROOT, 0o600, f"u:{STRANGER}:r")):
+        yield (f"a key without its password, of {owner} with the mode {mode:o} {entries}".rstrip(),
+               partial(strangers.made_its_owners, owner, mode, entries))
+
+
+def cases(strangers):
+    """The names of all cases, and what runs each."""
+    for some in (over_strangers, over_others, elsewhere, made_meanwhile, through_links, streams, permissions):
+        yield from some(strangers)
+
+
+def settings():
+    """How the system is set."""
+    return ", ".join(f"{name} {read(f'/proc/sys/fs/{name}').decode().strip()}" for name in SETTINGS)
+
+
+def passes_of_minisign(strangers):
+    """The rows that say of Minisign's own program what it does not do."""
+    found = dict(cases(strangers))
+    for row, name in ROWS.items():
+        try:
+            found[name]()
+        except Failure:
+            continue
+        yield f"Minisign passes `{name}`, and docs/DIFFERENCES.md has the row: {row}"
+
+
+def run_strangers(whole, room, keys):
+    """Runs all of them: the failures, and how many cases there were."""
+    if os.geteuid() != ROOT:
+        print("skipped: what strangers put somewhere: only root makes files of others")
+        return [], 0
+    print(f"what strangers put somewhere is tried with {settings()}")
+    strangers, count = Strangers(whole.ours, room, keys), 0
+    minisign = Strangers(whole.theirs, room, keys)
+    with minisign.kept:
+        failures = list(passes_of_minisign(minisign))
+    with strangers.kept:
+        for name, run in cases(strangers):
+            count += 1
+            try:
+                run()
+            except Skip as why:
+                print(f"skipped: {name}: {why}")
+                count -= 1
+            except (Failure, subprocess.SubprocessError, OSError) as why:
+                failures.append(f"{name}: {why}")
+    return failures, count + len(ROWS)
