@@ -5,6 +5,8 @@
 // The shortest module with a memory of 32-bit addresses and a function that takes a number of 64 bits.
 const SHORTEST = Uint8Array.of(0, 97, 115, 109, 1, 0, 0, 0, 1, 5, 1, 96, 1, 126, 0, 5, 3, 1, 0, 1);
 
+const FROM_DISK = "Save the page and open it from disk, or open it by https.";
+
 function hasWebAssembly() {
   return typeof WebAssembly === "object" && WebAssembly.validate(SHORTEST);
 }
@@ -29,13 +31,16 @@ async function begin(script) {
   const parts = await lackingParts();
   if (parts.length > 0) {
     reject(`This browser lacks ${parts.join(", and ")}, so this page verifies nothing in it. ` +
-      "A newer browser may have what is missing.");
+      (isSecureContext ? "A newer browser may have what is missing." : FROM_DISK));
     return;
   }
+  const module = moduleBytes();
   try {
-    library = await Library.load(moduleBytes());
-  } catch {
-    reject("This browser does not run the proved library, so this page verifies nothing in it. A newer browser may run it.");
+    library = await Library.load(module);
+  } catch (why) {
+    const isPolicy = why instanceof WebAssembly.CompileError && WebAssembly.validate(module);
+    reject(isPolicy ? `Whoever serves this page lets it run no WebAssembly, so it verifies nothing. ${FROM_DISK}`
+      : "This browser does not run the proved library, so this page verifies nothing. A newer browser may run it.");
     return;
   }
   engineBegun = beginEngine(script);
@@ -54,12 +59,13 @@ function showBuiltIn() {
 }
 
 function listen() {
-  at("key-text").value = "";
-  at("key-text").addEventListener("input", () => {
-    at("key-file").value = "";
-    const typed = at("key-text").value;
-    inTurn(() => takeKeyText(typed));
-  });
+  for (const [name, take] of [["key-text", takeKeyText], ["signature-text", takeSignatureText]]) {
+    at(name).value = "";
+    at(name).addEventListener("input", () => {
+      const typed = at(name).value;
+      inTurn(() => take(typed));
+    });
+  }
   at("key-file").addEventListener("change", () => takeEach(at("key-file"), files => takeKeyFile(files[0], "chosen")));
   at("key-remove").addEventListener("click", () => inTurn(removeKey));
   at("files").addEventListener("change", () => takeEach(at("files"), takeFiles));
@@ -78,9 +84,22 @@ function listen() {
   addEventListener("drop", event => {
     event.preventDefault();
     const {files, hasDirectories} = droppedFiles(event.dataTransfer);
-    const isKey = files.length === 1 && !hasDirectories && !BUILT_IN_KEY && at("key").contains(event.target);
+    const section = [...document.querySelectorAll("section")].find(it => it.contains(event.target));
+    if (files.length === 0 && !hasDirectories) {
+      takeDroppedText(section?.querySelector("textarea"), event.dataTransfer.getData("text/plain"));
+      return;
+    }
+    const isKey = files.length === 1 && !hasDirectories && !BUILT_IN_KEY && section === at("key");
     inTurn(() => isKey ? takeKeyFile(files[0], "chosen") : takeFiles(files, hasDirectories));
   });
+}
+
+// A text that was dragged to a part of the page is what stands in the field there.
+function takeDroppedText(field, text) {
+  if (text !== "" && field?.checkVisibility()) {
+    field.value = text;
+    field.dispatchEvent(new Event("input"));
+  }
 }
 
 // The files that were dropped, and whether there were directories among them.

@@ -9,7 +9,7 @@ it, that loads nothing.
     page/build.py --package [OUT]
 
 OUT is the page, `page/minisign.html` where none is named. It has the script, the style and the module in it, and a policy
-that allows exactly these. With --key it has this public key, a line of 56 letters, and takes no other; --title is its
+that allows exactly these. With --key it has this public key, a line of 56 letters and digits, and takes no other; --title is its
 heading. With --from the module is that of a page which was built before, and neither the kit nor wasm-opt is needed. The
 same sources give the same bytes, whose SHA-256 sum is printed. The page names its version and the sum of the sources that
 it is made from: the SHA-256 sum of the lines that --sources prints, as of `sha256sum`.
@@ -178,7 +178,7 @@ def checked_key(letters):
     except (binascii.Error, ValueError):
         record = b""
     if len(letters) != KEY_LETTERS or len(record) != KEY_BYTES or record[:2] != b"Ed":
-        raise NotPossible(f"a key is one line of {KEY_LETTERS} letters that begins with RW, and {letters!r:.80} is none")
+        raise NotPossible(f"a key is one line of {KEY_LETTERS} letters and digits that begins with RW, and {letters!r:.80} is none")
     return letters
 
 
@@ -216,7 +216,7 @@ def write(out, text):
 def options(words):
     """What is asked for."""
     parser = argparse.ArgumentParser(prog="page/build.py", description="Writes the page that verifies a download.")
-    parser.add_argument("--key", default="", metavar="LETTERS", help="the key that is built in: its line of 56 letters")
+    parser.add_argument("--key", default="", metavar="LETTERS", help="the key that is built in: its line of 56 letters and digits")
     parser.add_argument("--title", default=TITLE, metavar="TITLE", help="the page's heading")
     parser.add_argument("--from", dest="built", metavar="PAGE", help="a page that was built before, whose module is taken")
     parser.add_argument("--sources", action="store_true", help="print the sums of the sources, and write no page")

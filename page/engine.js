@@ -127,11 +127,12 @@ class FarEngine {
     return true;
   }
 
-  static async begin(script) {
-    const address = URL.createObjectURL(new Blob([script], {type: "text/javascript"}));
-    // (this script's address and no other: the policy can be made once, and the page's policy allows no second one)
-    const trusted = globalThis.trustedTypes?.createPolicy("minisign-thread", {createScriptURL: () => address});
-    const threads = Array.from({length: THREADS}, () => new Worker(trusted ? trusted.createScriptURL("") : address));
+  end() {
+    this.threads.forEach(thread => thread.terminate());
+  }
+
+  static async begin(address) {
+    const threads = Array.from({length: THREADS}, () => new Worker(address));
     try {
       const late = new Promise((_, reject) => setTimeout(reject, MAX_MILLISECONDS));
       const [slice] = await Promise.race([Promise.all(threads.map(thread => answerOf(thread))), late]);
@@ -139,8 +140,6 @@ class FarEngine {
     } catch (why) {
       threads.forEach(thread => thread.terminate());
       throw why;
-    } finally {
-      URL.revokeObjectURL(address);
     }
   }
 }
@@ -156,9 +155,19 @@ function answerOf(thread, told) {
   });
 }
 
+// The address of the script for threads, by a policy that can be made once and allows no other.
+let threadAddress;
+
+function addressOf(script) {
+  const address = URL.createObjectURL(new Blob([script], {type: "text/javascript"}));
+  const trusted = globalThis.trustedTypes?.createPolicy("minisign-thread", {createScriptURL: () => address});
+  return trusted ? trusted.createScriptURL("") : address;
+}
+
 async function beginEngine(script) {
   try {
-    return await FarEngine.begin(script);
+    threadAddress ??= addressOf(script);
+    return await FarEngine.begin(threadAddress);
   } catch {
     return new NearEngine();
   }

@@ -4,6 +4,8 @@
 
 const SIGNATURE_ENDING = ".minisig";
 const KEY_ENDING = ".pub";
+// The name of a signature that was pasted.
+const PASTED = "pasted.minisig";
 // The data of a signature of the older kind is held in memory as a whole, up to this many bytes.
 const MAX_LEGACY_BYTES = 64 * 1048576;
 // How many milliseconds a progress that is shown stays at least: showing it takes longer than one may think.
@@ -23,15 +25,21 @@ let isWorking = false;
 // What a person does is taken in its order, also where a file has to be read to know what it is.
 let lastTurn = Promise.resolve();
 let pendingTurns = 0;
+// The person's last act, and whether a verdict that it brought was shown.
+let lastAct = {isAnswered: false};
 
 // Has an act of the person's done once those before it are.
 function inTurn(act) {
+  const begin = () => {
+    lastAct = {isAnswered: false};
+    return act();
+  };
   const showPending = change => {
     pendingTurns += change;
     document.documentElement.dataset.pending = pendingTurns;
   };
   showPending(1);
-  lastTurn = lastTurn.then(act).catch(() => sayOfFiles([WENT_WRONG])).finally(() => {
+  lastTurn = lastTurn.then(begin).catch(() => sayOfFiles([WENT_WRONG])).finally(() => {
     showPending(-1);
     reviewAll();
   });
@@ -49,12 +57,16 @@ function setKey(text, isBare, source) {
   const words = new TextDecoder().decode(text);
   if (number === 0) {
     key = {bytes, keyId, letters: lettersOf(bytes), source};
-    sayOfKey("good", `Key ${keyId}, `, ...sourceOf(source), ".");
-    at("key-whole").replaceChildren("In full: ", element("code", "letters", key.letters));
+    sayOfKey("good", "Key ", lettersBox(keyId), ", ", ...sourceOf(source), ".");
+    at("key-whole").replaceChildren("In full: ", lettersBox(key.letters));
     at("key-whole").hidden = false;
     at("key-remove").hidden = source.kind === "page";
   } else {
-    sayOfKey("bad", `No public key: ${HINTS.get(hintOf(words)) ?? whyNoKey(number)}`, ...beside(source));
+    // (8: it is no text)
+    const hint = number === 8 ? "" : hintOf(words);
+    const isShown = HINTS_WITH_KEY.includes(hint) && SOURCES.get(source.kind).isGiven;
+    sayOfKey("bad", `No public key: ${HINTS.get(hint) ?? whyNoKey(number)}`, ...(isShown ? [" ", lettersBox(keyIn(words))] : []),
+      ...beside(source));
   }
   at("key-said").dataset.number = number;
 }
@@ -76,8 +88,7 @@ function dropKey() {
   delete at("key-said").dataset.number;
   at("key-whole").hidden = at("key-remove").hidden = true;
   for (const download of downloads.values()) {
-    stop(download);
-    download.state = "";
+    renew(download);
   }
 }
 
@@ -152,7 +163,10 @@ function nameOfSigned(name) {
 // belong together whatever their names are.
 async function takeFiles(files, hasDirectories = false) {
   emptyLog();
-  sayOfFiles(hasDirectories ? [HAS_DIRECTORIES] : []);
+  sayOfFiles([]);
+  if (hasDirectories) {
+    sayOfFiles([HAS_DIRECTORIES]);
+  }
   const names = new Set(files.map(file => file.name));
   // A file that was taken for a download before, or comes with its signature, is one whatever is in it.
   const isDownload = ({name}) =>
@@ -169,17 +183,49 @@ async function takeFiles(files, hasDirectories = false) {
       takeDownload(file, isPair ? data[0].name : nameOfSigned(file.name), "signature");
     }
   }
-  for (const file of of("secret key")) {
-    sayOfFiles([nameOf(file.name), ` ${HINTS.get("secret key")}`]);
+  for (const kind of ["secret key", "PGP"]) {
+    for (const file of of(kind)) {
+      sayOfFiles([nameOf(file.name), ` ${HINTS.get(kind)}`]);
+    }
   }
+  joinLone();
   await takeKeysAmongFiles(of("key"));
 }
 
-// Of keys that came among files one is taken where there is no key. One that is there stays.
+// A text that was pasted as a signature: of the only file that has none, or in the place of the last one.
+function takeSignatureText(typed) {
+  emptyLog();
+  sayOfFiles([]);
+  const text = typed.trim().replace(/^[ \t]+/gm, "");
+  const kind = kindOfText(text);
+  if (kind === "signature") {
+    const [alone, other] = lacking("signature");
+    const before = [...downloads.values()].find(({signature}) => signature?.name === PASTED);
+    takeDownload(new File([text], PASTED), (alone && !other ? alone : before)?.name ?? "pasted", "signature");
+  } else if (text !== "") {
+    sayOfFiles([HINTS.get(kind) ?? NO_SIGNATURE]);
+  }
+}
+
+// A file and a signature that are the only ones that stand alone belong together whatever their names are.
+function joinLone() {
+  const [file, otherFile] = lacking("signature"), [signature, otherSignature] = lacking("data");
+  if (file && signature && !otherFile && !otherSignature) {
+    takeDownload(signature.signature, file.name, "signature");
+    remove(signature);
+  }
+}
+
+function lacking(part) {
+  return [...downloads.values()].filter(it => !it[part]);
+}
+
+// Of keys that came among files one is taken where there is no key, and nothing in its field. What is there stays.
 async function takeKeysAmongFiles(files) {
-  if (key) {
+  if (key || at("key-text").value.trim() !== "") {
     for (const file of files) {
-      sayOfFiles([nameOf(file.name), ` came with the files and was not taken: the key above stays, ${key.keyId}.`]);
+      const stays = key ? ["the key above stays, ", lettersBox(key.keyId), "."] : [NO_KEY_IN_FIELD];
+      sayOfFiles([nameOf(file.name), " came with the files and was not taken: ", ...stays]);
     }
   } else if (files.length > 1) {
     clearKey();
@@ -201,17 +247,24 @@ function sayOfFiles(words) {
 // Takes a file as the data or the signature of a download.
 function takeDownload(file, name, part) {
   if (!downloads.has(name)) {
-    downloads.set(name, {name, data: null, signature: null, row: element("li", ""), run: null, state: ""});
+    downloads.set(name, {name, data: null, signature: null, row: element("li", ""), run: null, state: "", act: null});
     at("verdicts").append(downloads.get(name).row);
   }
   const download = downloads.get(name);
-  stop(download);
   download[part] = file;
+  renew(download);
+}
+
+// Has a download verified anew, by what the person did last.
+function renew(download) {
+  stop(download);
   download.state = "";
+  download.act = lastAct;
 }
 
 function remove(download) {
   stop(download);
+  count(download.row.dataset.verdict, -1);
   download.row.remove();
   downloads.delete(download.name);
 }
@@ -228,9 +281,23 @@ function clearList() {
 // ---- Verifying ----
 
 function stop(download) {
-  if (download.run) {
-    download.run.isStopped = true;
-  }
+  undrawn.delete(download);
+  download.run?.stop();
+}
+
+// A verification that can be stopped, whatever it waits for.
+function beginRun() {
+  const run = {isStopped: false, key};
+  run.ended = new Promise(resolve => {
+    run.stop = () => resolve(run.isStopped = true);
+  });
+  return run;
+}
+
+// Has other threads hash from now on: those before may still answer about a file that was given up.
+function renewEngine() {
+  engineBegun.then(engine => engine.end?.());
+  engineBegun = beginEngine();
 }
 
 // Shows what waits, and has it verified.
@@ -242,6 +309,7 @@ function reviewAll() {
   }
   at("nothing").hidden = downloads.size > 0;
   at("clear").hidden = downloads.size === 0;
+  showBand();
   work();
 }
 
@@ -251,31 +319,35 @@ async function work() {
     return;
   }
   isWorking = true;
-  let download;
-  while (key && (download = [...downloads.values()].find(it => it.state === "" && it.data && it.signature))) {
-    const run = {isStopped: false, key};
+  const isDue = it => key && it.state === "" && it.data && it.signature;
+  for (let due; (due = [...downloads.values()].find(isDue));) {
+    const download = due;
+    const run = beginRun();
     download.run = run;
     download.state = "begun";
-    const verdict = await verdictOn(download, run).catch(() => ({kind: "bad", why: WENT_WRONG}));
+    const verdict = await Promise.race([verdictOn(download, run), run.ended]).catch(() => ({isGood: false, why: WENT_WRONG}));
+    if (run.isStopped || verdict.why === WENT_WRONG) {
+      renewEngine();
+    }
     if (!run.isStopped) {
       download.state = "shown";
-      showVerdict(download, verdict, run.key.source);
+      draw(download, () => showVerdict(download, verdict, run.key.source));
     }
   }
   isWorking = false;
 }
 
 function rejected(number, questions) {
-  return {kind: "bad", why: whyNot(number), number, questions};
+  return {isGood: false, why: whyNot(number), number, questions};
 }
 
 // The verdict on a download, unless the run is stopped meanwhile.
 async function verdictOn(download, run) {
   const {data, signature} = download;
-  showProgress(download, 0);
+  draw(download, () => showProgress(download, 0), SHOWN_MILLISECONDS);
   const text = await textOfFile(signature);
   if (text === null) {
-    return {kind: "bad", why: "The signature cannot be read, or is longer than a signature."};
+    return {isGood: false, why: "The signature cannot be read, or is longer than a signature."};
   }
   // What is wrong with the texts is known before any data is read.
   const verification = new Verification(library, run.key.bytes, text, data.size <= MAX_LEGACY_BYTES);
@@ -284,28 +356,27 @@ async function verdictOn(download, run) {
     return rejected(verification.number, questions);
   }
   const engine = questions.isLegacy ? new NearEngine() : await engineBegun;
-  const isRead = await engine.feedFile(data, verification, progressOf(download, run));
+  // (one that was stopped would take the next one's threads)
+  const isRead = !run.isStopped && await engine.feedFile(data, verification, progressOf(download, run));
   if (run.isStopped) {
     return null;
   }
   if (!isRead) {
-    return {kind: "bad", why: "The file cannot be read, or it was changed meanwhile."};
+    return {isGood: false, why: "The file cannot be read, or it was changed meanwhile."};
   }
   const {number, first} = await verification.end();
   if (number === 0) {
-    return {kind: "good", number, questions, comment: verification.comment()};
+    return {isGood: true, number, questions, comment: verification.comment()};
   }
   const verdict = rejected(number, questions);
   return first && await isOfOtherEnds(new TextDecoder().decode(text), verification) ? {...verdict, why: WHY_NOT_ENDS} : verdict;
 }
 
-// Shows how many bytes were read, now and then, and answers whether the run goes on.
+// Shows how many bytes were read, and answers whether the run goes on.
 function progressOf(download, run) {
-  let shownAt = 0;
   return done => {
-    if (!run.isStopped && performance.now() >= shownAt + SHOWN_MILLISECONDS) {
-      showProgress(download, done);
-      shownAt = performance.now();
+    if (!run.isStopped) {
+      draw(download, () => showProgress(download, done), SHOWN_MILLISECONDS);
     }
     return !run.isStopped;
   };

@@ -8,11 +8,30 @@ function button(words, call) {
   return made;
 }
 
-// The heading of a row: the verdict, and then the name in its box.
-function headOf(sign, words, {name}) {
+// How many rows have each verdict.
+const counts = new Map();
+
+function count(verdict, change) {
+  counts.set(verdict, (counts.get(verdict) ?? 0) + change);
+}
+
+// A verdict as its sign, its words, and what is said after them.
+function signed(verdict, more) {
+  const [sign, words] = VERDICTS.get(verdict);
   const picture = element("span", "", `${sign} `);
   picture.ariaHidden = "true";
-  return element("h3", "", element("span", "verdict", picture, words), " ", nameOf(name));
+  return element("span", "verdict", picture, words + more);
+}
+
+// Shows the worst verdict of all at the top of the window, of how many files it is, and what to do next.
+function showBand() {
+  const verdict = [...VERDICTS.keys()].find(it => counts.get(it) > 0);
+  at("band").hidden = verdict === undefined;
+  if (verdict !== undefined) {
+    const of = downloads.size > 1 ? `: ${counts.get(verdict)} of ${downloads.size} files` : "";
+    at("band").dataset.verdict = verdict;
+    at("band").replaceChildren(element("p", "", signed(verdict, of)), element("p", "", VERDICTS.get(verdict)[2]));
+  }
 }
 
 // How long the file is, and the name of its signature where that is not the file's with its ending.
@@ -23,13 +42,34 @@ function partsLine({name, data, signature}) {
   return element("p", "aside", size, size && other.length > 0 ? ", " : "", ...other);
 }
 
-// Fills a row anew. A focus that was in it goes on to the row's button, or to the row.
-function fill(download, kind, ...inside) {
+// What rows are to show next, and when some were last drawn.
+const undrawn = new Map();
+let drawnAt = -Infinity, drawing;
+
+// Has a row drawn: now, or with others, so many milliseconds after the last ones.
+function draw(download, show, after = 0) {
+  undrawn.set(download, show);
+  clearTimeout(drawing);
+  drawing = setTimeout(drawAll, drawnAt + Math.max(after, downloads.size / 2) - performance.now());
+}
+
+function drawAll() {
+  const shows = [...undrawn.values()];
+  undrawn.clear();
+  shows.forEach(show => show());
+  drawnAt = performance.now();
+}
+
+// Fills a row anew, below its heading, which is the verdict and the name in its box. A focus that was in it goes on to the row's button, or to the row.
+function fill(download, verdict, ...inside) {
   const {row} = download;
   const hadFocus = row.contains(document.activeElement);
-  row.dataset.verdict = kind;
+  count(row.dataset.verdict, -1);
+  count(verdict, 1);
+  row.dataset.verdict = verdict;
   delete row.dataset.number;
-  row.replaceChildren(...inside);
+  row.replaceChildren(element("h3", "", signed(verdict, ""), " ", nameOf(download.name)), ...inside);
+  showBand();
   if (hadFocus) {
     row.tabIndex = -1;
     (row.querySelector("button") ?? row).focus();
@@ -41,7 +81,7 @@ function showWaiting(download) {
   const why = !data ? ["The file itself is missing: choose or drop it, or both at once."]
     : !signature ? ["Its signature is missing: choose or drop ", nameOf(name + SIGNATURE_ENDING), ", or both at once."]
       : [key ? "It waits for those before it." : "The public key is missing."];
-  fill(download, "waiting", headOf("…", "Not verified yet", download), partsLine(download), element("p", "", ...why));
+  fill(download, "waiting", partsLine(download), element("p", "", ...why));
 }
 
 function showProgress(download, done) {
@@ -49,8 +89,7 @@ function showProgress(download, done) {
   if (row.dataset.verdict !== "reading") {
     const bar = element("progress", "");
     bar.ariaLabel = `Reading ${seeable(download.name)}`;
-    fill(download, "reading", headOf("…", "Not verified yet", download), partsLine(download), bar, element("p", "share"),
-      button("Stop", () => stopByHand(download)));
+    fill(download, "reading", partsLine(download), bar, element("p", "share"), button("Stop", () => stopByHand(download)));
   }
   row.querySelector("progress").max = Math.max(data.size, 1);
   row.querySelector("progress").value = done;
@@ -60,43 +99,49 @@ function showProgress(download, done) {
 function stopByHand(download) {
   stop(download);
   download.state = "stopped";
-  fill(download, "stopped", headOf("–", "Stopped: nothing is known of this file", download), partsLine(download),
-    button("Verify it again", () => {
-      download.state = "";
-      reviewAll();
-    }));
+  fill(download, "stopped", partsLine(download), button("Verify it again", () => {
+    download.state = "";
+    reviewAll();
+  }));
   say(download, "Stopped, nothing is known of this file");
 }
 
-function showVerdict(download, {kind, why, number, questions, comment}, source) {
-  const isGood = kind === "good";
-  const head = isGood ? headOf("✓", "Verified", download) : headOf("✗", "NOT verified", download);
-  const warning = SOURCES.get(source.kind)[kind];
-  fill(download, kind, head, ...(warning ? [element("p", "caution", warning)] : []), partsLine(download),
+// Shows a verdict, which is never the best one under a key that nobody gave. The first that an act brings comes into view.
+function showVerdict(download, {isGood, why, number, questions, comment}, source) {
+  const {isGiven, fits, fails} = SOURCES.get(source.kind);
+  const verdict = !isGood ? "bad" : isGiven ? "good" : "unchecked";
+  const ofKey = isGood ? fits : fails;
+  fill(download, verdict, ...(ofKey ? [element("p", isGiven ? "" : "caution", ofKey)] : []), partsLine(download),
     ...(isGood ? goodLines(download, questions, comment, source) : badLines(why, number, questions)));
   if (number !== undefined) {
     download.row.dataset.number = number;
   }
-  const words = isGood ? `Verified, signed with the key ${questions.publicKeyId}.` : `NOT verified. ${why}`;
-  say(download, warning ? `${words} ${warning}` : words);
+  const [, words] = VERDICTS.get(verdict);
+  say(download, `${words}. ${isGood ? `The key is ${questions.publicKeyId}.` : why} ${ofKey}`);
+  if (!download.act.isAnswered) {
+    download.act.isAnswered = true;
+    download.row.scrollIntoView({block: "nearest"});
+  }
 }
 
 function goodLines(download, questions, comment, source) {
-  const signed = element("p", "", `This file is exactly what was signed with the key ${questions.publicKeyId}, `,
+  const first = element("p", "", "This file is exactly what was signed with the key ", lettersBox(questions.publicKeyId), ", ",
     ...sourceOf(source), ".");
   if (comment === "") {
-    return [signed, element("p", "", "The trusted comment, which was signed with it, is empty.")];
+    return [first, element("p", "", "The trusted comment, which was signed with it, is empty.")];
   }
-  const box = element("div", "comment", ...shown(comment));
+  const box = verbatim("div", "comment", ...shown(comment));
   box.tabIndex = 0;
   box.role = "group";
   box.ariaLabel = "Trusted comment";
   const {names, time} = toldByComment(comment);
   const otherNames = names.filter(name => !isSameName(name, download.data.name));
   return [
-    signed,
-    ...otherNames.map(name => element("p", "caution", "The signer's name of this file is another one: ", nameOf(name),
-      ". It may be another file, or an older one, than its name here says.")),
+    first,
+    ...otherNames.map(name => isAlikeName(name, download.data.name)
+      ? element("p", "", "The signer's name of this file is ", nameOf(name), ".")
+      : element("p", "caution", "The signer's name of this file is another one: ", nameOf(name),
+        ". It may be another file, or an older one, than its name here says.")),
     element("p", "", "The trusted comment, which was signed with it:"), box,
     ...(time ? [element("p", "", `By the signer's clock it was signed on ${time}.`)] : []),
   ];
@@ -106,7 +151,8 @@ function badLines(why, number, questions) {
   const lines = [element("p", "why", why)];
   if (number === 29) {
     const {signatureKeyId, publicKeyId} = questions;
-    lines.push(element("p", "", `The signature's key is ${signatureKeyId}, and the public key is ${publicKeyId}.`));
+    lines.push(element("p", "", "The signature's key is ", lettersBox(signatureKeyId), ", and the public key is ",
+      lettersBox(publicKeyId), "."));
   }
   if (number !== undefined) {
     lines.push(element("p", "aside", `In the library's words: ${library.errorText(number)}.`));

@@ -7,17 +7,24 @@ const KEY_LETTERS = /^[A-Za-z0-9+/]{56}$/;
 const KEY_LINE = /^RW[A-Za-z0-9+/]{54}$/;
 const SIGNATURE_LINE = /^R[UW][A-Za-z0-9+/]{97}=$/;
 const SECRET_KEY_LINE = /RW(RTY0Iy|QAAEIy)[A-Za-z0-9+/]{100}/;
+const PGP_LINE = /^-----BEGIN PGP /;
 const COMMAND = /\bminisign(-verify)?(\.exe)?["']?\s+-|(^|\s)-P\s*["']?RW/;
 
 function linesOf(text) {
   return text.split("\n").map(line => line.trim());
 }
 
-// "secret key", "signature", "key", or nothing where it is none of them.
+// "secret key", "PGP", "signature", "key", also the line of one alone, or nothing where it is none of them.
 function kindOfText(text) {
   const lines = linesOf(text);
   if (lines.some(line => SECRET_KEY_LINE.test(line))) {
     return "secret key";
+  }
+  if (PGP_LINE.test(lines[0])) {
+    return "PGP";
+  }
+  if (KEY_LINE.test(text.trim())) {
+    return "key";
   }
   if (lines[0].startsWith("untrusted comment:") && lines[2]?.startsWith("trusted comment:")) {
     return "signature";
@@ -25,21 +32,31 @@ function kindOfText(text) {
   return lines[0].startsWith("untrusted comment:") && KEY_LINE.test(lines[1] ?? "") ? "key" : "";
 }
 
+// The key that stands in a text between other characters, or broken over lines, where there is one alone.
+function keyIn(text) {
+  const joined = linesOf(text).filter(line => !line.startsWith("untrusted comment:")).join("");
+  const found = new Set([joined, ...text.split(/[^A-Za-z0-9+/]+/)].filter(word => KEY_LINE.test(word)));
+  return found.size === 1 ? [...found][0] : "";
+}
+
 // What stands where a key should, in a word of HINTS, or nothing where it cannot be told.
 function hintOf(text) {
   const lines = linesOf(text);
   const kind = kindOfText(text);
-  if (kind === "secret key" || kind === "signature") {
+  if (kind && kind !== "key") {
     return kind;
   }
   if (lines.some(line => SIGNATURE_LINE.test(line))) {
     return "signature";
   }
+  if (text.includes("#") && lettersOfAddress(text.trim().replace(/^.*?#/s, ""))) {
+    return "link";
+  }
   if (COMMAND.test(text)) {
     return "command";
   }
-  const hasLine = lines.some(line => KEY_LINE.test(line));
-  return !hasLine && text.split(/[\s"'`<>:;,.=()]+/).some(word => KEY_LINE.test(word)) ? "words" : "";
+  const found = keyIn(text);
+  return found === "" ? "" : text.trim() === found ? "alone" : text.includes(found) ? "words" : "broken";
 }
 
 // The 56 letters of a public key, as minisign writes them, from the bytes that the library told of it: the key's 32, and the 8
@@ -79,6 +96,13 @@ function toldByComment(comment) {
 // Whether two names are the same, but for how letters with marks are written.
 function isSameName(name, other) {
   return name.normalize() === other.normalize();
+}
+
+// Whether they differ at most in directories, in large and small letters, and in the number of a second download.
+function isAlikeName(name, other) {
+  const [bare, otherBare] = [name, other].map(it =>
+    it.replace(/^.*[\\/]/s, "").replace(/\s?\(\d+\)(?=(\.[^.\s]+)*$)/, "").normalize().toLowerCase());
+  return bare === otherBare;
 }
 
 // The trusted comments that may have been signed where the text's own, cut of white space, was not: with what stands at its

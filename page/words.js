@@ -9,10 +9,10 @@ const WHY_NO_KEY = new Map([
   [8, `This public key is not a text. ${NO_KEY}`],
   [16, `The text of the public key is empty. ${NO_KEY}`],
   [17, `The text of the public key has no second line. ${NO_KEY}`],
-  [18, `The second line of the public key is not 56 letters long. ${NO_KEY}`],
+  [18, `The second line of the public key is not 56 letters and digits long. ${NO_KEY}`],
   [19, `The second line of the public key has a letter that no key has. ${NO_KEY}`],
   [20, `The public key has too few bytes. ${NO_KEY}`],
-  [44, `A public key is 56 letters long, and this is not. ${NO_KEY}`],
+  [44, `A public key is 56 letters and digits long, and this is not. ${NO_KEY}`],
   [45, `The public key has a letter that no key has. ${NO_KEY}`],
 ]);
 
@@ -45,38 +45,50 @@ const TOO_LONG_A_KEY = "No public key: this cannot be read, or is longer than th
 const HINTS = new Map([
   ["secret key", "This is a secret key. Nobody but its owner may ever see it, and no page needs it. " +
     "The public key is the other file, mostly minisign.pub."],
-  ["signature", "This is a signature, and not a key. Choose or drop it below, together with its file."],
-  ["command", "This is a command line. Paste only the key in it: the 56 letters after -P, which begin with RW."],
-  ["words", "There are other words around the key. Paste only its 56 letters, which begin with RW."],
+  ["signature", "This is a signature, and not a key. Paste, choose or drop it below, together with its file."],
+  ["key", "This is a public key, and not a signature. Paste it above."],
+  ["PGP", "This is of PGP, which this page does not verify. A Minisign signature ends in .minisig, and a key begins with RW."],
+  ["link", "This is a link to a page like this, and who made the link chose the key in it. Paste the key that the project publishes."],
+  ["command", "This is a command line. Paste only the key in it, 56 letters and digits after -P, which begin with RW."],
+  ["words", "There are other words around the key, or quotes, or characters that show nothing. Paste only the key:"],
+  ["broken", "The key is broken over several lines. Paste it as one:"],
+  ["alone", "The key stands alone here, without the first line of a key's file. Paste it into the field:"],
 ]);
+// After these words the key itself stands.
+const HINTS_WITH_KEY = ["command", "words", "broken", "alone"];
+const NO_SIGNATURE = "This is not the text of a signature, whose four lines begin with “untrusted comment:”.";
 
 const HAS_DIRECTORIES = "A directory cannot be verified: open it, and drop the file and its signature themselves.";
 const SEVERAL_KEYS = "No public key: these are several keys. Choose or drop one of them.";
-const NO_KEY_IN_ADDRESS = "No public key: the link to this page has something else after # than the 56 letters of a key.";
-const COMPARE = "Compare its 56 letters with those that the project publishes";
-const WHOSE = `This page cannot know whose key it is. ${COMPARE}.`;
+const NO_KEY_IN_ADDRESS = "No public key: the link to this page has something else after # than the 56 letters and digits of a key.";
+const NO_KEY_IN_FIELD = "what stands in the field above stays, and is no key. Put it right, or empty the field.";
+const WHOSE = "This page cannot know whose key it is. Compare its 56 letters and digits with those that the project publishes.";
 const WITH_FILES = "The key came with the files: who made the files may have made the key.";
 const BY_LINK = "The key came with the link to this page: who made the link chose it.";
+const PASTE = "Before you use the file, get the key from where the project publishes it, and paste it into its field.";
 
-// How a key came here, by its source: how it goes on after "the key ..", and what is warned of beside each verdict, good or
-// not. NAME stands for the name of its file.
+// The verdicts and what stands in the place of one, the worst first: the sign, the words, and what to do next.
+const VERDICTS = new Map([
+  ["bad", ["✗", "NOT verified", "Do not use the file: get it, its signature and the key again from the project."]],
+  ["unchecked", ["?", "Signed, by a key that you have not checked", PASTE]],
+  ["stopped", ["–", "Stopped: nothing is known of this file", "Have it verified again, below."]],
+  ["waiting", ["…", "Not verified yet", "Add what is missing, below."]],
+  ["reading", ["…", "Not verified yet", "Wait until it is read."]],
+  ["good", ["✓", "Verified", `You can use the file, if ${BUILT_IN_KEY ? "this page" : "the key"} is the project's own.`]],
+]);
+
+// How a key came here, by its source: how it goes on after "the key ..", whether somebody gave it who checked it, and what stands
+// beside the verdict on a signature that fits, and on another one. NAME stands for the name of its file.
 const SOURCES = new Map([
-  ["typed", {from: ["which you pasted or typed"], good: WHOSE, bad: ""}],
-  ["chosen", {from: ["which you chose as the file ", "NAME"], good: WHOSE, bad: ""}],
-  ["files", {
-    from: ["which came with the files as ", "NAME"],
-    good: `${WITH_FILES} ${COMPARE} in another place before you use the file.`,
-    bad: WITH_FILES,
-  }],
-  ["link", {
-    from: ["which the link to this page had"],
-    good: `${BY_LINK} ${COMPARE} before you use the file.`,
-    bad: BY_LINK,
-  }],
+  ["typed", {from: ["which you pasted or typed"], isGiven: true, fits: WHOSE, fails: ""}],
+  ["chosen", {from: ["which you chose as the file ", "NAME"], isGiven: true, fits: WHOSE, fails: ""}],
+  ["files", {from: ["which came with the files as ", "NAME"], isGiven: false, fits: `${WITH_FILES} ${PASTE}`, fails: WITH_FILES}],
+  ["link", {from: ["which the link to this page had"], isGiven: false, fits: `${BY_LINK} ${PASTE}`, fails: BY_LINK}],
   ["page", {
     from: ["which is built into this page"],
-    good: "The key is built into this page: the verdict is worth as much as the place that you have the page from.",
-    bad: "",
+    isGiven: true,
+    fits: "The key is built into this page: the verdict is worth as much as the place that you have the page from.",
+    fails: "",
   }],
 ]);
 
@@ -123,9 +135,21 @@ function shown(text) {
   return [...nodes, text.slice(at)];
 }
 
+// An element that no browser translates.
+function verbatim(...parts) {
+  const made = element(...parts);
+  made.translate = false;
+  return made;
+}
+
 // The name of a file, in its own box.
 function nameOf(name) {
-  return element("bdi", "name", ...shown(name));
+  return verbatim("bdi", "name", ...shown(name));
+}
+
+// The letters of a key, or its identifier.
+function lettersBox(letters) {
+  return verbatim("code", "letters", letters);
 }
 
 // How a key came here, as nodes.
@@ -140,5 +164,5 @@ function sizeOf(bytes) {
     value /= 1000;
     unit += 1;
   }
-  return `${unit === 0 ? value : value.toFixed(1)} ${units[unit]}`;
+  return bytes === 1 ? "1 byte" : `${unit === 0 ? value : value.toFixed(1)} ${units[unit]}`;
 }

@@ -24,7 +24,8 @@ export interface Verified {
  * Resolves exactly where the signature vouches for all of the data under the key. Otherwise it rejects: with a MinisignError
  * for the first reason why not, and before any data is read where that is in the texts; with a TypeError where an argument is
  * of no such type; with what the stream failed with; with an Error where there is no Ed25519 in WebCrypto, as in a page that
- * was loaded by http.
+ * was loaded by http. Where it rejects, a stream of Node is destroyed, one of the web cancelled, and what gives pieces is told
+ * by `return` that no more are taken.
  *
  * A key is the text of its file, or as a string of one line its 56 letters alone, after which white space is left out.
  */

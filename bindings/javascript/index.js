@@ -57,14 +57,12 @@ function textOf(it, what) {
   return bytes;
 }
 
-// The data in its pieces: bytes, a Blob, a stream of bytes, or what gives pieces of bytes one after another.
-async function* piecesOf(data) {
-  const stream = data instanceof Blob ? data.stream() : data;
-  const whole = bytesOf(data);
-  if (whole !== null) {
-    yield whole;
-  } else if (typeof stream?.getReader === "function") {
-    const reader = stream.getReader();
+// The data in its pieces: bytes, a stream of bytes, or what gives pieces of bytes one after another.
+async function* piecesOf(source) {
+  if (bytesOf(source) !== null) {
+    yield source;
+  } else if (typeof source?.getReader === "function") {
+    const reader = source.getReader();
     try {
       for (let next = await reader.read(); !next.done; next = await reader.read()) {
         yield next.value;
@@ -72,14 +70,30 @@ async function* piecesOf(data) {
     } finally {
       reader.releaseLock();
     }
-  } else if (stream?.[Symbol.asyncIterator] || typeof stream === "object" && stream?.[Symbol.iterator]) {
-    yield* stream;
+  } else if (source?.[Symbol.asyncIterator] || typeof source === "object" && source?.[Symbol.iterator]) {
+    yield* source;
   } else {
     throw new TypeError("the data is neither bytes, nor a Blob, nor a stream of bytes");
   }
 }
 
-export async function verify(data, signature, key, {allowLegacy = false} = {}) {
+// Rejects with the error of a stream of Node, from now on. It stays: an error that nobody listens to ends the program, and one
+// can come of a stream that is given up.
+const failureOf = source => new Promise((_, reject) => source?.on?.("error", reject));
+
+// Has a stream that is read no further give back what it holds: one of Node, one of the web, or what gives pieces.
+const giveUp = async (source, why) => source?.destroy ? source.destroy() : source?.cancel ? source.cancel(why) : source?.return?.();
+
+export async function verify(data, signature, key, options) {
+  const source = data instanceof Blob ? data.stream() : data;
+  return Promise.race([verified(source, signature, key, options), failureOf(source)]).catch(why => {
+    // (how this ends is the stream's own affair: what is told is why the data was rejected)
+    giveUp(source, why).catch(() => {});
+    throw why;
+  });
+}
+
+async function verified(source, signature, key, {allowLegacy = false} = {}) {
   const signatureText = textOf(signature, "signature"), keyText = textOf(key, "public key");
   const isBare = typeof key === "string" && !key.trimEnd().includes("\n");
   const library = await loaded();
@@ -92,7 +106,7 @@ export async function verify(data, signature, key, {allowLegacy = false} = {}) {
   hold(read.number);
   const verification = new Verification(library, read.key, signatureText, allowLegacy === true);
   hold(verification.number);
-  for await (const piece of piecesOf(data)) {
+  for await (const piece of piecesOf(source)) {
     const bytes = bytesOf(piece);
     if (bytes === null) {
       throw new TypeError("a piece of the data is no bytes");

@@ -7,7 +7,8 @@ program in an empty directory; in Node, and in a page and a worker of Chromium a
 The module is that of PAGE, the one of `dist/` where none is named. What the package answers to kept keys and signatures, to
 damaged ones, to data in pieces of each kind, and to signatures that implementations of Ed25519 differ in is compared with
 `c/minisign` and with libsodium; why it rejects, the list of errors and the sizes of structs, with the header. The example of
-README.md runs, also over what npm installs. It runs where there is nothing but the language and a few globals that browsers, Node,
+README.md runs, also over what npm installs. A stream is closed where the promise is rejected, and its errors reject the promise,
+whenever they come. It runs where there is nothing but the language and a few globals that browsers, Node,
 Deno and workers all have, and needs each of these. Many calls take no more memory, and threads get the same answers. Each of some
 planted bugs is noticed. Where there is no npm, the files that package.json names are taken. It prints a line for each failure;
 the last line is `N passed, M failed`.
@@ -37,7 +38,7 @@ from shared_cases import TOP, Case, Checks, read, run
 
 PACKAGE = os.path.join(TOP, "bindings", "javascript")
 BUILD = os.path.join(TOP, "page", "build.py")
-PROGRAM = os.path.join(HERE, "javascript", "answers.mjs")
+PROGRAMS = [os.path.join(HERE, "javascript", name) for name in ("answers.mjs", "streams.mjs")]
 BROWSERS = os.path.join(HERE, "javascript_browsers.py")
 MODULE = "module.js"
 LINES = 300
@@ -73,7 +74,8 @@ def made(room, page):
         status, _, why = run([sys.executable, BUILD, "--package", "--from", page, os.path.join(package, MODULE)])
         if status != 0:
             raise static_library.NotBuilt(why)
-    shutil.copy(PROGRAM, user)
+    for program in PROGRAMS:
+        shutil.copy(program, user)
     return user
 
 
@@ -188,6 +190,25 @@ def check_keys(checks, program):
         checks.check(answer == wanted, f"the key {text!r}: {answer} in place of {wanted}")
 
 
+# What becomes of streams, in the words of `streams.mjs`.
+STREAMS = {
+    "descriptors": ["MISSING_SIGNATURE 0", "BARE_PUBLIC_KEY_LENGTH 0", *["TypeError 0"] * 3], "opening": ["MISSING_SIGNATURE 0"],
+    "cancelled": ["MISSING_SIGNATURE MISSING_SIGNATURE false", "BARE_PUBLIC_KEY_LENGTH BARE_PUBLIC_KEY_LENGTH false",
+                  *["TypeError TypeError false"] * 4, "MISSING_SIGNATURE undefined"],
+    "absent": ["ENOENT"], "both": ["rejected"], "begun": ["BEGUN"], "between": ["BETWEEN"], "event": ["EVENT"],
+    "late": ["MISSING_SIGNATURE true"], "web": ["start", "pull", "MISSING_SIGNATURE ERR_INVALID_STATE"],
+    "accepted": ["accepted,accepted 0 false"],
+}
+
+
+def check_streams(checks, program):
+    """Where the promise is rejected the stream is destroyed or cancelled, and no error of it is lost, nor ends the program."""
+    paths = [os.path.join(shared_cases.CORPUS, name) for name in ("published.pub", "test", "published.minisig")]
+    for what, wanted in STREAMS.items():
+        status, said, why = run([program.node, "streams.mjs", what, *paths], directory=program.user)
+        checks.check((status, said.decode().splitlines()) == (0, wanted), f"streams, {what}: {status} {said} {why[-500:]}")
+
+
 def check_readme(checks, program):
     """The example of the README accepts data that its key has signed, and says why it rejects other data."""
     example = re.search(r"^```js\n(.*?)^```$", text_of("README.md"), re.M | re.S)[1]
@@ -198,7 +219,8 @@ def check_readme(checks, program):
     comment = b"verified, and signed with it: timestamp:1556193335\tfile:test\n"
     for name, wanted, rejected in (("test", comment, ""), ("hello", b"", "SIGNATURE_REFUSED: ")):
         named = [os.path.join(shared_cases.CORPUS, it) for it in (name, "published.minisig")]
-        status, said, why = run([program.node, path, *named], directory=program.user)
+        # (Node 18 warns that its Ed25519 is experimental)
+        status, said, why = run([program.node, path, *named], directory=program.user, environment={"NODE_NO_WARNINGS": "1"})
         checks.check((status, said) == (0, wanted) and why.startswith(rejected) and bool(why) == bool(rejected), f"the README's example of {name}: {said} {why}")
 
 
@@ -273,6 +295,7 @@ def check_browsers(checks, program, room, minisign):
             shared_cases.compare(checks, f"{what}, without them", cases, lines(answers["strict"]), strict)
             shared_cases.compare(checks, f"{what}, in pieces", kept, lines(answers["pieces"]), in_pieces)
             checks.check(answers["vectors"] == [it["sodium"] for it in vectors], f"{what}: other answers to the vectors than libsodium's")
+            checks.check(answers["cancelled"], f"{what}: a stream is not cancelled")
         print(f"bindings/javascript: in a page and in a worker of {browser} {told['version']}", flush=True)
 
 
@@ -286,6 +309,11 @@ BUGS = [
     ("calls.js", "it ? ANSWER_YES : ANSWER_NO", "it ? ANSWER_YES : ANSWER_YES"),
     ("calls.js", "allowsLegacy ? 1 : 0", "1"),
     ("index.js", "UNSUPPORTED_ALGORITHM: 28, DIFFERENT_KEY_IDS: 29", "UNSUPPORTED_ALGORITHM: 29, DIFFERENT_KEY_IDS: 28"),
+    ("index.js", "source.destroy()", "null"),
+    ("index.js", "source.cancel(why)", "null"),
+    ("index.js", "source?.return?.()", "null"),
+    ("index.js", 'source?.on?.("error", reject)', 'source?.on?.("error", () => {})'),
+    ("index.js", "giveUp(source, why).catch(() => {});", 'giveUp(source, why).catch(() => {}); source?.removeAllListeners?.("error");'),
 ]
 
 
@@ -307,6 +335,7 @@ def check_planted(checks, program, room, minisign):
         shared_cases.compare(found, "without them", cases, other.said(lines, "cases"), strict)
         found.check(b" and " not in other.said(shared_cases.lines_of(kept), "pieces", "legacy"), "in pieces")
         check_rejections(found, other)
+        check_streams(found, other)
         answers = other.said(json.dumps(vectors).encode(), "vectors").decode().split()
         found.check(answers == [str(it["sodium"]).lower() for it in vectors], "vectors")
         checks.check(old in text and found.failures, f"planted in {file}, and not noticed: {new}")
@@ -333,6 +362,7 @@ def main():
             check_rejections(checks, program)
             check_vectors(checks, program, room, minisign)
             check_keys(checks, program)
+            check_streams(checks, program)
             check_readme(checks, program)
             check_bare(checks, program)
             check_npm(checks, program, room)

@@ -11,8 +11,8 @@ ACTS = 150
 NAMES = ("a.zip", "b.zip")
 DATA = (b"one", b"two")
 KEYS = ("first", "second")
-# How the warning beside a good verdict begins, by how the key came.
-WARNINGS = {"typed": "This page cannot know", "chosen": "This page cannot know", "files": "The key came with the files"}
+# The verdict on a signature that fits, by how the key came.
+FITS = {"typed": "good", "chosen": "good", "files": "unchecked"}
 
 
 class Model:
@@ -29,6 +29,9 @@ class Model:
         for name, kind, what in files:
             if kind != "key":
                 self.downloads.setdefault(data[0][0] if is_pair else name, {})[kind] = what
+        alone = [[name for name, parts in self.downloads.items() if part not in parts] for part in ("signature", "data")]
+        if all(len(names) == 1 for names in alone):
+            self.downloads[alone[0][0]]["signature"] = self.downloads.pop(alone[1][0])["signature"]
         keys = [what for _, kind, what in files if kind == "key"]
         if keys and self.key is None:
             self.key, self.source = keys[0], "files"
@@ -42,7 +45,7 @@ class Model:
             return "waiting", None
         signer, signed = signature
         number = 29 if signer != self.key else 0 if signed == data else 31
-        return "good" if number == 0 else "bad", number
+        return FITS[self.source] if number == 0 else "bad", number
 
 
 def check_acts(person, minisign):
@@ -62,8 +65,6 @@ def check_acts(person, minisign):
         checks.same([(row["name"], row["verdict"], row["number"]) for row in rows], model.rows(), what)
         whole = f"In full: {lines(texts[model.key])[1].decode()}" if model.key else ""
         checks.same(browser.text_of("key-whole") if browser.is_shown("key-whole") else "", whole, f"{what}: the key")
-        checks.check(all(row["cautions"][0].startswith(WARNINGS[model.source]) for row in rows if row["verdict"] == "good"),
-                     f"{what}: the warnings")
 
 
 def act(person, model, chance, texts, signatures):

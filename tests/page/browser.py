@@ -21,7 +21,9 @@ ROWS = """return Array.from(document.querySelectorAll("#verdicts > li"), row => 
   verdict: row.dataset.verdict, number: row.dataset.number === undefined ? null : Number(row.dataset.number),
   head: row.querySelector(".verdict").textContent, name: row.querySelector(".name").textContent, text: row.innerText,
   why: row.querySelector(".why")?.textContent ?? "", comment: row.querySelector(".comment")?.textContent ?? null,
-  cautions: Array.from(row.querySelectorAll(".caution"), it => it.innerText)}))"""
+  cautions: Array.from(row.querySelectorAll(".caution"), it => it.innerText),
+  bold: Array.from(row.querySelectorAll("*")).filter(it => getComputedStyle(it).fontWeight >= 600 && !it.parentElement.closest(".verdict, .caution"))
+    .map(it => it.innerText.trim())}))"""
 # Whether something that a person did is still taken in, or a row is being verified or waits for others.
 IS_BUSY = """return Number(document.documentElement.dataset.pending) > 0
   || document.querySelector('#verdicts > li[data-verdict="reading"]') !== null
@@ -30,7 +32,8 @@ IS_READY = "return document.documentElement.dataset.ready !== undefined"
 
 
 class Browser:
-    """What is the same in each browser. It has `run`, `run_later`, `go`, `send`, `press`, `drop`, `processes`, `quit` and `picture`."""
+    """What is the same in each browser. It has `run`, `run_later`, `go`, `send`, `press`, `drop`, `drop_text`, `resize`,
+    `force_colours`, `processes`, `quit` and `picture`."""
 
     # Whether it is Chromium, whose own protocol shows and changes what a page cannot.
     is_chromium = False
@@ -66,8 +69,12 @@ class Browser:
 
     def type_key(self, text):
         """Has the key's field hold this text, as if it were pasted."""
-        self.run("""const field = document.getElementById("key-text"); field.value = arguments[0];
-          field.dispatchEvent(new Event("input", {bubbles: true}));""", text)
+        self.type_text("key-text", text)
+
+    def type_text(self, name, text):
+        """Has the field of this name hold this text, as if it were pasted."""
+        self.run("""const field = document.getElementById(arguments[0]); field.value = arguments[1];
+          field.dispatchEvent(new Event("input", {bubbles: true}));""", name, text)
         self.taken()
 
     def choose_key(self, path):
@@ -96,6 +103,11 @@ class Browser:
 
     def rows(self):
         return self.run(ROWS)
+
+    def band(self):
+        """The verdict at the top of the window, and what it says; nothing where there is none."""
+        return self.run("""const band = document.getElementById("band");
+          return band?.checkVisibility() ? [band.dataset.verdict, ...Array.from(band.children, it => it.innerText)] : null""")
 
     def row(self, name):
         return next(row for row in self.rows() if row["name"] == name)
@@ -172,6 +184,17 @@ class Chromium(Browser):
         """A command of the browser's own protocol."""
         return self.driver.execute_cdp_cmd(name, arguments)
 
+    def resize(self, width=None, height=None):
+        """Gives the page so much room, or all of the window."""
+        if width is None:
+            self.command("Emulation.clearDeviceMetricsOverride")
+        else:
+            self.command("Emulation.setDeviceMetricsOverride", width=width, height=height, deviceScaleFactor=1, mobile=False)
+
+    def force_colours(self, is_forced):
+        """Has the system force its colours on the page, or not."""
+        self.command("Emulation.setEmulatedMedia", features=[{"name": "forced-colors", "value": "active"}] if is_forced else [])
+
     def go(self, address):
         self.driver.get(address)
 
@@ -181,10 +204,16 @@ class Chromium(Browser):
 
     def drop(self, place, *paths):
         """Drops files together on the element of this name."""
+        self.drop_data(place, {"items": [], "files": [os.path.realpath(path) for path in paths], "dragOperationsMask": 1})
+
+    def drop_text(self, place, text):
+        """Drops a text on the element of this name."""
+        self.drop_data(place, {"items": [{"mimeType": "text/plain", "data": text}], "dragOperationsMask": 1})
+
+    def drop_data(self, place, data):
         box = self.run("""document.getElementById(arguments[0]).scrollIntoView();
           const box = document.getElementById(arguments[0]).getBoundingClientRect();
           return [box.left + box.width / 2, box.top + Math.min(box.height, innerHeight) / 2]""", place)
-        data = {"items": [], "files": [os.path.realpath(path) for path in paths], "dragOperationsMask": 1}
         for kind in ("dragEnter", "dragOver", "drop"):
             self.command("Input.dispatchDragEvent", type=kind, x=box[0], y=box[1], data=data)
         self.taken()

@@ -60,7 +60,7 @@ def key_errors(pk):
         Error(8, "public key is not a text", b"untrusted comment: \xff\n" + line + b"\n"),
         Error(16, "text of the public key is empty", b""),
         Error(17, "public key has no second line", comment + b"\n"),
-        Error(18, "second line of the public key is not 56 letters long", joined([comment, line[:-4]])),
+        Error(18, "second line of the public key is not 56 letters and digits long", joined([comment, line[:-4]])),
         Error(19, "public key has a letter that no key has", joined([comment, b"-" + line[1:]])),
         Error(20, "public key has too few bytes", joined([comment, base64.b64encode(bytes(40))])),
     ]
@@ -70,7 +70,7 @@ def typed_key_errors(pk):
     """Each error of a public key that is typed as one line."""
     line = lines(pk)[1]
     return [
-        Error(44, "is 56 letters long, and this is not", line[:-1]),
+        Error(44, "is 56 letters and digits long, and this is not", line[:-1]),
         Error(45, "public key has a letter that no key has", b"-" + line[1:]),
         Error(20, "public key has too few bytes", base64.b64encode(bytes(40))),
     ]

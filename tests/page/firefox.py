@@ -37,7 +37,7 @@ class Firefox(Browser):
         with open(os.path.join(profile, "user.js"), "w", encoding="utf-8") as file:
             for name, value in PREFERENCES.items():
                 file.write(f"user_pref({json.dumps(name)}, {json.dumps(value)});\n")
-        command = [program, "--headless", "--marionette", "--no-remote", "--profile", profile, f"--width={width}",
+        command = [program, "--headless", "--marionette", "--remote-allow-system-access", "--no-remote", "--profile", profile, f"--width={width}",
                    f"--height={height}", "about:blank"]
         self.process = subprocess.Popen(command, stdin=subprocess.DEVNULL, stdout=subprocess.DEVNULL,
                                         stderr=subprocess.DEVNULL,
@@ -109,6 +109,27 @@ class Firefox(Browser):
     def go(self, address):
         self.order("WebDriver:Navigate", url=address)
 
+    def run_in_window(self, script, *arguments):
+        """Runs a script in the browser's own window, around the page."""
+        self.order("Marionette:SetContext", value="chrome")
+        try:
+            return self.run(script, *arguments)
+        finally:
+            self.order("Marionette:SetContext", value="content")
+
+    def resize(self, width=None, height=None):
+        """Gives the page so much room, or all of the window. (The window itself is 500 wide at least.)"""
+        self.run_in_window("""const {style} = gBrowser.selectedBrowser, [width, height] = arguments;
+          style.cssText = width === null ? "" : `min-width: 0; flex: none; align-self: flex-start; width: ${width}px; height: ${height}px`;""",
+                           width, height)
+        wanted = [width, height]
+        self.wait(lambda: (self.run("return [innerWidth, innerHeight]") == wanted) == (width is not None))
+
+    def force_colours(self, is_forced):
+        """Has the system force its colours on the page, or not."""
+        self.run_in_window("""Services.prefs.setIntPref("browser.display.document_color_use", arguments[0] ? 2 : 0)""", is_forced)
+        self.wait(lambda: self.run("return matchMedia('(forced-colors: active)').matches") == is_forced)
+
     def send(self, name, text):
         """Types into the element of this name, or chooses files there."""
         found = self.order("WebDriver:FindElement", using="css selector", value=f"#{name}")
@@ -125,6 +146,14 @@ class Firefox(Browser):
           input.remove();
           const event = new DragEvent("drop", {dataTransfer: data, bubbles: true, cancelable: true});
           document.getElementById(arguments[0]).dispatchEvent(event)""", place)
+        self.taken()
+
+    def drop_text(self, place, text):
+        """Drops a text on the element of this name."""
+        self.run("""const data = new DataTransfer(), [place, text] = arguments;
+          data.setData("text/plain", text);
+          document.getElementById(place).dispatchEvent(new DragEvent("drop", {dataTransfer: data, bubbles: true, cancelable: true}));""",
+                 place, text)
         self.taken()
 
     def press(self, *keys):

@@ -22,6 +22,10 @@ def check_helps(person, minisign):
     is_before = browser.run("""const first = document.getElementById("introduction");
       return first.compareDocumentPosition(document.getElementById("key-text"))""")
     checks.check(is_before & 4, "the first words stand after the first field")
+    quoted = f"\u201c{line}\u201d"
+    with_key = {"a command line", "the end of one", "words around a key", "a key in quotes", "a key in typographic quotes",
+                "something invisible behind a key", "a key of two lines, and something invisible", "a key that was broken",
+                "a key with its comment that was broken"}
     for what, typed, words in (
             ("a secret key", secret.decode(), "secret key"), ("its second line", lines(secret)[1].decode(), "secret key"),
             ("a signature", sig.decode(), "is a signature, and not a key"),
@@ -30,10 +34,20 @@ def check_helps(person, minisign):
             ("the end of one", f"-P {line}", "is a command line"),
             ("another one", "C:\\minisign.exe -V -p minisign.pub -m f", "is a command line"),
             ("words around a key", f"Our key is {line}.", "other words around the key"),
-            ("a key in quotes", f'"{line}"', "other words around the key")):
+            ("a key in quotes", f'"{line}"', "other words around the key"),
+            ("a key in typographic quotes", quoted, "or quotes, or characters that show nothing"),
+            ("something invisible behind a key", f"{line}\u200b", "or quotes, or characters that show nothing"),
+            ("a key of two lines, and something invisible", pk.decode().rstrip() + "\u2060\n", "characters that show nothing"),
+            ("a key that was broken", f"{line[:31]}\n{line[31:]}", "broken over several lines"),
+            ("a key with its comment that was broken", pk.decode()[:-9] + "\n" + pk.decode()[-9:], "broken over several lines"),
+            ("the page's link", f"{person.address}#{line}", "who made the link chose the key"),
+            ("another link", f"https://example.org/minisign.html#later=x&key={line}", "who made the link chose the key"),
+            ("a key of PGP", PGP_KEY, "of PGP, which this page does not verify"),
+            ("a signature of PGP", PGP_SIGNATURE, "of PGP, which this page does not verify")):
         browser.type_key(typed)
         said = browser.text_of("key-said")
         checks.check(said.startswith("No public key: ") and words in said, f"{what} in the key's field: {said!r}")
+        checks.same(line in said and said.endswith(f" {line}"), what in with_key, f"{what} in the key's field: the key is shown: {said!r}")
         checks.check(not browser.is_shown("key-whole"), f"{what} in the key's field: a key is shown")
         checks.same(browser.run("return document.getElementById('key-said').dataset.number !== undefined"), True,
                     f"{what}: the number")
@@ -41,8 +55,24 @@ def check_helps(person, minisign):
         browser.choose_key(person.put("some.file", text))
         said = browser.text_of("key-said")
         checks.check(words in said and "some.file" in said, f"{what} as the key's file: {said!r}")
+    # The line of a key alone, in a file that a person chose, and in one that came with the files, of which no key is shown.
+    browser.choose_key(person.put("alone.pub", f"{line}\n".encode()))
+    said = browser.text_of("key-said")
+    checks.check("stands alone here" in said and f" {line} (alone.pub)" in said, f"the line of a key as its file: {said!r}")
+    for name in ("alone.pub", "alone.txt"):
+        browser.open(person.address)
+        browser.drop("downloads", person.put(name, f"{line}\n".encode()))
+        said = browser.text_of("key-said")
+        checks.check("stands alone here" in said and line not in said and name in said and not browser.rows(),
+                     f"the line of a key among the files: {said!r}")
+    check_dragged(person, line, sig.decode())
+    check_pasted(person, minisign, line)
     # Among the files.
     browser.open(person.address)
+    for text in (PGP_KEY, PGP_SIGNATURE):
+        browser.drop("downloads", person.put("update.zip.asc", text.encode()))
+        said = browser.text_of("files-said")
+        checks.check("update.zip.asc This is of PGP" in said and not browser.rows(), f"PGP among the files: {said!r}")
     browser.drop("downloads", person.put("first.key", secret))
     checks.check("first.key This is a secret key" in browser.text_of("files-said") and not browser.rows(),
                  "a secret key among the files is taken")
@@ -53,11 +83,64 @@ def check_helps(person, minisign):
         browser.drop("downloads", os.path.dirname(person.put("data", b"data")))
         checks.check("A directory cannot be verified" in browser.text_of("files-said") and not browser.rows(),
                      "a directory that is dropped: nothing is said")
+        browser.drop("downloads", os.path.dirname(person.put("data", b"data")))
+        checks.same(browser.text_of("files-said").count("directory"), 1, "a directory that is dropped twice is told so many times")
         browser.drop("key", os.path.dirname(person.put("data", b"data")))
         checks.check("A directory cannot be verified" in browser.text_of("files-said"), "a directory as the key: nothing is said")
         browser.drop("downloads", person.put("data", b"data"))
         checks.check(browser.text_of("files-said") == "" and len(browser.rows()) == 1,
                      "what is said stays for the next files")
+
+
+PGP_KEY = "-----BEGIN PGP PUBLIC KEY BLOCK-----\n\nmDMEXEcE6RYJKwYBBAHaRw8BAQdArjWwk3FAqyiFbFBKT4TzXcVBqPTB3gmzlC/U\n=abcd\n-----END PGP PUBLIC KEY BLOCK-----\n"
+PGP_SIGNATURE = "-----BEGIN PGP SIGNATURE-----\n\niHUEABYKAB0WIQQ=\n=abcd\n-----END PGP SIGNATURE-----\n"
+
+
+def check_dragged(person, line, sig):
+    """A text that is dragged to a field stands there alone, and is taken as if it were pasted."""
+    browser, checks = person.browser, person.checks
+    browser.open(person.address)
+    browser.type_key("no key")
+    browser.drop_text("key-text", line)
+    checks.same((browser.run("return document.getElementById('key-text').value"), browser.text_of("key-whole")),
+                (line, f"In full: {line}"), "a key that is dragged to its field")
+    browser.drop_text("signature-text", sig)
+    row = person.only(person.settled("a signature that is dragged"), "a signature that is dragged")
+    checks.check("file itself is missing" in row["text"], f"a signature that is dragged: {row['text']!r}")
+    browser.drop_text("introduction", line)
+    checks.same(len(browser.rows()), 1, "a text that is dragged to no field: the rows")
+
+
+def check_pasted(person, minisign, line):
+    """The text of a signature can be pasted, before the file and after it, and again; what is none is told."""
+    browser, checks = person.browser, person.checks
+    sign = lambda data: minisign.sign("first", data, trusted="t").decode()
+    for what, texts, wanted in (("as it is", [sign(b"data")], 0), ("with blanks", [sign(b"data").replace("\n", "\n    ")], 0),
+                                ("without its end", [sign(b"data").rstrip()], 0), ("of other data", [sign(b"x")], 31),
+                                ("again", [sign(b"x"), sign(b"data")], 0)):
+        choose = lambda: browser.choose(person.put("update.zip", b"data"))
+        pastes = [lambda text=text: browser.type_text("signature-text", text) for text in texts]
+        for acts in ([choose, *pastes], [*pastes, choose]):
+            browser.open(person.address)
+            browser.type_key(line)
+            for act in acts:
+                act()
+            row = person.only(person.settled(what), f"a pasted signature {what}")
+            person.expect(row, wanted, f"a pasted signature {what}")
+            checks.same(row["name"], "update.zip", f"a pasted signature {what}: the name")
+    # Of the next file, once one has a pasted signature.
+    for name in ("one", "two"):
+        browser.choose(person.put(name, name.encode()))
+        browser.type_text("signature-text", sign(name.encode()))
+    rows = {row["name"]: row["number"] for row in person.settled("two pasted signatures") if row["name"] != "update.zip"}
+    checks.same(rows, {"one": 0, "two": 0}, "two files with pasted signatures")
+    for text, words in ((line, "is a public key, and not a signature"), ("signature", "is not the text of a signature"),
+                        (minisign.read("first.key").decode(), "is a secret key"), (PGP_SIGNATURE, "of PGP")):
+        browser.open(person.address)
+        browser.type_text("signature-text", text)
+        checks.check(words in browser.text_of("files-said") and not browser.rows(), f"{words}: {browser.text_of('files-said')!r}")
+        browser.type_text("signature-text", "")
+        checks.same(browser.text_of("files-said"), "", f"{words}: once it is gone")
 
 
 def check_known(person, minisign):
@@ -90,9 +173,19 @@ def check_not_started(person, page):
     browser, checks = person.browser, person.checks
     with Served(page, {"Content-Security-Policy": "script-src 'none'"}) as served:
         browser.go(served.address)
+        is_seen = "return [performance.now(), getComputedStyle(document.getElementById('lacking')).visibility === 'visible']"
+        milliseconds, is_early = browser.run(is_seen)
+        checks.check(not is_early or milliseconds > 1400, f"after {milliseconds} ms the page says that it has not started")
+        browser.wait(lambda: browser.run(is_seen)[1], 10)
         said = browser.text_of("lacking")
         checks.check("has not started" in said and browser.is_shown("lacking") and not browser.is_shown("controls"),
                      f"a script that cannot run: {said!r}")
+    # A policy that allows the script and no WebAssembly is told as the reason.
+    with Served(page, {"Content-Security-Policy": "script-src 'unsafe-inline'"}) as served:
+        browser.open(served.address)
+        said = browser.text_of("lacking")
+        checks.check("Whoever serves this page lets it run no WebAssembly" in said and "newer browser" not in said
+                     and browser.run(is_seen)[1], f"a policy against WebAssembly: {said!r}")
     # No thread of its own: it verifies all the same.
     with Served(page, {"Content-Security-Policy": "worker-src 'none'"}) as served:
         browser.open(served.address)

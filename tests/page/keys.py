@@ -7,11 +7,12 @@ import base64
 import build
 import cases
 from minisign_cases import lines
+from person import UNCHECKED, VERIFIED
 from verdicts import foreign_under
 
 WITH_FILES = "The key came with the files: who made the files may have made the key."
 BY_LINK = "The key came with the link to this page: who made the link chose it."
-OF_PERSON = "This page cannot know whose key it is. Compare its 56 letters with those that the project publishes."
+OF_PERSON = "This page cannot know whose key it is. Compare its 56 letters and digits with those that the project publishes."
 
 
 def key_under(own, foreign):
@@ -50,7 +51,8 @@ def check_keys(person, minisign):
         browser.choose(*person.pair("update.zip", b"update", good))
         row = next(row for row in person.settled(how) if row["name"] == "update.zip")
         person.expect(row, 0, f"a key that was {how}")
-        checks.same(row["cautions"], [OF_PERSON], f"a key that was {how}: what is beside the verdict")
+        checks.check(row["verdict"] == "good" and OF_PERSON in row["text"].split("\n") and not row["cautions"],
+                     f"a key that was {how}: what is beside the verdict: {row}")
         checks.check(("pasted or typed" if how == "typed" else "chose as the file my.pub") in row["text"],
                      f"a key that was {how}: {row['text']!r}")
         checks.same(browser.text_of("files-said"), "", f"a key that was {how}: what is said of new files")
@@ -60,10 +62,10 @@ def check_keys(person, minisign):
     browser.drop("downloads", data, sig, key)
     row = person.only(person.settled("with the files"), "a key with the files")
     person.expect(row, 0, "a key with the files")
-    check_caution(checks, row, WITH_FILES, "a key with the files")
+    check_unchecked(checks, row, WITH_FILES, "a key with the files")
     checks.check("came with the files as minisign.pub" in row["text"], f"a key with the files: {row['text']!r}")
     checks.same(browser.text_of("key-whole"), f"In full: {foreign_line}", "a key with the files: the key in use")
-    checks.check(WITH_FILES in browser.log()[0] and browser.log()[0].startswith("Verified"),
+    checks.check(WITH_FILES in browser.log()[0] and browser.log()[0].startswith(UNCHECKED[2:]),
                  f"a screen reader is told {browser.log()}")
     browser.choose(*person.pair("other.zip", b"other", good))
     row = next(row for row in person.settled("another file") if row["name"] == "other.zip")
@@ -79,6 +81,48 @@ def check_keys(person, minisign):
     checks.same({row["verdict"] for row in browser.rows()}, {"waiting"}, "a key that was removed: the verdicts")
     checks.same((browser.text_of("key-said"), browser.is_shown("key-whole"), browser.log()), ("", False, []),
                 "a key that was removed: what is said")
+
+
+# What may stand in the key's field and is no key.
+NO_KEYS = ("no key", "RWQ", "minisign -Vm update.zip", ".")
+
+
+def check_field(person, minisign):
+    """What stands in the key's field stays, and while it does no key is taken that came with the files, which is said."""
+    browser, checks = person.browser, person.checks
+    own = minisign.read("first.pub")
+    paths = person.pair("update.zip", b"update", minisign.sign("first", b"update", trusted="t"))
+    keys = [person.put(name, own) for name in ("minisign.pub", "other.pub")]
+    for text in (*NO_KEYS, lines(own)[1].decode()[:-1]):
+        for given in (keys[:1], keys):
+            browser.open(person.address)
+            browser.type_key(text)
+            said = browser.text_of("key-said")
+            browser.drop("downloads", *paths, *given)
+            what = f"{text!r} in the key's field, and {len(given)} keys among the files"
+            row = person.only(person.settled(what), what)
+            checks.same((row["verdict"], row["number"]), ("waiting", None), what)
+            checks.same((browser.run("return document.getElementById('key-text').value"), browser.text_of("key-said"),
+                         browser.is_shown("key-whole")), (text, said, False), f"{what}: the field")
+            told = browser.text_of("files-said")
+            checks.check(told.count("was not taken: what stands in the field above stays, and is no key.") == len(given)
+                         and told.startswith("minisign.pub came with the files"), f"{what}: {told!r}")
+    # An empty field, of which a person sees nothing, holds no text.
+    browser.type_key(" \n")
+    browser.drop("downloads", keys[0])
+    row = person.only(person.settled("an empty field"), "an empty field")
+    check_unchecked(checks, row, WITH_FILES, "an empty field")
+    # The same key, once a person has pasted it.
+    browser.type_key(lines(own)[1].decode())
+    row = person.only(person.settled("checked"), "checked")
+    checks.same((row["verdict"], row["cautions"]), ("good", []), "a key with the files that is pasted then")
+
+
+def check_unchecked(checks, row, words, what):
+    """A signature fits under a key that nobody gave: that is no good verdict, and the warning is the first thing below it."""
+    checks.same((row["verdict"], row["number"], row["head"]), ("unchecked", 0, UNCHECKED), f"{what}: the verdict")
+    checks.check(VERIFIED[2:] not in row["text"] and "paste it into its field" in row["cautions"][0], f"{what}: {row['text']!r}")
+    check_caution(checks, row, words, what)
 
 
 def check_caution(checks, row, words, what):
@@ -101,7 +145,7 @@ def check_links(person, minisign):
         browser.choose(*paths)
         row = person.only(person.settled(part), part)
         person.expect(row, 0, f"#{part}", "t")
-        check_caution(checks, row, BY_LINK, f"#{part}")
+        check_unchecked(checks, row, BY_LINK, f"#{part}")
     for part in (f"Verified%20by%20the%20project:%20{first}", f"untrusted%20comment:%20Verified%0A{first}",
                  f"key=Verified%0A{first}", f"{first}%20", f"{first}x", first[:-1], f"key={first}&key={second}",
                  f"{first}&{second}", f"other={first}", "key=", "%"):
@@ -147,7 +191,7 @@ def check_own_page(person, minisign, page):
         browser.drop("downloads", paths[1], person.put("second.pub", other))
         row = person.only(person.settled("its own key"), "its own key")
         person.expect(row, 0, "its own key", "t")
-        checks.check("which is built into this page" in row["text"] and "built into this page" in row["cautions"][0],
+        checks.check(row["verdict"] == "good" and "which is built into this page" in row["text"] and not row["cautions"],
                      f"its own key: {row['text']!r}")
         checks.check("was not taken" in browser.text_of("files-said"),
                      "another key beside one that is built in: nothing is said")
@@ -156,7 +200,7 @@ def check_own_page(person, minisign, page):
             build.checked_key(wrong)
             checks.check(False, f"{wrong!r} is built in as a key")
         except build.NotPossible as why:
-            checks.check("56 letters" in str(why), f"{wrong!r}: {why}")
+            checks.check("56 letters and digits" in str(why), f"{wrong!r}: {why}")
 
 
 def check_comments(person, minisign):
@@ -168,15 +212,20 @@ def check_comments(person, minisign):
     rows = {}
     commented = {"a.zip": "timestamp:1700000000\tfile:a.zip\thashed", "b.zip": "timestamp:1700000000\tfile:a.zip",
                  "c.zip": "file:\u202ec.zip", "caf\u00e9": "file:cafe\u0301", "d.zip": "timestamp:17000000000000",
-                 "e.zip": "no file:x and timestamp:1"}
+                 "e.zip": "no file:x and timestamp:1", "f (1).zip": "file:f.zip", "g(2).tar.gz": "file:g.tar.gz", "h.zip": "file:./h.zip",
+                 "i.zip": "file:dist/i.zip", "J.ZIP": "file:j.zip", "k.zip": "file:C:\\out\\K.zip", "l (1).zip": "file:m.zip",
+                 "n.zip": "file:n.zip.exe", "o1.zip": "file:o (1).zip", "p.zip": "file:p.zip/q"}
     for name, comment in commented.items():
         browser.choose(*person.pair(name, data, minisign.sign("first", data, trusted=comment)))
         rows[name] = next(row for row in person.settled(name) if row["name"] == name)
         person.expect(rows[name], 0, f"the comment {comment!r}")
     differs = {name: [it for it in row["cautions"] if it.startswith("The signer's name of this file is another one: ")]
                for name, row in rows.items()}
-    checks.same({name for name, found in differs.items() if found}, {"b.zip", "c.zip"},
+    checks.same({name for name, found in differs.items() if found}, {"b.zip", "c.zip", "l (1).zip", "n.zip", "o1.zip", "p.zip"},
                 "files whose signer named them otherwise")
+    mild = {name: row["text"] for name, row in rows.items() if "The signer's name of this file is" in row["text"] and not differs[name]}
+    checks.same(set(mild), {"f (1).zip", "g(2).tar.gz", "h.zip", "i.zip", "J.ZIP", "k.zip"}, "files whose signer named them much the same")
+    checks.check("file is dist/i.zip." in mild["i.zip"], f"a name in a directory: {mild['i.zip']!r}")
     checks.check("another one: a.zip." in differs["b.zip"][0] and "U+202Ec.zip" in differs["c.zip"][0],
                  f"the signer's names: {differs}")
     dated = {name for name, row in rows.items() if "it was signed on" in row["text"]}

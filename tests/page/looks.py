@@ -65,12 +65,12 @@ def contrasts_wrong(browser):
 
 def forced_contrasts_wrong(browser):
     """The texts that are hard to read in colours that the system forces on the page, and the rows that have no border then."""
-    browser.command("Emulation.setEmulatedMedia", features=[{"name": "forced-colors", "value": "active"}])
+    browser.force_colours(True)
     wrong = [] if browser.run("return matchMedia('(forced-colors: active)').matches") else ["no colours are forced"]
     wrong += [f"forced: {text!r} has contrast {value:.1f}" for value, text in browser.run(CONTRASTS) if value < MIN_CONTRAST]
     widths = browser.run("return Array.from(document.querySelectorAll('#verdicts > li, .caution'), it => getComputedStyle(it).borderLeftWidth)")
     wrong += [f"forced: a border is {width} wide" for width in widths if width == "0px"]
-    browser.command("Emulation.setEmulatedMedia", features=[])
+    browser.force_colours(False)
     return wrong
 
 
@@ -81,11 +81,11 @@ def large(browser, share=200):
 
 def narrow(browser, width=NARROW):
     """Makes the screen so narrow."""
-    browser.command("Emulation.setDeviceMetricsOverride", width=width, height=640, deviceScaleFactor=1, mobile=False)
+    browser.resize(width, 640)
 
 
 def wide(browser):
-    browser.command("Emulation.clearDeviceMetricsOverride")
+    browser.resize()
 
 
 def nodes(browser):

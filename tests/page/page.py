@@ -9,8 +9,8 @@ memory of 64 bits, which is proved and built where no PAGE is named. The module 
 answer the same on all texts, in Node and in Chromium, which takes both. Firefox and Chromium, without a window, are given
 the kept corpus of Minisign's own program, keys and signatures that are made now, each error, the vectors of Ed25519 that
 browsers answer differently, keys of other people, things in another's place, hostile comments and names, files that are
-dropped and stopped, 2 GB, and 500 changed texts (150 in Firefox), of which the verdicts and their reasons are compared with
-those of `c/minisign`. In Chromium numbers that are no flag are passed to the module itself, beside the library for
+dropped and stopped, what comes to a stop, a small screen and forced colours, 2,000 files, 2 GB, and 500 changed texts (150 in
+Firefox), of which the verdicts and their reasons are compared with those of `c/minisign`. In Chromium numbers that are no flag are passed to the module itself, beside the library for
 C; it looks also at what is asked for from outside, at the names for a screen reader, the order of the keyboard, the
 contrast of colours, large letters and a narrow screen, and at what is said where the browser lacks something. It prints a
 line for each failure; the last line is `N passed, M failed`.
@@ -49,15 +49,17 @@ from browser import Chromium
 from firefox import Firefox
 from helps import check_helps, check_not_started
 from hostile import check_hostile
-from keys import check_comments, check_keys, check_links, check_own_page
+from keys import check_comments, check_field, check_keys, check_links, check_own_page
 from long_files import check_big, check_stopping
 from minisign_cases import Minisign
 from modules import check_modules
 from page_sources import check_building, check_contracts, check_file, check_numbers, check_same_bytes
 from person import Checks, Person
+from standing import check_changed, check_late, check_many, check_stops
 from surroundings import check_alone, check_lacking, check_looks, check_use
 from vectors import check_vectors
 from verdicts import check_corpus, check_errors, check_made, check_several
+from views import check_band, check_marks, check_view, check_words
 
 # How many changed texts Firefox is given.
 TEXTS_IN_FIREFOX = 150
@@ -82,11 +84,15 @@ def steps_in(person, minisign, programs, page):
     steps = {
         "corpus": lambda: check_corpus(person), "keys and signatures": lambda: check_made(person, minisign),
         "several files": lambda: check_several(person, minisign), "errors": lambda: check_errors(person, minisign, programs.meaning),
-        "vectors": lambda: check_vectors(person), "whose key": lambda: check_keys(person, minisign), "links": lambda: check_links(person, minisign),
+        "vectors": lambda: check_vectors(person), "whose key": lambda: check_keys(person, minisign), "the key's field": lambda: check_field(person, minisign),
+        "links": lambda: check_links(person, minisign), "in view": lambda: check_view(person, minisign), "looks of verdicts": lambda: check_marks(person, minisign), "the band": lambda: check_band(person, minisign),
+        "words": lambda: check_words(person, minisign),
         "comments": lambda: check_comments(person, minisign), "random acts": lambda: check_acts(person, minisign), "a page of its own": lambda: check_own_page(person, minisign, page),
         "helping": lambda: check_helps(person, minisign), "not started": lambda: check_not_started(person, page),
         "hostile texts": lambda: check_hostile(person, minisign),
         "changed texts": lambda: check_texts(person, TEXTS_IN_FIREFOX) if not person.browser.is_chromium else check_texts(person),
+        "stops": lambda: check_stops(person, minisign), "late": lambda: check_late(person, minisign), "many files": lambda: check_many(person, minisign),
+        "changed files": lambda: check_changed(person, minisign),
         "long files": lambda: check_big(person, check_stopping(person, minisign)),
     }
     if person.browser.is_chromium:

@@ -105,7 +105,7 @@ def check_building(checks, page, room):
     checks.same(run("--sources").stdout, build.source_lines(), "build.py --sources")
     os.remove(out)
     for words, path, part in (((out,), "", "the kit of Rattle"), (("--from", page, "--key", "RWQ", out), "",
-                                                                  "one line of 56 letters"),
+                                                                  "one line of 56 letters and digits"),
                               (("--from", os.path.join(build.HERE, "page.js"), out), "",
                                "no page that page/build.py has built"),
                               (("--from", os.path.join(room, "absent.html"), out), "", "cannot be read")):

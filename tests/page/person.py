@@ -5,9 +5,34 @@ import os
 import checks
 
 # The head of each row.
-VERIFIED, NOT_VERIFIED = "\u2713 Verified", "\u2717 NOT verified"
-STANDS = {"good": VERIFIED, "bad": NOT_VERIFIED, "waiting": "\u2026 Not verified yet", "reading": "\u2026 Not verified yet",
+VERIFIED, UNCHECKED, NOT_VERIFIED = "\u2713 Verified", "? Signed, by a key that you have not checked", "\u2717 NOT verified"
+STANDS = {"good": VERIFIED, "unchecked": UNCHECKED, "bad": NOT_VERIFIED, "waiting": "\u2026 Not verified yet", "reading": "\u2026 Not verified yet",
           "stopped": "\u2013 Stopped: nothing is known of this file"}
+WORST_FIRST = ("bad", "unchecked", "stopped", "waiting", "reading", "good")
+# How the sentence on the key begins that stands beside a signature that fits: under a key that was given, and under another one.
+ON_KEY = {"good": ("This page cannot know whose key it is.", "The key is built into this page:"), "unchecked": ("The key came with ",)}
+
+
+def band_of(rows):
+    """What has to stand at the top of the window: the worst verdict, and of how many files it is."""
+    verdicts = [row["verdict"] for row in rows]
+    for verdict in WORST_FIRST:
+        if verdict in verdicts:
+            of = f": {verdicts.count(verdict)} of {len(rows)} files" if len(rows) > 1 else ""
+            return [verdict, STANDS[verdict] + of]
+    return None
+
+
+def is_right(row):
+    """
+    Whether a row says what its verdict is, and of a signature that fits whose key it is: as a warning exactly where nobody gave the
+    key. Nothing of it is bold but its verdict and its warnings.
+    """
+    is_fit, lines = row["number"] == 0, row["text"].split("\n")
+    on_key = [it for it in lines if it.startswith(ON_KEY.get(row["verdict"], "-"))]
+    return (row["head"] == lines[0] == STANDS[row["verdict"]] and is_fit == (row["verdict"] in ON_KEY) == (len(on_key) == 1)
+            and (not is_fit or (on_key[0] in row["cautions"]) == (row["verdict"] == "unchecked"))
+            and (row["comment"] is None or is_fit) and row["bold"] == [row["head"], *row["cautions"]])
 
 
 class Checks(checks.Checks):
@@ -59,9 +84,9 @@ class Person:
         """The rows when nothing is verified any more. Each says what its verdict is, and nothing good that is not."""
         rows = self.browser.settle(seconds)
         for row in rows:
-            self.checks.check(row["head"] == STANDS[row["verdict"]] and (row["verdict"] == "good") == (row["number"] == 0)
-                              and row["text"].startswith(f"{row['head']}\n") and (row["comment"] is None or row["number"] == 0)
-                              and (row["verdict"] != "good" or row["cautions"]), f"{what}: a row stands for {row}")
+            self.checks.check(is_right(row), f"{what}: a row stands for {row}")
+        band = self.browser.band()
+        self.checks.same(band and band[:2], band_of(rows), f"{what}: what stands at the top of the window")
         return rows
 
     def expect(self, row, number, what, comment=None):

@@ -71,6 +71,8 @@ LACKING = [
     ("WebAssembly.validate = () => false;", "WebAssembly", "Ed25519"),
     ("delete globalThis.WebAssembly;", "WebAssembly", "Ed25519"),
     ("crypto.subtle.importKey = async () => { throw new DOMException('no', 'NotSupportedError'); };", "Ed25519", "WebAssembly"),
+    ("Object.defineProperty(globalThis, 'isSecureContext', {value: false}); crypto.subtle.verify = async () => false;",
+     "open it from disk, or open it by https", "newer browser"),
     ("crypto.subtle.verify = async () => true;", "Ed25519", "WebAssembly"),
     ("WebAssembly.validate = () => false; crypto.subtle.verify = async () => false;", "WebAssembly, and Ed25519", "does not run"),
     ("WebAssembly.instantiate = async () => { throw new RangeError('memory'); };", "does not run the proved library", "lacks"),
@@ -132,11 +134,12 @@ def check_use(person, minisign):
                    *person.pair("bad", b"bad", minisign.sign("first", b"data", trusted="t")))
     person.settled("the keyboard")
     browser.run("document.getElementById('files').focus()")
-    checks.same(browser.tab(), "comment", "the fifth for the keyboard")
-    checks.same(browser.tab(), "clear", "the sixth for the keyboard")
+    checks.same(browser.tab(), "signature-text", "the fifth for the keyboard")
+    checks.same(browser.tab(), "comment", "the sixth for the keyboard")
+    checks.same(browser.tab(), "clear", "the seventh for the keyboard")
     found = looks.nodes(browser)
     named = {(role, name) for role, name, _ in found}
-    for role, name in (("textbox", "Paste its text, or its line of 56 letters"), ("button", "Clear the list"), ("heading", "3. The verdicts"),
+    for role, name in (("textbox", "Paste its text, or its line of 56 letters and digits"), ("button", "Clear the list"), ("heading", "3. The verdicts"),
                        ("heading", "Verified data"), ("heading", "NOT verified bad"), ("main", "")):
         checks.check((role, name) in named, f"a screen reader is told of no {role} {name!r}: {sorted(named)!r:.400}")
     for part in ("minisign.pub", ".minisig"):
@@ -145,7 +148,7 @@ def check_use(person, minisign):
     checks.same(live, {"polite"}, "what a screen reader is told as it changes")
     checks.same(looks.nameless(browser), [], "what has no name for a screen reader")
     log = browser.log()
-    checks.check(len(log) == 2 and log[0].startswith("Verified, signed with the key ") and log[0].endswith(" The file's name: data")
+    checks.check(len(log) == 2 and log[0].startswith("Verified. The key is ") and log[0].endswith(" The file's name: data")
                  and log[1].startswith("NOT verified. This file is not the one") and log[1].endswith(" The file's name: bad"), f"a screen reader is told {log}")
     checks.same(browser.run("return Array.from(document.querySelectorAll('#verdicts > li'), it => it.firstElementChild.tagName)"), ["H3", "H3"],
                 "what the rows begin with")

@@ -51,7 +51,7 @@ def check_made(person, minisign):
         browser.choose(*paths)
         checks.same(person.only(person.settled(how), how)["verdict"], "waiting", f"a key {how}: the verdict before it")
         take()
-        browser.wait(lambda: browser.row("update.zip")["verdict"] in ("good", "bad"))
+        browser.wait(lambda: browser.row("update.zip")["verdict"] not in ("waiting", "reading"))
         person.expect(browser.row("update.zip"), 0, f"a key {how}", "version 2")
         checks.check(f"Key {key_id}" in browser.text_of("key-said"), f"a key {how}: the page says {browser.text_of('key-said')!r}")
         checks.check(key_id in browser.row("update.zip")["text"], f"a key {how}: the verdict does not name the key")
@@ -144,7 +144,7 @@ def check_several(person, minisign):
     browser.open(person.address)
     browser.drop("downloads", *at("b.minisig", "a", "c", "a.minisig", "b", "d.pub.minisig", "d.pub"), key)
     rows = {row["name"]: row for row in person.settled("several files")}
-    checks.same({name: row["verdict"] for name, row in rows.items()}, {"a": "good", "b": "good", "c": "waiting", "d.pub": "good"}, "several files")
+    checks.same({name: row["verdict"] for name, row in rows.items()}, {"a": "unchecked", "b": "unchecked", "c": "waiting", "d.pub": "unchecked"}, "several files")
     checks.check(all(rows[name]["comment"] == name for name in ("a", "b", "d.pub")), "several files: a comment is another one's")
     checks.check("c.minisig" in rows["c"]["text"] and "signature is missing" in rows["c"]["text"], f"a file alone: {rows['c']['text']!r}")
     browser.drop("downloads", *at("c.minisig"))
@@ -161,6 +161,19 @@ def check_several(person, minisign):
     other = person.put_beside(directory, "renamed", b"a")
     browser.choose(other, *at("a.minisig"))
     person.expect(person.only(person.settled("a renamed file"), "a renamed file"), 0, "a renamed file", "a")
+    # One after the other, whose names differ: the only two that stand alone.
+    for names in ((other, *at("a.minisig")), (*at("a.minisig"), other)):
+        browser.clear()
+        browser.choose(*at("b", "b.minisig"))
+        for name in names:
+            browser.choose(name)
+        rows = {row["name"]: row["number"] for row in person.settled("one after the other")}
+        checks.same(rows, {"b": 0, "renamed": 0}, "one after the other")
+    browser.clear()
+    for name in (*at("a", "b"), person.put_beside(directory, "other.minisig", texts["a"])):
+        browser.choose(name)
+    checks.same({row["name"]: row["verdict"] for row in person.settled("two files")}, {"a": "waiting", "b": "waiting", "other": "waiting"},
+                "two files and a signature of another name")
     # A file that is chosen anew takes the place of the older one.
     browser.clear()
     browser.choose(*at("a", "a.minisig"))

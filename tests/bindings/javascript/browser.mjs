@@ -39,8 +39,16 @@ async function answerInPieces(data, signature, key) {
   return [...found].join(" and ");
 }
 
+// Whether a stream is cancelled where its signature is rejected.
+function isCancelled() {
+  return new Promise(resolve => {
+    const stream = new ReadableStream({cancel: () => resolve(true)});
+    verify(stream, "no signature", "no key").catch(() => setTimeout(resolve, 1000, false));
+  });
+}
+
 async function answersOf({cases, pieces, vectors}) {
-  const answers = {legacy: [], strict: [], pieces: [], vectors: []};
+  const answers = {legacy: [], strict: [], pieces: [], vectors: [], cancelled: await isCancelled()};
   for (const [key, data, signature] of cases.map(it => it.map(bytesOf))) {
     answers.legacy.push(await answerOf(data, signature, key, {allowLegacy: true}));
     answers.strict.push(await answerOf(data, signature, key));
