@@ -7,32 +7,42 @@ package minisign
 
 import (
 	"bytes"
+	"encoding/base64"
 	"io"
 	"os"
 	"strings"
 )
 
-// A PublicKey is a key under which signatures are verified.
+// A PublicKey is a key under which signatures are verified: what its fields say, whatever it was read from.
 type PublicKey struct {
-	// "Ed", whatever the text of the key says here.
+	// "Ed", whatever the text of the key says here. Another one verifies nothing.
 	SignatureAlgorithm [2]byte
 	KeyId              [8]byte
 	PublicKey          [32]byte
 }
 
-// A Signature is what stands in a file such as data.minisig. It vouches for nothing before it was verified, which is
-// done with the text that it was decoded from: a field that is changed changes no verdict.
+// A Signature is what stands in a file such as data.minisig, and it vouches for nothing before it was verified. What is
+// verified is what its fields say, whatever it was read from: a field that was changed is not what was signed.
 type Signature struct {
-	// The first line, for which nobody vouches.
+	// The first line, with the words "untrusted comment: ", for which nobody vouches.
 	UntrustedComment string
 	// "ED", or "Ed" where the signature is over the data itself.
 	SignatureAlgorithm [2]byte
 	KeyId              [8]byte
 	Signature          [64]byte
-	// What was signed with the data, after the words "trusted comment: ".
+	// The third line: what was signed with the data, after the words "trusted comment: ".
 	TrustedComment  string
 	GlobalSignature [64]byte
-	text            string
+}
+
+// text writes the four lines of a signature.
+func (signature *Signature) text() string {
+	record := bytes.Join([][]byte{signature.SignatureAlgorithm[:], signature.KeyId[:], signature.Signature[:]}, nil)
+	lines := []string{
+		signature.UntrustedComment, base64.StdEncoding.EncodeToString(record),
+		signature.TrustedComment, base64.StdEncoding.EncodeToString(signature.GlobalSignature[:]),
+	}
+	return strings.Join(lines, "\n") + "\n"
 }
 
 // NewPublicKey reads the base64 of a public key alone: its 56 letters.
@@ -66,15 +76,24 @@ func DecodeSignature(in string) (Signature, error) {
 	if err != nil {
 		return Signature{}, err
 	}
-	signature := Signature{SignatureAlgorithm: [2]byte{'E', 'D'}, KeyId: key.KeyId, text: in}
+	return asked.signature(in), nil
+}
+
+// signature tells what was read of a text. The questions have all of it but the first line.
+func (asked *questions) signature(text string) Signature {
+	algorithm := [2]byte{'E', 'D'}
 	if asked.isLegacy() {
-		signature.SignatureAlgorithm[1] = 'd'
+		algorithm[1] = 'd'
 	}
-	first, _, _ := strings.Cut(in, "\n")
-	signature.UntrustedComment = strings.TrimSuffix(first, "\r")
-	signature.TrustedComment = "trusted comment: " + string(asked.message[64:])
-	signature.Signature, signature.GlobalSignature = asked.first(), asked.second()
-	return signature, nil
+	untrusted, _, _ := strings.Cut(text, "\n")
+	return Signature{
+		UntrustedComment:   strings.TrimRight(untrusted, "\r"),
+		SignatureAlgorithm: algorithm,
+		KeyId:              asked.keyID(),
+		Signature:          asked.first(),
+		TrustedComment:     "trusted comment: " + string(asked.message[64:]),
+		GlobalSignature:    asked.second(),
+	}
 }
 
 // NewSignatureFromFile reads a file such as data.minisig.
@@ -135,34 +154,58 @@ func (publicKey *PublicKey) VerifyReader(reader io.Reader, signature Signature) 
 	return verifier.Verify()
 }
 
-// A Verifier takes data in pieces: it is an io.Writer, and then asked once.
+// A Verifier takes data in pieces: it is an io.Writer, and then asked once. NewVerifier makes one.
 type Verifier struct {
 	publicKey [32]byte
 	state     *state
 	questions *questions
 }
 
-// NewVerifier begins to verify. All that is wrong with the text of the signature is told here. One that is over the
-// data itself is rejected.
+// NewVerifier begins to verify. All that is wrong with the key and the signature but for the data is told here:
+// ErrBadComment is of a signature with a comment that no text has. One that is over the data itself is rejected.
 func NewVerifier(publicKey *PublicKey, signature Signature) (*Verifier, error) {
 	return begin(publicKey, signature, false)
 }
 
 func begin(publicKey *PublicKey, signature Signature, allowLegacy bool) (*Verifier, error) {
-	state := newState()
-	asked, err := state.ask(publicKey, signature.text, allowLegacy)
+	if publicKey.SignatureAlgorithm != [2]byte{'E', 'd'} {
+		return nil, ErrUnsupportedAlgorithm
+	}
+	state, text := newState(), signature.text()
+	asked, err := state.ask(publicKey, text, allowLegacy)
 	if err != nil {
 		return nil, err
+	}
+	// (of a comment with a line feed the library reads other fields than the caller has)
+	if asked.signature(text) != signature {
+		return nil, ErrBadComment
 	}
 	return &Verifier{publicKey.PublicKey, state, asked}, nil
 }
 
 // Write takes in the next piece of the data, of any length.
 func (verifier *Verifier) Write(piece []byte) (int, error) {
+	if verifier.state == nil {
+		return 0, ErrNotBegun
+	}
 	if err := verifier.state.update(piece); err != nil {
 		return 0, err
 	}
 	return len(piece), nil
+}
+
+// VerifyTrustedComment says whether the owner of the key has signed the trusted comment: also before any data is there,
+// of which it says nothing.
+func (verifier *Verifier) VerifyTrustedComment() (bool, error) {
+	if verifier.state == nil {
+		return false, ErrNotBegun
+	}
+	err := verifier.state.commentVerdict(verifier.acceptsComment())
+	return err == nil, err
+}
+
+func (verifier *Verifier) acceptsComment() bool {
+	return accepts(verifier.publicKey, verifier.questions.message, verifier.questions.second())
 }
 
 // Verify says whether the signature vouches for all that was written. After it nothing more is taken, and there is no
@@ -173,13 +216,16 @@ func (verifier *Verifier) Verify() (bool, error) {
 }
 
 func (verifier *Verifier) end(bin []byte) error {
+	if verifier.state == nil {
+		return ErrNotBegun
+	}
 	message, err := verifier.state.digest()
 	if err != nil {
 		return err
 	}
-	asked, key := verifier.questions, verifier.publicKey
-	if asked.isLegacy() {
+	if verifier.questions.isLegacy() {
 		message = bin
 	}
-	return verifier.state.verdict(accepts(key, message, asked.first()), accepts(key, asked.message, asked.second()))
+	first := accepts(verifier.publicKey, message, verifier.questions.first())
+	return verifier.state.verdict(first, verifier.acceptsComment())
 }

@@ -63,8 +63,71 @@ func TestEndedVerifier(t *testing.T) {
 	if _, err := verifier.Write([]byte("more")); err != ErrNotBegun {
 		t.Fatal(err)
 	}
-	if good, err := key.Verify([]byte("test"), Signature{}); good || err != ErrMissingUntrustedComment {
+	if good, err := key.Verify([]byte("test"), Signature{}); good || err != ErrUntrustedCommentPrefix {
 		t.Fatal(good, err)
+	}
+	if good, err := verifier.VerifyTrustedComment(); good || err != ErrNotBegun {
+		t.Fatal(good, err)
+	}
+	var none Verifier
+	if good, err := none.VerifyTrustedComment(); good || err != ErrNotBegun {
+		t.Fatal(good, err)
+	}
+	if good, err := none.Verify(); good || err != ErrNotBegun {
+		t.Fatal(good, err)
+	}
+	if _, err := none.Write(nil); err != ErrNotBegun {
+		t.Fatal(err)
+	}
+}
+
+// The trusted comment is vouched for before there is data, and by its own signature alone.
+func TestTrustedComment(t *testing.T) {
+	key, _ := NewPublicKey(aKey)
+	signature, _ := DecodeSignature(aSignature)
+	longer := signature
+	longer.TrustedComment += "2"
+	for _, it := range []struct {
+		signature Signature
+		comment   error
+		data      string
+		all       error
+	}{
+		{signature, nil, "test", nil},
+		{signature, nil, "tests", ErrSignatureRefused},
+		{longer, ErrCommentSignatureRefused, "test", ErrCommentSignatureRefused},
+	} {
+		verifier, err := NewVerifier(&key, it.signature)
+		if err != nil {
+			t.Fatal(err)
+		}
+		for _, piece := range []string{"", it.data} {
+			fmt.Fprint(verifier, piece)
+			if good, err := verifier.VerifyTrustedComment(); good != (it.comment == nil) || err != it.comment {
+				t.Fatal(good, err)
+			}
+		}
+		if good, err := verifier.Verify(); good != (it.all == nil) || err != it.all {
+			t.Fatal(good, err)
+		}
+	}
+}
+
+// Fields are what is verified, in pieces too.
+func TestChangedFields(t *testing.T) {
+	key, _ := NewPublicKey(aKey)
+	signature, _ := DecodeSignature(aSignature)
+	changed := signature
+	changed.TrustedComment = "trusted comment: other"
+	if good, err := key.VerifyReader(strings.NewReader("test"), changed); good || err != ErrCommentSignatureRefused {
+		t.Fatal(good, err)
+	}
+	if good, err := key.VerifyReader(strings.NewReader("test"), signature); !good || err != nil {
+		t.Fatal(good, err)
+	}
+	key.SignatureAlgorithm = [2]byte{}
+	if _, err := NewVerifier(&key, signature); err != ErrUnsupportedAlgorithm {
+		t.Fatal(err)
 	}
 }
 

@@ -19,6 +19,9 @@ import "unsafe"
 // minisign_error_text.
 type Error uint32
 
+// Name is the name that the error has in minisign.h, without MINISIGN_, or "" of another number.
+func (err Error) Name() string { return names[err] }
+
 func (err Error) Error() string {
 	var text [C.MINISIGN_ERROR_TEXT_BYTES]C.char
 	C.minisign_error_text(C.uint32_t(err), &text[0], C.MINISIGN_ERROR_TEXT_BYTES)
@@ -107,6 +110,10 @@ func answer(accepted bool) C.enum_minisign_answer {
 
 func (it *state) verdict(first, second bool) error {
 	return done(C.minisign_verdict(&it.of, answer(first), answer(second)))
+}
+
+func (it *state) commentVerdict(second bool) error {
+	return done(C.minisign_comment_verdict(&it.of, answer(second)))
 }
 
 func readPublicKey(text string, isBare bool) (PublicKey, error) {

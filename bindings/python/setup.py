@@ -14,8 +14,10 @@ TOP = "library" if os.path.isdir("library") else os.path.join("..", "..")
 class BuildWithLibrary(build_py):
     def run(self):
         super().run()
-        out = os.path.abspath(os.path.join(self.build_lib, "..", "library"))
-        self.spawn(["make", "-C", os.path.join(TOP, "c"), f"OUT={out}", f"{out}/libminisign-installing.so"])
+        sources, out = os.path.join(TOP, "c"), os.path.join(self.build_lib, "..", "library")
+        # (make takes no blanks in what it builds: so by a path that begins where it runs)
+        path = os.path.relpath(out, sources)
+        self.spawn(["make", "-C", sources, f"OUT={path}", f"{path}/libminisign-installing.so"])
         self.copy_file(f"{out}/libminisign-installing.so", os.path.join(self.build_lib, "minisign_proved", "libminisign.so"))
 
 

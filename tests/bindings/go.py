@@ -7,11 +7,13 @@ network and without the kit, by a program of another module, also where that has
 Its own tests and examples run under `go vet` and under the race detector, over each copy of the calls for x86-64, and for AArch64 in
 an emulator. What that program answers to kept keys and signatures, to damaged ones, to data in pieces and in files, and to signatures
 that implementations of Ed25519 differ in is compared with `c/minisign` and with libsodium; why it rejects, with the numbers of the
-header. Many calls take no more memory, and threads get the same answers, under the race detector too. The program of README.md is
+header. 20,000 damaged texts, and keys and signatures that the caller has changed since they were read, or put together, get the verdict of
+go-minisign, which is run beside, but for differences that tables name. Many calls take no more memory, and threads get the same answers, under the race detector too. The program of README.md is
 built. Each of some planted bugs is noticed. It prints a line for each failure; the last line is `N passed, M failed`.
 
-Needs Python 3.9 or later, golang-go, make, a C compiler, binutils and libsodium with its header, and of Debian gcc-aarch64-linux-gnu,
-libc6-dev-arm64-cross and qemu-user-static, and installs what is not there where it may.
+Needs Python 3.9 or later, golang-go, make, a C compiler, binutils and libsodium with its header, and of Debian
+golang-github-jedisct1-go-minisign-dev, gcc-aarch64-linux-gnu, libc6-dev-arm64-cross and qemu-user-static, and installs what is not
+there where it may.
 """
 
 import base64
@@ -31,10 +33,76 @@ import static_library
 from shared_cases import TOP, Checks, run, write
 
 PACKAGE = os.path.join(TOP, "bindings", "go")
-LINES = 300
+LINES = 500
 CALLS = 100_000
 # How many pages of 4 KiB may be in memory after all calls that were not after a tenth of them.
 PAGES = 512
+# go-minisign, as Debian has it, below a directory of sources.
+SOURCES, GO_MINISIGN = "/usr/share/gocode", "github.com/jedisct1/go-minisign"
+
+# The changes of go/changed.go, each with the header's name of why it is rejected.
+CHANGES = {
+    "none": None, "a copy": None, "put together from fields": None, "written as JSON and read": None,
+    "a key of zeros": "UNSUPPORTED_ALGORITHM", "a signature of zeros": "UNTRUSTED_COMMENT_PREFIX",
+    "another algorithm of the key": "UNSUPPORTED_ALGORITHM", "another identifier of the key": "DIFFERENT_KEY_IDS",
+    "another key": "SIGNATURE_REFUSED", "another untrusted comment": None, "no untrusted comment": "UNTRUSTED_COMMENT_PREFIX",
+    "another first line": "UNTRUSTED_COMMENT_PREFIX", "an untrusted comment of two lines": "SIGNATURE_NOT_BASE64",
+    "another trusted comment behind a genuine text": "BAD_COMMENT", "the older algorithm": "SIGNATURE_REFUSED",
+    "another algorithm": "UNSUPPORTED_ALGORITHM", "another identifier": "DIFFERENT_KEY_IDS", "another signature": "SIGNATURE_REFUSED",
+    "another trusted comment": "COMMENT_SIGNATURE_REFUSED", "a longer trusted comment": "COMMENT_SIGNATURE_REFUSED",
+    "a blank behind the trusted comment": "BAD_COMMENT", "a line feed behind the trusted comment": "BAD_COMMENT",
+    "a carriage return behind the trusted comment": "BAD_COMMENT", "no trusted comment": "TRUSTED_COMMENT_PREFIX",
+    "another third line": "TRUSTED_COMMENT_PREFIX", "a trusted comment that is no UTF-8": "NOT_UTF8",
+    "another signature of the comment": "COMMENT_SIGNATURE_REFUSED", "no signature of the comment": "COMMENT_SIGNATURE_REFUSED",
+}
+# Of these go-minisign, which does not look at the first line, says that they are good.
+OTHERWISE = ["no untrusted comment", "another first line", "an untrusted comment of two lines"]
+
+# How many damaged texts are asked of both.
+DAMAGED = 20_000
+
+
+def line_of(text, number):
+    """A line of a text, or none."""
+    return (text.split(b"\n") + [b""] * 4)[number - 1]
+
+
+def is_utf8(text):
+    try:
+        return text.decode() is not None
+    except UnicodeDecodeError:
+        return False
+
+
+def has_blank_comment(it):
+    """Whether a trusted comment has white space at its end."""
+    comment = line_of(it.signature, 3).decode().rstrip("\r")
+    return comment != comment.rstrip()
+
+
+def is_canonical(letters):
+    """Whether base64 is written as an encoder writes it."""
+    return base64.b64encode(base64.b64decode(letters)) == letters.rstrip(b"\r")
+
+
+# Which cases this package rejects, by the header's name of why, and go-minisign accepts.
+REJECTED_HERE = {
+    "COMMENT_SIGNATURE_REFUSED": lambda it: has_blank_comment(it) or line_of(it.signature, 4).strip() == b"",
+    "NOT_UTF8": lambda it: not (is_utf8(it.key) and is_utf8(it.signature)),
+    "UNTRUSTED_COMMENT_PREFIX": lambda it: not it.signature.startswith(b"untrusted comment: "),
+    "PUBLIC_KEY_LENGTH": lambda it: len(line_of(it.key, 2)) != 56,
+    "SIGNATURE_NOT_BASE64": lambda it: not all(is_canonical(line_of(it.signature, number)) for number in (2, 4)),
+    "SIGNATURE_REFUSED": lambda it: it in shared_cases.vector_cases(),
+}
+# Which cases go-minisign rejects, by its words, and this package accepts.
+REJECTED_THERE = {
+    "Invalid encoded signature": lambda it: [len(line_of(it.signature, number).rstrip(b"\r=")) for number in (2, 4)] != [99, 86]
+                                 or len(it.signature.rstrip(b"\r\n").split(b"\n")) > 4,
+    "Invalid encoded public key": lambda it: it.key.rstrip(b"\r\n").count(b"\n") > 1 or len(line_of(it.key, 2).rstrip(b"\r")) != 56,
+    "Invalid global signature": has_blank_comment,
+    "Incompatible signature algorithm": lambda it: base64.b64decode(line_of(it.key, 2))[:2] != b"Ed",
+}
+
 
 class Go:
     """Runs go with what it keeps in a directory of its own, and no network."""
@@ -50,6 +118,23 @@ class Go:
         if status != 0:
             raise static_library.NotBuilt(f"go {' '.join(words)}: {said.decode(errors='replace')[-1500:]}{why[-1500:]}")
         return said.decode(errors="replace")
+
+    def build(self, source, directory, package, *words):
+        """A program over the package, of one source of this directory, built in a module of its own."""
+        os.makedirs(directory)
+        self.begin(directory, package)
+        shutil.copy(os.path.join(HERE, "go", source), directory)
+        self.run(directory, "build", "-o", "program", *words)
+        return os.path.join(directory, "program")
+
+    def build_their(self, source, directory):
+        """The program of a source over go-minisign."""
+        needs.need(lambda: os.path.isdir(f"{SOURCES}/src/{GO_MINISIGN}") or None, "go-minisign", "golang-github-jedisct1-go-minisign-dev")
+        os.makedirs(directory)
+        text = shared_cases.read(os.path.join(HERE, "go", source)).decode()
+        write(directory, source, text.replace('"proved/minisign"', f'"{GO_MINISIGN}"').encode())
+        self.run(directory, "build", "-o", "program", environment={"GO111MODULE": "off", "GOPATH": SOURCES})
+        return os.path.join(directory, "program")
 
     def begin(self, directory, package):
         """Begins a module that uses the package, as README.md tells a user."""
@@ -115,6 +200,49 @@ def check_rejections(checks, program):
         checks.check("minisign: base64 conversion failed" in said, f"the key {text!r} alone: {said}")
 
 
+def verdicts(program):
+    """What a program of go/changed.go says of each change: the verdict, and the error."""
+    said = run([program, *(os.path.join(shared_cases.CORPUS, name) for name in ("published.pub", "test", "published.minisig"))])
+    return dict(re.findall("^(.*): ((?:true|false), .*)$", said[1].decode(), re.M))
+
+
+def check_changed(checks, program):
+    """What the caller changes in a key or a signature is what is verified."""
+    said, texts = verdicts(program), shared_cases.error_texts()
+    wanted = {name: "true, <nil>" if why is None else f"false, minisign: {texts[why]}" for name, why in CHANGES.items()}
+    for name in {**said, **wanted}:
+        checks.check(said.get(name) == wanted.get(name), f"changed, {name}: {said.get(name)} in place of {wanted.get(name)}")
+
+
+def check_go_minisign(checks, go, room, program):
+    """go-minisign has the same verdicts on texts, and on what the caller changes, but for those of the tables."""
+    cases, numbers = shared_cases.corpus() + shared_cases.damaged(DAMAGED) + shared_cases.vector_cases(), shared_cases.error_numbers()
+    names, lines, found = {str(number): name for name, number in numbers.items()}, shared_cases.lines_of(cases), set()
+    ours, theirs = (run(words, data=lines)[1].decode().splitlines() for words in ([program, "verify"], [go.build_their("verdicts.go", f"{room}/verdicts")]))
+    checks.check(len(ours) == len(theirs) == len(cases) > DAMAGED, f"{len(ours)} and {len(theirs)} answers to {len(cases)} cases")
+    for case, here, there in zip(cases, ours, theirs):
+        if here.startswith("accepted") != there.startswith("true"):
+            why, table = (names[here.split()[1]], REJECTED_HERE) if here.startswith("rejected") else (there.partition(", ")[2], REJECTED_THERE)
+            found.add(why)
+            checks.check(why in table and table[why](case), f"go-minisign, {case.name}: {here}, and {there}")
+    checks.check(found == {*REJECTED_HERE, *REJECTED_THERE}, f"go-minisign differs in {found}")
+    said = verdicts(go.build_their("changed.go", f"{room}/their"))
+    for name, why in CHANGES.items():
+        wanted = "true" if why is None or name in OTHERWISE else "false"
+        checks.check(said.get(name, "").partition(",")[0] == wanted, f"changed, {name}: go-minisign says {said.get(name)}")
+
+
+def check_errors(checks, program):
+    """Each error has the number, the name and the text of the header, and is found where another error wraps it."""
+    texts, names = shared_cases.error_texts(), {number: name for name, number in shared_cases.error_numbers().items() if number != 0}
+    said = run([program, "errors"])[1].decode().splitlines()
+    checks.check(len(said) == 1000 and len(names) > 50, f"{len(said)} numbers of errors")
+    for number, line in enumerate(said):
+        name = names.get(number)
+        wanted = f'{number} "{name}" true minisign: {texts[name]}' if name else f'{number} "" true '
+        checks.check(line.startswith(wanted) and (name is None or line == wanted), f"the error {number}: {line}")
+
+
 def check_readme(checks, go, room, package):
     """The program of README.md accepts a file that its key has signed, and no other one."""
     directory = os.path.join(room, "readme")
@@ -139,10 +267,10 @@ def check_arm(checks, go, package):
     """The package's own tests, built for AArch64 and run in an emulator."""
     compiler, emulator = needs.program("aarch64-linux-gnu-gcc", "gcc-aarch64-linux-gnu"), needs.program("qemu-aarch64-static", "qemu-user-static")
     root = "/usr/aarch64-linux-gnu"
-    needs.need(lambda: os.path.exists(f"{root}/lib/libc.so.6") or None, "the C library for AArch64", "libc6-dev-arm64-cross")
+    needs.need(lambda: os.path.exists(f"{root}/include/stdio.h") or None, "the C library for AArch64", "libc6-dev-arm64-cross")
     said = go.run(package, "test", "-count=1", "-v", "-exec", f"{emulator} -L {root}", "./...",
                   environment={"GOARCH": "arm64", "CC": compiler})
-    checks.check(said.count("--- PASS: ") >= 4, f"go test for AArch64: {said[-500:]}")
+    checks.check(said.count("--- PASS: ") >= 6, f"go test for AArch64: {said[-500:]}")
 
 
 def check_many(checks, program, racing):
@@ -163,18 +291,16 @@ def check_all(checks, room):
     checks.check(formatted == b"", f"gofmt would change {formatted}")
     for words in (["-race"], ["-tags", "amd64.v3"]):
         said = go.run(package, "test", "-count=1", "-v", *words, "./...")
-        checks.check(said.count("--- PASS: ") >= 4 and "--- SKIP" not in said, f"go test {words}: {said[-500:]}")
-    directory = os.path.join(room, "answers")
-    os.makedirs(directory)
-    go.begin(directory, package)
-    shutil.copy(os.path.join(HERE, "go", "answers.go"), directory)
-    checks.check(go.run(directory, "vet", "./...") == "", "go vet has words of the program")
-    go.run(directory, "build", "-o", "answers")
-    go.run(directory, "build", "-race", "-o", "racing")
-    program, racing = (os.path.join(directory, name) for name in ("answers", "racing"))
+        checks.check(said.count("--- PASS: ") >= 6 and "--- SKIP" not in said, f"go test {words}: {said[-500:]}")
+    program = go.build("answers.go", os.path.join(room, "answers"), package)
+    racing = go.build("answers.go", os.path.join(room, "racing"), package, "-race")
+    checks.check(go.run(os.path.dirname(program), "vet", "./...") == "", "go vet has words of the program")
     check_answers(checks, program, room, minisign)
     check_vectors(checks, program)
     check_rejections(checks, program)
+    check_errors(checks, program)
+    check_changed(checks, go.build("changed.go", os.path.join(room, "changed"), package))
+    check_go_minisign(checks, go, room, program)
     check_many(checks, program, racing)
     check_readme(checks, go, room, package)
     check_planted(checks, go, package, room, minisign)
@@ -187,9 +313,12 @@ BUGS = [
     ("ed25519.go", "second.Cmp(it) == 0", "second.Cmp(it) == 2"),
     ("ed25519.go", "second.Cmp(prime) >= 0", "second.Sign() < 0"),
     ("minisign.go", "\t\tmessage = bin\n", ""),
-    ("minisign.go", "asked.message, asked.second())", "message, asked.first())"),
+    ("minisign.go", "verdict(first, verifier.acceptsComment())", "verdict(first, first)"),
     ("minisign.go", "return begin(publicKey, signature, false)", "return begin(publicKey, signature, true)"),
     ("minisign.go", "verifier.end(held.Bytes())", "verifier.end(nil)"),
+    ("minisign.go", "if asked.signature(text) != signature {", "if false {"),
+    ("minisign.go", "if publicKey.SignatureAlgorithm != [2]byte{'E', 'd'} {", "if false {"),
+    ("minisign.go", "signature.KeyId[:], signature.Signature[:]}", "signature.KeyId[:], signature.GlobalSignature[:]}"),
     ("raw.go", "\t\treturn C.MINISIGN_ANSWER_YES", "\t\treturn C.MINISIGN_ANSWER_YES + 1"),
 ]
 
@@ -204,16 +333,13 @@ def check_planted(checks, go, package, room, minisign):
         shutil.copytree(package, changed)
         text = shared_cases.read(os.path.join(changed, file)).decode()
         write(changed, file, text.replace(old, new, 1).encode())
-        found, using = Checks(), os.path.join(directory, "using")
-        os.mkdir(using)
-        go.begin(using, changed)
-        shutil.copy(os.path.join(HERE, "go", "answers.go"), using)
-        go.run(using, "build", "-o", "answers")
-        program, lines = os.path.join(using, "answers"), shared_cases.lines_of(cases)
+        found, program = Checks(), go.build("answers.go", os.path.join(directory, "using"), changed)
+        lines = shared_cases.lines_of(cases)
         shared_cases.compare(found, "kept", cases, run([program, "files", directory], data=lines)[1], wanted)
         shared_cases.compare(found, "in pieces", cases, run([program, "pieces", "7"], data=lines)[1], strict)
         check_vectors(found, program)
         check_rejections(found, program)
+        check_changed(found, go.build("changed.go", os.path.join(directory, "changing"), changed))
         checks.check(old in text and found.failures, f"planted in {file}, and not noticed: {new}")
 
 

@@ -6,8 +6,8 @@ without a network, and uses it as its user would, by libsodium and by the packag
 
 Its answers are compared with those of `c/minisign`: the kept corpus, 500 damaged texts, data in pieces; and with those of libsodium:
 the signatures of Ed25519 that implementations answer differently. Also: the exceptions and structs are those of the header; the
-types hold; calls hold no memory in the end; threads; keys and signatures of Minisign's own program; the examples of the README; the
-cases of tests/installer for `install`; and each of some planted bugs is noticed. It prints a line for each case that failed or was
+types hold; each call names the argument that is of another type or value; calls hold no memory in the end; threads; keys and signatures of Minisign's own program; the examples of the README; the
+cases of tests/installer for `install` and `check`; and each of some planted bugs is noticed. It prints a line for each case that failed or was
 skipped; the last line is `N passed, M failed`.
 
 Needs Debian's Python with pip, venv, setuptools, wheel and cryptography, mypy, make, binutils, a C compiler, libsodium with its
@@ -38,7 +38,7 @@ USER = os.path.join(HERE, "python_user.py")
 PACKAGE = "minisign_proved"
 KINDS = ("libsodium", "cryptography")
 # How many lines are written by hand. Docstrings do not count.
-LINES = 300
+LINES = 800
 MADE = ("errors.py", "_header.py")
 # (another test may have the processor for long)
 SECONDS = 1800
@@ -147,8 +147,9 @@ def check_header(checks, room, python_path):
     told = f"""
 import ctypes
 from {PACKAGE} import _header, errors
+from {PACKAGE}._calls import error_of
 for number, kind in errors.BY_NUMBER.items():
-    print("error", number, kind.__name__)
+    print("error", number, kind.__name__, error_of(number))
 for name, struct in vars(_header).items():
     if isinstance(struct, type) and issubclass(struct, ctypes.Structure) and struct is not ctypes.Structure:
         print("place", name, ctypes.sizeof(struct))
@@ -156,9 +157,9 @@ for name, struct in vars(_header).items():
             print("place", f"{{name}}.{{field}}", getattr(struct, field).offset)
 """
     _, said, why = shared.run([python_path, "-c", told])
-    lines = [line.split() for line in said.decode().splitlines()]
-    errors = {int(it[1]): it[2] for it in lines if it[0] == "error"}
-    wanted = {number: class_name(name) for name, number in shared.error_numbers().items() if number != 0}
+    lines = [line.split(" ", 3) for line in said.decode().splitlines()]
+    errors, texts = {int(it[1]): it[2:] for it in lines if it[0] == "error"}, shared.error_texts()
+    wanted = {number: [class_name(name), texts[name]] for name, number in shared.error_numbers().items() if number != 0}
     checks.check(errors == wanted, f"the exceptions are {errors}: {why}")
     places = {it[1]: int(it[2]) for it in lines if it[0] == "place"}
     layout = {class_name(name.partition(".")[0].removeprefix("minisign_")) + "".join(name.partition(".")[1:]): at
@@ -299,7 +300,10 @@ def check_examples(checks, python_path, room):
 # The file, what is changed in it, and the checks of the user's program that have to notice it.
 BUGS = [
     ("_header.py", "verdict(state, ANSWER_YES if first is True else", "verdict(state, ANSWER_YES if first is not None else", "answers"),
-    ("_keys.py", "self._message, key)\n", "self._message, key) or True\n", "answers"),
+    ("_keys.py", "self._message, bytes(self._asked.public_key))", "self._message, bytes(self._asked.public_key)) or True", "answers"),
+    ("_keys.py", "calls.comment_verdict(self._state, self._accepts_comment())", "pass", "parts"),
+    ("_keys.py", "        return f\"<SecretKey {self.public_key.key_id}>\"", "        return repr(bytes(self._opened.secret))", "parts"),
+    ("_keys.py", "    def __reduce__(self) -> NoReturn:", "    def reduce(self) -> NoReturn:", "parts"),
     ("_keys.py", "1 if allow_legacy else 0", "1", "answers"),
     ("_keys.py", "        Verifier(PublicKey(", "        False and Verifier(PublicKey(", "keys"),
     ("_calls.py", "second >= PRIME or second in SMALL_ORDER", "second in SMALL_ORDER", "vectors"),
@@ -310,16 +314,28 @@ BUGS = [
      "threads"),
     ("_keys.py", "    if len(text) > TEXT_BYTES:", "    if len(text) > 2 * TEXT_BYTES:", "keys"),
     ("_keys.py", "        ctypes.memset(pair, 0, ctypes.sizeof(pair))", "        pass", "keys"),
-    ("_keys.py", "bytes(memoryview(piece))", "bytes(piece)", "keys"),
-    ("_keys.py", "        os.replace(os.path.join(room, \"key\"), path)", "        pass", "keys"),
-    ("_keys.py", "    path = os.path.realpath(path)", "    path = os.fspath(path)", "keys"),
+    ("_keys.py", "        os.replace(os.path.join(room, \"key\"), name)", "        pass", "keys"),
+    ("_keys.py", "    name = os.path.realpath(path_text(\"path\", path))", "    name = path_text(\"path\", path)", "keys"),
     ("_keys.py", "os.O_EXCL | os.O_CLOEXEC, 0o600", "os.O_TRUNC | os.O_CLOEXEC, 0o644", "keys"),
-    ("installing.py", "            library.end_installing(begun)", "            pass", "installing"),
-    ("installing.py", "first, again, field, mode is not None", "True, again, field, mode is not None", "installing"),
+    ("installing.py", "        library.end_installing(begun)", "        pass", "installing"),
+    ("installing.py", "is_first=first,", "is_first=True,", "installing"),
     ("installing.py", "bytes(key.contents)) else h.ANSWER_NO", "bytes(key.contents)) else h.ANSWER_YES", "installing"),
-    ("installing.py", "            if run.error != 0:", "            if run.error > 60:", "installing"),
-    ("installing.py", "file.fileno(), longest, first", "file.fileno(), LONGEST, first", "installing"),
-    ("installing.py", "numbering: str = \"timestamp\"", "numbering: str = \"version\"", "installing"),
+    ("installing.py", "    if error != 0:", "    if error > 60:", "installing"),
+    ("installing.py", "    wanted.most = LONGEST if most is None else min(most, LONGEST)", "    wanted.most = LONGEST", "installing"),
+    ("installing.py", "numbering: str = \"timestamp\", name: Optional[Path] = None, mode", "numbering: str = \"version\", name: Optional[Path] = None, mode", "installing"),
+    ("installing.py", "return Offer(offer.value)", "return Offer.NEWER", "installing"),
+    ("installing.py", "key_count=len(keys)", "key_count=1", "installing"),
+    ("_arguments.py", "        view = memoryview(cast(Any, value))", "        view = bytes(cast(Any, value))", "arguments"),
+    ("_arguments.py", "        text = os.fsdecode(cast(Path, value))", "        text = os.fsdecode(cast(Path, value)) if value != 3 else \"/dev/null/3\"", "arguments"),
+    ("_arguments.py", " or (kind is int and isinstance(value, bool)):", ":", "arguments"),
+    ("_arguments.py", "    if text == \"\" or \"\\0\" in text:", "    if \"\\0\" in text:", "arguments"),
+    ("_keys.py", "        check_kind(\"allow_legacy\", allow_legacy, bool)", "        pass", "arguments"),
+    ("_keys.py", "path_text(\"path\", path), octets(\"text\", text)", "path_text(\"path\", path), text", "arguments"),
+    ("_keys.py", "new_password(\"new\", new)", "new and new_password(\"new\", new)", "arguments"),
+    ("_keys.py", "if isinstance(data, str) or not isinstance(data, Iterable):", "if not isinstance(data, Iterable):", "arguments"),
+    ("installing.py", "0, 0o777, oct)", "0, 0o7777, oct)", "arguments"),
+    ("installing.py", "last if name is None else", "last if not name else", "arguments"),
+    ("installing.py", "    check_kind(\"first\", first, bool)\n", "", "arguments"),
 ]
 
 
@@ -376,7 +392,7 @@ def main():
                 os.mkdir(own)
                 check_vectors(checks, user)
                 check_answers(checks, user, answered)
-                for word in ("memory", "threads", "installing", *(["passwords"] if kind == KINDS[0] else [])):
+                for word in ("memory", "threads", "installing", "arguments", "parts", *(["passwords", "documentation"] if kind == KINDS[0] else [])):
                     user.checks(checks, word, own)
                 check_keys(checks, user, os.path.join(own, "keys"))
             check_planted(checks, beside, room)

@@ -1,4 +1,4 @@
-"""A program with the words of `minisign-install`, over `install` of the Python package: so the cases of tests/installer run over it.
+"""A program with the words of `minisign-install`, over `install` and `check` of the Python package: so the cases of tests/installer run over it.
 
 Needs Python 3.9 or later.
 """
@@ -9,6 +9,7 @@ import sys
 import minisign_proved as minisign
 
 FAILED, MISUSED, REJECTED, OLDER, IN_USE, NOT_ON_DISK, UNRECORDED, SAME, EXPIRED, THERE = range(1, 11)
+OFFERS = {minisign.Offer.NEWER: 0, minisign.Offer.SAME: SAME, minisign.Offer.OLDER: OLDER}
 UNITS = {"K": 10, "M": 20, "G": 30, "T": 40}
 
 
@@ -51,27 +52,49 @@ def rejection_text(data, signature, place, name, numbering, error):
     return f"error: {at}: {error}{more}"
 
 
+def read_key(kind, word):
+    """A public key, of a file or its letters, or the end of the program."""
+    try:
+        return kind(word)
+    except minisign.MinisignError as error:
+        text = "it is longer than it may be" if isinstance(error, minisign.TooLong) else error
+    print(f"error: {word}: {text}", file=sys.stderr)
+    sys.exit(REJECTED)
+
+
+def read_signature(path):
+    """A signature, or the end of the program where there is no file of one."""
+    try:
+        return minisign.Signature.from_file(path)
+    except OSError as why:
+        print(f"error: {path}: {why.strerror} (os error {why.errno})", file=sys.stderr)
+        sys.exit(FAILED)
+
+
 def main():
-    words, options, paths = sys.argv[1:], {}, []
+    words, options, keys, paths = sys.argv[1:], {}, [], []
     while words:
         word = words.pop(0)
         if word == "--":
             paths, words = [*paths, *words], []
+        elif word == "--key":
+            keys.append(words.pop(0))
         elif word.startswith("--"):
-            options[word[2:]] = True if word in ("--first", "--again") else words.pop(0)
+            options[word[2:]] = True if word in ("--first", "--again", "--check") else words.pop(0)
         else:
             paths.append(word)
-    key, data, signature, place = paths
+    key = None if keys else paths.pop(0)
+    data = None if "check" in options else paths.pop(0)
+    signature, place = paths
     most, mode, numbering = options.get("most"), options.get("mode"), options.get("numbering", "timestamp")
     if most is not None:
         most = int(most[:-1]) << UNITS[most[-1]] if most[-1] in UNITS else int(most)
     try:
-        try:
-            read_key = minisign.PublicKey.from_file(key)
-        except minisign.TooLong:
-            sys.exit(REJECTED if print(f"error: {key}: it is longer than it may be", file=sys.stderr) is None else 0)
-        is_new = minisign.install(read_key, data, minisign.Signature.from_file(signature), place, first=bool(options.get("first")),
-                                  again=bool(options.get("again")), numbering=numbering, name=options.get("name"), mode=None if mode is None else int(mode, 8), most=most)
+        public_keys = [read_key(minisign.PublicKey.from_base64, it) for it in keys] or read_key(minisign.PublicKey.from_file, key)
+        text, wanted = read_signature(signature), {"first": "first" in options, "numbering": numbering, "name": options.get("name")}
+        if "check" in options:
+            return OFFERS[minisign.check(public_keys, text, place, **wanted)]
+        is_new = minisign.install(public_keys, data, text, place, again="again" in options, mode=None if mode is None else int(mode, 8), most=most, **wanted)
     except minisign.MinisignError as error:
         status = status_of(error)
         if status == FAILED and isinstance(error.__cause__, OSError):

@@ -1,8 +1,9 @@
-"""The cases of tests/installer for `install` of the Python package, by the program `python_installing.py`.
+"""The cases of tests/installer for `install` and `check` of the Python package, by the program `python_installing.py`.
 
 Needs Python 3.9 or later, minisign, a C compiler and setfacl, which are installed where that is allowed.
 """
 
+import inspect
 import os
 import subprocess
 import sys
@@ -11,16 +12,15 @@ HERE = os.path.dirname(os.path.realpath(__file__))
 sys.path += [os.path.join(HERE, "..", it) for it in ("shared", "tool", "installer")]
 
 from installers import RealInstaller
-from installing import Installing, cases, word_cases
+from installing import Installing, cases, check_cases, word_cases
 from running import Failure, Skip, build_preload
 
 PROGRAM = os.path.join(HERE, "python_installing.py")
 
 
 class PythonInstaller(RealInstaller):
-    """`install` of the Python package, with a key that Minisign's own program makes in this directory."""
+    """`install` and `check` of the Python package, with a key that Minisign's own program makes in this directory."""
 
-    has_checks = False
     # (before it reads the record alone, to its end)
     looked_at = 3
 
@@ -43,8 +43,13 @@ def installer(python, room):
     return it
 
 
+def is_of_words(case):
+    """Whether a case is of the words of a command line: whether it takes `words` and what is said of them."""
+    return {"words", "said"} <= set(inspect.signature(case).parameters)
+
+
 def chosen_cases(it):
-    words = {name for name, _ in word_cases(it)} | set(LEFT_OUT)
+    words = {name for name, _ in word_cases(it)} | {name for name, case in check_cases(it) if is_of_words(case)} | set(LEFT_OUT)
     kept = {"a name that begins with a dash", "another name than the signed one"}
     return [(name, case) for name, case in cases(it) if name not in words - kept]
 

@@ -4,15 +4,21 @@
 Needs Python 3.9 or later.
 """
 
+import copy
+import inspect
 import io
 import os
+import pickle
+import pydoc
 import random
+import re
 import sys
 import threading
-from typing import IO, Callable, Iterator, List, Tuple, Type, cast
+from typing import IO, Any, Callable, Dict, Iterator, List, Tuple, Type, cast
 
 import minisign_proved as minisign
-from minisign_proved import PublicKey, SecretKey, Signature, Verifier, _calls
+import python_arguments
+from minisign_proved import Data, PublicKey, SecretKey, Signature, Text, Verifier, _calls
 
 # What so many calls may take more memory than the first ones, in KiB.
 CALLS, FIRST_CALLS, MAX_GROWTH = 100_000, 5_000, 512
@@ -245,11 +251,56 @@ def keys(room: str) -> None:
     check(issubclass(minisign.WrongPassword, minisign.MinisignError) and minisign.WrongPassword.number > 0, "the kinds of errors")
 
 
+def parts(room: str) -> None:
+    """What keys, signatures and verifiers tell before there is data, and what they do not tell."""
+    key, other = SecretKey.generate(), SecretKey.generate()
+    data, secret = write(room, "data", b"what is signed"), bytes(key._opened.secret)
+    comments: Dict[str, Any] = {"trusted_comment": "one", "untrusted_comment": "two"}
+    made = key.sign(data, **comments)
+    ways: List[Data] = [b"what is signed", bytearray(b"what is signed"), io.BytesIO(b"what is signed"), [b"what is", b"", b" signed"]]
+    check(all(key.sign_data(it, **comments) == made for it in ways), "data in memory is signed as a file")
+    check(re.fullmatch(r"timestamp:\d+\thashed", key.public_key.verify(b"", key.sign_data([]))) is not None, "the default comment of data in memory")
+    check(len({made, Signature(bytearray(made.text)), key.sign_data(b"other", **comments)}) == 2 and made != made.text, "signatures in a set")
+
+    longer = Signature(made.text.replace(b"trusted comment: one", b"trusted comment: ones"))
+    for signature, fed, comment, all_of_it in (
+            (made, b"what is signed", "one", "one"), (made, b"other", "one", "rejected SignatureRefused"),
+            (longer, b"what is signed", "rejected CommentSignatureRefused", "rejected CommentSignatureRefused")):
+        verifier = Verifier(key.public_key, signature)
+        before = answer(verifier.trusted_comment)
+        verifier.update(fed)
+        wanted = [it if it.startswith("rejected") else f"accepted {it.encode().hex()}" for it in (comment, comment, all_of_it)]
+        check([before, answer(verifier.trusted_comment), answer(verifier.finish)] == wanted, f"{fed!r}: not {wanted}")
+        rejects(minisign.NotBegun, verifier.trusted_comment, "the comment of a verifier that was finished")
+
+    shown = [repr(key), str(key), f"{key}", repr(key.public_key), repr([key]), repr(vars(key)), pydoc.render_doc(key), repr(Verifier(key.public_key, made))]
+    check(all(secret[:32].hex() not in it and repr(secret)[2:-1] not in it for it in shown), f"the secret is shown: {shown}")
+    check(shown[0] == f"<SecretKey {key.public_key.key_id}>" and shown[3] == f"<PublicKey {key.public_key.key_id}>", f"keys are shown as {shown}")
+    check(eval(repr(made)) == made, f"a signature is shown as {made!r}")
+    for call in (copy.copy, copy.deepcopy, pickle.dumps):
+        rejects(TypeError, lambda call=call: call(key), f"a secret key, and {call.__name__}")  # type: ignore[misc]
+    for it, name in ((key, "public_key"), (key.public_key, "key"), (key.public_key, "key_id"), (made, "text")):
+        rejects(AttributeError, lambda it=it, name=name: setattr(it, name, getattr(other, name, b"")), f"a new {name}")  # type: ignore[misc]
+
+
+def documentation(room: str) -> None:
+    """`help` shows all that there is and nothing else, and each call and each error says what it does."""
+    shown = pydoc.plain(pydoc.render_doc(minisign))
+    for name in minisign.__all__:
+        it = getattr(minisign, name)
+        check(re.search(rf"\b{name}\b", shown) is not None, f"help does not show {name}")
+        check(not (inspect.isclass(it) or inspect.isfunction(it)) or bool(it.__doc__), f"{name} says nothing")
+    for name, call in python_arguments.public_calls():
+        check(bool(inspect.getdoc(call)), f"{name} says nothing")
+    there = {name for name, it in vars(minisign).items() if not name.startswith("_") and not inspect.ismodule(it)}
+    check(there == set(minisign.__all__) and len(minisign.__all__) == len(there), f"in __all__, or there, and not both: {there ^ set(minisign.__all__)}")
+
+
 def passwords(room: str) -> None:
     """A sealed key, and another password for it: each derivation takes a second or more."""
     key = SecretKey.generate()
     sealed = write(room, "sealed.key", key.to_bytes("pass \u00e9", low_memory=True))
-    for password, wrong in ((None, minisign.KeySealed), ("pass", minisign.WrongPassword)):
+    for password, wrong in ((None, minisign.KeySealed), ("pass", minisign.WrongPassword), ("", minisign.WrongPassword), ("\ud800", minisign.NotUtf8)):
         rejects(wrong, lambda password=password: SecretKey.from_file(sealed, password), f"the password {password}")  # type: ignore[misc]
     before = open(sealed, "rb").read()
     rejects(minisign.WrongPassword, lambda: minisign.change_password(sealed, "old", "newer"), "a change with a wrong password")
@@ -257,7 +308,9 @@ def passwords(room: str) -> None:
     minisign.change_password(sealed, "pass \u00e9", "new")
     check(os.stat(sealed).st_mode & 0o777 == 0o600, "the mode of a key whose password was changed")
     check(not [it for it in os.listdir(room) if it.startswith("sealed.key.")], "a file beside the key is left")
-    check(SecretKey.from_file(sealed, "new").public_key == key.public_key, "a key whose password was changed")
+    ways: List[Text] = ["new", bytearray(b"new")]
+    for way in ways:
+        check(SecretKey.from_file(sealed, way).public_key == key.public_key, "a key whose password was changed")
 
 
 def installing(room: str) -> None:
@@ -295,7 +348,7 @@ def installing(room: str) -> None:
     rejects(minisign.SignatureRefused, lambda: minisign.install(key.public_key, path, two, place, numbering="version", progress=reject),
             "an error of the package that progress raises")
     check(state() == (b"one", b"version:1", []), f"after progress raised an error of the package: {state()}")
-    for most, source in ((2, io.BytesIO(b"two")), (2, path), (-1, path)):
+    for most, source in ((2, io.BytesIO(b"two")), (2, path), (0, path)):
         rejects(minisign.TooLong, lambda most=most, source=source: minisign.install(key.public_key, source, two, place, numbering="version", most=most),  # type: ignore[misc]
                 f"data of more than {most} bytes")
     check(state() == (b"one", b"version:1", []), f"after data that was too long: {state()}")
@@ -333,14 +386,25 @@ def installing(room: str) -> None:
     check(state() == (b"two", b"version:2", []) and os.stat(place).st_mode & 0o777 == 0o755, f"a file that is open: {state()}")
     rejects(minisign.OlderUpdate, lambda: minisign.install(key.public_key, io.BytesIO(b"one"), one, place, numbering="version"), "an older update")
     rejects(minisign.KeptByVersion, lambda: minisign.install(key.public_key, path, two, place), "the other field")
+    newer, older = [minisign.check(key.public_key, it, place, numbering="version") for it in (signed(b"3", "version:3\tfile:app"), one)]
+    check([newer, older] == [minisign.Offer.NEWER, minisign.Offer.OLDER] and state()[0] == b"two", f"a check says {newer} and {older}")
+    other = SecretKey.generate().public_key
+    for keys in ([other, key.public_key], (key.public_key, other)):
+        check(minisign.check(keys, two, place, numbering="version") is minisign.Offer.SAME, "a check with two keys")
+        check(minisign.install(keys, path, two, place, numbering="version") is False, "an installation with two keys")
+    rejects(minisign.DifferentKeyIds, lambda: minisign.check([other, other], two, place, numbering="version"), "two keys of others")
+    rejects(ValueError, lambda: minisign.check([other] * 3, two, place, numbering="version"), "three keys")
     for wrong in ("", ".", "..", directory + "/"):
         rejects(ValueError, lambda wrong=wrong: minisign.install(key.public_key, path, two, wrong), f"the place {wrong!r}")  # type: ignore[misc]
-    rejects(KeyError, lambda: minisign.install(key.public_key, path, two, place, numbering="date"), "a field that there is not")
     rejects(FileNotFoundError, lambda: minisign.install(key.public_key, path, two, os.path.join(room, "none", "app")), "no directory")
     opened = len(os.listdir("/proc/self/fd"))
     for _ in range(20):
         minisign.install(key.public_key, path, two, place, numbering="version")
     check(len(os.listdir("/proc/self/fd")) == opened, "descriptors stay open")
+
+
+def arguments(room: str) -> None:
+    python_arguments.check_arguments(room, check)
 
 
 def main() -> int:
@@ -350,7 +414,8 @@ def main() -> int:
     if word in ("answers", "pieces", "vectors"):
         {"answers": lambda: answers(rest == ["allow"]), "pieces": pieces, "vectors": vectors}[word]()
         return 0
-    {"memory": memory, "threads": threads, "keys": keys, "passwords": passwords, "installing": installing}[word](rest[0])
+    {"memory": memory, "threads": threads, "keys": keys, "passwords": passwords, "installing": installing,
+     "arguments": arguments, "parts": parts, "documentation": documentation}[word](rest[0])
     for failure in failures:
         print(f"FAILED: {failure}")
     print(f"{passed} passed, {len(failures)} failed")

@@ -12,7 +12,7 @@ memory, and threads get the same answers. Structs and calls are declared as the 
 is noticed. It prints a line for each failure; the last line is `N passed, M failed`.
 
 Needs Python 3.9 or later, cargo, rustc, make, a C compiler, binutils and libsodium with its header, and installs what is not there
-where it may. Debian's cargo is tried too where another one comes first in PATH.
+where it may. Where another cargo than Debian's comes first in PATH, both are tried.
 """
 
 import base64
@@ -36,7 +36,7 @@ CRATE = os.path.join(TOP, "bindings", "rust")
 # What is written by hand, of which the first three have nothing unsafe; and what tools/bindings.py makes.
 BY_HAND = ["build.rs", "src/lib.rs", "src/signing.rs", "src/raw.rs", "src/raw/sodium.rs"]
 MADE = "src/raw/header.rs"
-LINES = 300
+LINES = 650
 CALLS = 100_000
 # How many pages of 4 KiB may be in memory after all calls that were not after a tenth of them.
 PAGES = 64
@@ -55,7 +55,8 @@ ALONE = 'minisign-proved = {{ path = "{crate}", default-features = false }}'
 
 # The structs of the header, as the crate names them.
 STRUCTS = {"minisign_state": "State", "minisign_public_key": "PublicKey", "minisign_questions": "Questions",
-           "minisign_unopened_key": "UnopenedKey", "minisign_secret_key": "SecretKey", "minisign_sealing": "Sealing"}
+           "minisign_unopened_key": "UnopenedKey", "minisign_secret_key": "SecretKey", "minisign_signed_parts": "SignedParts",
+           "minisign_sealing": "Sealing"}
 
 # What the crate makes of the header's errors, where it has the name that minisign-verify has.
 KNOWN = {
@@ -69,11 +70,11 @@ KNOWN = {
 
 
 def toolchains():
-    """The cargo and the rustc that come first in PATH, and Debian's where these are others."""
+    """Debian's cargo and rustc, as `needs` finds them, and those that come first in PATH where these are others."""
     found = [(needs.program("cargo", "cargo"), needs.rust_compiler())]
-    debian = ("/usr/bin/cargo", "/usr/bin/rustc")
-    if all(map(os.path.exists, debian)) and found[0][0] != debian[0]:
-        found.append(debian)
+    first = (shutil.which("cargo"), shutil.which("rustc"))
+    if all(first) and not os.path.samefile(first[0], found[0][0]):
+        found.append(first)
     return found
 
 
@@ -367,7 +368,9 @@ def main():
             minisign = shared_cases.c_minisign(room)
             check_sources(checks)
             check_declarations(checks)
-            for number, toolchain in enumerate(toolchains()):
+            found = toolchains()
+            checks.check(not needs.may_install() or found[0][0] == f"{needs.DEBIAN}/cargo", f"Debian's cargo is not tried: {found}")
+            for number, toolchain in enumerate(found):
                 directory = os.path.join(room, str(number))
                 os.mkdir(directory)
                 check_toolchain(checks, directory, toolchain, minisign, number == 0)

@@ -27,6 +27,7 @@ from checks import Checks
 
 CORPUS = os.path.join(TOP, "tests", "corpus")
 HEADER = os.path.join(TOP, "include", "minisign.h")
+INSTALLING = os.path.join(TOP, "include", "minisign_install.h")
 SECONDS = 300
 # The damage is the same at each run.
 SEED = 7
@@ -246,8 +247,8 @@ def compare(checks, what, cases, said, wanted):
 
 
 def header_text():
-    """The header without its comments."""
-    return re.sub(r"/\*.*?\*/", "", read(HEADER).decode(), flags=re.S)
+    """Both headers, one after the other, without their comments."""
+    return re.sub(r"/\*.*?\*/", "", (read(HEADER) + read(INSTALLING)).decode(), flags=re.S)
 
 
 def numbers_of(name):
@@ -261,13 +262,18 @@ def error_numbers():
     return numbers_of("minisign_error")
 
 
+def error_texts():
+    """The texts of errors, as the published list has them, by the same names."""
+    return dict(re.findall(r'\[MINISIGN_(\w+)\] = "(.*)",', read(os.path.join(TOP, "tests", "c", "error_texts.c")).decode()))
+
+
 def layout(room):
-    """The sizes of the header's structs, and where their fields stand: `name` or `name.field`, and a number of bytes."""
+    """The sizes of the structs of both headers, and where their fields stand: `name` or `name.field`, and a number of bytes."""
     places = []
     for body, name in re.findall(r"typedef struct \w+ \{(.*?)\} (\w+);", header_text(), re.S):
         places.append((name, f"sizeof({name})"))
-        places += [(f"{name}.{field}", f"offsetof({name}, {field})") for field in re.findall(r"\w+ (\w+)(?:\[\w+\])*;", body)]
-    source = "#include <stddef.h>\n#include <stdio.h>\n#include \"minisign.h\"\nint main(void) {\n" + "".join(
+        places += [(f"{name}.{field}", f"offsetof({name}, {field})") for field in re.findall(r"\w+ \*?(\w+)(?:\[\w+\])*;", body)]
+    source = "#include <stddef.h>\n#include <stdio.h>\n#include \"minisign_install.h\"\nint main(void) {\n" + "".join(
         f'printf("{name} %zu\\n", (size_t) {place});\n' for name, place in places) + "return 0; }\n"
     path = write(room, "layout.c", source.encode())
     status, _, why = run([needs.c_compiler(), "-I", os.path.dirname(HEADER), "-o", f"{room}/layout", path])

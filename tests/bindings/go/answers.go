@@ -6,6 +6,7 @@ import (
 	"bufio"
 	"bytes"
 	"encoding/hex"
+	"errors"
 	"fmt"
 	"io"
 	"os"
@@ -87,9 +88,6 @@ func fromFile(directory string) way {
 		if err := os.WriteFile(filepath.Join(directory, "data"), data, 0o644); err != nil {
 			return false, err
 		}
-		// (the text is what is verified, and no field)
-		read.SignatureAlgorithm[1] ^= 'D' ^ 'd'
-		read.TrustedComment, read.Signature = "", [64]byte{}
 		return key.VerifyFromFile(filepath.Join(directory, "data"), read)
 	}
 }
@@ -184,6 +182,13 @@ func main() {
 		return
 	case "threads":
 		fmt.Println(threads(lines()))
+		return
+	case "errors":
+		for number := minisign.Error(0); number < 1000; number++ {
+			wrapped := fmt.Errorf("the file: %w", number)
+			is := errors.Is(wrapped, number) && !errors.Is(wrapped, number+1)
+			fmt.Printf("%d %q %t %s\n", number, number.Name(), is, number)
+		}
 		return
 	case "bare":
 		key, err := minisign.NewPublicKey(os.Args[2])

@@ -7,6 +7,7 @@ import os
 from typing import Dict, List, Type, Union
 
 from . import _header as h
+from ._arguments import choice
 from .errors import BY_NUMBER, MinisignError
 
 # The 64 bytes of a secret key: the seed, and its public key.
@@ -96,8 +97,8 @@ _chosen: List[Union[Sodium, Cryptography]] = []
 
 def use_ed25519(name: str) -> None:
     """Takes Ed25519 from `libsodium` or from `cryptography`; otherwise it is the first of them that is there. ImportError or
-    OSError where that one is not."""
-    _chosen[:] = [KINDS[name]()]
+    OSError where that one is not, and ValueError of another name."""
+    _chosen[:] = [choice("name", name, KINDS)()]
 
 
 def ed25519() -> Union[Sodium, Cryptography]:

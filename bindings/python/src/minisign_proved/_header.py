@@ -4,21 +4,21 @@
 Made by tools/bindings.py from include/minisign.h.
 """
 
-from ctypes import CDLL, POINTER, Array, Structure, c_size_t, c_ubyte, c_uint32, c_uint64, c_void_p, create_string_buffer
+from ctypes import CDLL, POINTER, Array, Structure, c_char_p, c_size_t, c_ubyte, c_uint32, c_uint64, c_void_p, create_string_buffer
 from typing import Callable, Optional, Tuple, Union
 
 VERSION_MAJOR = 0
-VERSION_MINOR = 2
+VERSION_MINOR = 3
 VERSION_PATCH = 0
 ERROR_TEXT_BYTES = 128
 KEEP_EVERY_ROW = 1
 KEEP_FEW_ROWS = 16
-USUAL_WORK = 1
-ANY_WORK = 0xffffffff
+USUAL_ROWS = 1048576
+ANY_ROWS = 0xffffffffffffffff
 OPERATIONS_LIMIT = 33554432
 MEMORY_LIMIT = 1073741824
 NUMBER_TEXT_BYTES = 30
-VERSION_TEXT = "0.2.0"
+VERSION_TEXT = "0.3.0"
 SECRET_KEY_COMMENT = "minisign encrypted secret key"
 PUBLIC_KEY_COMMENT = "minisign public key "
 # Sizes to which the length of what is put in is added.
@@ -29,6 +29,7 @@ PUBLIC_KEY_BYTES = 77
 ANSWER_YES = 7955827
 ANSWER_NO = 28271
 
+DUE_NOTHING = 0
 DUE_LOCK = 1
 DUE_CLEAR = 2
 DUE_READ_RECORD = 3
@@ -104,6 +105,17 @@ class SecretKey(Structure):
     ]
 
 
+class SignedParts(Structure):
+    _fields_ = [
+        ("signature", c_ubyte * 64),
+        ("comment_signature", c_ubyte * 64),
+        ("trusted_comment", c_char_p),
+        ("trusted_comment_len", c_size_t),
+        ("untrusted_comment", c_char_p),
+        ("untrusted_comment_len", c_size_t),
+    ]
+
+
 class Sealing(Structure):
     _fields_ = [
         ("salt", c_ubyte * 32),
@@ -149,8 +161,14 @@ class Calls:
         library.minisign_verdict.argtypes = (POINTER(State), c_uint32, c_uint32)
         library.minisign_read_secret_key.restype = error
         library.minisign_read_secret_key.argtypes = (c_void_p, c_size_t, POINTER(UnopenedKey))
-        library.minisign_open_secret_key.restype = error
-        library.minisign_open_secret_key.argtypes = (POINTER(UnopenedKey), c_uint32, c_void_p, c_size_t, c_uint64, c_uint32, POINTER(SecretKey))
+        library.minisign_open_unsealed_key.restype = error
+        library.minisign_open_unsealed_key.argtypes = (POINTER(UnopenedKey), POINTER(SecretKey))
+        library.minisign_open_sealed_key.restype = error
+        library.minisign_open_sealed_key.argtypes = (POINTER(UnopenedKey), c_void_p, c_size_t, c_uint64, c_uint64, POINTER(SecretKey))
+        library.minisign_opening_memory.restype = None
+        library.minisign_opening_memory.argtypes = (POINTER(UnopenedKey), c_uint64, POINTER(c_uint64), POINTER(c_uint64))
+        library.minisign_open_sealed_key_in_place.restype = error
+        library.minisign_open_sealed_key_in_place.argtypes = (POINTER(UnopenedKey), c_void_p, c_size_t, c_uint64, c_uint64, POINTER(c_uint32), c_size_t, c_void_p, c_size_t, POINTER(SecretKey))
         library.minisign_take_secret_key.restype = None
         library.minisign_take_secret_key.argtypes = (c_void_p, c_void_p, POINTER(SecretKey))
         library.minisign_public_key_of.restype = error
@@ -158,7 +176,7 @@ class Calls:
         library.minisign_comment_message.restype = error
         library.minisign_comment_message.argtypes = (c_void_p, c_void_p, c_size_t, c_void_p, c_size_t)
         library.minisign_signed_text.restype = error
-        library.minisign_signed_text.argtypes = (POINTER(SecretKey), c_void_p, c_void_p, c_void_p, c_size_t, c_void_p, c_size_t, c_void_p, c_size_t, POINTER(c_size_t))
+        library.minisign_signed_text.argtypes = (POINTER(SecretKey), POINTER(SignedParts), c_void_p, c_size_t, POINTER(c_size_t))
         library.minisign_secret_key_text.restype = error
         library.minisign_secret_key_text.argtypes = (POINTER(SecretKey), c_uint32, c_void_p, c_size_t, POINTER(Sealing), c_uint64, c_void_p, c_size_t, c_void_p, c_size_t, POINTER(c_size_t))
         library.minisign_public_key_text.restype = error
@@ -243,9 +261,14 @@ class Calls:
         self._library.minisign_read_secret_key(sk_text, len(sk_text), unopened)
         return unopened
 
-    def open_secret_key(self, unopened: UnopenedKey, password: Optional[bytes], keep_every: int, greatest_work: int) -> SecretKey:
+    def open_unsealed_key(self, unopened: UnopenedKey) -> SecretKey:
         key = SecretKey()
-        self._library.minisign_open_secret_key(unopened, 0 if password is None else 1, password, len(password or b""), keep_every, greatest_work, key)
+        self._library.minisign_open_unsealed_key(unopened, key)
+        return key
+
+    def open_sealed_key(self, unopened: UnopenedKey, password: bytes, keep_every: int, most_rows: int) -> SecretKey:
+        key = SecretKey()
+        self._library.minisign_open_sealed_key(unopened, password, len(password), keep_every, most_rows, key)
         return key
 
     def take_secret_key(self, key_id: Octets, secret: Octets) -> SecretKey:
@@ -263,10 +286,10 @@ class Calls:
         self._library.minisign_comment_message(first, trusted, len(trusted), message, len(message))
         return message.raw
 
-    def signed_text(self, key: SecretKey, first: Octets, second: Octets, trusted: bytes, untrusted: bytes) -> bytes:
+    def signed_text(self, key: SecretKey, signature: Octets, comment_signature: Octets, trusted_comment: bytes, untrusted_comment: bytes) -> bytes:
         length = c_size_t()
-        text = create_string_buffer(TEXT_BYTES + len(trusted) + len(untrusted))
-        self._library.minisign_signed_text(key, first, second, trusted, len(trusted), untrusted, len(untrusted), text, len(text), length)
+        text = create_string_buffer(TEXT_BYTES + len(trusted_comment) + len(untrusted_comment))
+        self._library.minisign_signed_text(key, SignedParts((c_ubyte * 64)(*signature), (c_ubyte * 64)(*comment_signature), trusted_comment, len(trusted_comment), untrusted_comment, len(untrusted_comment)), text, len(text), length)
         return text.raw[:length.value]
 
     def secret_key_text(self, key: SecretKey, password: Optional[bytes], sealing: Sealing, keep_every: int, comment: bytes) -> bytes:

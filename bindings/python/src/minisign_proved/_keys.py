@@ -8,20 +8,21 @@ import tempfile
 import threading
 import time
 from contextlib import AbstractContextManager, ExitStack
-from typing import IO, Callable, Iterable, List, Optional, Union, cast
+from typing import IO, Callable, Iterable, Iterator, List, NoReturn, Optional, Union, cast
 
 from . import _header as h
+from ._arguments import Path, Text, check_function, check_kind, check_number, octets, path_text, text_octets
 from ._calls import calls, ed25519
 from .errors import ReadingFailed
 
-Path = Union[str, "os.PathLike[str]"]
 # How many bytes were read, and how many the file has, 0 where that is not known.
 Progress = Callable[[int, int], None]
 # Bytes, a binary file, or pieces of bytes.
 Data = Union[bytes, IO[bytes], Iterable[bytes]]
 
 TEXT_BYTES, PIECE_BYTES = 1 << 20, 1 << 18
-Password = Union[str, bytes, None]
+# None where a key is not sealed.
+Password = Optional[Text]
 UNTRUSTED_COMMENT = "signature from minisign secret key"
 # How many rows of a derivation are kept, by whether it is to take little memory.
 ROWS = {False: h.KEEP_EVERY_ROW, True: h.KEEP_FEW_ROWS}
@@ -36,32 +37,37 @@ class TooLong(ReadingFailed):
 
 def read_text(path: Path) -> bytes:
     """The bytes of a text."""
-    with open(path, "rb") as file:
+    name = path_text("path", path)
+    with open(name, "rb") as file:
         text = file.read(TEXT_BYTES + 1)
     if len(text) > TEXT_BYTES:
-        raise TooLong(f"{os.fspath(path)}: it has more than 1 MiB")
+        raise TooLong(f"{name}: it has more than 1 MiB")
     return text
 
 
-def copied(piece: bytes) -> bytes:
-    """The bytes, which nobody else changes. TypeError where it is none: of a number `bytes` alone would make so many zeros."""
-    return bytes(memoryview(piece))
+def is_file(data: object) -> bool:
+    """Whether an object is read, as a file that is open."""
+    return hasattr(data, "read")
 
 
-def pieces(data: Data) -> Iterable[bytes]:
+def pieces(data: Data) -> Iterator[bytes]:
     """The data in pieces of bytes, which nobody else changes."""
-    if isinstance(data, (bytes, bytearray, memoryview)):
-        return [copied(data)]
-    if hasattr(data, "read"):
+    if is_file(data):
         file = cast("IO[bytes]", data)
-        return iter(lambda: copied(file.read(PIECE_BYTES)), b"")
-    return map(copied, data)
+        return iter(lambda: octets("what data reads", file.read(PIECE_BYTES)), b"")
+    try:
+        return iter([octets("data", data, "bytes, a binary file or pieces of bytes")])
+    except TypeError:
+        # (the pieces of a text would be its letters)
+        if isinstance(data, str) or not isinstance(data, Iterable):
+            raise
+    return (octets("a piece of data", it) for it in data)
 
 
-def pieces_of(data: Union[Path, IO[bytes]], progress: Optional[Progress]) -> Iterable[bytes]:
+def pieces_of(data: Union[str, IO[bytes]], progress: Optional[Progress]) -> Iterable[bytes]:
     """The pieces of a file, which stays open where it was."""
     with ExitStack() as opened:
-        file = cast("IO[bytes]", data) if hasattr(data, "read") else opened.enter_context(open(cast(Path, data), "rb", buffering=0))
+        file = cast("IO[bytes]", data) if is_file(data) else opened.enter_context(open(cast(str, data), "rb", buffering=0))
         size, done = 0 if file is data else os.fstat(file.fileno()).st_size, 0
         for piece in pieces(file):
             yield piece
@@ -74,7 +80,21 @@ class Signature:
     """The text of a signature, as in a file `data.minisig`: bytes that are read once a key verifies with them."""
 
     def __init__(self, text: bytes) -> None:
-        self.text = bytes(text)
+        self._text = octets("text", text)
+
+    @property
+    def text(self) -> bytes:
+        """Its bytes."""
+        return self._text
+
+    def __repr__(self) -> str:
+        return f"Signature({self._text!r})"
+
+    def __eq__(self, other: object) -> bool:
+        return isinstance(other, Signature) and self._text == other._text
+
+    def __hash__(self) -> int:
+        return hash(self._text)
 
     @classmethod
     def from_file(cls, path: Path) -> "Signature":
@@ -83,23 +103,33 @@ class Signature:
 
 
 class PublicKey:
-    """A public key: `key` has its 32 bytes, and `key_id` its identifier as minisign shows it, in hexadecimal digits."""
+    """A public key, under which signatures are verified."""
 
     def __init__(self, text: bytes, *, _read: Optional[h.PublicKey] = None) -> None:
         """Reads both lines of a file such as minisign.pub. NotUtf8, MissingPublicKeyComment, MissingPublicKey, PublicKeyLength,
         PublicKeyNotBase64, RecordTooShort."""
-        self._read = _read or calls.read_public_key(bytes(text))
-        self.key, self.key_id = bytes(self._read.key), f"{int.from_bytes(bytes(self._read.key_id), 'little'):X}"
+        self._read = _read or calls.read_public_key(octets("text", text))
+
+    @property
+    def key(self) -> bytes:
+        """Its 32 bytes."""
+        return bytes(self._read.key)
+
+    @property
+    def key_id(self) -> str:
+        """Its identifier as minisign shows it, in hexadecimal digits."""
+        return f"{int.from_bytes(bytes(self._read.key_id), 'little'):X}"
 
     @classmethod
     def from_file(cls, path: Path) -> "PublicKey":
+        """Reads a file such as minisign.pub of at most 1 MiB: TooLong otherwise, and OSError where it cannot be read."""
         return cls(read_text(path))
 
     @classmethod
-    def from_base64(cls, letters: str) -> "PublicKey":
+    def from_base64(cls, letters: Text) -> "PublicKey":
         """Reads the 56 letters that stand in the second line and after minisign -P. NotUtf8, BarePublicKeyLength,
         BarePublicKeyNotBase64, RecordTooShort."""
-        return cls(b"", _read=calls.read_bare_public_key(letters.encode("utf-8", "surrogatepass")))
+        return cls(b"", _read=calls.read_bare_public_key(text_octets("letters", letters)))
 
     def verify(self, data: Data, signature: Signature, allow_legacy: bool = False) -> str:
         """The trusted comment, where the signature vouches for the data under this key; see `Verifier`."""
@@ -107,6 +137,9 @@ class PublicKey:
         for piece in pieces(data):
             verifier.update(piece)
         return verifier.finish()
+
+    def __repr__(self) -> str:
+        return f"<PublicKey {self.key_id}>"
 
     def __eq__(self, other: object) -> bool:
         return isinstance(other, PublicKey) and (self.key, self.key_id) == (other.key, other.key_id)
@@ -121,26 +154,39 @@ class Verifier:
     is then kept in memory until the end. Threads may share one: their calls are made one after another."""
 
     def __init__(self, key: PublicKey, signature: Signature, allow_legacy: bool = False, *, _fed: Optional[h.State] = None) -> None:
+        check_kind("key", key, PublicKey)
+        check_kind("signature", signature, Signature)
+        check_kind("allow_legacy", allow_legacy, bool)
         self._state = _fed or calls.init()
         self._asked, self._message = calls.ask(self._state, key._read, signature.text, 1 if allow_legacy else 0)
         self._turn, self._held = threading.Lock(), []  # type: threading.Lock, List[bytes]
 
     def update(self, piece: bytes) -> None:
         """Feeds the next bytes, as many as there are."""
-        piece = copied(piece)
+        piece = octets("piece", piece)
         with self._turn:
             calls.update(self._state, piece)
             if self._asked.legacy == 1:
                 self._held.append(piece)
 
+    def _accepts_comment(self) -> bool:
+        return ed25519().accepts(bytes(self._asked.comment_signature), self._message, bytes(self._asked.public_key))
+
+    def trusted_comment(self) -> str:
+        """The trusted comment, where the key has signed it: also before the data is there, of which this says nothing. Otherwise
+        CommentSignatureRefused; and NotBegun where it was finished."""
+        with self._turn:
+            calls.comment_verdict(self._state, self._accepts_comment())
+            return self._message[64:].decode()
+
     def finish(self) -> str:
         """The trusted comment, where the signature vouches for all that was fed. Otherwise SignatureRefused or
         CommentSignatureRefused; and NotBegun where it was finished before."""
         with self._turn:
-            digest, accepts, key = calls.digest(self._state), ed25519().accepts, bytes(self._asked.public_key)
-            first = accepts(bytes(self._asked.signature), b"".join(self._held) if self._asked.legacy == 1 else digest, key)
-            second = accepts(bytes(self._asked.comment_signature), self._message, key)
-            calls.verdict(self._state, first, second)
+            digest, key = calls.digest(self._state), bytes(self._asked.public_key)
+            message = b"".join(self._held) if self._asked.legacy == 1 else digest
+            first = ed25519().accepts(bytes(self._asked.signature), message, key)
+            calls.verdict(self._state, first, self._accepts_comment())
             return self._message[64:].decode()
 
 
@@ -148,18 +194,26 @@ def verify(path: Path, key: PublicKey, signature: Optional[Signature] = None, *,
            progress: Optional[Progress] = None) -> str:
     """The trusted comment, where a signature vouches for a file under a key: without one it is that of the file `path`.minisig.
     Raises what `Verifier` and its calls raise, OSError where a file cannot be read, and TooLong. `progress` is told how far it is."""
-    return key.verify(pieces_of(path, progress), signature or Signature.from_file(os.fspath(path) + ".minisig"), allow_legacy)
+    name = path_text("path", path)
+    check_kind("key", key, PublicKey)
+    check_function("progress", progress)
+    text = Signature.from_file(name + ".minisig") if signature is None else signature
+    return key.verify(pieces_of(name, progress), text, allow_legacy)
 
 
 # ---- Signing ----
 
 
-def _bytes(text: Union[str, bytes]) -> bytes:
-    return text.encode("utf-8", "surrogateescape") if isinstance(text, str) else bytes(text)
+def old_password(name: str, password: Password) -> Optional[bytes]:
+    """The bytes of a password that opens a key."""
+    return None if password is None else text_octets(name, password)
 
 
-def _typed(password: Password) -> Optional[bytes]:
-    return None if password is None else _bytes(password)
+def new_password(name: str, password: Password) -> Optional[bytes]:
+    """The bytes of a password that is to seal a key."""
+    if (text := old_password(name, password)) == b"":
+        raise ValueError(f"{name} is empty: None says that a key is not to be sealed")
+    return text
 
 
 class SecretKey(AbstractContextManager["SecretKey"]):
@@ -167,7 +221,19 @@ class SecretKey(AbstractContextManager["SecretKey"]):
     password or a text stays in memory. With `low_memory` a derivation takes 65 MiB and some three times the time, instead of 1 GiB."""
 
     def __init__(self, opened: h.SecretKey) -> None:
-        self._opened, self.public_key = opened, PublicKey(b"", _read=calls.public_key_of(opened))
+        check_kind("opened", opened, h.SecretKey)
+        self._opened, self._public_key = opened, PublicKey(b"", _read=calls.public_key_of(opened))
+
+    @property
+    def public_key(self) -> PublicKey:
+        """Its public key, also after it was cleared."""
+        return self._public_key
+
+    def __repr__(self) -> str:
+        return f"<SecretKey {self.public_key.key_id}>"
+
+    def __reduce__(self) -> NoReturn:
+        raise TypeError("a secret key is neither copied nor pickled: to_bytes tells its text")
 
     @classmethod
     def generate(cls) -> "SecretKey":
@@ -178,74 +244,100 @@ class SecretKey(AbstractContextManager["SecretKey"]):
         return cls(opened)
 
     @classmethod
-    def from_bytes(cls, text: bytes, password: Password = None, *, low_memory: bool = False, greatest_work: int = h.USUAL_WORK) -> "SecretKey":
+    def from_bytes(cls, text: bytes, password: Password = None, *, low_memory: bool = False, most_rows: int = h.USUAL_ROWS) -> "SecretKey":
         """Opens both lines of a file such as minisign.key: KeySealed where that takes a password and there is none, KeyNotSealed where
-        it takes none, WrongPassword, WorkTooHigh where it asks for more parallel work, and the errors of the text."""
-        unopened = calls.read_secret_key(bytes(text))
+        it takes none, WrongPassword, WorkTooHigh where it asks for more than `most_rows` rows of scrypt in all (N times p), and the
+        errors of the text."""
+        typed = old_password("password", password)
+        check_kind("low_memory", low_memory, bool)
+        check_number("most_rows", most_rows, 1, h.ANY_ROWS)
+        unopened = calls.read_secret_key(octets("text", text))
         try:
-            return cls(calls.open_secret_key(unopened, _typed(password), ROWS[low_memory], greatest_work))
+            return cls(calls.open_unsealed_key(unopened) if typed is None
+                       else calls.open_sealed_key(unopened, typed, ROWS[low_memory], most_rows))
         finally:
             ctypes.memset(ctypes.byref(unopened), 0, ctypes.sizeof(unopened))
 
     @classmethod
-    def from_file(cls, path: Path, password: Password = None, *, low_memory: bool = False, greatest_work: int = h.USUAL_WORK) -> "SecretKey":
-        return cls.from_bytes(read_text(path), password, low_memory=low_memory, greatest_work=greatest_work)
+    def from_file(cls, path: Path, password: Password = None, *, low_memory: bool = False, most_rows: int = h.USUAL_ROWS) -> "SecretKey":
+        """Opens a file such as minisign.key of at most 1 MiB: see `from_bytes`. TooLong, and OSError where it cannot be read."""
+        return cls.from_bytes(read_text(path), password, low_memory=low_memory, most_rows=most_rows)
 
-    def to_bytes(self, password: Password, *, comment: str = h.SECRET_KEY_COMMENT, low_memory: bool = False) -> bytes:
-        """The text of the key, sealed under the password and a new salt, with the limits of minisign -G; with None it is not sealed."""
+    def to_bytes(self, password: Password, *, comment: Text = h.SECRET_KEY_COMMENT, low_memory: bool = False) -> bytes:
+        """The text of the key, sealed under the password and a new salt, with the limits of minisign -G; with None it is not sealed.
+        An empty password is a ValueError."""
+        typed = new_password("password", password)
+        check_kind("low_memory", low_memory, bool)
         sealing = h.Sealing((ctypes.c_ubyte * 32)(*secrets.token_bytes(32)), h.OPERATIONS_LIMIT, h.MEMORY_LIMIT)
-        return calls.secret_key_text(self._opened, _typed(password), sealing, ROWS[low_memory], _bytes(comment))
+        return calls.secret_key_text(self._opened, typed, sealing, ROWS[low_memory], text_octets("comment", comment))
 
-    def public_bytes(self, comment: Optional[str] = None) -> bytes:
+    def public_bytes(self, comment: Optional[Text] = None) -> bytes:
         """The text of its public key, with the comment of minisign -G where there is none."""
-        return calls.public_key_text(self._opened, _bytes(h.PUBLIC_KEY_COMMENT + self.public_key.key_id if comment is None else comment))
+        usual = h.PUBLIC_KEY_COMMENT + self.public_key.key_id
+        return calls.public_key_text(self._opened, text_octets("comment", usual if comment is None else comment))
 
-    def sign(self, path: Path, *, trusted_comment: Optional[str] = None, untrusted_comment: str = UNTRUSTED_COMMENT,
+    def sign(self, path: Path, *, trusted_comment: Optional[Text] = None, untrusted_comment: Text = UNTRUSTED_COMMENT,
              progress: Optional[Progress] = None) -> Signature:
         """Signs a file. Without a trusted comment it has the time and the file's name, as minisign -S writes them. BadComment,
         UnreadableComment; SignatureRefused where the halves of the key do not belong together; OSError where it cannot be read."""
-        usual = f"timestamp:{int(time.time())}\tfile:{os.path.basename(os.fspath(path))}\thashed"
-        trusted = _bytes(usual if trusted_comment is None else trusted_comment)
+        name = path_text("path", path)
+        check_function("progress", progress)
+        usual = f"timestamp:{int(time.time())}\tfile:{os.path.basename(name)}\thashed"
+        return self._sign(pieces_of(name, progress), usual if trusted_comment is None else trusted_comment, untrusted_comment)
+
+    def sign_data(self, data: Data, *, trusted_comment: Optional[Text] = None, untrusted_comment: Text = UNTRUSTED_COMMENT) -> Signature:
+        """Signs data that is not, or not only, a file: see `sign`. Without a trusted comment it has the time alone."""
+        usual = f"timestamp:{int(time.time())}\thashed"
+        return self._sign(pieces(data), usual if trusted_comment is None else trusted_comment, untrusted_comment)
+
+    def _sign(self, data: Iterable[bytes], trusted_comment: Text, untrusted_comment: Text) -> Signature:
+        trusted, untrusted = text_octets("trusted_comment", trusted_comment), text_octets("untrusted_comment", untrusted_comment)
         state, signs, secret = calls.init(), ed25519().sign, self._opened.secret
-        for piece in pieces_of(path, progress):
+        for piece in data:
             calls.update(state, piece)
         fed = h.State.from_buffer_copy(state)
         first = signs(calls.digest(state), secret)
         second = signs(calls.comment_message(first, trusted), secret)
-        signature = Signature(calls.signed_text(self._opened, first, second, trusted, _bytes(untrusted_comment)))
+        signature = Signature(calls.signed_text(self._opened, first, second, trusted, untrusted))
         # (one that the public half does not verify would give the secret of a damaged key away)
         Verifier(PublicKey(b"", _read=calls.public_key_of(self._opened)), signature, _fed=fed).finish()
         return signature
 
     def clear(self, *_: object) -> None:
+        """Sets its secret bytes to zeros: it signs nothing from then on."""
         ctypes.memset(ctypes.byref(self._opened), 0, ctypes.sizeof(self._opened))
 
     __exit__ = clear
 
 
-def sign(path: Path, key: SecretKey, *, trusted_comment: Optional[str] = None, untrusted_comment: str = UNTRUSTED_COMMENT,
+def sign(path: Path, key: SecretKey, *, trusted_comment: Optional[Text] = None, untrusted_comment: Text = UNTRUSTED_COMMENT,
          progress: Optional[Progress] = None) -> Signature:
     """Signs a file, and writes the signature to the file `path`.minisig: see `SecretKey.sign`."""
-    signature = key.sign(path, trusted_comment=trusted_comment, untrusted_comment=untrusted_comment, progress=progress)
-    with open(os.fspath(path) + ".minisig", "wb") as file:
+    name = path_text("path", path)
+    check_kind("key", key, SecretKey)
+    signature = key.sign(name, trusted_comment=trusted_comment, untrusted_comment=untrusted_comment, progress=progress)
+    with open(name + ".minisig", "wb") as file:
         file.write(signature.text)
     return signature
 
 
 def write_new(path: Path, text: bytes) -> None:
     """Writes a file that its owner alone may read, and that has to be new: FileExistsError."""
-    with open(os.open(path, os.O_WRONLY | os.O_CREAT | os.O_EXCL | os.O_CLOEXEC, 0o600), "wb") as file:
-        file.write(text)
+    name, written = path_text("path", path), octets("text", text)
+    with open(os.open(name, os.O_WRONLY | os.O_CREAT | os.O_EXCL | os.O_CLOEXEC, 0o600), "wb") as file:
+        file.write(written)
         file.flush()
         os.fsync(file.fileno())
 
 
 def change_password(path: Path, old: Password, new: Password, *, low_memory: bool = False) -> None:
     """Seals the secret key of a file under another password: the file is replaced at the end, by one that its owner alone may read.
-    Where a link leads to it, the file is replaced and the link stays."""
-    path = os.path.realpath(path)
-    with SecretKey.from_file(path, old, low_memory=low_memory) as key:
-        text = key.to_bytes(new, low_memory=low_memory)
-    with tempfile.TemporaryDirectory(dir=os.path.dirname(path)) as room:
+    Where a link leads to it, the file is replaced and the link stays. With None as `new` the key is not sealed; an empty one is a
+    ValueError."""
+    name = os.path.realpath(path_text("path", path))
+    opening, sealing = old_password("old", old), new_password("new", new)
+    with SecretKey.from_file(name, opening, low_memory=low_memory) as key:
+        text = key.to_bytes(sealing, low_memory=low_memory)
+    with tempfile.TemporaryDirectory(dir=os.path.dirname(name)) as room:
         write_new(os.path.join(room, "key"), text)
-        os.replace(os.path.join(room, "key"), path)
+        os.replace(os.path.join(room, "key"), name)

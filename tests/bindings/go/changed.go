@@ -1,0 +1,117 @@
+// What verifying says of a key and a signature that a program has changed, or put together, since it read them. It makes the calls of
+// go-minisign alone: tests/bindings/go.py builds it over that one too.
+//
+// It takes the paths of a public key, of data and of a signature, and prints a line for each change: its name, the verdict and the error.
+package main
+
+import (
+	"encoding/json"
+	"fmt"
+	"os"
+
+	"proved/minisign"
+)
+
+type change struct {
+	name string
+	make func(key *minisign.PublicKey, signature *minisign.Signature)
+}
+
+var changes = []change{
+	{"none", func(key *minisign.PublicKey, signature *minisign.Signature) {}},
+	{"a copy", func(key *minisign.PublicKey, signature *minisign.Signature) {
+		keys, signatures := []minisign.PublicKey{*key}, map[string]minisign.Signature{"": *signature}
+		*key, *signature = keys[0], signatures[""]
+	}},
+	{"put together from fields", func(key *minisign.PublicKey, signature *minisign.Signature) {
+		*key = minisign.PublicKey{SignatureAlgorithm: key.SignatureAlgorithm, KeyId: key.KeyId, PublicKey: key.PublicKey}
+		*signature = minisign.Signature{
+			UntrustedComment: signature.UntrustedComment, SignatureAlgorithm: signature.SignatureAlgorithm,
+			KeyId: signature.KeyId, Signature: signature.Signature,
+			TrustedComment: signature.TrustedComment, GlobalSignature: signature.GlobalSignature,
+		}
+	}},
+	{"written as JSON and read", func(key *minisign.PublicKey, signature *minisign.Signature) {
+		keyText, _ := json.Marshal(key)
+		signatureText, _ := json.Marshal(signature)
+		*key, *signature = minisign.PublicKey{}, minisign.Signature{}
+		if json.Unmarshal(keyText, key) != nil || json.Unmarshal(signatureText, signature) != nil {
+			panic("JSON")
+		}
+	}},
+	{"a key of zeros", func(key *minisign.PublicKey, signature *minisign.Signature) { *key = minisign.PublicKey{} }},
+	{"a signature of zeros", func(key *minisign.PublicKey, signature *minisign.Signature) { *signature = minisign.Signature{} }},
+	{"another algorithm of the key", func(key *minisign.PublicKey, signature *minisign.Signature) { key.SignatureAlgorithm[1] = 'D' }},
+	{"another identifier of the key", func(key *minisign.PublicKey, signature *minisign.Signature) { key.KeyId[7] ^= 1 }},
+	{"another key", func(key *minisign.PublicKey, signature *minisign.Signature) { key.PublicKey[31] ^= 1 }},
+	{"another untrusted comment", func(key *minisign.PublicKey, signature *minisign.Signature) {
+		signature.UntrustedComment = "untrusted comment: other"
+	}},
+	{"no untrusted comment", func(key *minisign.PublicKey, signature *minisign.Signature) { signature.UntrustedComment = "" }},
+	{"another first line", func(key *minisign.PublicKey, signature *minisign.Signature) { signature.UntrustedComment = "other" }},
+	{"an untrusted comment of two lines", func(key *minisign.PublicKey, signature *minisign.Signature) {
+		signature.UntrustedComment = "untrusted comment: other\nof two lines"
+	}},
+	{"another trusted comment behind a genuine text", func(key *minisign.PublicKey, signature *minisign.Signature) {
+		text, err := os.ReadFile(os.Args[3])
+		if err != nil {
+			panic(err)
+		}
+		signature.UntrustedComment, signature.TrustedComment = string(text), "trusted comment: other"
+	}},
+	{"the older algorithm", func(key *minisign.PublicKey, signature *minisign.Signature) { signature.SignatureAlgorithm[1] = 'd' }},
+	{"another algorithm", func(key *minisign.PublicKey, signature *minisign.Signature) { signature.SignatureAlgorithm[0] = 'X' }},
+	{"another identifier", func(key *minisign.PublicKey, signature *minisign.Signature) { signature.KeyId[0] ^= 1 }},
+	{"another signature", func(key *minisign.PublicKey, signature *minisign.Signature) { signature.Signature[63] ^= 1 }},
+	{"another trusted comment", func(key *minisign.PublicKey, signature *minisign.Signature) {
+		signature.TrustedComment = "trusted comment: other"
+	}},
+	{"a longer trusted comment", func(key *minisign.PublicKey, signature *minisign.Signature) { signature.TrustedComment += "2" }},
+	{"a blank behind the trusted comment", func(key *minisign.PublicKey, signature *minisign.Signature) { signature.TrustedComment += " " }},
+	{"a line feed behind the trusted comment", func(key *minisign.PublicKey, signature *minisign.Signature) {
+		signature.TrustedComment += "\n"
+	}},
+	{"a carriage return behind the trusted comment", func(key *minisign.PublicKey, signature *minisign.Signature) {
+		signature.TrustedComment += "\r"
+	}},
+	{"no trusted comment", func(key *minisign.PublicKey, signature *minisign.Signature) { signature.TrustedComment = "" }},
+	{"another third line", func(key *minisign.PublicKey, signature *minisign.Signature) { signature.TrustedComment = "other" }},
+	{"a trusted comment that is no UTF-8", func(key *minisign.PublicKey, signature *minisign.Signature) {
+		signature.TrustedComment += "\xff"
+	}},
+	{"another signature of the comment", func(key *minisign.PublicKey, signature *minisign.Signature) { signature.GlobalSignature[0] ^= 1 }},
+	{"no signature of the comment", func(key *minisign.PublicKey, signature *minisign.Signature) {
+		signature.GlobalSignature = [64]byte{}
+	}},
+}
+
+// read reads a key and a signature from their files.
+func read(paths []string) (minisign.PublicKey, minisign.Signature) {
+	key, err := minisign.NewPublicKeyFromFile(paths[0])
+	if err != nil {
+		panic(err)
+	}
+	signature, err := minisign.NewSignatureFromFile(paths[2])
+	if err != nil {
+		panic(err)
+	}
+	return key, signature
+}
+
+func main() {
+	paths := os.Args[1:]
+	data, err := os.ReadFile(paths[1])
+	if err != nil {
+		panic(err)
+	}
+	for _, it := range changes {
+		key, signature := read(paths)
+		it.make(&key, &signature)
+		good, err := key.Verify(data, signature)
+		fromFile, fileErr := key.VerifyFromFile(paths[1], signature)
+		if good != fromFile || fmt.Sprint(err) != fmt.Sprint(fileErr) {
+			panic(it.name)
+		}
+		fmt.Printf("%s: %t, %v\n", it.name, good, err)
+	}
+}
