@@ -29,7 +29,7 @@ MEGABYTE = 1 << 20
 
 def built(upstream, directory):
     """The Rust program over the crate."""
-    rustc = installed(needs.rust_compiler)
+    rustc = installed(needs.first_rust_compiler)
     environment = dict(os.environ, OPT=TARGET, RUSTC=rustc)
     build = os.path.join(HERE, "..", "compare", "oracle", "build.sh")
     subprocess.run(["sh", build, upstream, directory], check=True, env=environment, stdout=subprocess.DEVNULL)

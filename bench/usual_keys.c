@@ -45,8 +45,8 @@ static int open_key(void)
     minisign_secret_key key;
 
     return minisign_read_secret_key(text, text_len, &unopened) == MINISIGN_OK
-           && minisign_open_secret_key(&unopened, 1, PASSWORD, sizeof PASSWORD - 1, MINISIGN_KEEP_EVERY_ROW,
-                                       MINISIGN_USUAL_WORK, &key) == MINISIGN_OK;
+           && minisign_open_sealed_key(&unopened, PASSWORD, sizeof PASSWORD - 1, MINISIGN_KEEP_EVERY_ROW,
+                                       MINISIGN_USUAL_ROWS, &key) == MINISIGN_OK;
 }
 
 static int derive(void)

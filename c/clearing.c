@@ -4,7 +4,8 @@
  *
  * It is no C, as a compiler may put anything between a call and what is cleared after it. The registers come first: a
  * signal that comes later has the system write those that are cleared. The stack is written downwards, so that where
- * there is too little of it the page that guards it is met first.
+ * there is too little of it the page that guards it is met first. For other processors and systems it is C all the same,
+ * which knows the registers of few of them: in the others what a register holds stays there until it is used again.
  *
  * SPDX-License-Identifier: MIT
  */
@@ -13,7 +14,7 @@
 #define TEXT_OF(number) #number
 #define AS_TEXT(number) TEXT_OF(number)
 
-#ifdef __x86_64__
+#if defined(__ELF__) && defined(__GNUC__) && !defined(__TINYC__) && defined(__x86_64__) && defined(__LP64__)
 
 #include <cpuid.h>
 
@@ -74,7 +75,7 @@ __asm__(".text\n"
         ".cfi_endproc\n"
         ".size minisign_clear_used, . - minisign_clear_used\n");
 
-#else
+#elif defined(__ELF__) && defined(__GNUC__) && defined(__aarch64__) && defined(__LP64__)
 
 /* (of v8 to v15 the lower half is the caller's) */
 __asm__(".text\n"
@@ -109,5 +110,55 @@ __asm__(".text\n"
         "ret\n"
         ".cfi_endproc\n"
         ".size minisign_clear_used, . - minisign_clear_used\n");
+
+#else
+
+#include <stdint.h>
+
+/* Writes zeros to the registers that a call need not keep. */
+static inline void clear_registers(void)
+{
+#if defined(__s390x__)
+    __asm__ __volatile__(".irp number, 0, 1, 2, 3, 4, 5\n"
+                         "lghi %%r\\number, 0\n"
+                         ".endr\n"
+                         ".irp number, 0, 1, 2, 3, 4, 5, 6, 7\n"
+                         "lzdr %%f\\number\n"
+                         ".endr\n"
+                         : : : "0", "1", "2", "3", "4", "5", "f0", "f1", "f2", "f3", "f4", "f5", "f6", "f7");
+#elif defined(__riscv) && __riscv_xlen == 64 && __riscv_flen == 64
+    __asm__ __volatile__(".irp name, t0, t1, t2, t3, t4, t5, t6, a0, a1, a2, a3, a4, a5, a6, a7\n"
+                         "li \\name, 0\n"
+                         ".endr\n"
+                         ".irp name, ft0, ft1, ft2, ft3, ft4, ft5, ft6, ft7, ft8, ft9, ft10, ft11, fa0, fa1, fa2, fa3, fa4, fa5, fa6, fa7\n"
+                         "fmv.d.x \\name, zero\n"
+                         ".endr\n"
+                         : : : "t0", "t1", "t2", "t3", "t4", "t5", "t6", "a0", "a1", "a2", "a3", "a4", "a5", "a6", "a7", "ft0", "ft1", "ft2",
+                           "ft3", "ft4", "ft5", "ft6", "ft7", "ft8", "ft9", "ft10", "ft11", "fa0", "fa1", "fa2", "fa3", "fa4", "fa5", "fa6",
+                           "fa7");
+#elif defined(__arm__) && defined(__ARM_PCS_VFP)
+    __asm__ __volatile__(".irp name, r0, r1, r2, r3, r12\n"
+                         "mov \\name, #0\n"
+                         ".endr\n"
+                         ".irp number, 0, 1, 2, 3, 4, 5, 6, 7\n"
+                         "vmov d\\number, r0, r0\n"
+                         ".endr\n"
+                         : : : "r0", "r1", "r2", "r3", "r12", "d0", "d1", "d2", "d3", "d4", "d5", "d6", "d7");
+#endif
+}
+
+/* (written as volatile, so that all of it is, and from above; and never as a part of who calls it, below whose frame it is) */
+#ifdef __GNUC__
+__attribute__((noinline))
+#endif
+void minisign_clear_used(void)
+{
+    volatile uint64_t used[CLEARED_BYTES / sizeof(uint64_t)];
+
+    clear_registers();
+    for (unsigned i = sizeof used / sizeof *used; i > 0; i--) {
+        used[i - 1] = 0;
+    }
+}
 
 #endif

@@ -1,6 +1,6 @@
 #!/usr/bin/env python3
-"""Makes `dist/`: the proved calls of the crate minisign_c as archives, the page that verifies a download, `PROVED`, which says by
-what and from which sources they were proved, and `SHA256SUMS`.
+"""Makes `dist/`: the proved calls of the crate minisign_c as archives and, translated, as C (`portable_calls.py`), the page that
+verifies a download, `PROVED`, which says by what and from which sources they were proved, and `SHA256SUMS`.
 
     tools/dist.py [PART ..]            proves, builds and writes them
     tools/dist.py --check [PART ..]    proves and builds them, and compares them byte for byte with what stands there
@@ -30,8 +30,11 @@ HERE = os.path.dirname(os.path.realpath(__file__))
 ROOT = os.path.dirname(HERE)
 sys.path += [os.path.join(ROOT, *it) for it in (("tests", "shared"), ("page",))]
 
+import boundary
 import build
+import c_header
 import needs
+import portable_calls
 import proved
 import sources
 from checks import Checks
@@ -43,10 +46,12 @@ PAGE_FILE, LOWERED = "minisign.html", "its module was lowered to 32 bits by"
 # The archives, with the flags that they are built by.
 ARCHIVES = {"calls-x86-64-v2.a": [], "calls-x86-64-v3.a": ["--cpu=x86-64-v3"],
             "calls-aarch64.a": ["--target", "aarch64-unknown-linux-gnu"]}
+# The calls as C, and the archive of whose bitcode they are translated.
+C_CALLS, C_CALLS_OF, TRANSLATED = "calls.c", "calls-x86-64-v2.a", "translated from the bitcode of calls-x86-64-v2.a"
 # The files that SHA256SUMS lists.
-LISTED = [*ARCHIVES, PAGE_FILE, PROVED]
+LISTED = [*ARCHIVES, C_CALLS, PAGE_FILE, PROVED]
 # What PROVED says, in this order.
-SAID_OF = ["kit", "sources of the calls", *ARCHIVES, "sources of the page", PAGE_FILE, LOWERED]
+SAID_OF = ["kit", "sources of the calls", *ARCHIVES, TRANSLATED, "sources of the page", PAGE_FILE, LOWERED]
 # The parts, with the crate of each.
 PARTS = {"calls": CALLS, "page": PAGE}
 
@@ -88,12 +93,16 @@ def said_by_proved():
 
 
 def built_calls(room):
-    """The archives of the proved calls."""
+    """The archives of the proved calls, and the C that is translated from what one of them was compiled from."""
+    compilers, bitcode = portable_calls.keeping_compilers(room)
     for name, flags in ARCHIVES.items():
         archive = os.path.join(room, name)
         print(f"dist: {name}, and proving first what is not proved", flush=True)
-        verdict = proved.build_archive(CALLS, archive, *flags)
+        verdict = proved.build_archive(CALLS, archive, *flags, compilers=compilers if name == C_CALLS_OF else None)
         yield Built(name, read(archive), {name: verdict, "sources of the calls": sources_sum("calls")})
+    names = [it.name for it in boundary.proved_calls(c_header.both())]
+    said = f"{C_CALLS}, by tools/wasm_to_c.py, which is tested and not proved; sum of the bitcode {hashlib.sha256(read(bitcode)).hexdigest()}"
+    yield Built(C_CALLS, portable_calls.text(bitcode, names, room).encode(), {TRANSLATED: said})
 
 
 def built_page(room):
@@ -190,9 +199,20 @@ def check(parts):
     report.check(logics[0] == logics[1], "dist", f"it was proved by {lines['kit']}, and here is {kit}: another logic")
     for it in built(parts):
         check_built(report, it, lines, kit)
-        verdicts = [lines.get(it.name, ""), it.lines[it.name]]
-        report.check(all(said.startswith("logic=proved ") for said in verdicts), it.name, f"the verdicts are {verdicts}")
+        verdicts = [lines.get(it.name), it.lines.get(it.name)]
+        is_proved = [said is not None and said.startswith("logic=proved ") for said in verdicts]
+        report.check(is_proved == [it.name != C_CALLS] * 2, it.name, f"the verdicts are {verdicts}")
+        if it.name == C_CALLS and lines["kit"] == kit:
+            report.check(lines.get(TRANSLATED) == it.lines[TRANSLATED], PROVED, f"it does not say what {C_CALLS} is translated from")
+    if "calls" in parts:
+        check_translated(report, lines)
     return report.end()
+
+
+def check_translated(report, lines):
+    """PROVED says of the C that it is translated, from what, and by no word that it is proved."""
+    said = [line for line in read(PROVED).decode().partition("\n\n")[2].splitlines() if C_CALLS in line]
+    report.check(said == [f"{TRANSLATED}: {lines.get(TRANSLATED)}"] and "logic=proved" not in said[0], PROVED, f"it says of {C_CALLS}: {said}")
 
 
 def main(words):

@@ -1,0 +1,130 @@
+/*
+ * A line for each text of a file that portable.py wrote: all numbers that the calls of minisign.h answer, and a sum over
+ * all bytes that they write. Two libraries answer the same where the lines are the same, also on processors that keep
+ * numbers another way round.
+ *
+ *     answers FILE
+ */
+#include <stdint.h>
+#include <stdio.h>
+#include <stdlib.h>
+#include <string.h>
+
+#include "minisign.h"
+
+enum { MOST = 1 << 20 };
+
+static uint64_t sum;
+
+static void add(const void *bytes, size_t len)
+{
+    for (const unsigned char *at = bytes; len > 0; len--) {
+        sum = (sum ^ *at++) * UINT64_C(1099511628211);
+    }
+}
+
+static void add_number(uint64_t number)
+{
+    for (int i = 0; i < 8; i++) {
+        const unsigned char byte = (unsigned char) (number >> 8 * i);
+
+        add(&byte, 1);
+    }
+}
+
+static void add_questions(const minisign_questions *questions)
+{
+    add(questions->public_key, sizeof questions->public_key);
+    add(questions->digest, sizeof questions->digest);
+    add(questions->signature, sizeof questions->signature);
+    add(questions->comment_signature, sizeof questions->comment_signature);
+    add(questions->public_key_id, sizeof questions->public_key_id);
+    add(questions->signature_key_id, sizeof questions->signature_key_id);
+    add_number(questions->message_len);
+    add_number(questions->legacy);
+    add_number(questions->reserved);
+}
+
+static size_t length_in(FILE *file)
+{
+    unsigned char b[4];
+
+    if (fread(b, 1, sizeof b, file) != sizeof b) {
+        exit(2);
+    }
+    return b[0] | (size_t) b[1] << 8 | (size_t) b[2] << 16 | (size_t) b[3] << 24;
+}
+
+static void tell_error_texts(void)
+{
+    for (uint32_t number = 0; number < 256; number++) {
+        char text[MINISIGN_ERROR_TEXT_BYTES];
+
+        add_number(minisign_error_text(number, text, sizeof text));
+        add(text, strlen(text));
+    }
+    printf("%016llx\n", (unsigned long long) sum);
+}
+
+/* A text is asked about, and judged, with data that comes before and after it is asked. */
+static void tell_verdict(const minisign_public_key *key, const uint8_t *text, size_t text_len, const uint8_t *data, size_t len,
+                         uint32_t legacy, uint32_t answers, size_t room)
+{
+    static uint8_t message[MOST];
+    minisign_state state;
+    minisign_questions questions;
+    enum minisign_error error;
+
+    memset(&state, 0x55, sizeof state);
+    memset(&questions, 0, sizeof questions);
+    memset(message, 0, room);
+    minisign_init(&state);
+    printf("%d ", minisign_update(&state, data, len / 3));
+    error = minisign_ask(&state, key, text, text_len, legacy, &questions, message, room);
+    printf("%d ", error);
+    add_questions(&questions);
+    add(message, room);
+    add(&state, sizeof state);
+    if (error == MINISIGN_OK) {
+        printf("%d ", minisign_update(&state, data + len / 3, len - len / 3));
+        printf("%d ", minisign_digest(&state, questions.digest));
+        add_questions(&questions);
+        printf("%d ", minisign_verdict(&state, answers & 1 ? MINISIGN_ANSWER_NO : MINISIGN_ANSWER_YES,
+                                       answers & 2 ? MINISIGN_ANSWER_NO : MINISIGN_ANSWER_YES));
+        add(&state, sizeof state);
+    }
+}
+
+int main(int argc, char **argv)
+{
+    static uint8_t texts[3][MOST];
+    FILE *file = argc > 1 ? fopen(argv[1], "rb") : NULL;
+
+    if (file == NULL) {
+        return 2;
+    }
+    tell_error_texts();
+    for (size_t number = 0, count = length_in(file); number < count; number++) {
+        minisign_public_key key, bare;
+        size_t lens[3];
+
+        for (int i = 0; i < 3; i++) {
+            lens[i] = length_in(file);
+            if (lens[i] > MOST || fread(texts[i], 1, lens[i], file) != lens[i]) {
+                return 2;
+            }
+        }
+        sum = UINT64_C(14695981039346656037);
+        memset(&key, 7, sizeof key);
+        memset(&bare, 9, sizeof bare);
+        printf("%d ", minisign_read_public_key(texts[0], lens[0], &key));
+        printf("%d ", minisign_read_bare_public_key(texts[0], lens[0], &bare));
+        add(&key, sizeof key);
+        add(&bare, sizeof bare);
+        for (uint32_t i = 0; i < 12; i++) {
+            tell_verdict(&key, texts[1], lens[1], texts[2], lens[2], i / 4, i % 4, number % 16 == 5 ? 70 : lens[1]);
+        }
+        printf("%016llx\n", (unsigned long long) sum);
+    }
+    return 0;
+}

@@ -1,0 +1,540 @@
+"""Writes C99 for an object of 64-bit WebAssembly (`wasm_object.py`), over `c/library/portable/machine.h`.
+
+    tools/wasm_to_c.py OBJECT NAME ..          the C of these functions, and of all that they call
+
+The memory of the object is that of the program: an address is a pointer as a number of 64 bits, also where pointers have 32, so
+nothing is copied; and a number in memory is little-endian on every processor. Two things are made anew at each call from C, in the
+frame of the function that is called, so that no variable lasts and threads share nothing: the stack of the machine, as long as
+the deepest call below needs it (`sp` is its end), and a table of the data that holds addresses (`table`).
+
+Nothing here is proved. It is a translation of each instruction by a row of a table, and of blocks and branches by `goto`. What it
+does not know is an error with the name of the instruction: floats, vectors, calls by table, memory that grows, recursion.
+tests/c/translated.py compares each row, and random functions, with Python's integers and with another WebAssembly.
+"""
+
+import re
+import sys
+from collections import namedtuple
+
+from wasm_object import Object, Unread
+
+# The instructions on numbers, and how they are in C: `a` and `b` are what an instruction takes from the stack. Where the C is a
+# comparison it gives 0 or 1. What reads memory is done before that is written; what may end the program, in its turn.
+TABLE = """
+    i32.eqz           a == 0                            i64.eqz           a == 0
+    i32.eq            a == b                            i64.eq            a == b
+    i32.ne            a != b                            i64.ne            a != b
+    i32.lt_s          order32(a) < order32(b)           i64.lt_s          order64(a) < order64(b)
+    i32.lt_u          a < b                             i64.lt_u          a < b
+    i32.gt_s          order32(a) > order32(b)           i64.gt_s          order64(a) > order64(b)
+    i32.gt_u          a > b                             i64.gt_u          a > b
+    i32.le_s          order32(a) <= order32(b)          i64.le_s          order64(a) <= order64(b)
+    i32.le_u          a <= b                            i64.le_u          a <= b
+    i32.ge_s          order32(a) >= order32(b)          i64.ge_s          order64(a) >= order64(b)
+    i32.ge_u          a >= b                            i64.ge_u          a >= b
+
+    i32.add           a + b                             i64.add           a + b
+    i32.sub           a - b                             i64.sub           a - b
+    i32.mul           a * b                             i64.mul           a * b
+    i32.and           a & b                             i64.and           a & b
+    i32.or            a | b                             i64.or            a | b
+    i32.xor           a ^ b                             i64.xor           a ^ b
+    i32.shl           a << (b & 31)                     i64.shl           a << (b & 63)
+    i32.shr_u         a >> (b & 31)                     i64.shr_u         a >> (b & 63)
+    i32.shr_s         shr_s32(a, b)                     i64.shr_s         shr_s64(a, b)
+    i32.rotl          rotl32(a, b)                      i64.rotl          rotl64(a, b)
+    i32.rotr          rotr32(a, b)                      i64.rotr          rotr64(a, b)
+    i32.clz           clz32(a)                          i64.clz           clz64(a)
+    i32.ctz           ctz32(a)                          i64.ctz           ctz64(a)
+    i32.popcnt        popcnt32(a)                       i64.popcnt        popcnt64(a)
+
+    i32.div_s         div_s32(a, b)                     i64.div_s         div_s64(a, b)
+    i32.div_u         div_u32(a, b)                     i64.div_u         div_u64(a, b)
+    i32.rem_s         rem_s32(a, b)                     i64.rem_s         rem_s64(a, b)
+    i32.rem_u         rem_u32(a, b)                     i64.rem_u         rem_u64(a, b)
+
+    i32.wrap_i64      (u32) a                           i64.extend_i32_u  (u64) a
+    i32.extend8_s     (u32) sign8(a)                    i64.extend8_s     sign8(a)
+    i32.extend16_s    (u32) sign16(a)                   i64.extend16_s    sign16(a)
+    i64.extend_i32_s  sign32(a)                         i64.extend32_s    sign32(a)
+
+    i32.load          load32(a)                         i64.load          load64(a)
+    i32.load8_u       load8(a)                          i64.load8_u       (u64) load8(a)
+    i32.load8_s       (u32) sign8(load8(a))             i64.load8_s       sign8(load8(a))
+    i32.load16_u      load16(a)                         i64.load16_u      (u64) load16(a)
+    i32.load16_s      (u32) sign16(load16(a))           i64.load16_s      sign16(load16(a))
+    i64.load32_s      sign32(load32(a))                 i64.load32_u      (u64) load32(a)
+    i32.store         store32(a, b)                     i64.store         store64(a, b)
+    i32.store8        store8(a, b)                      i64.store8        store8(a, b)
+    i32.store16       store16(a, b)                     i64.store16       store16(a, b)
+    i64.store32       store32(a, b)
+"""
+IN_C = dict(it.split(maxsplit=1) for row in TABLE.splitlines() for it in re.split(r" {2,}(?=i\d\d\.)", row.strip()) if it)
+ENDING_THE_PROGRAM = ("div_", "rem_")
+
+TYPES = {"i32": "u32", "i64": "u64"}
+BITS = {"i32": 32, "i64": 64}
+# The variable of the object that is the end of the stack of the machine.
+STACK_POINTER = "__stack_pointer"
+# What an expression may read besides local variables.
+MEMORY = "memory"
+# The prefix of the names that C calls, and of those that the translation calls; and of what is within it.
+PREFIX, WITHIN = "machine_", "do_"
+
+# What stands on the stack of the machine, as an expression of C: its kind, what it reads, whether it needs no parentheses, and
+# what it says where it is a comparison; the number where it is one that is known.
+Value = namedtuple("Value", "text kind reads is_word truth number", defaults=(frozenset(), False, None, None))
+EMPTY = frozenset()
+
+
+def in_parentheses(value):
+    return value.text if value.is_word else f"({value.text})"
+
+
+def condition(value):
+    """A value as what `if` asks."""
+    return value.truth or f"{in_parentheses(value)} != 0"
+
+
+def constant(kind, number):
+    """A number, which WebAssembly writes with a sign."""
+    number %= 1 << BITS[kind]
+    digits = str(number) if number < 100000 else hex(number)
+    return Value(f"{digits}u" if kind == "i32" else f"UINT64_C({digits})", kind, EMPTY, True, None, number)
+
+
+class Block:
+    """A block that is open: what kind it is of, what it gives, and the height of the stack below it."""
+
+    def __init__(self, kind, gives, number, height):
+        self.kind, self.gives, self.height = kind, gives, height
+        self.label, self.result = f"{'again' if kind == 'loop' else 'after'}{number}", f"r{number}"
+        self.is_branched_to = self.has_else = self.then_ends = False
+
+
+class Body:
+    """The C of a function's instructions."""
+
+    def __init__(self, translation, function):
+        self.all, self.function = translation, function
+        self.lines, self.stack, self.blocks = [], [], []
+        self.temporaries = self.opened = 0
+        # Whether what comes next is never reached, and how many blocks were opened since.
+        self.is_unreachable, self.passed_over = False, 0
+        self.calls, self.reads_table, self.frame = [], False, 0
+        self.uses_stack = any(it.name.startswith("global") for it in function.instructions)
+        if self.uses_stack:
+            self.frame = frame_of(function)
+        self.blocks.append(Block("function", function.results[0] if function.results else None, 0, 0))
+        for it in function.instructions:
+            if self.is_unreachable:
+                self.pass_over(it)
+            else:
+                self.translate(it)
+        if self.blocks:
+            raise Unread(f"{function.name}: a block does not end")
+
+    # ---- Writing ----
+
+    def line(self, text):
+        self.lines.append("    " * len(self.blocks) + text)
+
+    def pop(self):
+        if len(self.stack) <= self.blocks[-1].height:
+            raise Unread(f"{self.function.name}: the stack is empty")
+        return self.stack.pop()
+
+    def push(self, *parts):
+        self.stack.append(Value(*parts))
+
+    def keep(self, value):
+        """A value in a variable of its own, which nothing changes."""
+        self.temporaries += 1
+        name = f"t{self.temporaries}"
+        self.line(f"const {TYPES[value.kind]} {name} = {value.text};")
+        return Value(name, value.kind, EMPTY, True)
+
+    def keep_what_reads(self, what):
+        """What stands on the stack and reads something that now changes is kept as it is."""
+        self.stack = [self.keep(it) if what in it.reads else it for it in self.stack]
+
+    # ---- Instructions ----
+
+    def pass_over(self, it):
+        """An instruction that is never reached, but that may end the block in which it is not."""
+        if it.name in ("block", "loop", "if"):
+            self.passed_over += 1
+        elif self.passed_over > 0:
+            self.passed_over -= it.name == "end"
+        elif it.name in ("else", "end"):
+            self.translate(it)
+
+    def translate(self, it):
+        kind, _, rest = it.name.partition(".")
+        if it.name in IN_C:
+            self.number(it, kind if kind in TYPES else None)
+        else:
+            how = getattr(self, f"do_{kind}" if not rest else f"do_{kind}_{rest}", None)
+            if how is None:
+                raise Unread(f"{self.function.name}: the instruction {it.name}")
+            how(it)
+
+    def number(self, it, kind):
+        """An instruction of the table."""
+        text = IN_C[it.name]
+        is_store, has_two = ".store" in it.name, re.search(r"\bb\b", text)
+        b = self.pop() if has_two else None
+        a = self.pop() if not re.search(r"\.(load|store)", it.name) else self.address(it)
+        reads = a.reads | (b.reads if b else EMPTY) | (frozenset([MEMORY]) if ".load" in it.name else EMPTY)
+        if b and b.number is not None:
+            # (how far is shifted, where that is known)
+            text = re.sub(r"\(b & (\d+)\)", lambda found: str(b.number & int(found[1])), text)
+        text = f"!({a.truth})" if it.name.endswith("eqz") and a.truth else in_c(text, a, b)
+        if is_store:
+            self.keep_what_reads(MEMORY)
+            self.line(f"{text};")
+        elif re.search(r" [=!<>]=? ", IN_C[it.name]):
+            self.push(f"(u32) ({text})", "i32", reads, False, text)
+        else:
+            value = Value(text, kind, reads, bool(re.fullmatch(r"\w+\([^()]*\)", IN_C[it.name])))
+            self.stack.append(self.keep(value) if any(word in it.name for word in ENDING_THE_PROGRAM) else value)
+
+    def address(self, it):
+        """Where an instruction loads from, or stores to: a number from the stack, and what the instruction adds."""
+        base = self.pop()
+        if it.symbol is not None:
+            data = self.data(it.symbol)
+            return data if base.number == 0 else Value(f"{in_parentheses(base)} + {in_parentheses(data)}", "i64", base.reads)
+        return Value(f"{in_parentheses(base)} + {it.operand}", "i64", base.reads) if it.operand else base
+
+    def data(self, place):
+        """The address of data."""
+        text, is_in_table = self.all.address_of(place)
+        self.reads_table |= is_in_table
+        return Value(text, "i64", EMPTY, "+" not in text)
+
+    def do_i32_const(self, it):
+        self.stack.append(constant("i32", it.operand) if it.symbol is None else self.data(it.symbol))
+
+    def do_i64_const(self, it):
+        self.stack.append(constant("i64", it.operand) if it.symbol is None else self.data(it.symbol))
+
+    def do_local_get(self, it):
+        name = f"l{it.operand}"
+        self.push(name, self.function.locals[it.operand], frozenset([name]), True)
+
+    def do_local_set(self, it):
+        name, value = f"l{it.operand}", self.pop()
+        self.keep_what_reads(name)
+        self.line(f"{name} = {value.text};")
+
+    def do_local_tee(self, it):
+        self.do_local_set(it)
+        self.do_local_get(it)
+
+    def do_global_get(self, it):
+        self.all.check_variable(it)
+        self.push("sp", "i64", frozenset(["sp"]), True)
+
+    def do_global_set(self, it):
+        self.all.check_variable(it)
+        value = self.pop()
+        self.keep_what_reads("sp")
+        self.line(f"sp = {value.text};")
+
+    def do_drop(self, _):
+        self.pop()
+
+    def do_select(self, _):
+        asked, b, a = self.pop(), self.pop(), self.pop()
+        self.push(f"{condition(asked)} ? {in_parentheses(a)} : {in_parentheses(b)}", a.kind, asked.reads | a.reads | b.reads)
+
+    def do_nop(self, _):
+        pass
+
+    def do_unreachable(self, _):
+        self.line("never();")
+        self.is_unreachable = True
+
+    def do_memory_copy(self, _):
+        self.change("copy")
+
+    def do_memory_fill(self, _):
+        self.change("fill")
+
+    def change(self, how):
+        """What writes many bytes takes three numbers."""
+        arguments = [self.pop() for _ in range(3)][::-1]
+        self.keep_what_reads(MEMORY)
+        self.line(f"{how}({', '.join(it.text for it in arguments)});")
+
+    def do_call(self, it):
+        called = self.all.object.functions[it.operand]
+        arguments = [self.pop() for _ in called.parameters][::-1]
+        self.keep_what_reads(MEMORY)
+        self.calls.append(it.operand)
+        text = self.all.call(it.operand, [one.text for one in arguments])
+        if called.results:
+            self.stack.append(self.keep(Value(text, called.results[0])))
+        else:
+            self.line(f"{text};")
+
+    # ---- Blocks ----
+
+    def do_block(self, it):
+        self.begin(it, "{")
+
+    def do_loop(self, it):
+        self.begin(it, "{")
+
+    def do_if(self, it):
+        self.begin(it, f"if ({condition(self.pop())}) {{")
+
+    def begin(self, it, text):
+        """Begins a block. What stands on the stack has to last, whatever that does."""
+        self.stack = [self.keep(one) if one.reads else one for one in self.stack]
+        self.opened += 1
+        block = Block(it.name, it.operand, self.opened, len(self.stack))
+        if block.gives:
+            self.line(f"{TYPES[block.gives]} {block.result};")
+        if it.name == "loop":
+            self.line(f"{block.label}:;")
+        self.line(text)
+        self.blocks.append(block)
+
+    def give(self, block):
+        """Gives what a block gives, where its end is reached."""
+        if block.gives and not self.is_unreachable:
+            self.line(f"{'return' if block.kind == 'function' else f'{block.result} ='} {self.pop().text};")
+        del self.stack[block.height:]
+
+    def do_else(self, _):
+        block = self.blocks[-1]
+        self.give(block)
+        block.has_else, block.then_ends, self.is_unreachable = True, not self.is_unreachable, False
+        self.lines.append("    " * (len(self.blocks) - 1) + "} else {")
+
+    def do_end(self, _):
+        block = self.blocks[-1]
+        self.give(block)
+        self.blocks.pop()
+        if block.kind == "function":
+            return
+        ends = not self.is_unreachable or block.then_ends or (block.kind == "if" and not block.has_else)
+        self.line("}")
+        if block.kind != "loop" and block.is_branched_to:
+            self.line(f"{block.label}:;")
+            ends = True
+        self.is_unreachable = not ends
+        if block.gives and ends:
+            self.push(block.result, block.gives, frozenset([block.result]), True)
+
+    def branch(self, depth):
+        """How it is gone on elsewhere, after what the block gives was kept."""
+        block = self.blocks[-1 - depth]
+        gives = block.gives if block.kind != "loop" else None
+        given = f" {self.stack[-1].text}" if gives else ""
+        if block.kind == "function":
+            return f"return{given};"
+        block.is_branched_to = True
+        return f"{block.result} ={given}; goto {block.label};" if gives else f"goto {block.label};"
+
+    def do_br(self, it):
+        self.line(self.branch(it.operand))
+        self.is_unreachable = True
+
+    def do_br_if(self, it):
+        asked = self.pop()
+        if self.blocks[-1 - it.operand].gives and self.stack:
+            # (it is read twice)
+            self.stack[-1] = self.keep(self.stack[-1])
+        self.line(f"if ({condition(asked)}) {{ {self.branch(it.operand)} }}")
+
+    def do_br_table(self, it):
+        asked = self.pop()
+        *others, last = map(self.branch, it.operand)
+        self.line(f"switch ({asked.text}) {{")
+        for number, one in enumerate(others):
+            if one != last:
+                self.line(f"case {number}: {one}")
+        self.line(f"default: {last}")
+        self.line("}")
+        self.is_unreachable = True
+
+    def do_return(self, _):
+        self.line(self.branch(len(self.blocks) - 1))
+        self.is_unreachable = True
+
+
+def in_c(text, a, b):
+    """A row of the table, with what it takes put in: without parentheses where it stands alone in those of a call."""
+    values = {"a": a, "b": b}
+    return re.sub(r"(?<=\w\()([ab])(?=[,)])|(?<=, )([ab])(?=\))|\b([ab])\b",
+                  lambda it: in_parentheses(values[it[3]]) if it[3] else values[it[1] or it[2]].text, text)
+
+
+def frame_of(function):
+    """How much of the stack of the machine a function takes, as it says once where it begins."""
+    code = function.instructions
+    found = [(code[at + 1], code[at + 2].name) for at, it in enumerate(code) if it.name == "global.get"]
+    if len(found) != 1 or found[0][0].name != "i64.const" or found[0][1] not in ("i64.sub", "i64.add"):
+        raise Unread(f"{function.name}: how much of the stack it takes")
+    (it, how), = found
+    return it.operand if how == "i64.sub" else -it.operand
+
+
+class Translation:
+    """The C of functions of an object, and of all that they call."""
+
+    def __init__(self, read, exported):
+        self.object, self.exported = read, exported
+        self.numbers = {it.name: number for number, it in enumerate(read.functions)}
+        self.segments, self.table, self.names, self.bodies = set(), {}, {}, {}
+        self.table_bytes = 0
+        missing = [it for it in exported if it not in self.numbers]
+        if missing:
+            raise Unread(f"it has no {', '.join(missing)}")
+        for name in exported:
+            self.visit(self.numbers[name], [])
+        self.pointers = self.table_pointers()
+
+    def visit(self, number, above):
+        """Translates a function after all that it calls."""
+        if number in above:
+            raise Unread(f"{self.object.functions[number].name} calls itself")
+        if number in self.bodies or self.object.functions[number].instructions is None:
+            return
+        body = Body(self, self.object.functions[number])
+        for it in sorted({*body.calls}):
+            self.visit(it, [*above, number])
+        # What is handed on: the end of the stack and the table, where something below needs them.
+        below = [self.bodies[it] for it in body.calls if it in self.bodies]
+        body.stack_bytes = body.frame + max((it.stack_bytes for it in below), default=0)
+        body.handed = [name for name, is_needed in (
+            ("sp", body.uses_stack or any("sp" in it.handed for it in below)),
+            ("table", body.reads_table or any("table" in it.handed for it in below))) if is_needed]
+        self.bodies[number] = body
+
+    # ---- Names and places ----
+
+    def check_variable(self, it):
+        if self.object.variables[it.operand] != STACK_POINTER:
+            raise Unread(f"the variable {self.object.variables[it.operand]}")
+
+    def name(self, number):
+        """The name of a function in C."""
+        function = self.object.functions[number]
+        if function.instructions is None:
+            return PREFIX + function.name
+        if number not in self.names:
+            name = WITHIN + re.sub(r"\W+", "_", function.name).strip("_")
+            self.names[number] = name if name not in self.names.values() else f"{name}_{number}"
+        return self.names[number]
+
+    def call(self, number, arguments):
+        """A call, in which what is handed on is filled in once that is known."""
+        return f"{self.name(number)}(@{number}@{', '.join(arguments)})"
+
+    def address_of(self, place):
+        """The address of data, and whether that is in the table."""
+        after = f" + {place.offset}" if place.offset else ""
+        if not self.object.segments[place.segment].addresses:
+            self.segments.add(place.segment)
+            return f"address(data{place.segment}){after}", False
+        if place.segment not in self.table:
+            self.table_bytes += -self.table_bytes % 16
+            self.table[place.segment] = self.table_bytes
+            self.table_bytes += len(self.object.segments[place.segment].data)
+        at = self.table[place.segment] + place.offset
+        return f"table + {at}" if at else "table", True
+
+    def table_pointers(self):
+        """The lines that write the addresses of the table, which may bring more into it."""
+        lines, done = [], set()
+        while {*self.table} - done:
+            for segment in sorted({*self.table} - done):
+                done.add(segment)
+                lines += [f"store64(table + {self.table[segment] + at}, {self.address_of(place)[0]});"
+                          for at, place in self.object.segments[segment].addresses]
+        return lines
+
+    # ---- Writing ----
+
+    def text(self):
+        """All of the C."""
+        called = sorted({it for body in self.bodies.values() for it in body.calls if it not in self.bodies})
+        return "\n".join([
+            '#include "machine.h"', "",
+            *(line for segment in sorted(self.segments) for line in self.data_lines(segment)),
+            *self.table_lines(),
+            *(f"{self.declaration(self.object.functions[it], self.name(it))};" for it in called),
+            *(line for number, body in self.bodies.items() for line in self.function_lines(number, body)),
+            *(line for name in self.exported for line in self.exported_lines(self.numbers[name])), ""])
+
+    def data_lines(self, segment):
+        """Data, after a comment with the letters that it has."""
+        it = self.object.segments[segment]
+        words = it.data.decode("latin-1")
+        comment = [f"/* {words} */"] if re.fullmatch(r"[ -~]{6,}", words) and "*/" not in words else []
+        alignment = f"ALIGNED({it.alignment}) " if it.alignment > 1 else ""
+        return [*comment, f"static {alignment}const u8 data{segment}[{max(1, len(it.data))}] = {{", *byte_lines(it.data or b"\0"), "};"]
+
+    def table_lines(self):
+        """The data that holds addresses, and how it is made."""
+        if not self.table:
+            return []
+        data = bytearray(self.table_bytes)
+        for segment, at in self.table.items():
+            data[at:at + len(self.object.segments[segment].data)] = self.object.segments[segment].data
+        return ["", f"static const u8 table_bytes[{self.table_bytes}] = {{", *byte_lines(data), "};", "",
+                "static void write_table(u64 table)", "{", "    copy(table, address(table_bytes), sizeof table_bytes);",
+                *(f"    {it}" for it in self.pointers), "}", ""]
+
+    def declaration(self, function, name, handed=(), words="", first=0):
+        parameters = [*(f"u64 {it}" for it in handed), *(f"{TYPES[kind]} l{at}" for at, kind in enumerate(function.parameters, first))]
+        return f"{words}{TYPES[function.results[0]] if function.results else 'void'} {name}({', '.join(parameters) or 'void'})"
+
+    def function_lines(self, number, body):
+        function = body.function
+        text = re.sub(r"@(\d+)@(?=(\)?))", self.handed_on, "\n".join(body.lines))
+        # (labels of loops to which nothing goes back)
+        text = re.sub(r"(?m)^ *(again\d+):;\n", lambda it: it[0] if f"goto {it[1]};" in text else "", text)
+        used = {*re.findall(r"\b(?:l\d+|sp|table)\b", text)}
+        names = [(f"l{at}", kind) for at, kind in enumerate(function.locals)]
+        variables = [(kind, [name for name, one in names[len(function.parameters):] if one == kind and name in used]) for kind in TYPES]
+        unused = [it for it in [*body.handed, *(name for name, _ in names[:len(function.parameters)])] if it not in used]
+        return ["", self.declaration(function, self.name(number), body.handed, "static "), "{",
+                *(f"    {TYPES[kind]} {', '.join(f'{it} = 0' for it in some[at:at + 16])};" for kind, some in variables
+                  for at in range(0, len(some), 16)),
+                *(f"    (void) {it};" for it in unused), text, "}"]
+
+    def handed_on(self, found):
+        """What a call hands on, before its own arguments."""
+        body = self.bodies.get(int(found[1]))
+        return ", ".join(body.handed if body else []) + (", " if body and body.handed and not found[2] else "")
+
+    def exported_lines(self, number):
+        """A function that is called from C."""
+        body, function = self.bodies[number], self.object.functions[number]
+        declaration = self.declaration(function, PREFIX + function.name)
+        handed = [*body.handed, *(f"l{at}" for at in range(len(function.parameters)))]
+        return ["", f"{declaration};", "", declaration, "{",
+                *([f"    STACK({body.stack_bytes + -body.stack_bytes % 16});"] if "sp" in body.handed else []),
+                *(["    TABLE(sizeof table_bytes);", "    write_table(table);"] if "table" in body.handed else []),
+                f"    {'return ' if function.results else ''}{self.name(number)}({', '.join(handed)});", "}"]
+
+
+def byte_lines(data):
+    return ["    " + ", ".join(map(str, data[at:at + 24])) + "," for at in range(0, len(data), 24)]
+
+
+def translate(data, exported):
+    """The C of an object, for these of its functions."""
+    return Translation(Object(data), exported).text()
+
+
+if __name__ == "__main__":
+    if len(sys.argv) < 3:
+        sys.exit(__doc__)
+    with open(sys.argv[1], "rb") as opened:
+        sys.stdout.write(translate(opened.read(), sys.argv[2:]))
