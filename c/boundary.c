@@ -1,46 +1,62 @@
 /*
- * The boundary between minisign.h and the proved calls of the crate minisign_c. Made by tools/header.py.
+ * The boundary between the headers and the proved calls of the crate minisign_c. Made by tools/header.py.
  *
  * It decides three things. A pointer that is NULL where its length is 0 is replaced by one that is not, which the
- * proved calls need. Where there are two copies of these calls, one built for x86-64-v2 and one for x86-64-v3,
- * it takes the second if the processor has what that needs. And after a call that was given a secret, what it has
- * left on the stack and in registers is cleared.
+ * proved calls need. Of the copies of these calls it takes one: on an x86-64 the one that is built for x86-64-v3 if the
+ * processor has what that needs, the one for x86-64-v2 if it has that, and else the one of dist/calls.c, which is C.
+ * And after a call that was given a secret, what it has left on the stack and in registers is cleared.
  *
  * SPDX-License-Identifier: MIT
  */
-#if !(defined(__x86_64__) || defined(__aarch64__)) || !defined(__LP64__) || __BYTE_ORDER__ != __ORDER_LITTLE_ENDIAN__
-#error "minisign is for x86-64 and AArch64, little-endian and with pointers of 64 bits"
+#if !defined(MINISIGN_PORTABLE) \
+    && (!(defined(__x86_64__) || defined(__aarch64__)) || !defined(__LP64__) || __BYTE_ORDER__ != __ORDER_LITTLE_ENDIAN__)
+#error "the archives of dist/ are for x86-64 and AArch64, little-endian and with pointers of 64 bits: build with PORTABLE=1"
 #endif
 
 #include <stddef.h>
 #include <stdint.h>
 
 #include "clearing.h"
-#include "minisign.h"
+#include "minisign_install.h"
 
-#ifdef __x86_64__
+#if defined(MINISIGN_PORTABLE)
+
+#define PROVED(kind, name, parameters) kind portable_##name parameters
+#define CALL(name) portable_##name
+
+#elif defined(__x86_64__)
 
 #include <cpuid.h>
 
-/* Both copies of a call, and the one that is taken. */
-#define PROVED(kind, name, parameters) kind v2_##name parameters; kind v3_##name parameters
+/* All copies of a call, and the one that is taken. */
+#define PROVED(kind, name, parameters) \
+    kind v2_##name parameters; kind v3_##name parameters; kind portable_##name parameters
+#ifdef MINISIGN_ARCHIVES_ALONE
 #define CALL(name) (has_v3 ? v3_##name : v2_##name)
+#else
+#define CALL(name) (has_v3 ? v3_##name : has_v2 ? v2_##name : portable_##name)
+#endif
 
-static int has_v3;
+static int has_v2, has_v3;
 
-/* Whether the processor, and the system on it, have what x86-64-v3 is: found out once, before main. */
+/* Whether the processor, and the system on it, have what x86-64-v2 and x86-64-v3 are: found out once, before main. */
 __attribute__((constructor)) static void look_at_processor(void)
 {
-    const unsigned one = bit_FMA | bit_MOVBE | bit_OSXSAVE | bit_AVX | bit_F16C, seven = bit_BMI | bit_AVX2 | bit_BMI2;
-    unsigned a, b, c, d, kept, kept_above;
+    const unsigned two = bit_SSE3 | bit_SSSE3 | bit_CMPXCHG16B | bit_SSE4_1 | bit_SSE4_2 | bit_POPCNT;
+    const unsigned three = bit_FMA | bit_MOVBE | bit_OSXSAVE | bit_AVX | bit_F16C, seven = bit_BMI | bit_AVX2 | bit_BMI2;
+    unsigned a, b, c, d, more, kept, kept_above;
 
-    if (!__get_cpuid(1, &a, &b, &c, &d) || (c & one) != one) {
+    if (!__get_cpuid(0x80000001, &a, &b, &more, &d) || !__get_cpuid(1, &a, &b, &c, &d)) {
+        return;
+    }
+    has_v2 = (c & two) == two && (more & bit_LAHF_LM) == bit_LAHF_LM;
+    if (!has_v2 || (c & three) != three) {
         return;
     }
     /* (bits 1 and 2: the system keeps the registers of SSE and AVX for each program) */
     __asm__ __volatile__("xgetbv" : "=a"(kept), "=d"(kept_above) : "c"(0));
     has_v3 = (kept & 6) == 6 && __get_cpuid_count(7, 0, &a, &b, &c, &d) && (b & seven) == seven
-             && __get_cpuid(0x80000001, &a, &b, &c, &d) && (c & bit_LZCNT) == bit_LZCNT;
+             && (more & bit_LZCNT) == bit_LZCNT;
 }
 
 #else
@@ -52,9 +68,11 @@ __attribute__((constructor)) static void look_at_processor(void)
 
 /* Nothing is read or written here. */
 static const uint8_t nothing;
+static const uint32_t no_words;
 
 #define READ(pointer, length) ((pointer) == NULL && (length) == 0 ? &nothing : (const uint8_t *) (pointer))
 #define WRITTEN(pointer, length) ((pointer) == NULL && (length) == 0 ? (uint8_t *) &nothing : (uint8_t *) (pointer))
+#define WORDS(pointer, length) ((pointer) == NULL && (length) == 0 ? (uint32_t *) &no_words : (pointer))
 
 uint32_t minisign_version(void)
 {
@@ -143,18 +161,58 @@ enum minisign_error minisign_read_secret_key(const uint8_t *sk_text, size_t sk_t
     return result;
 }
 
-PROVED(uint32_t, minisign_open_secret_key, (const minisign_unopened_key *, uint32_t, const uint8_t *, size_t,
-                                            uint64_t, uint32_t, minisign_secret_key *));
+PROVED(uint32_t, minisign_open_unsealed_key, (const minisign_unopened_key *, minisign_secret_key *));
 
-enum minisign_error minisign_open_secret_key(const minisign_unopened_key *unopened, uint32_t with_password,
-                                             const uint8_t *password, size_t password_len, uint64_t keep_every,
-                                             uint32_t greatest_work, minisign_secret_key *key)
+enum minisign_error minisign_open_unsealed_key(const minisign_unopened_key *unopened, minisign_secret_key *key)
 {
     enum minisign_error result;
 
-    result = (enum minisign_error) CALL(minisign_open_secret_key)(unopened, with_password,
-                                                                  READ(password, password_len), password_len,
-                                                                  keep_every, greatest_work, key);
+    result = (enum minisign_error) CALL(minisign_open_unsealed_key)(unopened, key);
+    minisign_clear_used();
+    return result;
+}
+
+PROVED(uint32_t, minisign_open_sealed_key, (const minisign_unopened_key *, const uint8_t *, size_t, uint64_t,
+                                            uint64_t, minisign_secret_key *));
+
+enum minisign_error minisign_open_sealed_key(const minisign_unopened_key *unopened, const uint8_t *password,
+                                             size_t password_len, uint64_t keep_every, uint64_t most_rows,
+                                             minisign_secret_key *key)
+{
+    enum minisign_error result;
+
+    result = (enum minisign_error) CALL(minisign_open_sealed_key)(unopened, READ(password, password_len),
+                                                                  password_len, keep_every, most_rows, key);
+    minisign_clear_used();
+    return result;
+}
+
+PROVED(void, minisign_opening_memory, (const minisign_unopened_key *, uint64_t, uint64_t *, uint64_t *));
+
+void minisign_opening_memory(const minisign_unopened_key *unopened, uint64_t keep_every, uint64_t *words_wanted,
+                             uint64_t *bytes_wanted)
+{
+    CALL(minisign_opening_memory)(unopened, keep_every, words_wanted, bytes_wanted);
+    minisign_clear_used();
+}
+
+PROVED(uint32_t, minisign_open_sealed_key_in_place, (const minisign_unopened_key *, const uint8_t *, size_t,
+                                                     uint64_t, uint64_t, uint32_t *, size_t, uint8_t *, size_t,
+                                                     minisign_secret_key *));
+
+enum minisign_error minisign_open_sealed_key_in_place(const minisign_unopened_key *unopened,
+                                                      const uint8_t *password, size_t password_len,
+                                                      uint64_t keep_every, uint64_t most_rows, uint32_t *words,
+                                                      size_t words_len, uint8_t *bytes, size_t bytes_len,
+                                                      minisign_secret_key *key)
+{
+    enum minisign_error result;
+
+    result = (enum minisign_error) CALL(minisign_open_sealed_key_in_place)(unopened, READ(password, password_len),
+                                                                           password_len, keep_every, most_rows,
+                                                                           WORDS(words, words_len), words_len,
+                                                                           WRITTEN(bytes, bytes_len), bytes_len,
+                                                                           key);
     minisign_clear_used();
     return result;
 }
@@ -191,16 +249,15 @@ PROVED(uint32_t, minisign_signed_text, (const minisign_secret_key *, const uint8
                                         const uint8_t *, size_t, const uint8_t *, size_t, uint8_t *, size_t,
                                         size_t *));
 
-enum minisign_error minisign_signed_text(const minisign_secret_key *key, const uint8_t first[64],
-                                         const uint8_t second[64], const uint8_t *trusted, size_t trusted_len,
-                                         const uint8_t *untrusted, size_t untrusted_len, uint8_t *text,
-                                         size_t room, size_t *text_len)
+enum minisign_error minisign_signed_text(const minisign_secret_key *key, const minisign_signed_parts *parts,
+                                         uint8_t *text, size_t room, size_t *text_len)
 {
     enum minisign_error result;
 
-    result = (enum minisign_error) CALL(minisign_signed_text)(key, first, second, READ(trusted, trusted_len),
-                                                              trusted_len, READ(untrusted, untrusted_len),
-                                                              untrusted_len, WRITTEN(text, room), room, text_len);
+    result = (enum minisign_error) CALL(minisign_signed_text)(key, parts->signature, parts->comment_signature,
+            READ(parts->trusted_comment, parts->trusted_comment_len), parts->trusted_comment_len,
+            READ(parts->untrusted_comment, parts->untrusted_comment_len), parts->untrusted_comment_len,
+            WRITTEN(text, room), room, text_len);
     minisign_clear_used();
     return result;
 }
@@ -249,9 +306,9 @@ enum minisign_error minisign_install_init(minisign_installation *installation, u
 
 PROVED(uint32_t, minisign_install_due, (const minisign_installation *));
 
-uint32_t minisign_install_due(const minisign_installation *installation)
+enum minisign_due minisign_install_due(const minisign_installation *installation)
 {
-    return CALL(minisign_install_due)(installation);
+    return (enum minisign_due) CALL(minisign_install_due)(installation);
 }
 
 PROVED(uint32_t, minisign_install_done, (minisign_installation *));

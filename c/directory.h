@@ -1,7 +1,7 @@
 /* SPDX-License-Identifier: MIT */
 /*
  * The directory of a target, and the calls of the system that an installation makes there: one function for each call of
- * the machine of minisign.h, which is told what the function answers. All names are looked up in the directory, which
+ * the machine of minisign_install.h, which is told what the function answers. All names are looked up in the directory, which
  * is opened once, and no link at the end of one is followed. A call that a signal interrupts is made again. What could
  * not be used first, and why, is remembered.
  */
@@ -13,7 +13,7 @@
 #include <stdint.h>
 #include <sys/types.h>
 
-#include "minisign.h"
+#include "minisign_install.h"
 
 /* How long the record may be: more than the label of a field and the 20 digits of the greatest number. */
 #define RECORD_BYTES 64

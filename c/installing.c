@@ -230,7 +230,7 @@ static bool make_due_call(struct installing *run)
     struct directory *directory = &run->directory;
     struct stage *update = &directory->update, *number = &directory->number;
 
-    switch ((enum minisign_due) minisign_install_due(&run->machine)) {
+    switch (minisign_install_due(&run->machine)) {
     case MINISIGN_DUE_LOCK: tell(run, lock_target(directory)); break;
     case MINISIGN_DUE_CLEAR: tell(run, remove_leftovers(directory)); break;
     case MINISIGN_DUE_READ_RECORD: tell_record(run); break;
@@ -249,6 +249,7 @@ static bool make_due_call(struct installing *run)
     case MINISIGN_DUE_SYNC_NAME: tell(run, sync_names(directory)); break;
     case MINISIGN_DUE_REMOVE_RECORD: tell(run, remove_stage(directory, number)); break;
     case MINISIGN_DUE_REMOVE: tell(run, remove_stage(directory, update)); break;
+    case MINISIGN_DUE_NOTHING:
     case MINISIGN_DUE_INSTALLED:
     case MINISIGN_DUE_REFUSED: return false;
     }

@@ -1,7 +1,7 @@
 /* SPDX-License-Identifier: MIT */
 /*
  * The installing host: an update that is put at a target, unless it stands there already, and whether there is a newer
- * one. The machine of minisign.h says which call is due, and judges: the texts, the data as it was staged, and the
+ * one. The machine of minisign_install.h says which call is due, and judges: the texts, the data as it was staged, and the
  * comment that was signed with it. Here the call that is due is made (directory.h), and the machine is told how it
  * went.
  * Nothing here decides what comes next, what is removed, or what is rejected, but for one thing. Before the machine
@@ -21,7 +21,7 @@
 #include <sys/types.h>
 
 #include "directory.h"
-#include "minisign.h"
+#include "minisign_install.h"
 
 /* How many public keys may be named: two during a change of keys. */
 #define MAX_KEYS 2

@@ -31,13 +31,13 @@
 #define PUBLIC_COMMENT_BYTES 64
 #define PUBLIC_TEXT_BYTES 256
 
-/* scrypt's N of a key of Minisign's own limits, which makes so many rows once, as a power of two. */
-#define USUAL_LOG2 20
-
 /* Where memory is short, at least one of so many rows of a key derivation is kept. */
 #define MAX_ROWS_APART 256
 
 struct secrets *secrets;
+
+/* Whose the file is that the secret key was read from. */
+static uid_t key_owner;
 
 /* May be called while a signal is handled. The system takes the pages back. */
 static void clear_secrets(void)
@@ -61,7 +61,12 @@ void begin_secrets(void)
 static void read_secret_text(const char *file)
 {
     int fd = open_file(file);
+    struct stat found;
 
+    if (fstat(fd, &found) != 0) {
+        fail_at(file);
+    }
+    key_owner = found.st_uid;
     secrets->text_len = read_full(fd, file, secrets->text, sizeof secrets->text);
     if (secrets->text_len == sizeof secrets->text) {
         errno = EFBIG;
@@ -82,19 +87,17 @@ static bool keep_fewer(enum minisign_error error, uint32_t *rows)
 
 /* ---- The work of opening ---- */
 
-/* The greatest p of scrypt that may be, so that its N times p stays within what is allowed. */
-static uint32_t greatest_times(const struct options *options)
+/* How many rows of a key derivation may be made in all: so many times those of a usual key. */
+static uint64_t most_rows(const struct options *options)
 {
-    uint64_t most = ((uint64_t) options->work << USUAL_LOG2) >> secrets->unopened.log2_rows;
-
-    return most < 1 ? 1 : most > UINT32_MAX ? UINT32_MAX : (uint32_t) most;
+    return (uint64_t) options->work * MINISIGN_USUAL_ROWS;
 }
 
 /* Says what would allow a key that asks for more work. */
 static void say_work(const struct options *options)
 {
     const minisign_unopened_key *key = &secrets->unopened;
-    uint64_t times = (((uint64_t) key->work << key->log2_rows) + (UINT64_C(1) << USUAL_LOG2) - 1) >> USUAL_LOG2;
+    uint64_t times = (((uint64_t) key->work << key->log2_rows) + MINISIGN_USUAL_ROWS - 1) / MINISIGN_USUAL_ROWS;
 
     fprintf(stderr, "%s: opening this key takes %" PRIu64 " times the work of a usual one: -K %" PRIu64 " allows that\n",
             visible(options->secret_file), times, times);
@@ -109,15 +112,15 @@ static void clear_passwords(void)
     sodium_memzero(&secrets->again, sizeof secrets->again);
 }
 
-/* Opens the key that was read: without a password, or with the one that was typed. */
-static enum minisign_error open_read(const struct options *options, uint32_t with_password)
+/* Opens the key that was read with the password that was typed. */
+static enum minisign_error open_with_password(const struct options *options)
 {
-    uint32_t rows = options->rows, times = greatest_times(options);
+    uint32_t rows = options->rows;
     enum minisign_error error;
 
     do {
-        error = minisign_open_secret_key(&secrets->unopened, with_password, secrets->password.bytes, secrets->password.len,
-                                         rows, times, &secrets->open);
+        error = minisign_open_sealed_key(&secrets->unopened, secrets->password.bytes, secrets->password.len, rows,
+                                         most_rows(options), &secrets->open);
     } while (keep_fewer(error, &rows));
     return error;
 }
@@ -130,7 +133,7 @@ static enum minisign_error open_sealed(const struct options *options)
     fputs("Deriving a key from the password and decrypting the secret key... ", stdout);
     flush_file(stdout);
     begin_dots();
-    error = open_read(options, 1);
+    error = open_with_password(options);
     end_dots();
     clear_passwords();
     fputs("done\n\n", stdout);
@@ -148,7 +151,8 @@ void open_key(const struct options *options)
     read_secret_text(options->secret_file);
     error = minisign_read_secret_key(secrets->text, secrets->text_len, &secrets->unopened);
     if (error == MINISIGN_OK) {
-        error = secrets->unopened.is_sealed ? open_sealed(options) : open_read(options, 0);
+        error = secrets->unopened.is_sealed ? open_sealed(options)
+                                            : minisign_open_unsealed_key(&secrets->unopened, &secrets->open);
     }
     if (error == MINISIGN_OK) {
         return;
@@ -236,8 +240,8 @@ static void make_public_text(struct public_text *text)
 
 /* ---- Files of keys ---- */
 
-/* Ends the program where a file is there and -f was not given. */
-static void reject_existing(const char *file)
+/* Ends the program as a file is there and -f was not given. */
+static _Noreturn void reject_existing(const char *file)
 {
     fprintf(stderr,
             "Key generation aborted:\n%s already exists.\n\n"
@@ -246,13 +250,26 @@ static void reject_existing(const char *file)
     exit(BAD);
 }
 
-static void look_for_existing(const struct options *options, const char *file)
+/* Looks at once for what would be rejected later, so that nothing is asked or derived in vain. */
+static void look_for_existing(const struct options *options, const char *file, enum kind kind)
 {
     struct stat found;
 
     if (!options->force && stat(file, &found) == 0) {
         reject_existing(file);
     }
+    expect_no_stranger(file, kind);
+}
+
+/* Stages a key, also over an older one where -f was given. */
+static struct stage *stage_key(const struct options *options, const char *file, enum kind kind, const uint8_t *text, size_t len)
+{
+    struct stage *stage = stage_file(file, kind, options->force, text, len);
+
+    if (stage == NULL) {
+        reject_existing(file);
+    }
+    return stage;
 }
 
 static _Noreturn void reject_one_file(const char *file, const char *other)
@@ -293,12 +310,12 @@ static void put_pair(const struct options *options, const struct public_text *pu
     struct stage *secret_stage, *public_stage;
     const char *taken;
 
-    secret_stage = stage_file(options->secret_file, NEW_SECRET_KEY, secrets->text, secrets->text_len);
-    public_stage = stage_file(options->public_file, PUBLIC_KEY, public->bytes, public->len);
+    secret_stage = stage_key(options, options->secret_file, NEW_SECRET_KEY, secrets->text, secrets->text_len);
+    public_stage = stage_key(options, options->public_file, PUBLIC_KEY, public->bytes, public->len);
     if (is_one_place(secret_stage, public_stage)) {
         reject_one_file(options->secret_file, options->public_file);
     }
-    taken = put_both_in_place(public_stage, secret_stage, options->force);
+    taken = put_both_in_place(public_stage, secret_stage);
     if (taken != NULL) {
         reject_existing(taken);
     }
@@ -325,8 +342,8 @@ int generate_keys(const struct options *options)
     if (strcmp(options->secret_file, options->public_file) == 0) {
         reject_one_file(options->secret_file, options->public_file);
     }
-    look_for_existing(options, options->public_file);
-    look_for_existing(options, options->secret_file);
+    look_for_existing(options, options->public_file, PUBLIC_KEY);
+    look_for_existing(options, options->secret_file, NEW_SECRET_KEY);
     if (strpbrk(comment, "\r\n") != NULL) {
         fail("A comment is one line");
     }
@@ -351,11 +368,11 @@ int recreate_public_key(const struct options *options)
 {
     struct public_text public;
 
-    look_for_existing(options, options->public_file);
+    look_for_existing(options, options->public_file, PUBLIC_KEY);
     reject_over_key(options, options->public_file);
     open_key(options);
     make_public_text(&public);
-    if (!put_in_place(stage_file(options->public_file, PUBLIC_KEY, public.bytes, public.len), options->force)) {
+    if (!put_in_place(stage_key(options, options->public_file, PUBLIC_KEY, public.bytes, public.len))) {
         reject_existing(options->public_file);
     }
     return GOOD;
@@ -376,18 +393,20 @@ static size_t copy_comment(uint8_t *comment)
 int change_password(const struct options *options)
 {
     static uint8_t comment[SECRET_TEXT_BYTES];
+    enum kind kind = options->unsealed ? UNSEALED_SECRET_KEY : CHANGED_SECRET_KEY;
     size_t comment_len;
 
     if (options->unsealed) {
         printf("Key encryption for [%s] is going to be removed.\n", visible(options->secret_file));
     }
+    expect_no_stranger(options->secret_file, kind);
     open_key(options);
     comment_len = copy_comment(comment);
     if (!options->unsealed) {
         ask_new_password();
     }
     make_text(options, comment, comment_len);
-    replace_file(options->secret_file, CHANGED_SECRET_KEY, secrets->text, secrets->text_len);
+    replace_key(options->secret_file, kind, key_owner, secrets->text, secrets->text_len);
     puts(options->unsealed ? "Password removed." : "Password updated.");
     flush_file(stdout);
     return GOOD;

@@ -27,12 +27,6 @@
 #define DEFAULT_COMMENT "signature from minisign secret key"
 #define COMMENT_BYTES 8192
 
-/* What a text of a signature says. */
-struct comments {
-    const uint8_t *trusted, *untrusted;
-    size_t trusted_len, untrusted_len;
-};
-
 /* The default trusted comment: the time, and the last part of the file's name. */
 static const char *default_comment(const char *data_file, bool legacy)
 {
@@ -65,14 +59,17 @@ static void expect_comment(const char *data_file, bool legacy)
     }
 }
 
-static struct comments comments_of(const struct options *options, const char *data_file)
+static minisign_signed_parts comments_of(const struct options *options, const char *data_file)
 {
     const char *untrusted = options->comment != NULL ? options->comment : DEFAULT_COMMENT;
     const char *trusted = options->trusted_comment != NULL ? options->trusted_comment
                                                            : default_comment(data_file, options->legacy);
-    struct comments comments = { (const uint8_t *) trusted, (const uint8_t *) untrusted, strlen(trusted),
-                                 strlen(untrusted) };
-    return comments;
+    minisign_signed_parts parts = {
+        .trusted_comment = (const uint8_t *) trusted, .trusted_comment_len = strlen(trusted),
+        .untrusted_comment = (const uint8_t *) untrusted, .untrusted_comment_len = strlen(untrusted)
+    };
+
+    return parts;
 }
 
 static void stop_at(enum minisign_error error)
@@ -102,22 +99,21 @@ static void turn_legacy(struct text *made)
 
 /* Signs the data that the state was fed, and makes the text of the signature. */
 static void make_signature(struct text *made, minisign_state *state, const struct data *data, const struct options *options,
-                           const struct comments *comments)
+                           minisign_signed_parts *parts)
 {
     static uint8_t message[64 + TEXT_BYTES];
-    uint8_t digest[64], first[64], second[64];
+    uint8_t digest[64];
 
     stop_at(minisign_digest(state, digest));
     if (options->legacy) {
-        sign(first, data->held.bytes, data->held.len);
+        sign(parts->signature, data->held.bytes, data->held.len);
     } else {
-        sign(first, digest, sizeof digest);
+        sign(parts->signature, digest, sizeof digest);
     }
-    stop_at(minisign_comment_message(first, comments->trusted, comments->trusted_len, message, sizeof message));
-    sign(second, message, 64 + comments->trusted_len);
-    stop_at(minisign_signed_text(&secrets->open, first, second, comments->trusted, comments->trusted_len,
-                                 comments->untrusted, comments->untrusted_len, made->bytes, sizeof made->bytes,
-                                 &made->len));
+    stop_at(minisign_comment_message(parts->signature, parts->trusted_comment, parts->trusted_comment_len, message,
+                                     sizeof message));
+    sign(parts->comment_signature, message, 64 + parts->trusted_comment_len);
+    stop_at(minisign_signed_text(&secrets->open, parts, made->bytes, sizeof made->bytes, &made->len));
     if (options->legacy) {
         turn_legacy(made);
     }
@@ -153,7 +149,7 @@ static void sign_file(const struct options *options, const char *data_file, cons
                       const minisign_public_key *public)
 {
     static struct text made;
-    struct comments comments = comments_of(options, data_file);
+    minisign_signed_parts parts = comments_of(options, data_file);
     struct data data;
     minisign_state state, fed;
 
@@ -166,7 +162,7 @@ static void sign_file(const struct options *options, const char *data_file, cons
     minisign_init(&state);
     read_data(&data, &state, options->legacy ? ALL_BYTES : DIGEST_ALONE);
     fed = state;
-    make_signature(&made, &state, &data, options, &comments);
+    make_signature(&made, &state, &data, options, &parts);
     if (public != NULL) {
         verify_signature(options, &fed, &made, &data, public);
     }

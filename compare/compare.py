@@ -46,7 +46,7 @@ def built_oracle(arguments, directory):
     """Builds the crate and the program over it."""
     build = os.path.join(HERE, 'oracle', 'build.sh')
     try:
-        environment = dict(os.environ, RUSTC=needs.rust_compiler())
+        environment = dict(os.environ, RUSTC=needs.first_rust_compiler())
     except needs.Missing as why:
         sys.exit(f'FAILED: {why}')
     made = subprocess.run(['sh', build, arguments.upstream, directory], env=environment, capture_output=True, text=True)

@@ -2,7 +2,7 @@
 # SPDX-License-Identifier: MIT
 """Makes of include/minisign.h what the packages of `bindings/` have of it: for Rust the numbers, the structs and the calls
 (`src/raw/header.rs`), for Go the errors (`errors.go`), for Python an exception for each error (`errors.py`), and the numbers, the
-structs and the calls (`_header.py`).
+structs and the calls (`_header.py`), which are those of include/minisign_install.h too.
 
     tools/bindings.py            writes them
     tools/bindings.py --check    fails where one is not what the header says; the last line is `N passed, M failed`
@@ -17,7 +17,7 @@ import sys
 import textwrap
 
 import sources
-from c_header import FILE as HEADER, Header
+from c_header import FILE as HEADER, Header, both
 from sources import Unfit
 
 RUST = "bindings/rust/src/raw/header.rs"
@@ -39,6 +39,10 @@ def name_of(constant):
     return "".join(word.capitalize() for word in constant.removeprefix("minisign_").split("_"))
 
 
+# Calls that are declared and get no function: a package leaves the memory of a derivation to the library.
+DECLARED_ALONE = ("minisign_opening_memory", "minisign_open_sealed_key_in_place")
+
+
 def is_secret(struct):
     """Whether a struct holds a secret key."""
     return struct.endswith("_key") and struct != "minisign_public_key"
@@ -47,8 +51,11 @@ def is_secret(struct):
 # ---- The calls as a caller has them ----
 
 
-def role_of(call, it, after, structs):
+def role_of(call, it, after, header):
     """What a parameter is for, as a word of the tables below, by those after it; and how many of them belong to it, with itself."""
+    structs = header.structs
+    if it.kind in header.in_parts:
+        return "parts", 1
     if it.name.startswith("with_"):
         return "password", 3
     if it.count:
@@ -70,11 +77,10 @@ def role_of(call, it, after, structs):
     return "new number" if it.star else "answer" if it.kind == "enum minisign_answer" else "number", 1
 
 
-def roles(call, structs):
-    """The parameters of a call, each with what it is for: a length belongs to the bytes in front of it."""
-    rest = call.parameters
+def roles(call, header, rest):
+    """Parameters of a call, or the parts of one, each with what it is for: a length belongs to the bytes in front of it."""
     while rest:
-        role, taken = role_of(call, rest[0], rest[1:], structs)
+        role, taken = role_of(call, rest[0], rest[1:], header)
         yield role, rest[1 if role == "password" else 0]
         rest = rest[taken:]
 
@@ -91,13 +97,23 @@ def room_of(call, header):
 
 def in_words(call, header, table, kind_of, length_of):
     """What the rows of a table say of the parameters of a call: what it takes, what is done before, what is handed over, and
-    of what the call writes the types and the values."""
+    of what the call writes the types and the values. Of a struct of parts each part is taken, and all are handed over in it."""
     size, lengths = room_of(call, header)
     columns = [[], [], [], [], []]
-    for role, it in roles(call, header.structs):
-        words = {"name": it.name, "of": kind_of(it.kind, header), "count": it.count, "mut": "" if it.const else "mut ",
-                 "room": " + ".join([*size, *map(length_of, lengths)]),
-                 "size": call.name.removeprefix("minisign_").removeprefix("install_").upper() + "_BYTES"}
+
+    def filled(role, it):
+        return {"name": it.name, "of": kind_of(it.kind, header), "count": it.count, "mut": "" if it.const else "mut ",
+                "room": " + ".join([*size, *map(length_of, lengths)]), "parts": ", ".join(parts_of(it)),
+                "size": call.name.removeprefix("minisign_").removeprefix("install_").upper() + "_BYTES"}
+
+    def parts_of(it):
+        for role, part in roles(call, header, header.structs[it.kind] if it.kind in header.in_parts else ()):
+            taken, within = table[f"{role} among parts"]
+            columns[0].append(taken.format(**filled(role, part)))
+            yield within.format(**filled(role, part))
+
+    for role, it in roles(call, header, call.parameters):
+        words = filled(role, it)
         for column, form in zip(columns, table[role]):
             column += [form.format(**words)] if form else []
     return columns
@@ -126,6 +142,9 @@ PYTHON_ROLES = {
     "new number": ("", "{name} = {of}()", "{name}", "int", "{name}.value"),
     "answer": ("{name}: bool", "", "ANSWER_YES if {name} is True else ANSWER_NO", "", ""),
     "number": ("{name}: int", "", "{name}", "", ""),
+    "parts": ("", "", "{of}({parts})", "", ""),
+    "new array among parts": ("{name}: Octets", "(c_ubyte * {count})(*{name})"),
+    "bytes among parts": ("{name}: bytes", "{name}, len({name})"),
 }
 
 
@@ -148,7 +167,8 @@ def python_errors(header):
     for comment, name, number in header.errors:
         made += f'class {name_of(name)}(MinisignError):\n    """{comment}"""\n\n    number = {number}\n\n\n'
     made += "BY_NUMBER: \"dict[int, type[MinisignError]]\" = {\n"
-    return made + "".join(f"    {it.number}: {name_of(it.name)},\n" for it in header.errors) + "}\n"
+    made += "".join(f"    {it.number}: {name_of(it.name)},\n" for it in header.errors) + "}\n\n__all__ = [\n    \"MinisignError\",\n"
+    return made + "".join(f'    "{name_of(it.name)}",\n' for it in header.errors) + "]\n"
 
 
 def python_header(header):
@@ -158,14 +178,15 @@ def python_header(header):
     for members in (it for enum, it in header.enums.items() if enum != "error"):
         made += "\n" + "".join(f"{it.name} = {it.number}\n" for it in members)
     for struct, fields in header.structs.items():
-        inside = "".join(f'        ("{it.name}", {ctype(it.kind, header)}{it.count and f" * {it.count}"}),\n' for it in fields)
+        kinds = ["c_char_p" if it.star else ctype(it.kind, header) + (it.count and f" * {it.count}") for it in fields]
+        inside = "".join(f'        ("{it.name}", {kind}),\n' for it, kind in zip(fields, kinds))
         made += f"\n\nclass {name_of(struct)}(Structure):\n    _fields_ = [\n{inside}    ]\n"
     made += kept(PYTHON, "\n\n# Bytes that a call only reads.", "self._library = library\n")
     for call in header.calls:
         taken = ", ".join(argument(it, header) for it in call.parameters) + "," * (len(call.parameters) == 1)
         result = "error" if call.answer == "enum minisign_error" else ctype(call.answer, header)
         made += f"        library.{call.name}.restype = {result}\n        library.{call.name}.argtypes = ({taken})\n"
-    return made + "".join(python_call(it, header) for it in header.calls)
+    return made + "".join(python_call(it, header) for it in header.calls if it.name not in DECLARED_ALONE)
 
 
 def python_call(call, header):
@@ -174,7 +195,7 @@ def python_call(call, header):
     lines, told = [f"self._library.{call.name}({', '.join(handed)})"], [f"return {', '.join(told)}"] if told else []
     if call.answer == "size_t":
         lines[0] = f"length = {lines[0]}"
-    elif call.answer == "uint32_t":
+    elif call.answer == "uint32_t" or call.answer == "enum minisign_due":
         lines[0], types, told = f"number: int = {lines[0]}", ["int"], ["return number"]
     result = f"Tuple[{', '.join(types)}]" if len(types) > 1 else "".join(types) or "None"
     inside = "".join(f"        {line}\n" for line in before + lines + told)
@@ -184,14 +205,14 @@ def python_call(call, header):
 def go_errors(header):
     width = max(len("Err" + name_of(it.name)) for it in header.errors)
     rows = [f"\t{'Err' + name_of(it.name):{width}} = Error(C.MINISIGN_{it.name})\n" for it in header.errors]
-    return kept(GO, "// SPDX", "const (\n") + "".join(rows) + ")\n"
+    named = [f"\t{'Err' + name_of(it.name) + ':':{width + 1}} \"{it.name}\",\n" for it in header.errors]
+    names = "// Names are those of minisign.h, without MINISIGN_.\nvar names = map[Error]string{\n"
+    return f"{kept(GO, '// SPDX', 'const (' + chr(10))}{''.join(rows)})\n\n{names}{''.join(named)}}}\n"
 
 
 # ---- Rust ----
 
 RUST_TYPES = {"uint8_t": "u8", "char": "u8", "uint32_t": "u32", "uint64_t": "u64", "size_t": "usize"}
-# Installing is not for this package.
-NOT_IN_RUST = ("minisign_install", "minisign_judge", "minisign_check")
 
 RUST_ROLES = {
     "password": ("{name}: Option<&[u8]>", "let (with_{name}, {name}) = ({name}.is_some().into(), {name}.unwrap_or_default());",
@@ -212,6 +233,9 @@ RUST_ROLES = {
     "secret": ("", "let mut {name} = Box::new({of}::ZEROS);", "&mut *{name}", "Box<{of}>", "{name}"),
     "answer": ("{name}: bool", "", "if {name} {{ ANSWER_YES }} else {{ ANSWER_NO }}", "", ""),
     "number": ("{name}: {of}", "", "{name}", "", ""),
+    "parts": ("", "", "&{of} {{ {parts} }}", "", ""),
+    "new array among parts": ("{name}: &[{of}; {count}]", "{name}: *{name}"),
+    "bytes among parts": ("{name}: &[u8]", "{name}: {name}.as_ptr(), {name}_len: {name}.len()"),
 }
 RUST_CLEARED = """
 /// It is cleared at its end.
@@ -243,10 +267,13 @@ def rust_call(call, header):
 def rust_struct(struct, fields, header):
     """A struct with its zeros; one that holds a secret key is cleared at its end."""
     made = "\n#[derive(Clone, Debug, Eq, PartialEq, Ord, PartialOrd, Hash)]" if struct == "minisign_public_key" else ""
-    kinds = [f"[{rust_type(it.kind, header)}; {it.count}]" if it.count else rust_type(it.kind, header) for it in fields]
+    kinds = [f"[{rust_type(it.kind, header)}; {it.count}]" if it.count else "*const " * bool(it.star) + rust_type(it.kind, header)
+             for it in fields]
     inside = "".join(f"    pub {it.name}: {kind},\n" for it, kind in zip(fields, kinds))
     zeros = ", ".join(f"{it.name}: {f'[0; {it.count}]' if it.count else '0'}" for it in fields)
     made += f"\n#[repr(C)]\npub struct {name_of(struct)} {{\n{inside}}}\n"
+    if struct in header.in_parts:
+        return made
     made += f"\nimpl {name_of(struct)} {{\n    pub const ZEROS: Self = Self {{ {zeros} }};\n}}\n"
     if is_secret(struct):
         cleared = "".join(f"        clear(&mut self.{it.name});\n" for it in fields if it.count and it.name != "key_id")
@@ -269,22 +296,21 @@ def rust_header(header):
     for comment, name, number in header.errors:
         made += "".join(f"    /// {line}\n" for line in textwrap.wrap(comment, 112))
         made += f"    pub const {name}: Reason = Reason({number});\n"
-    kinds = [(name, "u32" if value.startswith("0x") else "usize", value) for name, value in header.numbers]
+    kinds = [(name, "u64" if value.startswith("0x") else "usize", value) for name, value in header.numbers]
     kinds += [*((it.name, "usize", it.number) for it in header.sizes), *((name, "&str", text) for name, text in header.texts)]
     kinds += [(it.name, "u32", it.number) for enum, members in header.enums.items() if enum != "error" for it in members]
     made += "}\n\n" + "".join(f"pub const {name}: {kind} = {value};\n" for name, kind, value in kinds)
-    calls = [it for it in header.calls if not it.name.startswith(NOT_IN_RUST)]
-    used = {it.kind for call in calls for it in call.parameters}
-    made += "".join(rust_struct(struct, fields, header) for struct, fields in header.structs.items() if struct in used)
-    made += "\nextern \"C\" {\n" + "".join(rust_declaration(it, header) for it in calls) + "}\n"
+    made += "".join(rust_struct(struct, fields, header) for struct, fields in header.structs.items())
+    made += "\nextern \"C\" {\n" + "".join(rust_declaration(it, header) for it in header.calls) + "}\n"
     made += kept(RUST, "\n/// Writes zeros", "Reason::NOT_UTF8)\n}\n")
-    return made + "".join(rust_call(it, header) for it in calls)
+    return made + "".join(rust_call(it, header) for it in header.calls if it.name not in DECLARED_ALONE)
 
 
 def made():
-    header = Header(sources.read(HEADER))
-    for path, make in ((RUST, rust_header), (GO, go_errors), (PYTHON_ERRORS, python_errors), (PYTHON, python_header)):
+    header, installing_too = Header(sources.read(HEADER)), both()
+    for path, make in ((RUST, rust_header), (GO, go_errors), (PYTHON_ERRORS, python_errors)):
         yield path, make(header)
+    yield PYTHON, python_header(installing_too)
 
 
 if __name__ == "__main__":

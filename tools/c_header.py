@@ -1,17 +1,18 @@
-"""What scripts know of `include/minisign.h`: its constants, enums, structs and calls. What stands there in another form than
-these fails, so that nothing is passed over.
+"""What scripts know of the headers, `include/minisign.h` and `include/minisign_install.h`: constants, enums, structs and calls.
+What stands there in another form than these fails, so that nothing is passed over.
 """
 
 import re
 from collections import namedtuple
 
-from sources import Unfit
+from sources import Unfit, read
 
 FILE = "include/minisign.h"
+INSTALLING = "include/minisign_install.h"
 
-NUMBER = re.compile(r"^#define MINISIGN_(\w+) (\d+|UINT32_MAX)$", re.M)
+NUMBER = re.compile(r"^#define MINISIGN_(\w+) (\d+|UINT64_MAX)$", re.M)
 TEXT = re.compile(r'^#define MINISIGN_(\w+) ("[^"]*")$', re.M)
-SIZE = re.compile(r"^#define MINISIGN_(\w+)\(([\w, ]+)\) \((\d+)(?: \+ \(size_t\) \(\w+\))+\)$", re.M)
+SIZE = re.compile(r"^#define MINISIGN_(\w+)\(([\w, ]+)\)(?: \\\n   )? \((\d+)(?: \+ \(size_t\) \(\w+\))+\)$", re.M)
 ENUM = re.compile(r"^enum minisign_(\w+) \{(.*?)^\};", re.M | re.S)
 MEMBER = re.compile(r"(?:/\*((?:(?!\*/).)*)\*/\s*)?MINISIGN_(\w+) = (0x[0-9a-f]+|\d+)", re.S)
 STRUCT = re.compile(r"^typedef struct (minisign_\w+) \{(.*?)^\} \1;", re.M | re.S)
@@ -36,11 +37,12 @@ def value(text):
 
 
 class Header:
-    """What the text of the header declares."""
+    """What the text of a header declares, or that of both, one after the other. A struct with pointers (`in_parts`) is for the
+    caller alone: the proved calls take its fields one by one."""
 
     def __init__(self, text):
         self.text = text
-        self.numbers = [(name, number.replace("UINT32_MAX", "0xffffffff")) for name, number in NUMBER.findall(text)]
+        self.numbers = [(name, number.replace("UINT64_MAX", "0xffffffffffffffff")) for name, number in NUMBER.findall(text)]
         self.texts = TEXT.findall(text)
         self.sizes = [Size(name, number, lengths.split(", ")) for name, lengths, number in SIZE.findall(text)]
         self.enums = {name: members(body) for name, body in ENUM.findall(text)}
@@ -48,12 +50,27 @@ class Header:
         self.structs = {name: [value(it) for it in body.split(";")[:-1]] for name, body in STRUCT.findall(bare)}
         self.calls = [Call(answer, name, [value(it) for it in parameters.split(",") if it.strip() != "void"])
                       for answer, name, parameters in CALL.findall(bare)]
+        self.in_parts = {name for name, fields in self.structs.items() if any(it.star for it in fields)}
         if len(self.calls) != len(re.findall(r"\bminisign_\w+\(", bare)):
             raise Unfit(f"{FILE}: a call is not read")
+
+    def taken(self, call):
+        """The parameters of the proved call: in place of a struct of parts its fields."""
+        for it in call.parameters:
+            if it.kind in self.in_parts:
+                yield from (field._replace(const="const " if field.star or field.count else "", name=f"{it.name}->{field.name}")
+                            for field in self.structs[it.kind])
+            else:
+                yield it
 
     @property
     def errors(self):
         return [it for it in self.enums["error"] if it.number]
+
+
+def both():
+    """What the two headers declare."""
+    return Header(read(FILE) + read(INSTALLING))
 
 
 def members(body):

@@ -1,13 +1,14 @@
 #!/usr/bin/env python3
-"""Makes what `include/minisign.h` and docs/FORMATS.md say of numbers from the sources of the crates: the numbers, as definitions
-have them, and the names, comments and texts of usage errors and of errors. It copies the examples of `c/examples` into the header,
-and makes of that the boundary before the proved calls (`boundary.py`), and its manual page (`manual.py`).
+"""Makes what the headers, `include/minisign.h` and `include/minisign_install.h`, and docs/FORMATS.md say of numbers from the
+sources of the crates: the numbers, as definitions have them, and the names, comments and texts of usage errors and of errors. Of
+the headers it makes the boundary before the proved calls (`boundary.py`), and their manual pages (`manual.py`), with the examples
+of `c/examples`.
 
     tools/header.py            writes them
     tools/header.py --check    fails where one is not up to date; the last line is `N passed, M failed`
 
 A name in C is the name in the source, in capitals after `MINISIGN_`, or the one of `NAMES`. The comment is the first sentence
-of the source's. The head of `c/boundary.c`, and the head and the end of the manual page, are written by hand there, and kept.
+of the source's. The head of `c/boundary.c`, and the head and the end of each manual page, are written by hand there, and kept.
 Needs Python 3.9 or later.
 """
 
@@ -19,11 +20,10 @@ from collections import namedtuple
 import boundary
 import manual
 import sources
-from c_header import FILE as HEADER, Header
+from c_header import FILE as HEADER, INSTALLING, Header
 from sources import ROOT, Unfit, read
 
 FORMATS = "docs/FORMATS.md"
-EXAMPLES = "c/examples"
 
 FAULTS = "crates/minisign_base/src/faults.rt"
 FAULT_ROWS = "crates/minisign_base/specs/Faults.antt"
@@ -60,7 +60,7 @@ class Number(namedtuple("Number", "number variant comment")):
         return NAMES.get(self.variant, re.sub(r"(?<=[a-z0-9])(?=[A-Z])", "_", self.variant).upper())
 
 
-# The enums of the header that are ones of Rattle: what one is called where it stands, what its names begin with, where the enum is,
+# The enums of the header of installing that are ones of Rattle: what one is called where it stands, what its names begin with, where the enum is,
 # and where the definition of its numbers is.
 Choice = namedtuple("Choice", "place prefix enum file numbers")
 CHOICES = (
@@ -145,7 +145,8 @@ def enum_text(enum, numbers, prefix="", first=()):
 def choice_text(choice):
     name = choice.prefix.lower()
     numbers = numbers_of(comments_of(choice.file, choice.enum), choice.numbers, f"{name}_number")
-    return enum_text(name, numbers, f"{choice.prefix}_")
+    first = ["    /* Nothing: the installation was never begun. */\n    MINISIGN_DUE_NOTHING = 0"] if choice.prefix == "DUE" else []
+    return enum_text(name, numbers, f"{choice.prefix}_", first)
 
 
 def answers_text(numbers):
@@ -154,15 +155,6 @@ def answers_text(numbers):
     if len(found) != 2 or any(int(it) < 256 or int(it) in {other.number for other in numbers} for _, it in found):
         raise Unfit(f"{NUMBERS} has no two answers that are no other number")
     return "enum minisign_answer {\n" + ",\n".join(f"    MINISIGN_{name} = {int(it):#x}" for name, it in found) + "\n};\n"
-
-
-def example_text(name):
-    """An example in the comment at the head of the header, without the line that names the licence, which the header has."""
-    text = read(f"{EXAMPLES}/{name}")
-    if "/*" in text or "*/" in text:
-        raise Unfit(f"{name} has a comment that would end that of the header")
-    lines = [line for line in text.rstrip("\n").split("\n") if not line.startswith("// SPDX-License-Identifier:")]
-    return "".join(" *" + (f"     {line}" if line else "") + "\n" for line in ["", *lines, ""])
 
 
 def table(head, rows):
@@ -180,17 +172,12 @@ def between(text, begin, end, made):
     return before + found + made + closed + after
 
 
-def header_text(numbers):
-    """The header."""
-    header = read(HEADER)
-    parts = {"Numbers": enum_text("error", numbers, first=["    MINISIGN_OK = 0"]), "Answers": answers_text(numbers),
-             **{choice.place: choice_text(choice) for choice in CHOICES}}
+def header_text(file, parts):
+    """A header with these parts made."""
+    header = read(file)
     for place, made in parts.items():
         end = f"/* The end of the {place.split()[0].lower()}. */"
         header = between(header, f"/* {place}, made by tools/header.py. */", end, made)
-    for name in ("verify.c", "sign.c"):
-        begin = f" * The example, made by tools/header.py from {EXAMPLES}/{name}."
-        header = between(header, begin, " * The end of the example.", example_text(name))
     return header
 
 
@@ -213,11 +200,17 @@ def made():
     comments, installing = comments_of(FAULTS, "NamedFault"), comments_of(f"{INSTALL}/src/faults.rt", "InstallFault")
     rows, comments = [*fault_rows(), *install_rows(installing)], comments | installing
     numbers = all_numbers(rows, comments)
-    header = header_text(numbers)
+    header = header_text(HEADER, {"Numbers": enum_text("error", numbers, first=["    MINISIGN_OK = 0"]), "Answers": answers_text(numbers)})
+    installing = header_text(INSTALLING, {choice.place: choice_text(choice) for choice in CHOICES})
     yield HEADER, header
-    yield boundary.FILE, boundary.boundary_text(Header(header))
-    yield "c/names", boundary.names_text(Header(header))
-    yield manual.FILE, manual.manual_text(header)
+    yield INSTALLING, installing
+    calls = Header(header + installing)
+    yield boundary.FILE, boundary.boundary_text(calls)
+    yield boundary.POINTERS, boundary.pointers_text(calls)
+    yield "c/names", boundary.names_text(calls)
+    version = dict(Header(header).texts)["VERSION_TEXT"].strip('"')
+    for file, page, examples in ((HEADER, header, manual.EXAMPLES), (INSTALLING, installing, {})):
+        yield manual.page_of(file), manual.manual_text(manual.page_of(file), page, version, examples)
     yield FORMATS, formats_text(numbers, rows, comments)
 
 

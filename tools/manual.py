@@ -1,16 +1,25 @@
-"""Makes the manual page of the header, `c/man/minisign.3`, from the header. `tools/header.py` calls it.
+"""Makes the manual page of a header, as `c/man/minisign.3`, from the header, with whole programs of `c/examples` after it.
+`tools/header.py` calls it.
 
-Comments become text, and what stands between them code. What tells tools/header.py where to write is left out. The head of the
+Comments become text, and what stands between them code. What tells tools/header.py where to write is left out. The head of a
 page, up to the description, and its end are written by hand there.
 """
 
+import os
 import re
 
 from sources import read
 
-FILE = "c/man/minisign.3"
+# The whole programs of the manual page of minisign.h, with their headings.
+EXAMPLES = {"verifying, in full, with libsodium": "c/examples/verify.c", "signing, in full, with libsodium": "c/examples/sign.c"}
 PIECE = re.compile(r"^/\*.*?\*/", re.S | re.M)
-MAKERS_NOTE = re.compile(r"(?:[\w ]+, made by tools/header\.py(?: from [\w/.]+)?|The end of the [a-z]+)\.|SPDX-License-Identifier: .*")
+MAKERS_NOTE = re.compile(r"(?:[\w ]+, made by tools/header\.py|The end of the [a-z]+)\.|SPDX-License-Identifier: .*")
+LICENCE = re.compile(r"// SPDX-License-Identifier: .*\n")
+
+
+def page_of(header):
+    """The file of the manual page of a header."""
+    return f"c/man/{os.path.basename(header).removesuffix('.h')}.3"
 
 
 def escaped(line):
@@ -50,16 +59,18 @@ def prose(comment):
 def without_guards(text):
     """The code that a caller reads: no lines for the preprocessor but definitions of constants."""
     text = re.sub(r"#if.*?#endif\n", "", text, flags=re.S)
-    return re.sub(r"^#(?:ifn?def|endif|include|define MINISIGN_H$).*\n?", "", text, flags=re.M)
+    return re.sub(r"^#(?:ifn?def|endif|include|define MINISIGN_(?:INSTALL_)?H$).*\n?", "", text, flags=re.M)
 
 
-def manual_text(header):
-    """The manual page, with the header in pieces: comments that stand at the left edge, and what is between them."""
-    version, at, made, kept = re.search(r'MINISIGN_VERSION_TEXT "(.*?)"', header)[1], 0, [], read(FILE)
+def manual_text(page, header, version, examples):
+    """A manual page, with the header in pieces: comments that stand at the left edge, and what is between them; then the examples."""
+    at, made, kept = 0, [], read(page)
     for found in [*PIECE.finditer(header), None]:
         end, begun = (found.start(), found.end()) if found else (len(header), 0)
         for part in (code(without_guards(header[at:end])), prose(found[0]) if found else []):
             made += [".PP"] * bool(part and made and not part[0].startswith(".SH")) + part
         at = begun
+    for heading, file in examples.items():
+        made += [f".SH {heading.upper()}", *code(LICENCE.sub("", read(file)))]
     head, found, _ = re.sub(r'(?m)^(\.TH .* "minisign ).*"$', rf'\g<1>{version}"', kept).partition(".SH DESCRIPTION\n")
     return head + found + "\n".join(made) + "\n" + kept[kept.rindex(".SH SEE ALSO\n"):]

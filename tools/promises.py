@@ -10,7 +10,10 @@ nothing after it begins a further row of the same clauses. Clauses before the fi
 of the function's `///`, and so has an implementation that says something to a caller. Rows of one table with the same
 sentence are one.
 
-A table stands in the document after a line `<!-- promises of CRATE: PLACES -->`. Places are modules, types and
+The table of headlines, after a line `<!-- headlines -->`, has of each part of docs/TRUSTED.md the first clause and the
+sentence above it.
+
+A table of promises stands in the document after a line `<!-- promises of CRATE: PLACES -->`. Places are modules, types and
 functions, and the table has their public calls in this order; without them it has those of the crate that no other table
 has. Each public call with a clause of a crate that is named so has to be in a table, and each of its clauses under a
 sentence, but for those of the modules after `; without: `.
@@ -23,9 +26,14 @@ import re
 import sys
 
 import sources
+import trusted
 from sources import Unfit
 
 DOCUMENT = "docs/PROMISES.md"
+# The parts of docs/TRUSTED.md that have a headline, by their titles here.
+HEADLINES = {"A verdict": trusted.VERDICT, "A sealed key": trusted.OPENING, "Signing": trusted.SIGNING,
+             "Devices": trusted.DEVICES, "Installing": trusted.INSTALLING}
+HEADLINES_MARK = "<!-- headlines -->"
 MARK = re.compile(r"^<!-- promises of (?P<crate>\w+)(?:: (?P<places>[^;]*?))?(?:; without: (?P<without>.*?))? -->$")
 HEAD = ["", "| Promise | Carried by |", "|---|---|"]
 # Members of an implementation by which a clause speaks of it.
@@ -125,6 +133,18 @@ def table(calls):
     return HEAD + [f"| {sentence.replace('|', chr(92) + '|')} | {'; '.join(carried)} |" for sentence, carried in rows.items()]
 
 
+def headlines(library):
+    """The lines of the table of headlines: of each part one sentence and one clause."""
+    lines = ["", "| Part | Headline | Clause |", "|---|---|---|"]
+    for title, part in HEADLINES.items():
+        crate, path, name = part.clauses[0]
+        clause = trusted.function_of(library, crate, path, name).clause(name)[0]
+        sentence = re.match(r".*?[.](?= |$)", paragraphs(clause.comment)[0])[0]
+        text = " ".join(clause.text.split()).replace("|", "\\|")
+        lines.append(f"| {title} | {sentence} | `{path}`: `{text}` |")
+    return [*lines, ""]
+
+
 def words(text):
     return [it.strip() for it in (text or "").split(",") if it.strip()]
 
@@ -150,20 +170,21 @@ def taken(library, crate, marks, without):
 
 def made():
     """The document with its tables made anew."""
-    lines, library, by_crate, tables, text = sources.read(DOCUMENT).split("\n"), sources.Library(), {}, {}, []
+    lines, library, by_crate, text = sources.read(DOCUMENT).split("\n"), sources.Library(), {}, []
     for number, mark in ((number, MARK.match(line)) for number, line in enumerate(lines)):
         if mark:
             marks, without = by_crate.setdefault(mark["crate"], ({}, []))
             marks[number] = words(mark["places"])
             without += words(mark["without"])
-    for crate, (marks, without) in by_crate.items():
-        tables.update(taken(library, crate, marks, without))
+    made_of = {number: table(calls) + [""] for crate, (marks, without) in by_crate.items()
+               for number, calls in taken(library, crate, marks, without).items()}
+    made_of.update({number: headlines(library) for number, line in enumerate(lines) if line == HEADLINES_MARK})
     is_old = False
     for number, line in enumerate(lines):
         is_old = is_old and (not line.strip() or line.startswith("|"))
         text += [] if is_old else [line]
-        if number in tables:
-            text += table(tables[number]) + [""]
+        if number in made_of:
+            text += made_of[number]
             is_old = True
     yield DOCUMENT, "\n".join(text)
 

@@ -1,8 +1,9 @@
 #!/usr/bin/env python3
-"""Makes docs/TRUSTED.md: everything that the promise of the whole rests on, in the order in which to read it, as the
-definitions' own text with their files: first for a caller with data in memory, then over devices, then from C. What the clauses
-reach is found by following their names. What is written by hand stands in the document itself and is kept: all up to the first
-part but for the numbers, of each part its title and the paragraph under it, and all on known values.
+"""Makes docs/TRUSTED.md: everything that the promise of the whole rests on, as the definitions' own text with their files, in
+the order of use: what a verdict is, what opening and signing add, then devices, installing, and the calls from C. What the
+clauses reach is found by following their names; a definition stands in the first part that reaches it, below what first uses it.
+What is written by hand stands in the document itself and is kept: all before and behind the parts, and of each part its title
+and the paragraph under it, but for the numbers of definitions and lines.
 
     tools/trusted.py            writes the document
     tools/trusted.py --check    fails where it is not up to date; the last line is `N passed, M failed`
@@ -10,37 +11,59 @@ part but for the numbers, of each part its title and the paragraph under it, and
 Needs Python 3.9 or later and the kit, of which `rt` is the command.
 """
 
+import itertools
+import os
 import re
 import sys
 import textwrap
+from collections import namedtuple
 
 import sources
 from sources import Definition, Unfit
 
 DOCUMENT = "docs/TRUSTED.md"
+FACTS = "proofs/Facts.antt"
 
-# The functions of `minisign` whose clauses are the three parts of the promise, and the names of these clauses: of the
-# calls for callers, which have no device, and of those over devices.
-CALLERS = (("verify_bytes", ""), ("open_with_password", ""), ("sign_bytes", "headline"))
-OVER_DEVICES = (("verify_texts", "headline"), ("SecretKey::from_box", "headline"), ("sign_texts", "headline"))
+# A part: the functions whose clauses promise it, by crate, path and the name of the clause; and a definition of specs/ with which
+# it begins.
+Part = namedtuple("Part", "clauses first", defaults=("",))
+VERDICT = Part((("minisign", "verify_bytes", ""),), "verdict")
+OPENING = Part((("minisign", "open_with_password", ""),), "open_key")
+SIGNING = Part((("minisign", "sign_bytes", "headline"),))
+DEVICES = Part((("minisign", "verify_texts", "headline"), ("minisign", "SecretKey::from_box", "headline"),
+                ("minisign", "sign_texts", "headline")))
+INSTALLING = Part((("minisign_install", "install_update", "headline"),))
 # The calls from C that verify, sign and make keys, by the exports of `minisign_c`, and the clauses that say what they are for.
-FROM_C_CALLS = (("read_public_key", ""), ("read_bare_public_key", ""), ("ask", "number"), ("ask", "asked"), ("ask", "asking"),
-                ("update", "fed"), ("digest", "digest"), ("comment_verdict", "verdict"), ("verdict", "verdict"),
-                ("read_secret_key", "read"), ("read_secret_key", "opens"), ("open_secret_key", "opened"), ("public_key_of", ""),
-                ("signed_text", "text"), ("take_secret_key", ""), ("secret_key_text", "text"), ("public_key_text", "text"))
-HEADLINE_FILE = "crates/minisign/specs/Headline.antt"
-LIMITS_FILE = "crates/minisign_base/specs/Limits.antt"
-# What the document says of theorems that compute known values.
-KNOWN = re.compile(r"^### Known values$.*?(?=\n\n## )", re.M | re.S)
+FROM_C = Part(tuple(("minisign_c", f"minisign_{path}", clause) for path, clause in (
+    ("read_public_key", ""), ("read_bare_public_key", ""), ("ask", "number"), ("ask", "asked"), ("ask", "asking"),
+    ("update", "fed"), ("digest", "digest"), ("comment_verdict", "verdict"), ("verdict", "verdict"),
+    ("read_secret_key", "read"), ("read_secret_key", "opens"), ("open_unsealed_key", ""), ("open_sealed_key", ""),
+    ("public_key_of", ""),
+    ("signed_text", "text"), ("take_secret_key", ""), ("secret_key_text", "text"), ("public_key_text", "text"))))
+KIT = Part(())
+PARTS = (VERDICT, OPENING, SIGNING, DEVICES, INSTALLING, FROM_C, KIT)
 
+# What is written by hand behind the parts begins so.
+TAIL = "\n\n## Notation"
 # A definition of the kit is shown where it has at most so many lines.
 SHOWN_LINES = 5
-
-PARTS = RELATIONS, FAULTS, PRIMITIVES, DEVICES, FROM_C, KIT = range(6)
-
-# Files of devices and prompts; and of what errors are, and their names.
-OF_DEVICES = re.compile(r"/src/(?:devices|prompt)\b|/specs/(?:Devices|Prompts|DeviceCalls)\b")
+# A name of antt, with what it may hold beside letters.
+NAME_OF = re.compile(r"[^\W\d][\w'-]*")
+# Files of what errors are, and their names: they end the part that reaches them.
 OF_FAULTS = re.compile(r"/specs/(?:Fault|Faults|Identifiers)\.antt|/src/(?:errors|faults|identifiers)\.rt")
+
+
+def function_of(library, crate, path, clause):
+    """The function of a crate that has a clause of this name."""
+    found = [item for source in library.crate_sources(crate) for item in source.items
+             if item.what == "fn" and item.path == path and item.clause(clause)]
+    if len(found) != 1:
+        raise Unfit(f"{len(found)} functions {path} of {crate} with a clause {clause or 'without a name'}")
+    return found[0]
+
+
+def is_of_faults(definition):
+    return bool(OF_FAULTS.search(definition.file))
 
 
 class Trusted:
@@ -48,68 +71,70 @@ class Trusted:
 
     def __init__(self):
         self.library = sources.Library()
-        from_c = [(f"minisign_{path}", clause) for path, clause in FROM_C_CALLS]
         # The clauses with which a part begins.
-        self.clauses = {part: [(self.function(crate, path, clause), clause) for path, clause in named] for part, crate, named in
-                        ((RELATIONS, "minisign", CALLERS), (DEVICES, "minisign", OVER_DEVICES), (FROM_C, "minisign_c", from_c))}
-        # By what stands for a definition: its part. In the order in which it was reached.
+        self.clauses = {part: [(function_of(self.library, *it), it[2]) for it in part.clauses] for part in PARTS}
+        # By what stands for a definition: its part. In the order in which it is used.
         self.parts = {}
         # What the logic has without a definition, and what is found nowhere.
         self.built_in, self.unknown = set(), set()
-        self.follow()
+        for part in PARTS[:-1]:
+            for it in self.roots(part):
+                self.follow(it, part)
+            self.end_with_faults(part)
 
-    def function(self, crate, path, clause):
-        found = [item for source in self.library.crate_sources(crate) for item in source.items
-                 if item.what == "fn" and item.path == path and item.clause(clause)]
-        if len(found) != 1:
-            raise Unfit(f"{len(found)} functions {path} of {crate} with a clause {clause or 'without a name'}")
-        return found[0]
-
-    def follow(self):
-        """Follows the names of the clauses for callers, and then of those over devices, so that what is in an
-        earlier part and reached through it comes first; in each part clause by clause, and of each the definitions
-        before the traits and the types around them."""
-        roots = []
-        for part in PARTS:
-            later = []
-            for waiting in [*roots, *self.roots(self.clauses.get(part, []))]:
-                later.append([])
-                # Names are followed as long as they stay in a part or an earlier one; what is in a later one waits.
-                while waiting:
-                    definition = waiting.pop(0)
-                    if definition not in self.parts and self.part_of(definition) <= part:
-                        self.parts[definition] = part
-                        waiting += self.named_by(definition)
-                    elif definition not in self.parts:
-                        later[-1].append(definition)
-            roots = later
-
-    def roots(self, functions):
-        """What the clauses of these functions name, each in lists of its own."""
-        for function, name in functions:
+    def roots(self, part):
+        """What the clauses of a part name, that with which it begins first, and then the traits that they name. (Of the scheme
+        of a verdict the notation says what it accepts; the whole trait is for signing.)"""
+        named, traits = [], []
+        for function, name in self.clauses[part]:
             for clause in function.clause(name):
-                yield self.found(clause.text, sources.read_source(function.file).imports)
-                yield list(self.traits_named(clause.text, function))
+                named += self.found(clause.text, sources.read_source(function.file).imports)
+                traits += self.traits_named(clause.text, function) if part is not VERDICT else []
             # The views of the repository's types that it takes or returns.
             names = {*re.findall(r"\w+", function.header), function.owner}
-            yield [item for item in self.items("impl") if item.trait == "Model" and item.owner in names]
+            named += [item for item in self.items("impl") if item.trait == "Model" and item.owner in names]
+        begins = [it for it in self.reached(named) if part.first and it.name == part.first]
+        return [*begins, *named, *traits]
+
+    def reached(self, named):
+        """The repository's definitions that these reach."""
+        found = {}
+        while named:
+            it, *named = named
+            if it not in found and self.library.is_own(it.file):
+                found[it] = None
+                named += self.named_by(it)
+        return found
+
+    def follow(self, definition, part):
+        """Takes a definition into a part, and below it what it names, in the order in which it names this."""
+        is_own = self.library.is_own(definition.file)
+        if definition not in self.parts:
+            self.parts[definition] = part if is_own else KIT
+            for it in self.named_by(definition):
+                self.follow(it, part)
+
+    def end_with_faults(self, part):
+        """Moves what says which errors there are to the end of a part."""
+        for it in [it for it, its in self.parts.items() if its is part and is_of_faults(it)]:
+            self.parts[it] = self.parts.pop(it)
 
     def items(self, what):
         return (item for crate in self.library.crates for source in self.library.crate_sources(crate)
                 for item in source.items if item.what == what)
 
     def found(self, text, imports, definitions=()):
-        """What a text names: of what is imported, and of these definitions."""
+        """What a text names, in its order: of what is imported, and of these definitions."""
         found = []
         for name, module, source, definition in self.library.named_in(text, imports, dict(definitions)):
             definition = definition or self.data_of(module, source)
             if definition is not None:
-                found.append(definition)
+                found.append((place_in(text, name), definition))
             elif [*self.library.chain(module, source)][-1][0].startswith("Prim."):
                 self.built_in.add(name)
             else:
                 self.unknown.add(f"{module}.{source}")
-        return found
+        return [it for _, it in sorted(found, key=lambda it: it[0])]
 
     def data_of(self, module, name):
         """The data of which a name is a case."""
@@ -134,33 +159,15 @@ class Trusted:
             yield item
 
     def named_by(self, definition):
+        """What a definition names: of a word first what it is made of, and then what its type names."""
         if isinstance(definition, Definition):
             module = sources.read_module(definition.file)
             others = [(name, it) for name, it in module.definitions.items() if it is not definition]
-            return self.found(definition.text, module.imports, others)
+            text, signature = definition.text, signature_of(definition)
+            return self.found(text[len(signature):] + "\n" + signature, module.imports, others)
         if not self.library.is_own(definition.file):
             return []
         return self.found(re.sub(r"//.*", "", definition.text), sources.read_source(definition.file).imports)
-
-    def part_of(self, definition):
-        """The part that a definition belongs to."""
-        if not self.library.is_own(definition.file):
-            return KIT
-        shown, is_word = self.library.shown(definition.file), isinstance(definition, Definition)
-        if shown.startswith(("crates/minisign_hash/", "crates/minisign_kdf/")) or shown == LIMITS_FILE:
-            return PRIMITIVES
-        if shown.startswith(("crates/minisign_external/", "crates/minisign_c/")):
-            return FROM_C
-        if shown != HEADLINE_FILE and (OF_DEVICES.search(shown) or is_word and self.takes_devices(definition)):
-            return DEVICES
-        return FAULTS if OF_FAULTS.search(shown) or is_word and speaks_of_faults(definition) else RELATIONS
-
-    def takes_devices(self, definition):
-        """Whether the signature of a definition names devices, prompts or their members."""
-        signature = re.sub(r"(?m)^--.*", "", signature_of(definition))
-        names = self.library.named_in(signature, sources.read_module(definition.file).imports, {})
-        files = [self.library.shown(it.file) for _, _, _, it in names if it is not None and self.library.is_own(it.file)]
-        return bool(re.search(r"\b[A-Z] → (?:Option \(List ℕ\)|ℕ|Type 0)", signature)) or any(map(OF_DEVICES.search, files))
 
 
 def signature_of(definition):
@@ -169,11 +176,11 @@ def signature_of(definition):
     return "\n".join(definition.lines[:later])
 
 
-def speaks_of_faults(definition):
-    """Whether a definition is about which error there is: its signature takes or gives one, and not as the
-    error of a `Result`."""
-    signature = re.sub(r"Result (?:\([^)]*\)|\S+) Fault", "", signature_of(definition))
-    return bool(re.search(r"Option Fault|(?:→|:) Fault\b", signature))
+def place_in(text, name):
+    """Where a text names it first: an operator by its first sign."""
+    word = max(name.split("◌"), key=len)
+    found = re.search(rf"(?<![\w'-]){re.escape(word)}(?![\w'-])", text) if word else None
+    return found.start() if found else len(text)
 
 
 # ---------------------------------------------------------------------------------------------------------------
@@ -208,34 +215,78 @@ def lines_of(text):
         line.count("`") // 2 for line in text.split("\n") if line.startswith("By name: "))
 
 
+class Facts:
+    """The known values of definitions: of each its name, its file, the definition that it is about, and where it is printed."""
+
+    def __init__(self, trusted):
+        self.trusted, self.about = trusted, {}
+        for crate in trusted.library.crates:
+            file = os.path.join(trusted.library.crates[crate], FACTS)
+            for it in sources.read_module(file).definitions.values() if os.path.exists(file) else ():
+                if it.text.startswith("pub ") and (subject := self.subject_of(it)):
+                    printed = re.search(r"\((RFC \d+[^)]*)\)", " ".join(line.removeprefix("-- ") for line in it.comment))
+                    said = f"`{it.name}`" + (f" ({printed[1]})" if printed else "")
+                    self.about.setdefault(trusted.parts[subject], {}).setdefault(file, {}).setdefault(subject, []).append(said)
+
+    def subject_of(self, fact):
+        """The first definition of the document that a fact names as what has the value, also by a word of its own file."""
+        module, waiting, seen = sources.read_module(fact.file), [signature_of(fact).partition("≡")[0]], {fact.name}
+        while waiting:
+            text = waiting.pop(0)
+            for token in NAME_OF.findall(re.sub(r'"[^"]*"', "", text)):
+                own = module.definitions.get(token)
+                if own and token not in seen:
+                    seen.add(token)
+                    waiting.append(own.text[len(signature_of(own)):])
+                known = self.trusted.library.resolve(*module.imports[token]) if module.imports.get(token, ("", ""))[1] else None
+                if self.trusted.parts.get(known, KIT) is not KIT and isinstance(known, Definition):
+                    return known
+        return None
+
+    def of(self, part):
+        """What a part says of the known values of its definitions."""
+        library = self.trusted.library
+        for file, subjects in self.about.get(part, {}).items():
+            shown = library.shown(file)
+            yield f"Known values, in [{shown}](../{shown}):\n\n" + "\n".join(
+                f"- `{subject.name}`: {', '.join(facts)}" for subject, facts in subjects.items())
+
+
 class Writer:
     """Writes the parts in the document as it is kept, and counts what they have."""
 
     def __init__(self, trusted, kept):
         self.trusted, self.library, self.kept, self.counts = trusted, trusted.library, kept, {}
+        self.facts = Facts(trusted)
 
-    def by_hand(self, begin):
-        """The line that begins so, and the next one that is not empty, as they stand in the document."""
-        return re.search(rf"(?m)^{re.escape(begin)}.*\n\n.*$", self.kept)[0]
+    def by_hand(self, number, counts):
+        """The title of a part and the paragraph under it, as they stand in the document, with the numbers of what it has."""
+        found = re.search(rf"(?m)^## {number}\. .*\n\n.*$", self.kept)
+        if not found:
+            raise Unfit(f"{DOCUMENT} has no part {number}")
+        return re.sub(r"\d+ definitions on \d+ lines", f"{counts[0]} definitions on {counts[1]} lines", found[0])
+
+    def linked(self, file):
+        shown = self.library.shown(file)
+        return f"[{shown}](../{shown})"
 
     def clauses(self, functions):
-        yield "### The three clauses" if len(functions) == 3 else "### The clauses"
         for function, name in functions:
             text = next(it.whole for it in function.clause(name) if it.kind == "ensures")
-            shown = self.library.shown(function.file)
-            yield f"`{function.path}` in [{shown}](../{shown}):"
+            yield f"`{function.path}` in {self.linked(function.file)}:"
             yield f"```rust\n{text}\n```"
 
-    def of_file(self, file, definitions):
-        """Definitions of one file, with their text; of the kit only the short ones have it."""
-        shown = self.library.shown(file)
-        if self.library.is_own(file):
-            yield from (f"### [{shown}](../{shown})", names_of(definitions),
-                        block_of("antt" if file.endswith(".antt") else "rust", definitions))
-            return
+    def in_order(self, definitions):
+        """Definitions of the repository with their text, and the file above those that stand in one."""
+        for file, of_file in itertools.groupby(definitions, key=lambda it: it.file):
+            yield self.linked(file)
+            yield block_of("antt" if file.endswith(".antt") else "rust", of_file)
+
+    def of_kit(self, file, definitions):
+        """Definitions of a file of the kit: only the short ones have their text."""
         short = [it for it in definitions if isinstance(it, Definition) and text_of(it).count("\n") < SHOWN_LINES]
         others = [it for it in definitions if it not in short]
-        yield f"### {shown}"
+        yield f"### {self.library.shown(file)}"
         yield from ["By name: " + names_of(others)] if others else []
         yield from [block_of("antt", short)] if short else []
 
@@ -245,33 +296,27 @@ class Writer:
         yield "### Built in"
         yield "The logic itself has " + ", ".join(f"`{name}`" for name in names) + ", and `Type`, `→`, `×`, `λ`."
 
-    def part(self, part):
-        """The text of a part: its definitions by their files, in the order in which these were reached."""
-        clauses, files = self.trusted.clauses.get(part, []), {}
-        for definition in (it for it, its in self.trusted.parts.items() if its == part):
-            files.setdefault(definition.file, []).append(definition)
-        pieces = [self.by_hand(f"## {part + 1}. "), *(self.clauses(clauses) if clauses else [])]
-        for file, definitions in files.items():
-            pieces += self.of_file(file, sorted(definitions, key=lambda it: it.line))
-        pieces += self.built_in() if part == KIT else KNOWN.findall(self.kept) if part == PRIMITIVES else []
-        text = "\n\n".join(pieces)
-        self.counts[part] = (sum(map(len, files.values())) + len(clauses), lines_of(text))
-        return text
+    def kit(self, definitions):
+        files = {}
+        for it in definitions:
+            files.setdefault(it.file, []).append(it)
+        for file, of_file in files.items():
+            yield from self.of_kit(file, sorted(of_file, key=lambda it: it.line))
+        yield from self.built_in()
+
+    def part(self, number, part):
+        """The text of a part: its clauses, and its definitions in the order of use."""
+        definitions = [it for it, its in self.trusted.parts.items() if its is part]
+        pieces = [*self.clauses(self.trusted.clauses[part]), *(self.kit if part is KIT else self.in_order)(definitions)]
+        self.counts[number] = (len(definitions), lines_of("\n\n".join(pieces)))
+        return "\n\n".join([self.by_hand(number, self.counts[number]), *pieces, *self.facts.of(part)])
 
     def document(self):
-        parts = [self.part(part) for part in PARTS]
-        head = self.kept.partition("\n\n## 1. ")[0]
-        for part, numbers in self.counts.items():
-            head = re.sub(rf"(?m)^(\| {part + 1}\. .* \|) \d+ \| \d+ \|$", rf"\g<1> {numbers[0]} | {numbers[1]} |", head)
-        memory = [RELATIONS, FAULTS, PRIMITIVES]
-        totals = iter([[RELATIONS], memory, [*memory, DEVICES], [*memory, FROM_C]])
-        head = re.sub(r"\d+ definitions on \d+ lines", lambda _: self.total(next(totals)), head)
-        head = re.sub(r"\d+ definitions of the kit", f"{self.counts[KIT][0]} definitions of the kit", head)
-        return "\n\n".join([head, *parts]) + "\n"
-
-    def total(self, parts):
-        counts = [self.counts[part] for part in parts]
-        return f"{sum(count for count, _ in counts)} definitions on {sum(lines for _, lines in counts)} lines"
+        parts = [self.part(number, part) for number, part in enumerate(PARTS, 1)]
+        head, tail = self.kept.partition("\n\n## 1. ")[0], self.kept.partition(TAIL)[1:]
+        for number, counts in self.counts.items():
+            head = re.sub(rf"(?m)^(\| {number}\. .* \|) \d+ \| \d+ \|$", rf"\g<1> {counts[0]} | {counts[1]} |", head)
+        return "\n\n".join([head, *parts]) + "".join(tail)
 
 
 def made():

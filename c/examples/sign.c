@@ -1,6 +1,9 @@
 // SPDX-License-Identifier: MIT
 // sign SECRET_KEY DATA SIGNATURE COMMENT [PASSWORD_FILE]: signs the data with a key that `minisign -G` made, with
 // -W where there is no file of its password, and writes the text of the signature once both were verified.
+//
+// The secret key leaves the library here, into your memory and your Ed25519: what you hold, and what your Ed25519 leaves
+// behind, is yours to clear. The library leaves nothing: see "No secret stays behind" in minisign.h.
 #include <stdio.h>
 #include <stdlib.h>
 #include <string.h>
@@ -74,9 +77,9 @@ static void sign(uint8_t *signature, const uint8_t *bytes, size_t len)
 
 int main(int argc, char **argv)
 {
-    uint8_t digest[64], first[64], second[64], *line_end = password;
-    const uint8_t *trusted, *untrusted = (const uint8_t *) UNTRUSTED;
-    size_t trusted_len, password_len, len;
+    uint8_t digest[64], *line_end = password;
+    minisign_signed_parts parts;
+    size_t password_len, len;
     minisign_state state;
     FILE *file;
 
@@ -93,22 +96,28 @@ int main(int argc, char **argv)
     password_len = (size_t) (line_end - password);
     len = read_piece(open_file(argv[1], "rb"), text);
     expect(minisign_read_secret_key(text, len, &unopened));
-    expect(minisign_open_secret_key(&unopened, argc == 6, password, password_len, MINISIGN_KEEP_EVERY_ROW,
-                                    MINISIGN_USUAL_WORK, &key));
+    if (argc == 6) {
+        expect(minisign_open_sealed_key(&unopened, password, password_len, MINISIGN_KEEP_EVERY_ROW, MINISIGN_USUAL_ROWS,
+                                        &key));
+    } else {
+        expect(minisign_open_unsealed_key(&unopened, &key));
+    }
     minisign_init(&state);
     file = open_file(argv[2], "rb");
     while ((len = read_piece(file, text)) > 0) {
         expect(minisign_update(&state, text, len));
     }
     expect(minisign_digest(&state, digest));
-    sign(first, digest, sizeof digest);
-    trusted = (const uint8_t *) argv[4];
-    trusted_len = strlen(argv[4]);
-    expect(minisign_comment_message(first, trusted, trusted_len, message, sizeof message));
-    sign(second, message, 64 + trusted_len);
+    parts.trusted_comment = (const uint8_t *) argv[4];
+    parts.trusted_comment_len = strlen(argv[4]);
+    parts.untrusted_comment = (const uint8_t *) UNTRUSTED;
+    parts.untrusted_comment_len = strlen(UNTRUSTED);
+    sign(parts.signature, digest, sizeof digest);
+    expect(minisign_comment_message(parts.signature, parts.trusted_comment, parts.trusted_comment_len, message,
+                                    sizeof message));
+    sign(parts.comment_signature, message, 64 + parts.trusted_comment_len);
     // Only a key that was opened makes a text, and under its own key ID.
-    expect(minisign_signed_text(&key, first, second, trusted, trusted_len, untrusted, strlen(UNTRUSTED), text,
-                                sizeof text, &len));
+    expect(minisign_signed_text(&key, &parts, text, sizeof text, &len));
     file = open_file(argv[3], "wb");
     if (fwrite(text, 1, len, file) != len || fclose(file) != 0) {
         end(1, "the signature cannot be written");

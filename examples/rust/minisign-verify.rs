@@ -135,9 +135,12 @@ fn error_text(error: u32) -> String {
 }
 
 fn run(arguments: &[String]) -> io::Result<ExitCode> {
-    let [_, pk, data, sig] = arguments else {
-        eprintln!("usage: minisign-verify PUBLIC_KEY DATA SIGNATURE");
-        return Ok(ExitCode::from(2));
+    let (pk, data, sig) = match arguments {
+        [_, pk, data, sig] => (pk, data, sig),
+        _ => {
+            eprintln!("usage: minisign-verify PUBLIC_KEY DATA SIGNATURE");
+            return Ok(ExitCode::from(2));
+        }
     };
     match verify(&fs::read(pk)?, &fs::read(sig)?, &mut File::open(data)?) {
         Ok(trusted_comment) => {

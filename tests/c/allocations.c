@@ -4,14 +4,28 @@
  * blocks are brought in at once, and it does no harm where the system refuses that. Then the same of the library's own:
  * a key that is made, opened and signed with gives everything back, and cleared.
  *
- * Linked with -Wl,--wrap=malloc -Wl,--wrap=realloc -Wl,--wrap=free -Wl,--wrap=madvise. Prints a line for each check
- * that failed; the last line is `N passed, M failed`.
+ * Linked with -Wl,--wrap=malloc -Wl,--wrap=realloc -Wl,--wrap=free -Wl,--wrap=madvise. With -DMINISIGN_MALLOC_ALONE the
+ * calls are those of c/library/portable/allocation.c, which asks the system for nothing, and nothing is about pages.
+ * Prints a line for each check that failed; the last line is `N passed, M failed`.
  */
+#ifdef MINISIGN_MALLOC_ALONE
+#include "../../c/library/portable/allocation.c"
+
+#define LARGE_BYTES ((size_t) 4 << 20)
+#define LARGE_FRONT_BYTES sizeof(struct front)
+#define HINTS(len) 0
+#else
 #include "../../c/allocation.c"
 
+#define HINTS(len) ((len) >= LARGE_BYTES ? 2 : 0)
+#endif
+
+#include <errno.h>
 #include <stdio.h>
+#include <time.h>
 
 #include "minisign.h"
+#include "signed_text.h"
 
 enum { MOST = 256 };
 
@@ -113,6 +127,8 @@ void __wrap_free(void *block)
     __real_free(block);
 }
 
+#ifndef MINISIGN_MALLOC_ALONE
+
 int __wrap_madvise(void *from, size_t len, int hint)
 {
     hinted[hints % 64].from = from;
@@ -128,6 +144,8 @@ int __wrap_madvise(void *from, size_t len, int hint)
     return system_is == REFUSING ? -1 : system_is == LYING ? 0 : __real_madvise(from, len, hint);
 }
 
+#endif
+
 static unsigned blocks_held(void)
 {
     unsigned count = 0;
@@ -139,14 +157,14 @@ static unsigned blocks_held(void)
 }
 
 /* A pattern that differs from byte to byte, and is nowhere zero. */
-static void fill(char *block, size_t len)
+static void paint(char *block, size_t len)
 {
     for (size_t at = 0; at < len; at++) {
         block[at] = (char) (1 + at * 31 % 251);
     }
 }
 
-static int is_filled(const char *block, size_t len)
+static int is_painted(const char *block, size_t len)
 {
     for (size_t at = 0; at < len; at++) {
         if (block[at] != (char) (1 + at * 31 % 251)) {
@@ -167,28 +185,32 @@ static void check_block(size_t len, size_t alignment, size_t other)
     one = rattle_alloc(len, alignment);
     check(one.is_granted == 1 && (uintptr_t) one.block % alignment == 0, "a block", len, alignment);
     check(errno == 77, "errno was changed", len, alignment);
-    check(hints == (len >= LARGE_BYTES ? 2 : 0), "how often the system was asked", len, alignment);
+    check(hints == HINTS(len), "how often the system was asked", len, alignment);
+#ifndef MINISIGN_MALLOC_ALONE
     for (unsigned at = 0; at < hints; at++) {
         check(hinted[at].hint == (at == 0 ? MADV_HUGEPAGE : MADV_POPULATE_WRITE) && hinted[at].from == one.block
                   && hinted[at].len <= len && hinted[at].len + 65536 > len, "what the system was asked", len, alignment);
     }
-    fill(one.block, len);
+#endif
+    paint(one.block, len);
     two = rattle_realloc(one.block, len, other, alignment);
-    check(two.is_granted == 1 && (uintptr_t) two.block % alignment == 0 && is_filled(two.block, kept), "growing", other, alignment);
+    check(two.is_granted == 1 && (uintptr_t) two.block % alignment == 0 && is_painted(two.block, kept), "growing", other, alignment);
     check(blocks_held() == 1 && uncleared == 0, "the older block", len, alignment);
-    fill(two.block, other);
+    paint(two.block, other);
     is_refusing = 1;
     one = rattle_realloc(two.block, other, other + 1, alignment);
     check(one.is_granted == 0 && one.block != NULL, "growing that is refused", other, alignment);
     one = rattle_alloc(len, alignment);
     check(one.is_granted == 0 && one.block != NULL, "a block that is refused", len, alignment);
     is_refusing = 0;
-    check(blocks_held() == 1 && is_filled(two.block, other), "the block that could not grow", other, alignment);
+    check(blocks_held() == 1 && is_painted(two.block, other), "the block that could not grow", other, alignment);
     errno = 77;
     rattle_dealloc(two.block);
     check(blocks_held() == 0 && uncleared == 0, "a block that was given back", other, alignment);
     check(errno == 77, "errno was changed by giving back", other, alignment);
 }
+
+#ifndef MINISIGN_MALLOC_ALONE
 
 /* Waits until a thread has brought in all of a block. */
 static void wait_for_pages(void *block)
@@ -220,18 +242,20 @@ static void check_parts(void)
         at += hinted[part].len;
     }
     check(at <= len && at + 65536 > len, "all of a block", len, 1);
-    fill(grant.block, len);
+    paint(grant.block, len);
     rattle_dealloc(grant.block);
     check(blocks_held() == 0 && uncleared == 0, "a block of several parts that was given back", len, 1);
     /* One that is given back while its pages are still brought in. */
     grant = rattle_alloc(len, 1);
-    fill(grant.block, PART_BYTES);
+    paint(grant.block, PART_BYTES);
     rattle_dealloc(grant.block);
     check(blocks_held() == 0 && uncleared == 0, "a block that was given back early", len, 1);
     at = hints;
     usleep(20000);
     check(hints == at, "a thread that has not ended with its block", len, 1);
 }
+
+#endif
 
 static void check_blocks(void)
 {
@@ -243,6 +267,7 @@ static void check_blocks(void)
             check_block(lens[one], alignment, lens[one] / 2);
         }
     }
+#ifndef MINISIGN_MALLOC_ALONE
     system_is = REFUSING;
     check_block(LARGE_BYTES, 8, 2 * LARGE_BYTES + 12345);
     system_is = LYING;
@@ -251,6 +276,7 @@ static void check_blocks(void)
     check_parts();
     system_is = WILLING;
     check_parts();
+#endif
 }
 
 /* Lengths that no block can have are refused, and malloc is not asked. */
@@ -264,6 +290,27 @@ static void check_lengths(void)
 
         check(grant.is_granted == 0 && requests == before, "a length that cannot be", lens[one], 1);
     }
+}
+
+/* Opening in memory of the caller's, which the system is asked nothing about. */
+static void check_in_place(const minisign_unopened_key *unopened, const minisign_secret_key *key, const uint8_t *password,
+                           size_t len, size_t memory)
+{
+    static uint32_t words[(16 << 18) + 3 * 256];
+    static uint8_t parts[1024];
+    unsigned before = requests, asked = hints;
+    minisign_secret_key opened = { 0 };
+    enum minisign_error error;
+
+    memset(words, 0x5a, sizeof words);
+    memset(parts, 0x5a, sizeof parts);
+    given_back = 0;
+    error = minisign_open_sealed_key_in_place(unopened, password, len, MINISIGN_KEEP_EVERY_ROW, MINISIGN_USUAL_ROWS, words,
+                                              sizeof words / sizeof *words, parts, sizeof parts, &opened);
+    check(error == MINISIGN_OK && memcmp(&opened, key, sizeof opened) == 0, "opening it in place", memory, 1);
+    check(requests == before && given_back == 0 && hints == asked, "memory that was asked for in place", memory, 1);
+    check(words[0] == 0 && memcmp(words, words + 1, sizeof words - sizeof *words) == 0, "words that are not cleared", memory, 1);
+    check(parts[0] == 0 && memcmp(parts, parts + 1, sizeof parts - 1) == 0, "bytes that are not cleared", memory, 1);
 }
 
 /* The library's calls, with a key sealed in so many bytes of rows. */
@@ -286,12 +333,13 @@ static void check_library(size_t memory)
     given_back = 0;
     error = minisign_read_secret_key(text, len, &unopened);
     check(error == MINISIGN_OK && given_back == 0 && blocks_held() == 0, "reading it", memory, 1);
-    error = minisign_open_secret_key(&unopened, 1, password, sizeof password - 1, MINISIGN_KEEP_EVERY_ROW,
-                                     MINISIGN_USUAL_WORK, &opened);
+    error = minisign_open_sealed_key(&unopened, password, sizeof password - 1, MINISIGN_KEEP_EVERY_ROW, MINISIGN_USUAL_ROWS,
+                                     &opened);
     check(error == MINISIGN_OK && given_back > 0 && uncleared == 0 && blocks_held() == 0, "opening it", memory, 1);
     check(memcmp(&opened, &key, sizeof key) == 0, "another key was opened", memory, 1);
+    check_in_place(&unopened, &key, password, sizeof password - 1, memory);
     given_back = 0;
-    error = minisign_signed_text(&opened, digit, digit, comment, 1, comment, 1, signed_text, sizeof signed_text, &len);
+    error = make_signed_text(&opened, digit, digit, comment, 1, comment, 1, signed_text, sizeof signed_text, &len);
     check(error == MINISIGN_OK && given_back > 0 && uncleared == 0 && blocks_held() == 0, "signing", memory, 1);
 }
 

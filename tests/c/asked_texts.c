@@ -9,6 +9,7 @@
 #include <string.h>
 
 #include "minisign.h"
+#include "signed_text.h"
 #include "texts_for_tests.h"
 
 static const char HELLO_KEY[] =
@@ -106,9 +107,9 @@ static enum minisign_error open_key(const char *key, const char *password)
     enum minisign_error error = minisign_read_secret_key((const uint8_t *) key, strlen(key), &unopened);
 
     return error != MINISIGN_OK ? error
-                                : minisign_open_secret_key(&unopened, password != NULL, (const uint8_t *) password,
-                                                           password == NULL ? 0 : strlen(password), MINISIGN_KEEP_EVERY_ROW,
-                                                           MINISIGN_USUAL_WORK, &signing);
+           : password == NULL   ? minisign_open_unsealed_key(&unopened, &signing)
+                                : minisign_open_sealed_key(&unopened, (const uint8_t *) password, strlen(password),
+                                                           MINISIGN_KEEP_EVERY_ROW, MINISIGN_USUAL_ROWS, &signing);
 }
 
 /* The questions are those of the texts, and both answers decide. */
@@ -216,7 +217,7 @@ static void written(void)
     size_t len = 0;
 
     CHECK(open_key(KEY_OF_SIGNATURE, NULL) == MINISIGN_OK);
-    CHECK(minisign_signed_text(&signing, SIGNATURE_BYTES, COMMENT_SIGNATURE, (const uint8_t *) COMMENT, sizeof COMMENT - 1,
+    CHECK(make_signed_text(&signing, SIGNATURE_BYTES, COMMENT_SIGNATURE, (const uint8_t *) COMMENT, sizeof COMMENT - 1,
                                (const uint8_t *) untrusted, sizeof untrusted - 1, text, sizeof text, &len)
           == MINISIGN_OK);
     CHECK(len == sizeof PREHASHED - 1 && memcmp(text, PREHASHED, len) == 0);

@@ -34,7 +34,8 @@ BASE = ("sh", "cat", "cp", "cut", "dirname", "echo", "find", "grep", "install", 
 COMPILER, TOOLS = ("gcc", "cc"), ("ar", "as", "ld", "make", "objcopy")
 SECONDS = 30
 SOURCE = "crates/minisign_hash/src/lib.rt"
-ARCHIVE = "dist/calls-x86-64-v3.a"
+# What the library is built of.
+TAKEN = ("dist/calls-x86-64-v2.a", "dist/calls-x86-64-v3.a", "dist/calls.c")
 MAKE = "make -C c"
 # What the trusted comment of the download says.
 VERIFIED = "Signature and comment signature verified\nTrusted comment: timestamp:1556193335\tfile:test\n"
@@ -70,14 +71,22 @@ class Tree:
             file.write(data)
 
 
+def listed():
+    """The names of what the repository has, where this is a clone of it, else None."""
+    if not os.path.exists(os.path.join(TOP, ".git")):
+        return None
+    ran = subprocess.run([needs.git(), "-C", TOP, "ls-files", "-z", "--cached", "--others", "--exclude-standard"],
+                         stdout=subprocess.PIPE, stderr=subprocess.DEVNULL)
+    return ran.stdout.decode().split("\0") if ran.returncode == 0 else None
+
+
 def copy_tree(to):
     """Copies what the repository has, and nothing that was built."""
-    listed = subprocess.run(["git", "-C", TOP, "ls-files", "-z", "--cached", "--others", "--exclude-standard"],
-                            stdout=subprocess.PIPE, stderr=subprocess.DEVNULL)
-    if listed.returncode != 0:
-        shutil.copytree(TOP, to, ignore=shutil.ignore_patterns("out", ".git", "__pycache__"))
+    names = listed()
+    if names is None:
+        shutil.copytree(TOP, to, ignore=shutil.ignore_patterns("out", ".git", "__pycache__", "try-*"))
         return
-    for name in listed.stdout.decode().split("\0"):
+    for name in names:
         if os.path.isfile(os.path.join(TOP, name)):
             os.makedirs(os.path.dirname(os.path.join(to, name)), exist_ok=True)
             shutil.copy(os.path.join(TOP, name), os.path.join(to, name))
@@ -125,10 +134,10 @@ def check_older(checks, tree):
     words = "the sources of the proved calls are not those that dist/ was built from"
     tree.write(SOURCE, text + b"// changed\n")
     check_stops(checks, tree, "a changed source", words)
-    status, said = tree.run(f"{MAKE} OUT=named V2=../named-v2.a V3=../named-v3.a named/libminisign.a")
+    status, said = tree.run(f"{MAKE} OUT=named V2=../named-v2.a V3=../named-v3.a C_CALLS= named/libminisign.a")
     checks.check(status != 0 and words not in said, f"archives that are named and are not there: status {status}: {said[-600:]}")
     tree.run("cp dist/calls-x86-64-v2.a named-v2.a; cp dist/calls-x86-64-v3.a named-v3.a")
-    status, said = tree.run(f"{MAKE} OUT=named V2=../named-v2.a V3=../named-v3.a named/libminisign.a")
+    status, said = tree.run(f"{MAKE} OUT=named V2=../named-v2.a V3=../named-v3.a C_CALLS= named/libminisign.a")
     checks.check(status == 0, f"archives that are named: status {status}: {said[-600:]}")
     tree.write(SOURCE, text)
     added = "crates/minisign_c/src/more.rt"
@@ -143,11 +152,12 @@ def check_older(checks, tree):
 
 
 def check_damaged(checks, tree):
-    """An archive with one bit changed."""
-    data = tree.read(ARCHIVE)
-    tree.write(ARCHIVE, data[:5000] + bytes([data[5000] ^ 1]) + data[5001:])
-    check_stops(checks, tree, "a damaged archive", "an archive in dist/ is not the one that dist/SHA256SUMS names")
-    tree.write(ARCHIVE, data)
+    """An archive, or the calls as C, with one bit changed."""
+    for name in TAKEN:
+        data = tree.read(name)
+        tree.write(name, data[:5000] + bytes([data[5000] ^ 1]) + data[5001:])
+        check_stops(checks, tree, f"a damaged {name}", "an archive in dist/, or calls.c, is not the one that dist/SHA256SUMS names")
+        tree.write(name, data)
 
 
 def check_without_sources(checks, tree):

@@ -33,9 +33,10 @@ SECONDS = 300
 STRICT = ["-Wall", "-Wextra", "-Wpedantic", "-Werror"]
 SANITIZED = ["-fsanitize=address,undefined", "-fno-sanitize-recover=all"]
 WRAPPED = ["-Wl,--wrap=malloc", "-Wl,--wrap=realloc", "-Wl,--wrap=free"]
+THREADS = "-Wl,--wrap=pthread_create"
 
 # The programs, with what each is linked with.
-PROGRAMS = {"usage_errors": [], "asked_texts": [], "error_texts": [], "public_keys": WRAPPED, "out_of_memory": WRAPPED,
+PROGRAMS = {"usage_errors": [], "asked_texts": [], "error_texts": [], "public_keys": WRAPPED, "out_of_memory": [*WRAPPED, THREADS],
             "allocations": [*WRAPPED, "-Wl,--wrap=madvise"], "installations": WRAPPED, "null": [], "guard_pages": [], "threads": ["-pthread"],
             "random_calls": []}
 
@@ -57,12 +58,12 @@ def header_failures(compiler, cpp, room):
     return failures, 3
 
 
-def program_failures(compiler, library, name, flags, room):
+def program_failures(compiler, library, name, flags, room, programs=PROGRAMS):
     """What is wrong with a program, and how many of its checks hold."""
     program = os.path.join(room, name)
     source = os.path.join(HERE, f"{name}.c")
     status, said = run([compiler, "-std=c11", *STRICT, "-g", "-O1", *flags, "-I", INCLUDE, "-o", program, source,
-                        library, *PROGRAMS[name]])
+                        library, *programs[name]])
     if status != 0:
         return [f"{name}.c was not built: {said[-1000:]}"], 0
     status, said = run([program])
@@ -116,8 +117,9 @@ def run_other(kind, room):
         failures.append(f"{kind}: the library calls {', '.join(threads_named(library)) or 'nothing for threads'}")
     else:
         count += 1
+    flags = ["-DMINISIGN_NO_THREADS"] if kind == "without threads" else []
     for name in PROGRAMS:
-        some, ran = program_failures(needs.c_compiler(), library, name, [], room)
+        some, ran = program_failures(needs.c_compiler(), library, name, flags, room)
         failures += [f"{kind}: {it}" for it in some]
         count += ran
     return failures, count

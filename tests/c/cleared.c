@@ -79,7 +79,9 @@ static minisign_public_key public;
 static minisign_state state;
 static uint64_t rows = MINISIGN_KEEP_EVERY_ROW;
 static const uint8_t COMMENT[] = "comment";
-static uint8_t digest[64], first[64], second[64], message[256];
+static uint8_t digest[64], message[256];
+static minisign_signed_parts parts = { .trusted_comment = COMMENT, .trusted_comment_len = sizeof COMMENT - 1,
+                                       .untrusted_comment = COMMENT, .untrusted_comment_len = sizeof COMMENT - 1 };
 
 static void seal_with(uint64_t operations, uint64_t memory)
 {
@@ -138,9 +140,28 @@ static enum minisign_error open_text(const uint8_t *of, size_t len, uint32_t wit
 {
     enum minisign_error error = minisign_read_secret_key(of, len, &unopened);
 
-    return error != MINISIGN_OK ? error : minisign_open_secret_key(&unopened, with_password, password,
-                                                                   with_password ? sizeof password : 0, rows, MINISIGN_ANY_WORK,
-                                                                   &opened);
+    return error != MINISIGN_OK ? error
+           : with_password      ? minisign_open_sealed_key(&unopened, password, sizeof password, rows, MINISIGN_ANY_ROWS, &opened)
+                                : minisign_open_unsealed_key(&unopened, &opened);
+}
+
+/* Memory that the caller lends: it is not the caller's own when it is searched, for the library has cleared it. */
+static uint32_t words[256 * (16384 + 3)];
+static uint8_t room_of_parts[1024];
+
+static enum minisign_error open_text_in_place(const uint8_t *of, size_t len)
+{
+    enum minisign_error error = minisign_read_secret_key(of, len, &unopened);
+
+    return error != MINISIGN_OK ? error
+                                : minisign_open_sealed_key_in_place(&unopened, password, sizeof password, rows, MINISIGN_ANY_ROWS,
+                                                                    words, sizeof words / sizeof *words, room_of_parts,
+                                                                    sizeof room_of_parts, &opened);
+}
+
+static enum minisign_error open_in_place(void)
+{
+    return open_text_in_place(sealed, sealed_len);
 }
 
 static enum minisign_error open_sealed(void)
@@ -154,24 +175,44 @@ static void nothing(int number)
     (void) number;
 }
 
-static enum minisign_error open_with_signals(void)
+static enum minisign_error with_signals(enum minisign_error (*call)(void))
 {
     struct itimerval often = { { 0, 200 }, { 0, 200 } }, never = { { 0, 0 }, { 0, 0 } };
     enum minisign_error error;
 
     signal(SIGALRM, nothing);
     setitimer(ITIMER_REAL, &often, NULL);
-    error = open_sealed();
+    error = call();
     setitimer(ITIMER_REAL, &never, NULL);
     return error;
 }
 
+static enum minisign_error open_with_signals(void)
+{
+    return with_signals(open_sealed);
+}
+
+static enum minisign_error open_in_place_with_signals(void)
+{
+    return with_signals(open_in_place);
+}
+
 /* A key whose checksum does not fit is opened all the same before that is seen. */
-static enum minisign_error open_damaged(void)
+static const uint8_t *with_damage(void)
 {
     memcpy(damaged, sealed, sealed_len);
     damaged[sealed_len - 10] ^= 1;
-    return open_text(damaged, sealed_len, 1) == MINISIGN_WRONG_PASSWORD ? MINISIGN_OK : MINISIGN_NOT_DUE;
+    return damaged;
+}
+
+static enum minisign_error open_damaged(void)
+{
+    return open_text(with_damage(), sealed_len, 1) == MINISIGN_WRONG_PASSWORD ? MINISIGN_OK : MINISIGN_NOT_DUE;
+}
+
+static enum minisign_error open_damaged_in_place(void)
+{
+    return open_text_in_place(with_damage(), sealed_len) == MINISIGN_WRONG_PASSWORD ? MINISIGN_OK : MINISIGN_NOT_DUE;
 }
 
 static enum minisign_error open_unsealed(void)
@@ -189,11 +230,10 @@ static enum minisign_error sign(void)
         error = minisign_digest(&state, digest);
     }
     if (error == MINISIGN_OK) {
-        error = minisign_comment_message(first, COMMENT, sizeof COMMENT - 1, message, sizeof message);
+        error = minisign_comment_message(parts.signature, COMMENT, sizeof COMMENT - 1, message, sizeof message);
     }
     if (error == MINISIGN_OK) {
-        error = minisign_signed_text(&opened, first, second, COMMENT, sizeof COMMENT - 1, COMMENT, sizeof COMMENT - 1, text, sizeof text,
-                                     &text_len);
+        error = minisign_signed_text(&opened, &parts, text, sizeof text, &text_len);
     }
     return error;
 }
@@ -209,8 +249,14 @@ static enum minisign_error leave_all(void)
         left[64 + i] = secret_key[i];
         elsewhere[64 + i] = left[64 + i];
     }
-#ifdef __aarch64__
+#if defined(__aarch64__)
     __asm__ __volatile__("ldr q17, [%0]" : : "r"(secret_key) : "v17", "memory");
+#elif defined(__s390x__)
+    __asm__ __volatile__("ld %%f4, 0(%0)\n\tld %%f5, 8(%0)" : : "a"(secret_key) : "f4", "f5", "memory");
+#elif defined(__riscv)
+    __asm__ __volatile__("fld fa4, 0(%0)\n\tfld fa5, 8(%0)" : : "r"(secret_key) : "fa4", "fa5", "memory");
+#elif defined(__arm__)
+    __asm__ __volatile__("vldr d4, [%0]\n\tvldr d5, [%0, #8]" : : "r"(secret_key) : "d4", "d5", "memory");
 #else
     __asm__ __volatile__("movups (%0), %%xmm7" : : "r"(secret_key) : "xmm7", "memory");
 #endif
@@ -266,11 +312,15 @@ int main(void)
     step("a key that is made", make_sealed_little);
     step("a key that is opened", open_sealed);
     step("a key that is opened with a wrong checksum", open_damaged);
+    step("a key that is opened in place", open_in_place);
+    step("a key that is opened in place with a wrong checksum", open_damaged_in_place);
     step("a key of more work that is made", make_sealed_large);
     step("a key of more work that is opened", open_sealed);
     step("a key that is opened with signals meanwhile", open_with_signals);
+    step("a key that is opened in place with signals meanwhile", open_in_place_with_signals);
     step("a key that is made in few rows", make_sealed_in_few_rows);
     step("a key that is opened in few rows", open_sealed);
+    step("a key that is opened in few rows in place", open_in_place);
     step("a key that is made without a password", make_unsealed);
     step("a key that is opened without a password", open_unsealed);
     step("a signature that is made", sign);

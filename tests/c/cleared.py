@@ -3,16 +3,16 @@
 
     tests/c/cleared.py
 
-After a key was made, opened or signed with, all memory that a program may write and all registers are searched
-(`cleared.c`): for the first half of the secret key and its first 16 bytes, for the password, also as scrypt puts it
-into its two first blocks, for what scrypt derives, and for the base64 of the key. They are found in what is the
-caller's, and nowhere else. It is built over each copy of the proved calls, with the C library of GNU and with musl,
-with -O0 and with -O2, for AArch64 under qemu; the deepest call takes less than half of the stack that is cleared. So
-that the search is not blind, a secret that is left by intent is found; and where the clearing is taken away, of the
-stack, of registers, of memory that is given back, something is found each time. `c/minisign` makes, opens, changes and
-signs with keys, and is searched so whenever it opens, writes or closes a file, and at its end: nothing is found outside
-of the pages that it keeps secrets in, and at the end nothing there. It prints a line for each failure; the last line is
-`N passed, M failed`.
+After a key was made, opened, also in memory of the caller's, or signed with, all memory that a program may write and
+all registers are searched (`cleared.c`): for the first half of the secret key and its first 16 bytes, for the password,
+also as scrypt puts it into its two first blocks, for what scrypt derives, and for the base64 of the key. They are found
+in what is the caller's, and nowhere else. It is built over each copy of the proved calls, with the C library of GNU and
+with musl, with -O0 and with -O2, for AArch64 under qemu; the deepest call takes less than half of the stack that is
+cleared. So that the search is not blind, a secret that is left by intent is found; and where the clearing is taken
+away, of the stack, of registers, of memory that is given back, something is found each time. `c/minisign` makes, opens,
+changes and signs with keys, and is searched so whenever it opens, writes or closes a file, and at its end: nothing is
+found outside of the pages that it keeps secrets in, and at the end nothing there. It prints a line for each failure;
+the last line is `N passed, M failed`.
 
 Needs Python 3.9 or later, make, binutils, a C compiler, libsodium with its header, and of Debian musl-tools,
 gcc-aarch64-linux-gnu, libc6-dev-arm64-cross and qemu-user-static, and installs what is not there where it may.
@@ -46,9 +46,10 @@ SALT = bytes(range(32))
 # The limits of a key, and what scrypt's N and p are then; the rows of the second take 16 MiB, which is a large block.
 LITTLE, LARGE = ((32768, 1048576, 1024, 1), (524288, 16777216, 16384, 1))
 LEVELS = ("-O0", "-O2")
-COPIES = {"x86-64-v2": ["V3=../dist/calls-x86-64-v2.a"], "x86-64-v3": []}
+# (of the calls as C their compiler decides what is left)
+COPIES = {"x86-64-v2": ["V3=../dist/calls-x86-64-v2.a"], "x86-64-v3": [], "C": ["PORTABLE=1"]}
 LEFT = "what is left by intent"
-STEPS = 15
+STEPS = 19
 # Which needles are the caller's own, after each step that has one: the search finds them where they belong.
 OWN = ("seed", "half of the seed", "password")
 
@@ -288,12 +289,15 @@ def run_all(checks, room):
             for level in LEVELS:
                 program = builder.program(compiler, level, *flags, linking=linking)
                 check_run(checks, f"{library}, {copy}, {level}", Run([program]))
+    for level in LEVELS:
+        check_run(checks, f"C by clang, {level}", Run([builder.program(needs.program("clang", "clang"), level, "PORTABLE=1")]))
     compiler = needs.program("aarch64-linux-gnu-gcc", "gcc-aarch64-linux-gnu")
     needs.need(lambda: True if os.path.exists("/usr/aarch64-linux-gnu/include/stdio.h") else None, "the C library for AArch64",
                "libc6-dev-arm64-cross")
     emulator = [needs.program("qemu-aarch64-static", "qemu-user-static"), "-L", "/usr/aarch64-linux-gnu"]
     for level in LEVELS:
-        check_run(checks, f"AArch64, {level}", Run([*emulator, builder.program(compiler, level, linking=["-static"])]))
+        for copy, flags in {"its archive": [], "C": ["PORTABLE=1"]}.items():
+            check_run(checks, f"AArch64, {copy}, {level}", Run([*emulator, builder.program(compiler, level, *flags, linking=["-static"])]))
     check_program(checks, builder)
     check_bugs(checks, builder)
 

@@ -11,7 +11,7 @@
 #include <string.h>
 #include <sys/mman.h>
 
-#include "minisign.h"
+#include "minisign_install.h"
 #include "texts_for_tests.h"
 
 enum { PAGE = 4096, BYTES = 32 * PAGE, REGIONS = 16 };
@@ -126,11 +126,13 @@ static void signing(void)
         memset(unopened, 0, sizeof *unopened);
         is_read = minisign_read_secret_key(copied(SECRET_KEY, len), len, unopened) == MINISIGN_OK;
         CHECK(is_read || len < sizeof SECRET_KEY - 2);
-        CHECK(minisign_open_secret_key(unopened, 0, buffer(0), 0, 1, 1, key) == (is_read ? MINISIGN_OK : MINISIGN_KEY_NOT_READ));
+        CHECK(minisign_open_unsealed_key(unopened, key) == (is_read ? MINISIGN_OK : MINISIGN_KEY_NOT_READ));
+        CHECK(minisign_open_sealed_key(unopened, buffer(0), 0, 1, 1, key) == (is_read ? MINISIGN_KEY_NOT_SEALED : MINISIGN_KEY_NOT_READ));
     }
     for (size_t len = 0; len < 200; len++) {
         static const char letters[200] = "a";
-        uint8_t *first, *second, *trusted, *untrusted;
+        uint8_t *trusted, *untrusted;
+        minisign_signed_parts *parts;
         size_t *text_len, need = 0;
         minisign_unopened_key unopened;
         minisign_secret_key *key;
@@ -139,18 +141,19 @@ static void signing(void)
         used = 0;
         key = (minisign_secret_key *) (void *) buffer(sizeof *key);
         CHECK(minisign_read_secret_key((const uint8_t *) SECRET_KEY, sizeof SECRET_KEY - 1, &unopened) == MINISIGN_OK);
-        CHECK(minisign_open_secret_key(&unopened, 0, NULL, 0, 1, 1, key) == MINISIGN_OK);
-        first = buffer(64);
-        second = buffer(64);
+        CHECK(minisign_open_unsealed_key(&unopened, key) == MINISIGN_OK);
+        parts = (minisign_signed_parts *) (void *) buffer(sizeof *parts);
         trusted = copied(letters, len);
         memset(trusted, 't', len);
         untrusted = copied(letters, len / 2);
         memset(untrusted, 'u', len / 2);
+        *parts = (minisign_signed_parts) { .trusted_comment = trusted, .trusted_comment_len = len,
+                                           .untrusted_comment = untrusted, .untrusted_comment_len = len / 2 };
         text_len = (size_t *) (void *) buffer(sizeof *text_len);
-        CHECK(minisign_comment_message(first, trusted, len, buffer(64 + len), 64 + len) == MINISIGN_OK);
+        CHECK(minisign_comment_message(parts->signature, trusted, len, buffer(64 + len), 64 + len) == MINISIGN_OK);
         for (size_t room = 0;; room = room < 190 ? room + 95 : room + 1) {
-            used = 6;
-            error = minisign_signed_text(key, first, second, trusted, len, untrusted, len / 2, buffer(room), room, text_len);
+            used = 5;
+            error = minisign_signed_text(key, parts, buffer(room), room, text_len);
             if (error != MINISIGN_NO_ROOM) {
                 need = room;
                 break;
@@ -181,6 +184,49 @@ static void making(void)
         used = 2;
         CHECK(minisign_public_key_text(key, copied("c", 1), 1, buffer(room), room, text_len)
               == (room < MINISIGN_PUBLIC_KEY_BYTES(1) ? MINISIGN_NO_ROOM : MINISIGN_OK));
+    }
+}
+
+/* Memory of just the size, and of a word or a byte less: what is opened in it, whatever it held, and that it is cleared. */
+static void opening_in_place(uint64_t p)
+{
+    static const uint8_t secret[64] = { 1 };
+    static const uint64_t kept[] = { 9, 16 };
+    const minisign_sealing sealing = { .operations_limit = 32768 * p, .memory_limit = 1 << 20 };
+    minisign_secret_key key = { 0 };
+    uint8_t text[MINISIGN_SECRET_KEY_BYTES(0)];
+    size_t text_len = 0;
+
+    minisign_take_secret_key((const uint8_t *) "12345678", secret, &key);
+    CHECK(minisign_secret_key_text(&key, 1, (const uint8_t *) "pw", 2, &sealing, 1, NULL, 0, text, sizeof text, &text_len) == MINISIGN_OK);
+    for (size_t i = 0; i < 4 * sizeof kept / sizeof *kept; i++) {
+        minisign_unopened_key *unopened;
+        minisign_secret_key *opened, before;
+        uint64_t *words_wanted, *bytes_wanted;
+        const char *password = i % 4 == 3 ? "wp" : "pw";
+        size_t words_len, bytes_len;
+        uint8_t *words, *bytes;
+
+        used = 0;
+        unopened = (minisign_unopened_key *) (void *) buffer(sizeof *unopened);
+        opened = (minisign_secret_key *) (void *) buffer(sizeof *opened);
+        before = *opened;
+        CHECK(minisign_read_secret_key(copied(text, text_len), text_len, unopened) == MINISIGN_OK);
+        words_wanted = (uint64_t *) (void *) buffer(sizeof *words_wanted);
+        bytes_wanted = (uint64_t *) (void *) buffer(sizeof *bytes_wanted);
+        minisign_opening_memory(unopened, kept[i / 4], words_wanted, bytes_wanted);
+        CHECK(4 * *words_wanted <= BYTES && *bytes_wanted <= BYTES);
+        words_len = (size_t) *words_wanted - (i % 4 == 1);
+        bytes_len = (size_t) *bytes_wanted - (i % 4 == 2);
+        words = buffer(4 * words_len);
+        bytes = buffer(bytes_len);
+        CHECK(minisign_open_sealed_key_in_place(unopened, copied(password, 2), 2, kept[i / 4], 1024 * p, (uint32_t *) (void *) words,
+                                                words_len, bytes, bytes_len, opened)
+              == (i % 4 == 0 ? MINISIGN_OK : i % 4 == 3 ? MINISIGN_WRONG_PASSWORD : MINISIGN_NO_ROOM));
+        CHECK(memcmp(opened, i % 4 == 0 ? &key : &before, sizeof key) == 0);
+        CHECK(is_zeros(words, 4 * words_len) && is_zeros(bytes, bytes_len));
+        CHECK(minisign_open_sealed_key(unopened, copied(password, 2), 2, kept[i / 4], 1024 * p, opened)
+              == (i % 4 == 3 ? MINISIGN_WRONG_PASSWORD : MINISIGN_OK));
     }
 }
 
@@ -301,6 +347,8 @@ int main(void)
         asking();
         signing();
         making();
+        opening_in_place(1);
+        opening_in_place(4);
         installations();
         texts();
     }

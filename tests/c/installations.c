@@ -1,5 +1,5 @@
 /*
- * An installation through minisign.h: at each call that may be due each call of the header is made, and what is due
+ * An installation through minisign_install.h: at each call that may be due each call of the header is made, and what is due
  * then is compared with a table of its own here; where a call is rejected as a usage error, no byte of the struct changes.
  * Also the records and the signed comments that are taken and rejected, what is asked of Ed25519, and that no memory is
  * taken.
@@ -11,7 +11,7 @@
 #include <stdlib.h>
 #include <string.h>
 
-#include "minisign.h"
+#include "minisign_install.h"
 #include "texts_for_tests.h"
 
 #define CHECK_AT(due, condition) check((condition), where((due), #condition), __LINE__)

@@ -39,8 +39,9 @@ SECONDS = 300
 STRICT = ["-Wall", "-Wextra", "-Wpedantic", "-Werror"]
 
 # What is installed beside the shared library, whose name has its version.
-FILES = ["bin/minisign", "bin/minisign-install", "include/minisign.h", "lib/libminisign.a", "lib/libminisign.so",
-         "lib/pkgconfig/minisign.pc", "share/man/man1/minisign.1", "share/man/man1/minisign-install.1", "share/man/man3/minisign.3"]
+FILES = ["bin/minisign", "bin/minisign-install", "include/minisign.h", "include/minisign_install.h", "include/minisign_simple.h", "lib/libminisign.a", "lib/libminisign.so",
+         "lib/pkgconfig/minisign.pc", "share/man/man1/minisign.1", "share/man/man1/minisign-install.1", "share/man/man3/minisign.3",
+         "share/man/man3/minisign_install.3"]
 
 # A result that is dropped.
 DROPPED = "#include <minisign.h>\nint main(void) { minisign_state s; minisign_init(&s); minisign_update(&s, 0, 0); return 0; }\n"
@@ -80,18 +81,22 @@ def defined_names(library, *flags):
 def installed_files(checks, root):
     """What was installed, and the names in it."""
     found = {os.path.relpath(os.path.join(at, name), root) for at, _, names in os.walk(root) for name in names}
-    versions = [name for name in found if re.fullmatch(r"lib/libminisign\.so\.\d+(?:\.\d+\.\d+)?", name)]
-    names = header_names(os.path.join(root, "include", "minisign.h"))
-    links = {f"share/man/man3/{name}.3" for name in names}
+    versions = [name for name in found if re.fullmatch(r"lib/libminisign\.so\.\d+\.\d+(?:\.\d+)?", name)]
+    pages = {page: header_names(os.path.join(root, "include", f"{page}.h")) for page in ("minisign", "minisign_install")}
+    names = set().union(*pages.values())
+    links = {f"share/man/man3/{name}.3": page for page, calls in pages.items() for name in calls}
     checks.check(len(versions) == 2 and found == {*FILES, *versions, *links}, f"other files were installed: {sorted(found)}")
-    checks.check(all(read(os.path.join(root, link)) == b".so man3/minisign.3\n" for link in links), "a page of a call leads elsewhere")
-    checks.check(len(names) >= 9, f"the header has only the names {sorted(names)}")
+    checks.check(all(read(os.path.join(root, link)) == f".so man3/{page}.3\n".encode() for link, page in links.items()),
+                 "a page of a call leads elsewhere")
+    checks.check(all(len(calls) >= 9 for calls in pages.values()), f"a header has only these names: {pages}")
     for name, flags in (("libminisign.so", ["-D"]), ("libminisign.a", [])):
         defined = defined_names(os.path.join(root, "lib", name), *flags)
         checks.check(defined == names, f"{name} defines {sorted(defined ^ names)}, of which the header or the library has nothing")
     _, said, _ = run([needs.program("readelf", "binutils"), "-d", os.path.join(root, "lib", "libminisign.so")])
     soname = re.search(r"\(SONAME\).*\[(.*)\]", said)
     checks.check(soname is not None and f"lib/{soname[1]}" in found, f"the soname is {soname and soname[1]}")
+    # (before 1.0 a program that was built for another revision does not start)
+    checks.check(soname is not None and re.fullmatch(r"libminisign\.so\.0\.\d+", soname[1]), f"the soname is {soname and soname[1]}")
     checks.check("TEXTREL" not in said, "the shared library has to be changed where it is loaded")
     groff = needs.program("groff", "groff")
     for page in (name for name in FILES if "/man/" in name):
@@ -125,6 +130,8 @@ def build_all(checks, root, room):
         "Rust over the shared library": [rustc, "--edition", "2021", "-D", "warnings", "-L", shared, "-l", "dylib=minisign",
                                          os.path.join(TOP, "examples", "rust", "minisign-verify.rs"), "-l", "sodium"],
         "sign": [compiler, "-std=c11", *STRICT, *cflags, os.path.join(EXAMPLES, "sign.c"), archive, "-lsodium"],
+        "check": [compiler, "-std=c99", *STRICT, *cflags, os.path.join(EXAMPLES, "check.c"), archive, "-lsodium"],
+        "simple calls": [compiler, "-std=c99", *STRICT, *cflags, os.path.join(HERE, "simple.c"), archive, "-lsodium"],
     }
     programs = {}
     for name, command in commands.items():
@@ -202,7 +209,7 @@ def run_verifiers(checks, programs, root, room, minisign):
     shared = {"LD_LIBRARY_PATH": os.path.join(root, "lib")}
     for what, names, comment in verifying_cases(room, minisign):
         for name, program in programs.items():
-            if name == "sign":
+            if name in ("sign", "check"):
                 continue
             status, said, why = run([*program, *names], environment=shared if "shared" in name else None)
             if comment is None:
@@ -260,6 +267,34 @@ def run_signer(checks, program, room, minisign):
     checks.check(status == 1 and why == "sign: the signature cannot be written\n", f"sign, a full disk: {why!r}")
 
 
+def run_simple_signer(checks, program, room, minisign):
+    """Signs by one call; where its own signature is not accepted, as of a key of which a half was changed, nothing of it is left."""
+    data, key, made = (os.path.join(room, name) for name in ("data", "key.key", "made-simply"))
+    half = write(room, "half.key", with_half_changed(read(key), PUBLIC_HALF_AT))
+    sealed = os.path.join(room, "sealed.key")
+    for what, secret, comment, rejected in (
+            ("a key that was never sealed", key, COMMENT, None), ("no comment", key, "", None),
+            ("a key of which a half was changed", half, COMMENT, "Signature verification failed"),
+            ("a sealed key", sealed, COMMENT, "Key might be encrypted"), ("a comment of two lines", key, "a\nb", "a comment has a line break")):
+        status, said, why = run([*program, secret, data, made, comment])
+        if rejected is None:
+            checks.check(status == 0 and not why, f"signing simply, {what}: status {status}, {why!r}")
+            status, said, why = run([minisign, "-Q", "-V", "-p", "key.pub", "-m", data, "-x", made], room)
+            checks.check(status == 0 and said == comment + "\n", f"signing simply, {what}: minisign says {said!r}, {why!r}")
+        else:
+            checks.check(status == 1 and rejected.lower() in why.lower(), f"signing simply, {what}: status {status}, {why!r}")
+
+
+def run_check(checks, program, room):
+    """An updater's check, under the published key."""
+    good, signature = (os.path.join(CORPUS, name) for name in ("test", "published.minisig"))
+    other = write(room, "other-test", changed(read(good), 0))
+    for what, words, wanted in (("good", (good, signature), 0), ("other data", (other, signature), 1),
+                                ("no signature", (good, good), 1), ("no data", (os.path.join(room, "nothing"), signature), 1)):
+        status, said, why = run([*program, *words])
+        checks.check((status, said, why) == (wanted, "", ""), f"check, {what}: status {status}, {said!r}, {why!r}")
+
+
 def run_programs(checks, root, room, minisign):
     """The programs that were installed, once each; `tests/whole/whole_minisign.py` has all about the first."""
     key, data, sig = (os.path.join(room, name) for name in ("key.pub", "data", "installed.sig"))
@@ -285,6 +320,8 @@ def use(checks, root, room, minisign):
     programs = build_all(checks, root, room)
     run_verifiers(checks, programs, root, room, minisign)
     run_signer(checks, programs["sign"], room, minisign)
+    run_simple_signer(checks, programs["simple calls"], room, minisign)
+    run_check(checks, programs["check"], room)
     run_programs(checks, root, room, minisign)
 
 

@@ -3,11 +3,14 @@
  *
  *     keys secret KEY_ID SECRET SALT OPERATIONS MEMORY EVERY ROOM COMMENT [PASSWORD]
  *     keys public KEY_ID SECRET ROOM COMMENT
- *     keys open EVERY WORK FILE [PASSWORD]
+ *     keys open EVERY ROWS FILE [PASSWORD]
+ *     keys place EVERY ROWS FILE [PASSWORD]
+ *     keys memory EVERY FILE
  *
- * EVERY says how many rows of scrypt are kept, and WORK how much work is allowed, as in the header. The first three are
- * in hexadecimal. It writes the text, or the identifier and the secret in hexadecimal; or the
- * number of the error, with the exit status 1.
+ * EVERY says how many rows of scrypt are kept, and ROWS how many may be made, as in the header. The first three are in
+ * hexadecimal. With `place` the key is opened in memory of just the size that is told, which is filled before and has to
+ * be zeros after; `memory` writes how many words and bytes those are. Otherwise it writes the text, or the identifier
+ * and the secret in hexadecimal; or the number of the error, with the exit status 1.
  */
 #include <inttypes.h>
 #include <stdio.h>
@@ -110,24 +113,85 @@ static int make_public(char **argv)
     return made(error, text_len);
 }
 
-static int open_key(int argc, char **argv)
+static uint32_t read_key(const char *name, minisign_unopened_key *unopened)
 {
-    minisign_unopened_key unopened;
-    minisign_secret_key key;
-    const char *password = argc > 5 ? argv[5] : "";
-    FILE *file = fopen(argv[4], "rb");
+    FILE *file = fopen(name, "rb");
     size_t len;
-    uint32_t error;
 
     if (file == NULL) {
-        return 2;
+        exit(2);
     }
     len = fread(text, 1, sizeof text, file);
     fclose(file);
-    error = minisign_read_secret_key(text, len, &unopened);
+    return minisign_read_secret_key(text, len, unopened);
+}
+
+/* Memory of just this size, which is filled. */
+static void *filled(uint64_t count, size_t size)
+{
+    void *at = count > SIZE_MAX / size ? NULL : malloc((size_t) count * size);
+
+    if (count == 0 || at == NULL) {
+        free(at);
+        printf("no memory of %" PRIu64 " times %zu bytes\n", count, size);
+        exit(2);
+    }
+    return memset(at, 0x5a, (size_t) count * size);
+}
+
+static int is_zeros(const void *at, size_t len)
+{
+    const uint8_t *all = at;
+
+    return all[0] == 0 && memcmp(all, all + 1, len - 1) == 0;
+}
+
+static uint32_t open_in_place(const minisign_unopened_key *unopened, const char *password, uint64_t every, uint64_t rows,
+                              minisign_secret_key *key)
+{
+    uint64_t words_wanted, bytes_wanted;
+    uint32_t *words, error;
+    uint8_t *parts;
+
+    minisign_opening_memory(unopened, every, &words_wanted, &bytes_wanted);
+    words = filled(words_wanted, sizeof *words);
+    parts = filled(bytes_wanted, 1);
+    error = minisign_open_sealed_key_in_place(unopened, bytes(password), strlen(password), every, rows, words,
+                                              (size_t) words_wanted, parts, (size_t) bytes_wanted, key);
+    if (!is_zeros(words, (size_t) words_wanted * sizeof *words) || !is_zeros(parts, (size_t) bytes_wanted)) {
+        printf("the memory does not hold zeros\n");
+        exit(2);
+    }
+    free(words);
+    free(parts);
+    return error;
+}
+
+static int tell_memory(char **argv)
+{
+    minisign_unopened_key unopened;
+    uint64_t words, parts;
+    uint32_t error = read_key(argv[3], &unopened);
+
     if (error == MINISIGN_OK) {
-        error = minisign_open_secret_key(&unopened, argc > 5, bytes(password), strlen(password), strtoull(argv[2], NULL, 10),
-                                         (uint32_t) strtoul(argv[3], NULL, 10), &key);
+        minisign_opening_memory(&unopened, strtoull(argv[2], NULL, 10), &words, &parts);
+        printf("%" PRIu64 " %" PRIu64 "\n", words, parts);
+    }
+    return ended(error);
+}
+
+static int open_key(int argc, char **argv)
+{
+    const uint64_t every = strtoull(argv[2], NULL, 10), rows = strtoull(argv[3], NULL, 10);
+    const char *password = argc > 5 ? argv[5] : "";
+    minisign_unopened_key unopened;
+    minisign_secret_key key;
+    uint32_t error = read_key(argv[4], &unopened);
+
+    if (error == MINISIGN_OK) {
+        error = strcmp(argv[1], "place") == 0 ? open_in_place(&unopened, password, every, rows, &key)
+                : argc > 5 ? minisign_open_sealed_key(&unopened, bytes(password), strlen(password), every, rows, &key)
+                           : (uint32_t) minisign_open_unsealed_key(&unopened, &key);
     }
     if (error == MINISIGN_OK) {
         write_hexadecimal(key.key_id, sizeof key.key_id);
@@ -147,8 +211,11 @@ int main(int argc, char **argv)
     if (argc == 6 && strcmp(argv[1], "public") == 0) {
         return make_public(argv);
     }
-    if (argc >= 5 && strcmp(argv[1], "open") == 0) {
+    if (argc >= 5 && (strcmp(argv[1], "open") == 0 || strcmp(argv[1], "place") == 0)) {
         return open_key(argc, argv);
+    }
+    if (argc == 4 && strcmp(argv[1], "memory") == 0) {
+        return tell_memory(argv);
     }
     return 2;
 }

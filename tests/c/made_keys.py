@@ -35,6 +35,10 @@ STRICT = ["-std=c11", "-Wall", "-Wextra", "-Wpedantic", "-Werror", "-O1"]
 USUAL = (33554432, 1073741824)
 LITTLE = (32768, 1048576)
 FOUR_PARTS = (131072, 1048576)
+ROWS = 1024
+
+# How many rows may be made of a key of Minisign's own limits, and of any.
+USUAL_ROWS, ANY_ROWS = 1 << 20, (1 << 64) - 1
 
 SECRET_COMMENT = "minisign encrypted secret key"
 ROOM = 4096
@@ -105,12 +109,18 @@ class Keys:
     def public(self, key_id, secret, room=ROOM, comment=None):
         return self.ours("public", key_id.hex(), secret.hex(), str(room), public_comment(key_id) if comment is None else comment)[0]
 
-    def opened(self, text, password=None, keep_every=1, greatest_work=1):
-        """The identifier and the secret of a key, or the number of an error; and the memory that it took."""
+    def opened(self, text, password=None, keep_every=1, most_rows=USUAL_ROWS, how="open"):
+        """The identifier and the secret of a key, or the number of an error; and the memory that it took. With `place` it is opened
+        in memory of the caller's."""
         write(self.directory, "opened.key", text)
         passed_in = [] if password is None else [password]
-        answer, memory = self.ours("open", str(keep_every), str(greatest_work), "opened.key", *passed_in)
+        answer, memory = self.ours(how, str(keep_every), str(most_rows), "opened.key", *passed_in)
         return (tuple(map(bytes.fromhex, answer.decode().split())) if isinstance(answer, bytes) else answer), memory
+
+    def memory(self, text, keep_every=1):
+        """How much memory opening a key in place takes, in words and in bytes."""
+        write(self.directory, "opened.key", text)
+        return tuple(map(int, self.ours("memory", str(keep_every), "opened.key")[0].split()))
 
     def generated(self, name, password, preloaded=None):
         """The texts of a secret and a public key that Minisign makes, sealed where there is a password."""
@@ -166,6 +176,9 @@ def made_again(keys):
     keys.holds(f"a key opened in few rows takes {memory} bytes", memory < KEPT_IN_FEW_ROWS)
     everything, memory = keys.opened(theirs, "old")
     keys.holds("another number of rows opens to another key", everything == answer)
+    in_place, used = keys.opened(theirs, "old", keep_every=16, how="place")
+    keys.holds("in memory of the caller's another key is opened", in_place == answer)
+    keys.holds(f"in place a key opened in few rows takes {used} bytes", used < KEPT_IN_FEW_ROWS)
     keys.holds(f"all rows take {memory} bytes", memory > ALL_ROWS)
     keys.holds("another password is not rejected", keys.opened(theirs, "older", keep_every=16)[0] == 42)
     keys.holds("the public key that is written again", keys.public(key_id, secret) == their_public)
@@ -181,11 +194,14 @@ def other_limits(keys):
     """Keys with limits of the caller's, and how they are bounded."""
     for limits, p in ((LITTLE, 1), (FOUR_PARTS, 4)):
         text = keys.secret(KEY_ID, SEED + SALT, "pässword", limits=limits)
-        for keep_every in (0, 1, 16, 1 << 63):
-            keys.holds(f"limits {limits}: every {keep_every}-th row kept",
-                       keys.opened(text, "pässword", keep_every, p)[0] == (KEY_ID, SEED + SALT))
-        keys.holds(f"limits {limits}: less work", keys.opened(text, "pässword", greatest_work=p - 1)[0] == 43)
-        keys.holds(f"limits {limits}: any work", keys.opened(text, "pässword", greatest_work=(1 << 32) - 1)[0] == (KEY_ID, SEED + SALT))
+        for how in ("open", "place"):
+            for keep_every in (0, 1, 16, 1 << 63):
+                keys.holds(f"limits {limits}, {how}: every {keep_every}-th row kept",
+                           keys.opened(text, "pässword", keep_every, p * ROWS, how)[0] == (KEY_ID, SEED + SALT))
+            keys.holds(f"limits {limits}, {how}: less rows", keys.opened(text, "pässword", 1, p * ROWS - 1, how)[0] == 43)
+            keys.holds(f"limits {limits}, {how}: any rows", keys.opened(text, "pässword", 1, ANY_ROWS, how)[0] == (KEY_ID, SEED + SALT))
+            keys.holds(f"limits {limits}, {how}: another password", keys.opened(text, "password", 16, ANY_ROWS, how)[0] == 42)
+            keys.holds(f"limits {limits}, {how}: not UTF-8", keys.opened(text, b"\xff", 16, 0, how)[0] == 8)
         record = record_of(text)
         keys.holds(f"limits {limits}: what the text says", record[:6] == b"EdScB2" and record[6:38] == SALT
                    and record[38:54] == limits[0].to_bytes(8, "little") + limits[1].to_bytes(8, "little"))
@@ -193,6 +209,27 @@ def other_limits(keys):
     public = keys.public(KEY_ID, SEED + SALT, comment="c" * 1003)
     keys.holds("the longest comment", (len(most), len(public)) == (1003 + 233, 1003 + 77))
     keys.holds("the longest comment is read back", keys.opened(most, "pw")[0] == (KEY_ID, SEED + SALT))
+
+
+def bounds(keys):
+    """Keys of other limits, of which none is derived: with the rows that they ask for, and with one row less they are rejected."""
+    text = keys.secret(KEY_ID, SEED + SALT, "pw")
+    first, record = text.splitlines()[0], record_of(text)
+    # (2^10 rows, which are made so often)
+    for times in (2, 32, 1024, 1 << 24):
+        limits = (32768 * times).to_bytes(8, "little") + (1 << 20).to_bytes(8, "little")
+        other = first + b"\n" + base64.b64encode(record[:38] + limits + record[54:]) + b"\n"
+        keys.holds(f"{times} times the rows, less one", keys.opened(other, "pw", 1, times * ROWS - 1)[0] == 43)
+        if times <= 1024:
+            keys.holds(f"{times} times the rows", keys.opened(other, "pw", 1, times * ROWS)[0] == 42)
+        words, parts = keys.memory(other, 16)
+        keys.holds(f"{times} times the rows: {words} words and {parts} bytes", ROWS // 16 * 256 <= words <= (ROWS // 16 + 3) * 256
+                   and parts == 1024 * times)
+    # (of these limits the one of memory is too high, and of the others scrypt takes none)
+    for limits in (33554432, 1073741825), (1 << 44, 1 << 20):
+        other = first + b"\n" + base64.b64encode(record[:38] + b"".join(it.to_bytes(8, "little") for it in limits) + record[54:]) + b"\n"
+        keys.holds(f"limits {limits}: the memory", keys.memory(other) == (0, 0))
+    keys.holds("a key that is not sealed: the memory", keys.memory(keys.secret(KEY_ID, SEED + SALT)) == (0, 0))
 
 
 def sealed_as_hashlib_says(keys):
@@ -258,7 +295,7 @@ def run_all(library, room):
         if ran.returncode != 0:
             return [f"{command[-2]} was not built: {ran.stdout.decode(errors='replace')[-1000:]}"], 0
     keys = Keys(program, minisign, known, room)
-    for part in (rejections, other_limits, sealed_as_hashlib_says, comments, same_bytes, made_again):
+    for part in (rejections, other_limits, bounds, sealed_as_hashlib_says, comments, same_bytes, made_again):
         part(keys)
     return keys.failures, keys.count - len(keys.failures)
 

@@ -8,6 +8,7 @@
 #include <string.h>
 
 #include "minisign.h"
+#include "signed_text.h"
 #include "texts_for_tests.h"
 
 static const uint8_t *bytes(const char *text)
@@ -61,17 +62,40 @@ static void signing(void)
 
     CHECK(minisign_read_secret_key(NULL, 0, &unopened) == MINISIGN_MISSING_SECRET_KEY_COMMENT);
     CHECK(minisign_read_secret_key(bytes(SECRET_KEY), sizeof SECRET_KEY - 1, &unopened) == MINISIGN_OK);
-    CHECK(minisign_open_secret_key(&unopened, 1, NULL, 0, 1, 1, &key) == MINISIGN_KEY_NOT_SEALED);
-    CHECK(minisign_open_secret_key(&unopened, 0, NULL, 0, 1, 1, &key) == MINISIGN_OK);
+    CHECK(minisign_open_sealed_key(&unopened, NULL, 0, 1, 1, &key) == MINISIGN_KEY_NOT_SEALED);
+    CHECK(minisign_open_sealed_key_in_place(&unopened, NULL, 0, 1, 1, NULL, 0, NULL, 0, &key) == MINISIGN_KEY_NOT_SEALED);
+    CHECK(minisign_open_unsealed_key(&unopened, &key) == MINISIGN_OK);
     CHECK(minisign_public_key_text(&key, NULL, 0, NULL, 0, &text_len) == MINISIGN_NO_ROOM);
     CHECK(minisign_secret_key_text(&key, 0, NULL, 0, &none, 1, NULL, 0, NULL, 0, &text_len) == MINISIGN_NO_ROOM);
     CHECK(minisign_comment_message(first, NULL, 0, message, sizeof message) == MINISIGN_OK);
     CHECK(minisign_comment_message(first, NULL, 0, NULL, 0) == MINISIGN_NO_ROOM);
-    CHECK(minisign_signed_text(&key, first, second, NULL, 0, NULL, 0, NULL, 0, &text_len) == MINISIGN_NO_ROOM);
-    CHECK(minisign_signed_text(&key, first, second, NULL, 0, NULL, 0, text, sizeof text, &text_len) == MINISIGN_OK);
-    CHECK(minisign_signed_text(&key, first, second, bytes(""), 0, bytes(""), 0, empty, sizeof empty, &empty_len)
+    CHECK(make_signed_text(&key, first, second, NULL, 0, NULL, 0, NULL, 0, &text_len) == MINISIGN_NO_ROOM);
+    CHECK(make_signed_text(&key, first, second, NULL, 0, NULL, 0, text, sizeof text, &text_len) == MINISIGN_OK);
+    CHECK(make_signed_text(&key, first, second, bytes(""), 0, bytes(""), 0, empty, sizeof empty, &empty_len)
           == MINISIGN_OK);
     CHECK(text_len == empty_len && text_len <= MINISIGN_TEXT_BYTES(0, 0) && memcmp(text, empty, text_len) == 0);
+}
+
+/* A key under the password of no bytes, which is one. */
+static void opening(void)
+{
+    static const minisign_sealing little = { .operations_limit = 32768, .memory_limit = 1 << 20 };
+    static uint8_t text[MINISIGN_SECRET_KEY_BYTES(0)], room[1024];
+    static uint32_t words[68 * 256];
+    minisign_unopened_key unopened = { 0 };
+    minisign_secret_key key = { 0 }, opened = { 0 }, in_place = { 0 };
+    size_t text_len = 0;
+
+    minisign_take_secret_key(bytes("12345678"), room, &key);
+    CHECK(minisign_secret_key_text(&key, 1, NULL, 0, &little, 16, NULL, 0, text, sizeof text, &text_len) == MINISIGN_OK);
+    CHECK(minisign_read_secret_key(text, text_len, &unopened) == MINISIGN_OK);
+    CHECK(minisign_open_sealed_key(&unopened, NULL, 0, 16, MINISIGN_USUAL_ROWS, &opened) == MINISIGN_OK);
+    CHECK(memcmp(&key, &opened, sizeof key) == 0);
+    CHECK(minisign_open_sealed_key_in_place(&unopened, NULL, 0, 16, MINISIGN_USUAL_ROWS, words, sizeof words / sizeof *words,
+                                            room, sizeof room, &in_place) == MINISIGN_OK);
+    CHECK(memcmp(&key, &in_place, sizeof key) == 0);
+    CHECK(minisign_open_sealed_key_in_place(&unopened, NULL, 0, 16, MINISIGN_USUAL_ROWS, NULL, 0, NULL, 0, &in_place)
+          == MINISIGN_NO_ROOM);
 }
 
 int main(void)
@@ -79,6 +103,7 @@ int main(void)
     feeding();
     asking();
     signing();
+    opening();
     CHECK(minisign_error_text(MINISIGN_OK, NULL, 0) == strlen("no error"));
     printf("%u passed, %u failed\n", passed, failed);
     return failed != 0;

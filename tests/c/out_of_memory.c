@@ -1,23 +1,31 @@
 /*
- * Verifying makes no request for memory. Of the other calls each request is refused in turn: the answer is
- * MINISIGN_OUT_OF_MEMORY, nothing else, the state stays as it was, and what was taken is given back. Also with each
- * request after it refused, and the whole memory of scrypt refused for a key sealed as `minisign -G` seals.
+ * Verifying makes no request for memory, nor does opening a secret key in memory of the caller's, which begins no thread
+ * either. Of the other calls each request is refused in turn: the answer is MINISIGN_OUT_OF_MEMORY, nothing else, the
+ * state stays as it was, and what was taken is given back. Also with each request after it refused, and the whole memory
+ * of scrypt refused for a key sealed as `minisign -G` seals.
  *
- * Linked with -Wl,--wrap=malloc -Wl,--wrap=realloc -Wl,--wrap=free. Prints a line for each check that failed; the last
- * line is `N passed, M failed`.
+ * Linked with -Wl,--wrap=malloc -Wl,--wrap=realloc -Wl,--wrap=free -Wl,--wrap=pthread_create, and built with
+ * -DMINISIGN_NO_THREADS where the library is. Prints a line for each check that failed; the last line is `N passed, M
+ * failed`.
  */
+#define _DEFAULT_SOURCE
+
 #include <stdio.h>
 #include <stdlib.h>
 #include <string.h>
+#ifdef __linux__
+#include <sys/mman.h>
+#endif
 
 #include "minisign.h"
+#include "signed_text.h"
 
 /* The number of the request that is refused, and of the last one: 0 for none. */
 static long refused_from, refused_to;
 /* Requests for more bytes than this are refused. */
 static size_t greatest = SIZE_MAX;
-/* How many requests there were, and how many blocks are held. */
-static long requests, held;
+/* How many requests there were, how many blocks are held, and how many threads were asked for. */
+static long requests, held, threads;
 static unsigned passed, failed;
 
 void *__real_malloc(size_t size);
@@ -26,6 +34,7 @@ void __real_free(void *block);
 void *__wrap_malloc(size_t size);
 void *__wrap_realloc(void *old, size_t size);
 void __wrap_free(void *block);
+int __wrap_pthread_create(void *thread, const void *attributes, void *(*begin)(void *), void *with);
 
 static int is_refused(size_t size)
 {
@@ -51,6 +60,14 @@ void __wrap_free(void *block)
 {
     held -= block != NULL;
     __real_free(block);
+}
+
+/* There is none to be had: the library does without. */
+int __wrap_pthread_create(void *thread, const void *attributes, void *(*begin)(void *), void *with)
+{
+    (void) thread, (void) attributes, (void) begin, (void) with;
+    threads++;
+    return 11;
 }
 
 static void check(int holds, const char *call, const char *what, long request)
@@ -104,16 +121,15 @@ static enum minisign_error open_key(void)
 {
     enum minisign_error error = minisign_read_secret_key(bytes(UNSEALED), sizeof UNSEALED - 1, &unopened);
 
-    return error != MINISIGN_OK ? error : minisign_open_secret_key(&unopened, 0, bytes(""), 0, MINISIGN_KEEP_EVERY_ROW,
-                                                                   MINISIGN_USUAL_WORK, &key);
+    return error != MINISIGN_OK ? error : minisign_open_unsealed_key(&unopened, &key);
 }
 
 static enum minisign_error open_sealed(void)
 {
     enum minisign_error error = minisign_read_secret_key(bytes(SEALED), sizeof SEALED - 1, &unopened);
 
-    return error != MINISIGN_OK ? error : minisign_open_secret_key(&unopened, 1, bytes("pw"), 2, MINISIGN_KEEP_EVERY_ROW,
-                                                                   MINISIGN_USUAL_WORK, &key);
+    return error != MINISIGN_OK ? error : minisign_open_sealed_key(&unopened, bytes("pw"), 2, MINISIGN_KEEP_EVERY_ROW,
+                                                                   MINISIGN_USUAL_ROWS, &key);
 }
 
 static enum minisign_error write_secret_key(void)
@@ -140,7 +156,7 @@ static enum minisign_error write_public_key(void)
 static enum minisign_error write_text(void)
 {
     static const uint8_t first[64], second[64];
-    return minisign_signed_text(&key, first, second, bytes("t"), 1, bytes("u"), 1, message, sizeof message, &text_len);
+    return make_signed_text(&key, first, second, bytes("t"), 1, bytes("u"), 1, message, sizeof message, &text_len);
 }
 
 /* One call with this key, with one request refused or with this one and all after it: whether the call came to it. */
@@ -194,22 +210,75 @@ static void verify_without_memory(void)
     check(requests == 0 && held == 0, "minisign_ask", "memory is asked for", requests);
 }
 
+/* A sealed key whose rows take 32 MiB: the call that takes them from malloc asks for a thread. */
+enum { LARGE_ROWS = 32768 };
+
+static uint32_t words[256 * (LARGE_ROWS + 3)];
+static uint8_t parts[1024];
+
+static void seal_large(void)
+{
+    static const minisign_sealing sealing = { .operations_limit = 32 * LARGE_ROWS, .memory_limit = 1024 * LARGE_ROWS };
+
+    check(minisign_secret_key_text(&key, 1, bytes("pw"), 2, &sealing, MINISIGN_KEEP_EVERY_ROW, bytes("c"), 1, message,
+                                   sizeof message, &text_len) == MINISIGN_OK, "minisign_secret_key_text", "another number", 0);
+    check(minisign_read_secret_key(message, text_len, &unopened) == MINISIGN_OK, "minisign_read_secret_key", "another number", 0);
+}
+
+static enum minisign_error open_in_place(const char *password, size_t room)
+{
+    return minisign_open_sealed_key_in_place(&unopened, bytes(password), strlen(password), MINISIGN_KEEP_EVERY_ROW,
+                                             MINISIGN_USUAL_ROWS, words, room, parts, sizeof parts, &key);
+}
+
+/* Opening in memory of the caller's makes no request and begins no thread, also where no request would be granted. */
+static void open_without_memory(const minisign_secret_key *opened)
+{
+    static const char call[] = "minisign_open_sealed_key_in_place";
+    const size_t room = sizeof words / sizeof *words;
+    uint64_t words_wanted = 0, bytes_wanted = 0;
+
+    key = *opened;
+    seal_large();
+    requests = held = threads = 0;
+    check(minisign_open_sealed_key(&unopened, bytes("pw"), 2, MINISIGN_KEEP_EVERY_ROW, MINISIGN_USUAL_ROWS, &key) == MINISIGN_OK,
+          "minisign_open_sealed_key", "another number", 0);
+    check(requests > 0 && held == 0, "minisign_open_sealed_key", "it asks for no memory, or gives it not back", requests);
+    /* (where c/allocation.c is what takes the memory) */
+#if defined(__LP64__) && defined(MADV_HUGEPAGE) && defined(MADV_POPULATE_WRITE) && !defined(MINISIGN_NO_THREADS)
+    check(threads == 1, "minisign_open_sealed_key", "no thread is asked for", threads);
+#endif
+    memset(&key, 0, sizeof key);
+    requests = threads = 0;
+    greatest = 0;
+    minisign_opening_memory(&unopened, MINISIGN_KEEP_EVERY_ROW, &words_wanted, &bytes_wanted);
+    check(words_wanted <= room && bytes_wanted <= sizeof parts, "minisign_opening_memory", "more memory than there is", 0);
+    check(open_in_place("pw", (size_t) words_wanted - 1) == MINISIGN_NO_ROOM, call, "another number, for too little memory", 0);
+    check(open_in_place("wp", room) == MINISIGN_WRONG_PASSWORD, call, "another number, with a wrong password", 0);
+    check(open_in_place("pw", room) == MINISIGN_OK, call, "another number", 0);
+    check(memcmp(&key, opened, sizeof key) == 0, call, "another key", 0);
+    check(requests == 0 && held == 0, call, "memory is asked for", requests);
+    check(threads == 0, call, "a thread is asked for", threads);
+    greatest = SIZE_MAX;
+}
+
 int main(void)
 {
     minisign_secret_key opened;
 
     verify_without_memory();
     requests = held = 0;
-    check(open_key() == MINISIGN_OK, "minisign_open_secret_key", "another number", 0);
-    check(requests == 0 && held == 0, "minisign_open_secret_key, without a password", "memory is asked for", requests);
+    check(open_key() == MINISIGN_OK, "minisign_open_unsealed_key", "another number", 0);
+    check(requests == 0 && held == 0, "minisign_open_unsealed_key", "memory is asked for", requests);
     opened = key;
+    open_without_memory(&opened);
     refuse_each("minisign_signed_text", write_text, &opened);
     refuse_each("minisign_secret_key_text", write_secret_key, &opened);
     refuse_each("minisign_public_key_text", write_public_key, &opened);
     greatest = 100000;
     held = 0;
-    check(open_sealed() == MINISIGN_OUT_OF_MEMORY, "minisign_open_secret_key, sealed", "another number", requests);
-    check(held == 0, "minisign_open_secret_key, sealed", "memory is not given back", requests);
+    check(open_sealed() == MINISIGN_OUT_OF_MEMORY, "minisign_open_sealed_key", "another number", requests);
+    check(held == 0, "minisign_open_sealed_key", "memory is not given back", requests);
     key = opened;
     check(write_sealed_key() == MINISIGN_OUT_OF_MEMORY, "minisign_secret_key_text, sealed", "another number", requests);
     check(held == 0, "minisign_secret_key_text, sealed", "memory is not given back", requests);

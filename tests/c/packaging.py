@@ -12,8 +12,8 @@ installed, and used from what was installed: by gcc also from C++, Rust and Pyth
 sums of the release; over musl its library verifies in a static program. It prints a line for each failure; the last
 line is `N passed, M failed`.
 
-Needs Python 3.9 or later, make, binutils, pkg-config, clang, musl-gcc, and what `installed.py` needs, and installs what
-is not there where it may.
+Needs Python 3.9 or later, git where this is a clone, make, binutils, pkg-config, clang, musl-gcc, and what `installed.py`
+needs, and installs what is not there where it may.
 """
 
 import glob
@@ -69,7 +69,7 @@ def check_flags(checks, room):
         lines = [line.split() for line in ran.stdout.decode().splitlines() if line.startswith("gcc ")]
         compiling = [line for line in lines if any(word.endswith(".c") for word in line)]
         linking = [line for line in lines if "-c" not in line]
-        checks.check(len(compiling) == 5 and len(linking) == 3, f"{len(compiling)} commands compile, and {len(linking)} link")
+        checks.check(len(compiling) == 8 and len(linking) == 3, f"{len(compiling)} commands compile, and {len(linking)} link")
         for line in compiling:
             checks.check({*COMPILING} <= {*line}, f"{' '.join(line)} has not the flags for compiling")
         for line in linking:

@@ -4,8 +4,8 @@
     tests/c/processors.py
 
 On those without AVX2, and on one that has it and lacks another part of x86-64-v3, the copy for x86-64-v2 runs, and on
-the others the one for x86-64-v3: each copy in turn has a wrong constant, so that it is seen which one ran. It prints a
-line for each failure; the last line is `N passed, M failed`.
+the others the one for x86-64-v3; on those that lack a part of x86-64-v2, the one of dist/calls.c. Each copy in turn has a
+wrong constant, so that it is seen which one ran. It prints a line for each failure; the last line is `N passed, M failed`.
 
 Needs Python 3.9 or later, make, binutils, a C compiler, libsodium with its header, and of Debian qemu-user-static, and
 installs what is not there where it may.
@@ -27,30 +27,31 @@ CORPUS = os.path.join(HERE, "..", "corpus")
 SECONDS = 300
 # Processors by the names of qemu, with the copy that has to run.
 RUNS = {
+    "core2duo": "c",
+    "qemu64": "c",
+    **{f"Nehalem,-{part}": "c" for part in ("sse4.2", "sse4.1", "ssse3", "popcnt", "cx16", "lahf_lm")},
     "Nehalem": "v2",
     "SandyBridge": "v2",
     "Haswell": "v3",
     "max": "v3",
     **{f"Haswell,-{part}": "v2" for part in ("avx2", "bmi1", "bmi2", "f16c", "fma", "abm", "movbe", "xsave")},
 }
-# The first initial value of Blake2b, as both copies have it.
-VALUE = bytes.fromhex("08c9bcf367e6096a")
-
-
-def archive_of(copy):
-    return os.path.join(static_library.DIST, f"calls-x86-64-{copy}.a")
+# The first initial value of Blake2b, as the archives have it, and as C has it.
+VALUE, IN_C = bytes.fromhex("08c9bcf367e6096a"), (b"0x6a09e667f3bcc908", b"0x6a09e667f3bcc909")
+COPIES = {"v2": "calls-x86-64-v2.a", "v3": "calls-x86-64-v3.a", "c": "calls.c"}
+# By which names make is told of them.
+NAMES = {"v2": "V2", "v3": "V3", "c": "C_CALLS"}
 
 
 def build(room, wrong):
     """The program that verifies, over the copies of dist/, of which one has another initial value."""
-    with open(archive_of(wrong), "rb") as file:
+    with open(os.path.join(static_library.DIST, COPIES[wrong]), "rb") as file:
         data = file.read()
-    changed = os.path.join(room, f"wrong-{wrong}.a")
+    changed = os.path.join(room, f"wrong-{COPIES[wrong]}")
     with open(changed, "wb") as file:
-        file.write(data.replace(VALUE, bytes([VALUE[0] ^ 1]) + VALUE[1:]))
-    archives = {"v2": archive_of("v2"), "v3": archive_of("v3"), wrong: changed}
+        file.write(data.replace(*IN_C) if wrong == "c" else data.replace(VALUE, bytes([VALUE[0] ^ 1]) + VALUE[1:]))
     out = os.path.join(room, wrong)
-    static_library.run_make(f"OUT={out}", *(f"{name.upper()}={path}" for name, path in archives.items()), f"{out}/minisign")
+    static_library.run_make(f"OUT={out}", f"{NAMES[wrong]}={changed}", f"{out}/minisign")
     return f"{out}/minisign"
 
 
@@ -67,7 +68,7 @@ def main():
         try:
             needs.libsodium()
             emulator = needs.program("qemu-x86_64-static", "qemu-user-static")
-            programs = {wrong: build(room, wrong) for wrong in ("v2", "v3")}
+            programs = {wrong: build(room, wrong) for wrong in COPIES}
             for processor, copy in RUNS.items():
                 for wrong, program in programs.items():
                     status = verify(emulator, processor, program)

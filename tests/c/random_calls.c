@@ -1,6 +1,7 @@
 /*
- * 2,000,000 calls at random on a few states and keys, beside a model of what each state and key is: the number of each
- * call is the model's, an error changes nothing, and what is told is what the model was fed.
+ * 2,000,000 calls at random, or with -DIS_EMULATED a tenth of them, on a few states and keys, beside a model of what
+ * each state and key is: the number of each call is the model's, an error changes nothing, and what is told is what the
+ * model was fed.
  *
  * Prints a line for each check that failed; the last line is `N passed, M failed`. What Ed25519 would answer is made up
  * here.
@@ -9,9 +10,16 @@
 #include <string.h>
 
 #include "minisign.h"
+#include "signed_text.h"
 #include "texts_for_tests.h"
 
-enum { CALLS = 2000000, STATES = 4, KEYS = 3, MOST = 300, ROOM = 1024 };
+#ifdef IS_EMULATED
+#define CALLS 200000
+#else
+#define CALLS 2000000
+#endif
+
+enum { STATES = 4, KEYS = 3, MOST = 300, ROOM = 1024 };
 
 #define COMMENT_LINES "untrusted comment: x\n"
 #define RECORD "RUQf6LRCGA9i559r3g7V1qNyJDApGip8MfqcadIgT9CuhV3EMhHoN1mGTkUidF/z7SrlQgXdy8ofjb7bNJJylDOocrCo8KLzZwo="
@@ -213,6 +221,7 @@ static void on_key(void)
 {
     static const minisign_sealing none;
     static uint8_t text[ROOM];
+    static uint32_t words[2];
     int at = (int) draw(KEYS), bad_flag = draw(4) == 0;
     minisign_secret_key before = keys[at];
     minisign_public_key half;
@@ -246,19 +255,20 @@ static void on_key(void)
             minisign_unopened_key unopened = { 0 };
             minisign_secret_key again = { 0 };
 
-            CHECK(minisign_open_secret_key(&unopened, 0, NULL, 0, 1, 1, &again) == MINISIGN_KEY_NOT_READ && again.mark == 0);
+            CHECK(minisign_open_unsealed_key(&unopened, &again) == MINISIGN_KEY_NOT_READ && again.mark == 0);
             CHECK(minisign_read_secret_key(text, draw((uint32_t) len - 1), &unopened) != MINISIGN_OK && unopened.mark == 0);
             CHECK(minisign_read_secret_key(text, len, &unopened) == MINISIGN_OK);
             CHECK(unopened.is_sealed == 0 && unopened.log2_rows == 0 && unopened.work == 0);
-            CHECK(minisign_open_secret_key(&unopened, 0, NULL, 0, 1, 1, &again) == MINISIGN_OK);
+            CHECK(minisign_open_unsealed_key(&unopened, &again) == MINISIGN_OK);
             CHECK(memcmp(&again, &keys[at], sizeof again) == 0);
-            CHECK(minisign_open_secret_key(&unopened, 1, NULL, 0, 1, 1, &again) == MINISIGN_KEY_NOT_SEALED);
-            CHECK(minisign_open_secret_key(&unopened, 2, NULL, 0, 1, 1, &again) == MINISIGN_BAD_PASSWORD_FLAG);
+            CHECK(minisign_open_sealed_key(&unopened, NULL, 0, 1, draw(2), &again) == MINISIGN_KEY_NOT_SEALED);
+            CHECK(minisign_open_sealed_key_in_place(&unopened, NULL, 0, 1, draw(2), words, draw(2), text, draw(2), &again)
+                  == MINISIGN_KEY_NOT_SEALED);
             CHECK(memcmp(&again, &keys[at], sizeof again) == 0);
         }
         break;
     default:
-        CHECK(minisign_signed_text(&keys[at], any_signature, any_signature, NULL, 0, NULL, 0, text, room, &len) == wanted);
+        CHECK(make_signed_text(&keys[at], any_signature, any_signature, NULL, 0, NULL, 0, text, room, &len) == wanted);
     }
     CHECK(memcmp(&before, &keys[at], sizeof before) == 0 && (len != 0) <= opened[at]);
 }

@@ -22,6 +22,14 @@ static void check(int holds, const char *condition, int line)
     }
 }
 
+/* Whether all of these bytes are zeros. */
+static inline int is_zeros(const void *at, size_t len)
+{
+    const uint8_t *all = at;
+
+    return len == 0 || (all[0] == 0 && memcmp(all, all + 1, len - 1) == 0);
+}
+
 /* The published key, and its signature of `test`. */
 static const char KEY[] = "untrusted comment: minisign public key E7620F1842B4E81F\n"
                           "RWQf6LRCGA9i53mlYecO4IzT51TGPpvWucNSCh1CBM0QTaLn73Y7GFO3\n";

@@ -11,6 +11,7 @@
 #include <string.h>
 
 #include "minisign.h"
+#include "signed_text.h"
 #include "texts_for_tests.h"
 
 enum { THREADS = 8, ROUNDS = 40, BYTES = 30011 };
@@ -51,9 +52,9 @@ static void run(struct told *told, int number, int rounds)
         told->good &= error == (number % 2 ? MINISIGN_OK : MINISIGN_COMMENT_SIGNATURE_REFUSED);
         error = minisign_read_secret_key((const uint8_t *) SECRET_KEY, sizeof SECRET_KEY - 1, &told->unopened);
         told->good &= error == MINISIGN_OK;
-        error = minisign_open_secret_key(&told->unopened, 0, NULL, 0, 1, 1, &told->key);
+        error = minisign_open_unsealed_key(&told->unopened, &told->key);
         told->good &= error == MINISIGN_OK;
-        error = minisign_signed_text(&told->key, told->questions.signature, told->questions.comment_signature,
+        error = make_signed_text(&told->key, told->questions.signature, told->questions.comment_signature,
                                      (const uint8_t *) "12345678", (size_t) number, NULL, 0, told->text, sizeof told->text,
                                      &told->text_len);
         told->good &= error == MINISIGN_OK;

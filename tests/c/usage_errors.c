@@ -9,6 +9,7 @@
 #include <string.h>
 
 #include "minisign.h"
+#include "signed_text.h"
 #include "texts_for_tests.h"
 
 /* The signature of `test` over the data itself. */
@@ -226,12 +227,34 @@ static void copies(void)
 static minisign_unopened_key unopened;
 static minisign_secret_key key;
 
-static enum minisign_error open_for(const char *sk_text, uint32_t with_password)
+static enum minisign_error open_for(const char *sk_text, int with_password)
 {
     enum minisign_error error = minisign_read_secret_key((const uint8_t *) sk_text, strlen(sk_text), &unopened);
 
-    return error != MINISIGN_OK ? error : minisign_open_secret_key(&unopened, with_password, ABC, sizeof ABC,
-                                                                   MINISIGN_KEEP_EVERY_ROW, MINISIGN_USUAL_WORK, &key);
+    return error != MINISIGN_OK ? error
+           : with_password      ? minisign_open_sealed_key(&unopened, ABC, sizeof ABC, MINISIGN_KEEP_EVERY_ROW,
+                                                           MINISIGN_USUAL_ROWS, &key)
+                                : minisign_open_unsealed_key(&unopened, &key);
+}
+
+/* Memory to open keys in, enough for all rows of one whose N is 1024 and whose p is 32. */
+static uint32_t words[256 * (1024 + 3)];
+static uint8_t bytes[1024 * 32];
+
+/* Opens in so much of that memory, which holds something: all of it is zeros then. */
+static enum minisign_error open_in_place(const minisign_unopened_key *from, const char *password, uint64_t keep_every,
+                                         uint64_t most_rows, uint64_t words_len, uint64_t bytes_len, minisign_secret_key *to)
+{
+    enum minisign_error error;
+
+    memset(words, 0xa5, sizeof words);
+    memset(bytes, 0xa5, sizeof bytes);
+    error = minisign_open_sealed_key_in_place(from, (const uint8_t *) password, strlen(password), keep_every, most_rows, words,
+                                              (size_t) words_len, bytes, (size_t) bytes_len, to);
+    CHECK(is_zeros(words, (size_t) words_len * sizeof *words) && is_zeros(bytes, (size_t) bytes_len));
+    CHECK(words_len == sizeof words / sizeof *words || words[words_len] == 0xa5a5a5a5);
+    CHECK(bytes_len == sizeof bytes || bytes[bytes_len] == 0xa5);
+    return error;
 }
 
 static uint8_t text[16384];
@@ -240,7 +263,7 @@ static size_t text_len;
 static enum minisign_error make_text(const minisign_secret_key *by, const char *trusted, size_t trusted_len,
                                      const char *untrusted, size_t untrusted_len, size_t room)
 {
-    return minisign_signed_text(by, questions.signature, questions.comment_signature, (const uint8_t *) trusted,
+    return make_signed_text(by, questions.signature, questions.comment_signature, (const uint8_t *) trusted,
                                 trusted_len, (const uint8_t *) untrusted, untrusted_len, text, room, &text_len);
 }
 
@@ -253,9 +276,9 @@ static void before_opening(void)
 {
     static const minisign_secret_key nothing;
 
-    CHECK(open_for(SECRET_KEY, 2) == MINISIGN_BAD_PASSWORD_FLAG);
-    CHECK(open_for(SECRET_KEY, UINT32_MAX) == MINISIGN_BAD_PASSWORD_FLAG);
     CHECK(open_for(SECRET_KEY, 1) == MINISIGN_KEY_NOT_SEALED);
+    CHECK(open_in_place(&unopened, "\xff", 1, 0, 5, 5, &key) == MINISIGN_NOT_UTF8);
+    CHECK(open_in_place(&unopened, "abc", 1, 0, 5, 5, &key) == MINISIGN_KEY_NOT_SEALED);
     CHECK(open_for("", 0) == MINISIGN_MISSING_SECRET_KEY_COMMENT);
     CHECK(open_for("\xff", 0) == MINISIGN_NOT_UTF8);
     CHECK(open_for(SIGNATURE, 0) == MINISIGN_RECORD_TOO_SHORT);
@@ -280,9 +303,9 @@ static void keys_of_no_text(void)
         memset(&none, byte, sizeof none);
         before = other;
         opened = none;
-        CHECK(minisign_open_secret_key(&other, 0, NULL, 0, 1, 1, &opened) == MINISIGN_KEY_NOT_READ);
-        CHECK(minisign_open_secret_key(&other, 1, (const uint8_t *) "\xff", 1, 1, 1, &opened) == MINISIGN_KEY_NOT_READ);
-        CHECK(minisign_open_secret_key(&other, 2, NULL, 0, 1, 1, &opened) == MINISIGN_BAD_PASSWORD_FLAG);
+        CHECK(minisign_open_unsealed_key(&other, &opened) == MINISIGN_KEY_NOT_READ);
+        CHECK(minisign_open_sealed_key(&other, (const uint8_t *) "\xff", 1, 1, 0, &opened) == MINISIGN_KEY_NOT_READ);
+        CHECK(open_in_place(&other, "\xff", 1, 0, 0, 3, &opened) == MINISIGN_KEY_NOT_READ);
         CHECK(memcmp(&opened, &none, sizeof none) == 0);
         CHECK(minisign_read_secret_key((const uint8_t *) "\xff", 1, &other) == MINISIGN_NOT_UTF8);
         CHECK(minisign_read_secret_key((const uint8_t *) SIGNATURE, strlen(SIGNATURE), &other) == MINISIGN_RECORD_TOO_SHORT);
@@ -292,7 +315,7 @@ static void keys_of_no_text(void)
     for (int bit = 0; bit < 64; bit++) {
         other = unopened;
         other.mark ^= UINT64_C(1) << bit;
-        CHECK(minisign_open_secret_key(&other, 0, NULL, 0, 1, 1, &opened) == MINISIGN_KEY_NOT_READ);
+        CHECK(minisign_open_unsealed_key(&other, &opened) == MINISIGN_KEY_NOT_READ);
     }
 }
 
@@ -338,22 +361,34 @@ static void taken_in(void)
     CHECK(memcmp(public_key.key, key.secret + 32, 32) == 0 && memcmp(public_key.key_id, key.key_id, 8) == 0);
     CHECK(minisign_secret_key_text(&taken, 0, NULL, 0, &none, 1, NULL, 0, text, sizeof text, &text_len) == MINISIGN_OK);
     CHECK(minisign_read_secret_key(text, text_len, &unopened) == MINISIGN_OK);
-    CHECK(minisign_open_secret_key(&unopened, 0, NULL, 0, 1, 1, &opened) == MINISIGN_OK);
+    CHECK(minisign_open_unsealed_key(&unopened, &opened) == MINISIGN_OK);
     CHECK(memcmp(&opened, &key, sizeof key) == 0);
     memset(text, 0, sizeof text);
     text_len = 0;
 }
 
-/* Makes a key of zeros, sealed with little work where there is a password: N is 1024 and p is 4. */
-static enum minisign_error make_key(uint32_t with_password, uint64_t memory_limit, const char *comment, size_t room)
+/* Every how manieth row is kept where few are: with -DIS_EMULATED not the first one alone, which takes a minute there. */
+#ifdef IS_EMULATED
+#define FEWEST_KEPT 64
+#else
+#define FEWEST_KEPT UINT64_MAX
+#endif
+
+/* Makes a key of zeros, sealed with little work where there is a password: N is 1024, of which p is so many. */
+static enum minisign_error make_key_of(uint64_t p, uint32_t with_password, uint64_t memory_limit, const char *comment, size_t room)
 {
     static const uint8_t key_id[8], secret[64];
-    minisign_sealing sealing = { .operations_limit = 131072, .memory_limit = memory_limit };
+    minisign_sealing sealing = { .operations_limit = 32768 * p, .memory_limit = memory_limit };
     minisign_secret_key zeros;
 
     minisign_take_secret_key(key_id, secret, &zeros);
     return minisign_secret_key_text(&zeros, with_password, ABC, sizeof ABC, &sealing, MINISIGN_KEEP_FEW_ROWS,
                                     (const uint8_t *) comment, strlen(comment), text, room, &text_len);
+}
+
+static enum minisign_error make_key(uint32_t with_password, uint64_t memory_limit, const char *comment, size_t room)
+{
+    return make_key_of(4, with_password, memory_limit, comment, room);
 }
 
 /* Keys that are made, and how opening them is bounded. */
@@ -391,14 +426,70 @@ static void keys_made(void)
     before = opened;
     CHECK(minisign_read_secret_key(sealed, sizeof sealed, &unopened) == MINISIGN_OK);
     CHECK(unopened.is_sealed == 1 && unopened.log2_rows == 10 && unopened.work == 4 && unopened.reserved == 0);
-    CHECK(minisign_open_secret_key(&unopened, 0, NULL, 0, 0, 4, &opened) == MINISIGN_KEY_SEALED);
-    CHECK(minisign_open_secret_key(&unopened, 1, ABC, sizeof ABC, 0, 3, &opened) == MINISIGN_WORK_TOO_HIGH);
-    CHECK(minisign_open_secret_key(&unopened, 1, ABC, 2, 1, 4, &opened) == MINISIGN_WRONG_PASSWORD);
+    CHECK(minisign_open_unsealed_key(&unopened, &opened) == MINISIGN_KEY_SEALED);
+    CHECK(minisign_open_sealed_key(&unopened, (const uint8_t *) "\xff", 1, 0, 0, &opened) == MINISIGN_NOT_UTF8);
+    CHECK(minisign_open_sealed_key(&unopened, ABC, sizeof ABC, 0, 4 * 1024 - 1, &opened) == MINISIGN_WORK_TOO_HIGH);
+    CHECK(minisign_open_sealed_key(&unopened, ABC, 2, 1, 4 * 1024, &opened) == MINISIGN_WRONG_PASSWORD);
     CHECK(memcmp(&before, &opened, sizeof before) == 0);
     unopened.is_sealed = unopened.log2_rows = 0;
     unopened.work = 1;
-    CHECK(minisign_open_secret_key(&unopened, 1, ABC, sizeof ABC, UINT64_MAX, 4, &opened) == MINISIGN_OK);
+    CHECK(minisign_open_sealed_key(&unopened, ABC, sizeof ABC, FEWEST_KEPT, 4 * 1024, &opened) == MINISIGN_OK);
     CHECK(memcmp(&opened, &zeros, sizeof zeros) == 0);
+}
+
+/* How the rows of a key are bounded, and what opening in place takes and answers. What it holds of rows is 1 KiB each. */
+static void rows_bounded(uint64_t p)
+{
+    static const uint64_t kept[] = { 16, 0, 1, FEWEST_KEPT };
+    static const uint8_t key_id[8], secret[64];
+    const uint64_t rows = 1024 * p;
+    minisign_secret_key zeros, opened, before;
+
+    minisign_take_secret_key(key_id, secret, &zeros);
+    memset(&before, 0xaa, sizeof before);
+    CHECK(make_key_of(p, 1, 1 << 20, "c", sizeof text) == MINISIGN_OK);
+    CHECK(minisign_read_secret_key(text, text_len, &unopened) == MINISIGN_OK && unopened.work == p);
+    opened = before;
+    CHECK(minisign_open_sealed_key(&unopened, ABC, sizeof ABC, 1, rows - 1, &opened) == MINISIGN_WORK_TOO_HIGH);
+    CHECK(minisign_open_sealed_key(&unopened, ABC, sizeof ABC, 1, 0, &opened) == MINISIGN_WORK_TOO_HIGH);
+    CHECK(memcmp(&opened, &before, sizeof before) == 0);
+    CHECK(minisign_open_sealed_key(&unopened, ABC, sizeof ABC, 1, rows, &opened) == MINISIGN_OK);
+    CHECK(memcmp(&opened, &zeros, sizeof zeros) == 0);
+    opened = before;
+    CHECK(minisign_open_sealed_key(&unopened, ABC, sizeof ABC, 16, MINISIGN_USUAL_ROWS, &opened) == MINISIGN_OK);
+    CHECK(memcmp(&opened, &zeros, sizeof zeros) == 0);
+    opened = before;
+    CHECK(minisign_open_sealed_key(&unopened, ABC, sizeof ABC, 16, MINISIGN_ANY_ROWS, &opened) == MINISIGN_OK);
+    /* (few rows of many parts take long) */
+    for (size_t i = 0; i < (p == 1 ? sizeof kept / sizeof *kept : 1); i++) {
+        const uint64_t every = kept[i] > 1 ? kept[i] : 1, held = 1024 / every + (1024 % every != 0);
+        uint64_t words_len = 0, bytes_len = 0;
+
+        minisign_opening_memory(&unopened, kept[i], &words_len, &bytes_len);
+        CHECK(256 * held <= words_len && words_len <= 256 * (held + 3) && bytes_len == 1024 * p);
+        opened = before;
+        CHECK(open_in_place(&unopened, "abc", kept[i], rows, words_len - 1, bytes_len, &opened) == MINISIGN_NO_ROOM);
+        CHECK(open_in_place(&unopened, "\xff", kept[i], 0, words_len, bytes_len - 1, &opened) == MINISIGN_NO_ROOM);
+        CHECK(open_in_place(&unopened, "\xff", kept[i], 0, words_len, bytes_len, &opened) == MINISIGN_NOT_UTF8);
+        CHECK(open_in_place(&unopened, "abc", kept[i], rows - 1, words_len, bytes_len, &opened) == MINISIGN_WORK_TOO_HIGH);
+        CHECK(open_in_place(&unopened, "ab", kept[i], rows, words_len, bytes_len, &opened) == MINISIGN_WRONG_PASSWORD);
+        CHECK(memcmp(&opened, &before, sizeof before) == 0);
+        CHECK(open_in_place(&unopened, "abc", kept[i], rows, words_len, bytes_len, &opened) == MINISIGN_OK);
+        CHECK(memcmp(&opened, &zeros, sizeof zeros) == 0);
+    }
+    opened = before;
+    CHECK(open_in_place(&unopened, "abc", 1, MINISIGN_USUAL_ROWS, sizeof words / sizeof *words, sizeof bytes, &opened) == MINISIGN_OK);
+    CHECK(memcmp(&opened, &zeros, sizeof zeros) == 0);
+}
+
+/* A key that wants no password takes no memory, and none is needed to reject it. */
+static void no_memory_wanted(void)
+{
+    uint64_t words_len = 5, bytes_len = 6;
+
+    CHECK(minisign_read_secret_key((const uint8_t *) SECRET_KEY, strlen(SECRET_KEY), &unopened) == MINISIGN_OK);
+    minisign_opening_memory(&unopened, 1, &words_len, &bytes_len);
+    CHECK(words_len == 0 && bytes_len == 0);
 }
 
 /* The base64 of the record of a prehashed signature, RFC 4648. */
@@ -497,6 +588,9 @@ int main(void)
     texts_of_signatures();
     texts_for_minisign();
     keys_made();
+    rows_bounded(1);
+    rows_bounded(32);
+    no_memory_wanted();
     numbers();
     printf("%u passed, %u failed\n", passed, failed);
     return failed != 0;

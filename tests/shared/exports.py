@@ -30,7 +30,7 @@ HEAD = """\
 #include <assert.h>
 #include <stddef.h>
 
-#include "minisign.h"
+#include "minisign_install.h"
 
 #ifdef __cplusplus
 #define ALIGNMENT(type) alignof(type)
@@ -50,9 +50,9 @@ def kinds_in_c(kind):
     if kind == "Global":
         return []
     lent, is_mut, to = re.fullmatch(r"(&?)(mut )?(.*)", kind).groups()
-    const, octets = "" if is_mut else "const ", re.fullmatch(r"\[u8(; \d+)?\]", to)
-    if lent and octets:
-        return [f"{const}uint8_t *", *([] if octets[1] else ["size_t"])]
+    const, slice_of = "" if is_mut else "const ", re.fullmatch(r"\[u(8|32)(; \d+)?\]", to)
+    if lent and slice_of:
+        return [f"{const}uint{slice_of[1]}_t *", *([] if slice_of[2] else ["size_t"])]
     known = KINDS.get(to, f"{to}, which this script does not know")
     return [f"{const}{known} *" if lent else known]
 
@@ -67,8 +67,9 @@ def exported(crate):
 def unfit_declarations():
     """A line for each declaration and each export that have not the same types."""
     exports = exported(sources.read("crates/minisign_c/src/lib.rt"))
-    declared = {it.name: ([boundary.plain_parameter(one) for one in it.parameters], boundary.plain(it.answer))
-                for it in boundary.proved_calls(c_header.Header(sources.read(c_header.FILE)))}
+    headers = c_header.both()
+    declared = {it.name: ([boundary.plain_parameter(one) for one in headers.taken(it)], boundary.plain(it.answer))
+                for it in boundary.proved_calls(headers)}
     return [f"{c_header.FILE} declares {name} with {declared.get(name)}, and the crate has {exports.get(name)}"
             for name in sorted({*declared, *exports}) if declared.get(name) != exports.get(name)]
 
@@ -106,7 +107,8 @@ class Layouts:
     def text(self):
         """The assertions, on each struct of the header."""
         lines, names = [HEAD], {name: struct for struct, name in KINDS.items()}
-        for name in c_header.Header(sources.read(c_header.FILE)).structs:
+        headers = c_header.both()
+        for name in (it for it in headers.structs if it not in headers.in_parts):
             fields, size, alignment = self.layout(names[name])
             lines.append(f"IS_LAID_OUT({name}, {size}, {alignment});")
             lines += [f"IS_AT({name}, {field}, {at}, {length});" for field, at, length in fields if name not in CLOSED]

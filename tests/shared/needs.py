@@ -1,6 +1,9 @@
 """What scripts need from outside: each is looked for first. Where `CI` is set in the environment, what is not there is
 installed, as root on Debian, by one script at a time; else it is a `Missing` that names its package.
 
+The documents name the versions of compilers that Debian has. So Debian's own programs come first, before newer ones that
+stand first in PATH, and where packages may be installed they alone will do.
+
 Needs Python 3.9 or later.
 """
 
@@ -14,6 +17,8 @@ import tempfile
 SECONDS = 600
 # Scripts that install hold this file: apt-get does not wait for another one that renews the list of packages.
 LOCK = os.path.join(tempfile.gettempdir(), "minisign-installing-packages")
+# Where Debian's packages have their programs.
+DEBIAN = "/usr/bin"
 
 HELLO = "int main(void) { return 0; }\n"
 SODIUM = "#include <sodium.h>\nint main(void) { return sodium_init() < 0; }\n"
@@ -23,10 +28,24 @@ class Missing(Exception):
     """Something from outside that is not here and that the script may not, or could not, install."""
 
 
+def is_debian():
+    """Whether this is Debian, or a system made of it."""
+    return os.path.exists("/etc/debian_version") and shutil.which("apt-get") is not None
+
+
 def may_install():
     """Whether `CI` is set, and the script runs as root on Debian or a system made of it."""
-    is_debian = os.path.exists("/etc/debian_version") and shutil.which("apt-get") is not None
-    return bool(os.environ.get("CI")) and os.geteuid() == 0 and is_debian
+    return bool(os.environ.get("CI")) and os.geteuid() == 0 and is_debian()
+
+
+def directories():
+    """The directories of PATH, on Debian with that of its own programs first."""
+    return list(dict.fromkeys([*([DEBIAN] if is_debian() else []), *os.get_exec_path()]))
+
+
+def which(name):
+    """The path of a program, or None: Debian's own, or where none may be installed another one too."""
+    return shutil.which(name, path=DEBIAN if may_install() else os.pathsep.join(directories()))
 
 
 def apt_get(*arguments):
@@ -67,13 +86,13 @@ def need(find, what, *packages):
 
 def program(name, package):
     """The path of a program of a package."""
-    return need(lambda: shutil.which(name), f"the program {name}", package)
+    return need(lambda: which(name), f"the program {name}", package)
 
 
 def compiler_of(source, *flags):
     """The path of a C compiler that makes a program of the source, or None."""
     for name in ("gcc", "cc", "clang"):
-        path = shutil.which(name)
+        path = which(name)
         if path is not None and compiles(path, source, flags):
             return path
     return None
@@ -95,12 +114,23 @@ def c_compiler():
 
 def cpp_compiler():
     """The path of a C++ compiler."""
-    return need(lambda: shutil.which("g++") or shutil.which("c++") or shutil.which("clang++"), "a C++ compiler", "g++")
+    return need(lambda: which("g++") or which("c++") or which("clang++"), "a C++ compiler", "g++")
 
 
 def rust_compiler():
     """The path of a Rust compiler: the one that the environment names RUSTC, or rustc."""
     return os.environ.get("RUSTC") or program("rustc", "rustc")
+
+
+def first_rust_compiler():
+    """The path of a Rust compiler: the one that the environment names RUSTC, or the one that comes first in PATH, which may be
+    newer than Debian's."""
+    return os.environ.get("RUSTC") or shutil.which("rustc") or rust_compiler()
+
+
+def git():
+    """The path of the program that makes clones of a repository."""
+    return program("git", "git")
 
 
 def libsodium():
@@ -126,12 +156,12 @@ def node():
 
 def firefox():
     """The path of the browser firefox, with letters to show."""
-    return need(lambda: shutil.which("firefox-esr"), "the program firefox-esr", "firefox-esr", "fonts-dejavu-core")
+    return need(lambda: which("firefox-esr"), "the program firefox-esr", "firefox-esr", "fonts-dejavu-core")
 
 
 def chromium():
     """The paths of the browser chromium, with letters to show, and of its driver."""
-    browser = need(lambda: shutil.which("chromium"), "the program chromium", "chromium", "fonts-dejavu-core")
+    browser = need(lambda: which("chromium"), "the program chromium", "chromium", "fonts-dejavu-core")
     return browser, program("chromedriver", "chromium-driver")
 
 

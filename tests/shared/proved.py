@@ -168,13 +168,18 @@ def verdict_of(words):
     return re.findall(r"(?m)^logic=proved .*$", words)[-1]
 
 
-def build_archive(name, archive, *flags):
+def toolchain():
+    """The directory of the kit's compilers."""
+    return f"{kit()}/toolchain"
+
+
+def build_archive(name, archive, *flags, compilers=None):
     """Proves a static library over those below it, and builds its archive: its verdict line."""
     why = supply(crates()[name].below)
     if why:
         raise NotBuilt(why)
     os.makedirs(os.path.dirname(archive), exist_ok=True)
-    words = ["--toolchain", f"{kit()}/toolchain", "--backend", "llvm", *flags, "-o", archive]
+    words = ["--toolchain", compilers or toolchain(), "--backend", "llvm", *flags, "-o", archive]
     ran = rattle("build", name, f"{ROOT}/crates/{name}", *words)
     hold(ran, name)
     verdicts[name] = verdict_of(ran.stdout)
@@ -183,7 +188,7 @@ def build_archive(name, archive, *flags):
 
 def link_module(archive, module, memory):
     """Links a static library that is built for WebAssembly, with so many bytes of memory."""
-    words = ["--target", WASM, "--toolchain", f"{kit()}/toolchain", "--memory", str(memory), "-o", module, archive]
+    words = ["--target", WASM, "--toolchain", toolchain(), "--memory", str(memory), "-o", module, archive]
     hold(run([f"{kit()}/bin/rattle-link", *words], ROOT), module)
 
 

@@ -123,8 +123,11 @@ static void watch(void)
     sigaction(SIGTRAP, &action, NULL);
 }
 
-#ifdef __aarch64__
+#if defined(__aarch64__)
 #define TRAP() __asm__ __volatile__("brk #0" : : : "memory")
+#elif !defined(__x86_64__)
+/* (a call changes some registers, and a little of the stack) */
+#define TRAP() raise(SIGTRAP)
 #else
 #define TRAP() __asm__ __volatile__("int3" : : : "memory")
 #endif

@@ -16,8 +16,8 @@ STRICT = "WARNINGS=-std=c11 -Wall -Wextra -Wpedantic -Werror"
 
 
 def path_without_kit():
-    """The directories of PATH that have no `rt`."""
-    return os.pathsep.join(it for it in os.get_exec_path() if not os.path.exists(os.path.join(it, "rt"))) or "/usr/bin:/bin"
+    """The directories of PATH that have no `rt`, with that of Debian's own compilers first."""
+    return os.pathsep.join(it for it in needs.directories() if not os.path.exists(os.path.join(it, "rt"))) or "/usr/bin:/bin"
 
 
 def run_make(*arguments):

@@ -10,8 +10,8 @@ pub struct Work {
     /// Of scrypt's rows each one of so many is kept in memory, and the others are made again: 1 keeps all, 16 takes 65
     /// MiB at most.
     pub keep_every: u64,
-    /// How often all rows may be made for a key that is opened (scrypt's parallelization).
-    pub greatest_work: u32,
+    /// How many rows may be made in all for a key that is opened: scrypt's N times its p.
+    pub most_rows: u64,
     /// How much work a key that is made asks for, as libsodium counts it.
     pub operations_limit: u64,
     /// How many bytes a key that is made asks for, at most 2^30.
@@ -22,7 +22,7 @@ impl Work {
     /// That of `minisign -G`: 1 GiB, and a few seconds.
     pub const USUAL: Work = Work {
         keep_every: raw::KEEP_EVERY_ROW as u64,
-        greatest_work: raw::USUAL_WORK as u32,
+        most_rows: raw::USUAL_ROWS as u64,
         operations_limit: raw::OPERATIONS_LIMIT as u64,
         memory_limit: raw::MEMORY_LIMIT as u64,
     };
@@ -44,7 +44,10 @@ impl SecretKey {
     /// Reads both lines of a file such as `minisign.key`. A password opens a sealed key, and no other one.
     pub fn decode(lines: &str, password: Option<&str>, work: &Work) -> Result<SecretKey, Error> {
         let unopened = raw::read_secret_key(lines.as_bytes())?;
-        Ok(SecretKey(raw::open_secret_key(&unopened, password.map(str::as_bytes), work.keep_every, work.greatest_work)?))
+        Ok(SecretKey(match password {
+            Some(password) => raw::open_sealed_key(&unopened, password.as_bytes(), work.keep_every, work.most_rows)?,
+            None => raw::open_unsealed_key(&unopened)?,
+        }))
     }
 
     /// Reads a file such as `minisign.key`.

@@ -137,49 +137,23 @@ impl Reason {
 }
 
 pub const VERSION_MAJOR: usize = 0;
-pub const VERSION_MINOR: usize = 2;
+pub const VERSION_MINOR: usize = 3;
 pub const VERSION_PATCH: usize = 0;
 pub const ERROR_TEXT_BYTES: usize = 128;
 pub const KEEP_EVERY_ROW: usize = 1;
 pub const KEEP_FEW_ROWS: usize = 16;
-pub const USUAL_WORK: usize = 1;
-pub const ANY_WORK: u32 = 0xffffffff;
+pub const USUAL_ROWS: usize = 1048576;
+pub const ANY_ROWS: u64 = 0xffffffffffffffff;
 pub const OPERATIONS_LIMIT: usize = 33554432;
 pub const MEMORY_LIMIT: usize = 1073741824;
-pub const NUMBER_TEXT_BYTES: usize = 30;
 pub const TEXT_BYTES: usize = 240;
 pub const SECRET_KEY_BYTES: usize = 233;
 pub const PUBLIC_KEY_BYTES: usize = 77;
-pub const VERSION_TEXT: &str = "0.2.0";
+pub const VERSION_TEXT: &str = "0.3.0";
 pub const SECRET_KEY_COMMENT: &str = "minisign encrypted secret key";
 pub const PUBLIC_KEY_COMMENT: &str = "minisign public key ";
 pub const ANSWER_YES: u32 = 7955827;
 pub const ANSWER_NO: u32 = 28271;
-pub const DUE_LOCK: u32 = 1;
-pub const DUE_CLEAR: u32 = 2;
-pub const DUE_READ_RECORD: u32 = 3;
-pub const DUE_CREATE: u32 = 4;
-pub const DUE_COPY: u32 = 5;
-pub const DUE_READ_BACK: u32 = 6;
-pub const DUE_ANSWER: u32 = 7;
-pub const DUE_TAKE_PERMISSIONS: u32 = 8;
-pub const DUE_SYNC: u32 = 9;
-pub const DUE_CREATE_RECORD: u32 = 10;
-pub const DUE_WRITE_RECORD: u32 = 11;
-pub const DUE_SYNC_RECORD: u32 = 12;
-pub const DUE_RENAME_RECORD: u32 = 13;
-pub const DUE_SYNC_RECORD_NAME: u32 = 14;
-pub const DUE_RENAME: u32 = 15;
-pub const DUE_SYNC_NAME: u32 = 16;
-pub const DUE_REMOVE_RECORD: u32 = 17;
-pub const DUE_REMOVE: u32 = 18;
-pub const DUE_INSTALLED: u32 = 19;
-pub const DUE_REFUSED: u32 = 20;
-pub const NUMBERING_TIMESTAMP: u32 = 0;
-pub const NUMBERING_VERSION: u32 = 1;
-pub const OFFER_NEWER: u32 = 1;
-pub const OFFER_SAME: u32 = 2;
-pub const OFFER_OLDER: u32 = 3;
 
 #[repr(C)]
 pub struct State {
@@ -258,6 +232,16 @@ impl Drop for SecretKey {
 }
 
 #[repr(C)]
+pub struct SignedParts {
+    pub signature: [u8; 64],
+    pub comment_signature: [u8; 64],
+    pub trusted_comment: *const u8,
+    pub trusted_comment_len: usize,
+    pub untrusted_comment: *const u8,
+    pub untrusted_comment_len: usize,
+}
+
+#[repr(C)]
 pub struct Sealing {
     pub salt: [u8; 32],
     pub operations_limit: u64,
@@ -280,11 +264,14 @@ extern "C" {
     fn minisign_comment_verdict(state: *const State, second: u32) -> u32;
     fn minisign_verdict(state: *mut State, first: u32, second: u32) -> u32;
     fn minisign_read_secret_key(sk_text: *const u8, sk_text_len: usize, unopened: *mut UnopenedKey) -> u32;
-    fn minisign_open_secret_key(unopened: *const UnopenedKey, with_password: u32, password: *const u8, password_len: usize, keep_every: u64, greatest_work: u32, key: *mut SecretKey) -> u32;
+    fn minisign_open_unsealed_key(unopened: *const UnopenedKey, key: *mut SecretKey) -> u32;
+    fn minisign_open_sealed_key(unopened: *const UnopenedKey, password: *const u8, password_len: usize, keep_every: u64, most_rows: u64, key: *mut SecretKey) -> u32;
+    fn minisign_opening_memory(unopened: *const UnopenedKey, keep_every: u64, words_wanted: *mut u64, bytes_wanted: *mut u64);
+    fn minisign_open_sealed_key_in_place(unopened: *const UnopenedKey, password: *const u8, password_len: usize, keep_every: u64, most_rows: u64, words: *mut u32, words_len: usize, bytes: *mut u8, bytes_len: usize, key: *mut SecretKey) -> u32;
     fn minisign_take_secret_key(key_id: &[u8; 8], secret: &[u8; 64], key: *mut SecretKey);
     fn minisign_public_key_of(key: *const SecretKey, public_key: *mut PublicKey) -> u32;
     fn minisign_comment_message(first: &[u8; 64], trusted: *const u8, trusted_len: usize, message: *mut u8, room: usize) -> u32;
-    fn minisign_signed_text(key: *const SecretKey, first: &[u8; 64], second: &[u8; 64], trusted: *const u8, trusted_len: usize, untrusted: *const u8, untrusted_len: usize, text: *mut u8, room: usize, text_len: *mut usize) -> u32;
+    fn minisign_signed_text(key: *const SecretKey, parts: *const SignedParts, text: *mut u8, room: usize, text_len: *mut usize) -> u32;
     fn minisign_secret_key_text(key: *const SecretKey, with_password: u32, password: *const u8, password_len: usize, sealing: *const Sealing, keep_every: u64, comment: *const u8, comment_len: usize, text: *mut u8, room: usize, text_len: *mut usize) -> u32;
     fn minisign_public_key_text(key: *const SecretKey, comment: *const u8, comment_len: usize, text: *mut u8, room: usize, text_len: *mut usize) -> u32;
 }
@@ -360,10 +347,15 @@ pub fn read_secret_key(sk_text: &[u8]) -> Result<Box<UnopenedKey>, Reason> {
     Ok(unopened)
 }
 
-pub fn open_secret_key(unopened: &UnopenedKey, password: Option<&[u8]>, keep_every: u64, greatest_work: u32) -> Result<Box<SecretKey>, Reason> {
-    let (with_password, password) = (password.is_some().into(), password.unwrap_or_default());
+pub fn open_unsealed_key(unopened: &UnopenedKey) -> Result<Box<SecretKey>, Reason> {
     let mut key = Box::new(SecretKey::ZEROS);
-    done(unsafe { minisign_open_secret_key(unopened, with_password, password.as_ptr(), password.len(), keep_every, greatest_work, &mut *key) })?;
+    done(unsafe { minisign_open_unsealed_key(unopened, &mut *key) })?;
+    Ok(key)
+}
+
+pub fn open_sealed_key(unopened: &UnopenedKey, password: &[u8], keep_every: u64, most_rows: u64) -> Result<Box<SecretKey>, Reason> {
+    let mut key = Box::new(SecretKey::ZEROS);
+    done(unsafe { minisign_open_sealed_key(unopened, password.as_ptr(), password.len(), keep_every, most_rows, &mut *key) })?;
     Ok(key)
 }
 
@@ -385,9 +377,9 @@ pub fn comment_message(first: &[u8; 64], trusted: &[u8]) -> Result<Vec<u8>, Reas
     Ok(message)
 }
 
-pub fn signed_text(key: &SecretKey, first: &[u8; 64], second: &[u8; 64], trusted: &[u8], untrusted: &[u8]) -> Result<String, Reason> {
-    let (mut text, mut len) = (vec![0; TEXT_BYTES + trusted.len() + untrusted.len()], 0);
-    done(unsafe { minisign_signed_text(key, first, second, trusted.as_ptr(), trusted.len(), untrusted.as_ptr(), untrusted.len(), text.as_mut_ptr(), text.len(), &mut len) })?;
+pub fn signed_text(key: &SecretKey, signature: &[u8; 64], comment_signature: &[u8; 64], trusted_comment: &[u8], untrusted_comment: &[u8]) -> Result<String, Reason> {
+    let (mut text, mut len) = (vec![0; TEXT_BYTES + trusted_comment.len() + untrusted_comment.len()], 0);
+    done(unsafe { minisign_signed_text(key, &SignedParts { signature: *signature, comment_signature: *comment_signature, trusted_comment: trusted_comment.as_ptr(), trusted_comment_len: trusted_comment.len(), untrusted_comment: untrusted_comment.as_ptr(), untrusted_comment_len: untrusted_comment.len() }, text.as_mut_ptr(), text.len(), &mut len) })?;
     text_of(text, len)
 }
 
