@@ -25,10 +25,8 @@ INSTALLING = "docs/INSTALLING.md"
 ARCHITECTURE = "docs/ARCHITECTURE.md"
 # What a script makes from the sources, and checks itself.
 MADE = "docs/TRUSTED.md"
-# Fewer lines than these have its first two parts together.
-FIRST_PARTS_LINES = 530
-# Theorems that compute known values of the definitions of the hash and the derivation.
-KNOWN_FILES = ("crates/minisign_hash/proofs/Facts.antt", "crates/minisign_kdf/proofs/Facts.antt")
+# Fewer lines than these has its first part.
+PAGE_LINES = 270
 CALLS = re.compile(r"crates/([^/]+)/CALLING\.md")
 DIRECTORIES = ("tests/", "crates/", "bench/", ".ci/", "docs/", "tools/", "examples/", "c/")
 QUOTED = re.compile(r"`([^`]+)`")
@@ -329,21 +327,17 @@ def check_layers(report, index, files):
                 report.check(is_own, where, f"it names proofs of {other}")
 
 
-def reasons_of(shown, lines):
+def reasons_of(lines):
     """The lines of an edit that say why it is wrong and of which function it is, and all others but the one that says by what it
-    is rejected. Of an edit of must-fail/, which `rt check` reads too, they stand in the README.md beside it."""
-    if "/wrong-bodies/" in shown:
-        reasons = [it for it in lines if it.startswith(("why: ", "fn: "))]
-        return reasons, [it for it in lines if it not in reasons and not it.startswith("by: ")]
-    name = os.path.basename(shown).removesuffix(".edit")
-    told = re.findall(rf"(?m)^- `{re.escape(name)}`, in `(\S+)`: (.+)$", read(f"{os.path.dirname(shown)}/README.md"))
-    return [part for fn, why in told for part in (f"why: {why}", f"fn: {fn}")], lines
+    is rejected."""
+    reasons = [it for it in lines if it.startswith(("why: ", "fn: "))]
+    return reasons, [it for it in lines if it not in reasons and not it.startswith("by: ")]
 
 
 def check_edit(report, shown):
     """A must-fail edit says first why it is wrong, and each of its old texts stands exactly once in its file."""
     crate = "/".join(shown.split("/")[:2])
-    reasons, lines = reasons_of(shown, read(shown).split("\n"))
+    reasons, lines = reasons_of(read(shown).split("\n"))
     path, old, texts, pairs = None, None, {}, 0
     report.check(sum(it.startswith("fn: ") for it in reasons) == 1, shown, "it does not name one function")
     says_why = len(reasons) == 2 and reasons[0].startswith("why: ")
@@ -368,15 +362,9 @@ def check_edit(report, shown):
 
 
 def check_trusted(report):
-    """The first two parts of what is trusted are short: a caller has to believe them who knows the hash and the derivation by their
-    standards. And the theorems that compute known values are named, each with its function."""
-    text = read(MADE)
-    lines = [int(row.split("|")[3]) for row in text.split("\n") if re.match(r"\| [12]\. ", row)]
-    report.check(len(lines) == 2 and sum(lines) < FIRST_PARTS_LINES, MADE, f"its first two parts have {lines} lines")
-    named = set(re.findall(r"`([^`]+)` of `(\w+)`", text.partition("### Known values")[2].partition("\n## ")[0]))
-    there = {(it.name, re.search(r":\s+\(?(\w+)", it.text)[1]) for file in KNOWN_FILES
-             for it in sources.read_module(os.path.join(ROOT, file)).definitions.values() if it.text.startswith("pub ")}
-    report.check(named == there, MADE, f"of the known values it names too much or too little: {sorted(named ^ there)}")
+    """The first part of what is trusted, on which a verdict rests, is one page."""
+    lines = [int(row.split("|")[3]) for row in read(MADE).split("\n") if row.startswith("| 1. ")]
+    report.check(len(lines) == 1 and lines[0] < PAGE_LINES, MADE, f"its first part has {lines} lines")
 
 
 def check_version(report, documents):
