@@ -1,6 +1,6 @@
 // SPDX-License-Identifier: MIT
 // check DATA SIGNATURE: exits with status 0 exactly where the key that is built in vouches for the data, as an updater
-// checks what it has fetched.
+// checks what it has fetched; with 1 where it does not; with 2 where a file cannot be read, or is longer than the room.
 #include <stdio.h>
 
 #include <sodium.h>
@@ -10,13 +10,13 @@
 static const char KEY[] = "RWQf6LRCGA9i53mlYecO4IzT51TGPpvWucNSCh1CBM0QTaLn73Y7GFO3";
 static uint8_t data[1 << 24], signature[1 << 16], message[sizeof signature];
 
-// Reads a file that is shorter than the room for it; 0 where it is not, and where it cannot be read.
-static size_t read_file(const char *name, uint8_t *to, size_t room)
+// Reads a file that is shorter than the room for it. What was not read whole is never taken for an empty file.
+static int read_file(const char *name, uint8_t *to, size_t room, size_t *len)
 {
     FILE *file = fopen(name, "rb");
-    size_t len = file == NULL ? 0 : fread(to, 1, room, file);
 
-    return len < room && file != NULL && !ferror(file) ? len : 0;
+    *len = file == NULL ? 0 : fread(to, 1, room, file);
+    return file != NULL && !ferror(file) && *len < room;
 }
 
 int main(int argc, char **argv)
@@ -26,11 +26,11 @@ int main(int argc, char **argv)
     size_t comment_len, len, signature_len;
 
     if (argc != 3 || sodium_init() < 0
-        || minisign_read_bare_public_key((const uint8_t *) KEY, sizeof KEY - 1, &key) != MINISIGN_OK) {
+        || minisign_read_bare_public_key((const uint8_t *) KEY, sizeof KEY - 1, &key) != MINISIGN_OK
+        || !read_file(argv[1], data, sizeof data, &len)
+        || !read_file(argv[2], signature, sizeof signature, &signature_len)) {
         return 2;
     }
-    len = read_file(argv[1], data, sizeof data);
-    signature_len = read_file(argv[2], signature, sizeof signature);
     return minisign_verify_in_memory(&key, signature, signature_len, data, len, crypto_sign_verify_detached, message,
                                      sizeof message, &comment, &comment_len)
                    == MINISIGN_OK

@@ -285,13 +285,34 @@ def run_simple_signer(checks, program, room, minisign):
             checks.check(status == 1 and rejected.lower() in why.lower(), f"signing simply, {what}: status {status}, {why!r}")
 
 
-def run_check(checks, program, room):
-    """An updater's check, under the published key."""
+def check_under(checks, key, root, room):
+    """The updater's check built with this key in place of the published one."""
+    source, program = os.path.join(room, "check-under.c"), os.path.join(room, "check-under")
+    with open(source, "wb") as file:
+        file.write(re.sub(rb'KEY\[\] = "[^"]*"', b'KEY[] = "%s"' % key, read(os.path.join(EXAMPLES, "check.c"))))
+    archive = os.path.join(root, "lib", "libminisign.a")
+    status, _, said = run([needs.libsodium(), "-std=c99", *STRICT, *flags_of(root, room, "--cflags"), source, archive, "-lsodium", "-o", program])
+    checks.check(status == 0, f"check under another key was not built: {said[-1000:]}")
+    return [program]
+
+
+def run_check(checks, program, root, room):
+    """An updater's check under the published key, and under one that has signed an empty file: data that are not read whole
+    are not taken for that."""
     good, signature = (os.path.join(CORPUS, name) for name in ("test", "published.minisig"))
     other = write(room, "other-test", changed(read(good), 0))
-    for what, words, wanted in (("good", (good, signature), 0), ("other data", (other, signature), 1),
-                                ("no signature", (good, good), 1), ("no data", (os.path.join(room, "nothing"), signature), 1)):
-        status, said, why = run([*program, *words])
+    missing, empty, empty_signature = (os.path.join(room, name) for name in ("nothing", "empty", "empty.sig"))
+    long = write(room, "long", bytes(1 << 24))
+    under = check_under(checks, read(os.path.join(room, "key.pub")).split()[-1], root, room)
+    for what, check, words, wanted in (
+            ("good", program, (good, signature), 0), ("other data", program, (other, signature), 1),
+            ("no signature", program, (good, good), 1), ("no data", program, (missing, signature), 2),
+            ("no text", program, (good, missing), 2), ("too long a text", program, (good, long), 2),
+            ("an empty file", under, (empty, empty_signature), 0), ("other data than none", under, (good, empty_signature), 1),
+            ("no data for an empty file", under, (missing, empty_signature), 2),
+            ("a directory for an empty file", under, (room, empty_signature), 2),
+            ("too long a file for an empty file", under, (long, empty_signature), 2)):
+        status, said, why = run([*check, *words])
         checks.check((status, said, why) == (wanted, "", ""), f"check, {what}: status {status}, {said!r}, {why!r}")
 
 
@@ -321,7 +342,7 @@ def use(checks, root, room, minisign):
     run_verifiers(checks, programs, root, room, minisign)
     run_signer(checks, programs["sign"], room, minisign)
     run_simple_signer(checks, programs["simple calls"], room, minisign)
-    run_check(checks, programs["check"], room)
+    run_check(checks, programs["check"], root, room)
     run_programs(checks, root, room, minisign)
 
 
