@@ -205,6 +205,21 @@ class Skip(Exception):
     """A run that cannot be made here, and why."""
 
 
+def run_cases(cases):
+    """Runs named cases one after another: what failed, and how many were not skipped."""
+    failures, count = [], 0
+    for name, run in cases:
+        try:
+            run()
+        except Skip as why:
+            print(f"skipped: {name}: {why}")
+            continue
+        except (Failure, subprocess.SubprocessError, OSError) as why:
+            failures.append(f"{name}: {why}")
+        count += 1
+    return failures, count
+
+
 class Runner:
     """Runs a program in fresh directories below a temporary one, as nobody where the script itself runs as root."""
 

@@ -12,7 +12,7 @@ import subprocess
 import tempfile
 
 from permissions import COMMON, WITH_LISTS, permission_cases
-from running import Failure, Skip, build_preload
+from running import Failure, build_preload, run_cases
 from surviving import SmallDisk
 from whole_running import SECONDS, files_in, put_files, record_of
 
@@ -336,14 +336,4 @@ def cases(breaking, keys):
 
 def run_breaking(program, room, keys):
     """Runs all of them: the failures, and how many cases there were."""
-    failures, count = [], 0
-    for name, run in cases(Breaking(program, room), keys):
-        count += 1
-        try:
-            run()
-        except Skip as why:
-            print(f"skipped: {name}: {why}")
-            count -= 1
-        except (Failure, subprocess.SubprocessError) as why:
-            failures.append(f"{name}: {why}")
-    return failures, count
+    return run_cases(cases(Breaking(program, room), keys))

@@ -18,7 +18,7 @@ from dataclasses import dataclass
 from functools import partial
 
 from permissions import list_of
-from running import NOBODY, Failure, Skip, build_preload, set_list
+from running import NOBODY, Failure, Skip, build_preload, run_cases, set_list
 from whole_breaking import MEMORY, is_public, is_secret, is_signature
 from whole_cases import CLOSED, OPEN, PASSWORD, PUBLIC
 from whole_places import Mounted
@@ -634,18 +634,9 @@ def run_strangers(whole, room, keys):
         print("skipped: what strangers put somewhere: only root makes files of others")
         return [], 0
     print(f"what strangers put somewhere is tried with {settings()}")
-    strangers, count = Strangers(whole.ours, room, keys), 0
-    minisign = Strangers(whole.theirs, room, keys)
+    strangers, minisign = Strangers(whole.ours, room, keys), Strangers(whole.theirs, room, keys)
     with minisign.kept:
-        failures = list(passes_of_minisign(minisign))
+        passes = list(passes_of_minisign(minisign))
     with strangers.kept:
-        for name, run in cases(strangers):
-            count += 1
-            try:
-                run()
-            except Skip as why:
-                print(f"skipped: {name}: {why}")
-                count -= 1
-            except (Failure, subprocess.SubprocessError, OSError) as why:
-                failures.append(f"{name}: {why}")
-    return failures, count + len(ROWS)
+        failures, count = run_cases(cases(strangers))
+    return passes + failures, len(ROWS) + count
