@@ -8,16 +8,17 @@
  * verdict. What Ed25519 answers is yours.
  *
  * The calls stand in the order in which a program has things. To verify: a public key is read, from two lines or
- * from its base64 alone; minisign_ask takes the key and the text of a signature, rejects what is wrong with them,
- * and tells the two questions; the data is fed; minisign_digest completes the first question; minisign_verdict
- * takes the two answers. To sign: a secret key is read and opened; the data is fed; minisign_digest tells what is
- * signed first; the key and the two signatures make the text.
+ * from its base64 alone, and a signature from its text; minisign_ask takes both, rejects what does not belong together,
+ * and tells the two questions; the data is fed; minisign_digest completes the first question; minisign_verdict takes
+ * the two answers. To sign: a secret key is read and opened; the data is fed; minisign_digest tells what is signed
+ * first; the key and the two signatures make the text.
  *
- * What is proved, for a caller that meets "Requirements" below: what each call answers and writes, as the contract of
- * its export says in crates/minisign_c/src/lib.rt of the sources. By tests alone is shown: that what was taken from
- * malloc is cleared and given back, and that no secret stays behind on the stack or in registers; that
- * MINISIGN_TEXT_BYTES is room enough; what c/boundary.c, c/allocation.c and c/clearing.c do, which stand between this
- * page, the proved calls and malloc; and that the English of this page says what the contracts say.
+ * What is proved, for a caller that meets "Requirements" below: what each call answers and writes, as the contract
+ * of its export says in crates/minisign_c/src/lib.rt of the sources, and what the calls that verify, and those that
+ * sign, come to in their order, as in_a_row.rt there says. By tests alone is shown: that what was taken from malloc
+ * is cleared and given back, and that no secret stays behind on the stack or in registers; that MINISIGN_TEXT_BYTES
+ * is room enough; what c/library/boundary.c, c/library/allocation.c and c/library/clearing.c do, which stand
+ * between this page, the proved calls and malloc; and that the English of this page says what the contracts say.
  *
  * For x86-64 and AArch64 under Linux the calls are those that were proved and built, of x86-64 in one copy for
  * processors with AVX2 (x86-64-v3), and one for those since 2009 (x86-64-v2). For any other processor or system, also
@@ -89,23 +90,23 @@ extern "C" {
  *   (sigaltstack) has registers written there by the system, which the library cannot clear. Registers are
  *   cleared on x86-64 and AArch64 with ELF, and under Linux on s390x, 32-bit ARM and 64-bit RISC-V; elsewhere the memory
  *   and the stack alone are.
- * - The bytes of a state are written by the library alone, beginning with minisign_init, and the marks of a secret
- *   key, unopened or open, by the library alone. Each may be copied by assignment or memcpy: a state to go on from one
- *   point twice. A state needs no clearing at the end, but holds up to 256 of the last bytes of the data. Set a secret
- *   key, unopened or open, to zeros before its first use, and clear it after the last.
+ * - The bytes of a state are written by the library alone, beginning with minisign_init; so are those of a signature,
+ *   and the marks of a secret key, unopened or open. Each may be copied by assignment or memcpy: a state to go on from
+ *   one point twice. A state needs no clearing at the end, but holds up to 256 of the last bytes of the data. Set a
+ *   signature, and a secret key, unopened or open, to zeros before its first use, and clear a secret key after the last.
  * - The answers are those of an Ed25519 on exactly the questions that were asked.
  *
  * A usage error that a state or a key shows is an error number and changes nothing: a state never begun (its first
- * eight bytes are not those of minisign_init), data or questions after the digest was told, questions asked twice,
- * a verdict before the questions or the digest, opening a secret key that was not read, a text of one that was not
- * opened.
+ * eight bytes are not those of minisign_init), data or questions after the digest was told, questions asked twice, or
+ * about a signature that was not read or was read from another text, a verdict before the questions or the digest,
+ * opening a secret key that was not read, a text of one that was not opened.
  */
 
 /* The version of the library, as MINISIGN_VERSION of the header that it came with. Since 0.1. */
 uint32_t minisign_version(void);
 
-/* Numbers of errors: up to 15, and 63, of usage, of memory and of bytes that are not UTF-8, from 16 on of what the
- * texts say. */
+/* Numbers of errors: up to 15, and from 61 to 63, of usage, of memory and of bytes that are not UTF-8, from 16 on of
+ * what the texts say. */
 /* Numbers, made by tools/header.py. */
 enum minisign_error {
     MINISIGN_OK = 0,
@@ -230,6 +231,10 @@ enum minisign_error {
     /* The number of the trusted comment is the one that is kept, other data stands at the target, and the caller
      * did not ask for the update to be installed again. */
     MINISIGN_SAME_NUMBER = 57,
+    /* The text is not the one that the signature was read from. */
+    MINISIGN_OTHER_SIGNATURE_TEXT = 61,
+    /* A signature that is asked about was not read. */
+    MINISIGN_SIGNATURE_NOT_READ = 62,
     /* A secret key that is to be opened was not read. */
     MINISIGN_KEY_NOT_READ = 63,
     /* A source, a file or a prompt's reader failed at a read. */
@@ -287,6 +292,36 @@ MINISIGN_MUST_USE enum minisign_error minisign_read_public_key(
 MINISIGN_MUST_USE enum minisign_error minisign_read_bare_public_key(
     const uint8_t *base64, size_t base64_len, minisign_public_key *key);
 
+/* A signature as its text has it. The mark and the digest of the text are the library's; what else stands here is for
+ * you to read: a key can be chosen by key_id, and a legacy signature recognized, before anything is asked. */
+typedef struct minisign_signature {
+    uint64_t mark;
+    uint8_t key_id[8];             /* of the key that signed, as the text has it */
+    uint8_t signature[64];         /* of the digest of the data, or of the data itself where legacy is 1 */
+    uint8_t comment_signature[64]; /* zeros where the text has fewer than 64 bytes of it */
+    /* Where in the text the trusted comment stands, which nothing vouches for yet: from which byte on, and how many. */
+    uint64_t comment_offset;
+    uint64_t comment_len;
+    uint8_t text_digest[32]; /* Blake2b-256 of the text */
+    uint8_t algorithm[2];    /* "ED", or "Ed" where legacy is 1 */
+    uint8_t legacy;          /* 1 where the signature is over the data itself, otherwise 0 */
+    uint8_t whole;           /* 1 where the text has 64 bytes of the comment signature, otherwise 0 */
+    uint32_t reserved;       /* 0 */
+} minisign_signature;
+
+/*
+ * Reads the signature of a text, all of a file such as data.minisig. Keep the text until minisign_ask: the trusted
+ * comment stands there. Does not allocate.
+ *
+ * The errors, in this order: MINISIGN_NOT_UTF8; MINISIGN_MISSING_UNTRUSTED_COMMENT, MINISIGN_MISSING_SIGNATURE,
+ * MINISIGN_MISSING_TRUSTED_COMMENT, MINISIGN_MISSING_COMMENT_SIGNATURE; MINISIGN_UNTRUSTED_COMMENT_PREFIX;
+ * MINISIGN_SIGNATURE_NOT_BASE64, MINISIGN_RECORD_TOO_SHORT of the second line; MINISIGN_TRUSTED_COMMENT_PREFIX;
+ * MINISIGN_UNSUPPORTED_ALGORITHM; MINISIGN_SIGNATURE_NOT_BASE64 of the fourth line. Then the signature stays as it
+ * was. Since 0.3.
+ */
+MINISIGN_MUST_USE enum minisign_error minisign_read_signature(
+    const uint8_t *sig_text, size_t sig_text_len, minisign_signature *signature);
+
 /* What has to be asked of Ed25519, both times under public_key. */
 typedef struct minisign_questions {
     uint8_t public_key[32];
@@ -299,20 +334,19 @@ typedef struct minisign_questions {
      * rejects, whatever the second answer is. */
     uint8_t comment_signature[64];
     uint64_t message_len;
-    /* The key IDs, of the key and of the signature. Equal where the questions were asked; also written where the
-     * text of the signature reads and the questions were not asked, as with MINISIGN_DIFFERENT_KEY_IDS. */
-    uint8_t public_key_id[8];
-    uint8_t signature_key_id[8];
-    /* 1 where the signature is over the data itself ("Ed"), 0 where it is over the digest ("ED"). */
-    uint32_t legacy;
-    /* 0. */
-    uint32_t reserved;
+    /* Where in that message the trusted comment stands: from which byte on, and how many. Show this one: it is what
+     * Ed25519 was asked about. */
+    uint64_t comment_offset;
+    uint64_t comment_len;
+    uint32_t legacy;   /* 1 where the signature is over the data itself ("Ed"), 0 where it is over the digest ("ED") */
+    uint32_t reserved; /* 0 */
 } minisign_questions;
 
 /*
- * Asks, before any data: from the public key and the text of the signature (a file such as data.minisig) what
- * Ed25519 has to answer. All that the texts are rejected for is told here. The message of the second question is
- * written to message, of room bytes; room for sig_text_len bytes is always enough. The state then takes the data.
+ * Asks, before any data: from the public key, the signature and the text that it was read from what Ed25519 has to
+ * answer. The text is not read again: of it only the trusted comment is taken. The message of the second question is
+ * written to message, of room bytes: 64 + comment_len of the signature are room enough, and no less. The state then
+ * takes the data.
  *
  * allow_legacy is 1 where signatures over the data itself will do, otherwise 0. Such a question is about the data
  * and not its digest, so hold the data in memory if you allow them.
@@ -321,14 +355,15 @@ typedef struct minisign_questions {
  * see minisign_comment_verdict. A state that was fed before it is asked goes on from there: the questions are about
  * all that it was fed.
  *
- * After an error the state and the message stay as they were, and you may ask again. The errors, in this order:
- * MINISIGN_BAD_LEGACY_FLAG; MINISIGN_NOT_BEGUN, MINISIGN_ALREADY_ASKED; MINISIGN_NOT_UTF8; those of the text of the
- * signature; MINISIGN_DIFFERENT_KEY_IDS, MINISIGN_LEGACY_NOT_ACCEPTED; MINISIGN_NO_ROOM. Does not allocate.
- * Since 0.2.
+ * After an error the state, the questions and the message stay as they were, and you may ask again. The errors, in
+ * this order: MINISIGN_BAD_LEGACY_FLAG; MINISIGN_NOT_BEGUN, MINISIGN_ALREADY_ASKED; MINISIGN_SIGNATURE_NOT_READ;
+ * MINISIGN_OTHER_SIGNATURE_TEXT, where the digest of the text is not that of the one that was read;
+ * MINISIGN_DIFFERENT_KEY_IDS, MINISIGN_LEGACY_NOT_ACCEPTED; MINISIGN_NO_ROOM. Does not allocate. Since 0.3.
  */
 MINISIGN_MUST_USE enum minisign_error minisign_ask(
-    minisign_state *state, const minisign_public_key *key, const uint8_t *sig_text, size_t sig_text_len,
-    uint32_t allow_legacy, minisign_questions *questions, uint8_t *message, size_t room);
+    minisign_state *state, const minisign_public_key *key, const minisign_signature *signature,
+    const uint8_t *sig_text, size_t sig_text_len, uint32_t allow_legacy, minisign_questions *questions,
+    uint8_t *message, size_t room);
 
 /* Your answers: the letters "yes" and "no" as numbers. Any other number is an error, so that no truth value, no
  * "0 for success" or "-1 for failure" of another library, and no error number is taken for one. */
@@ -505,7 +540,7 @@ MINISIGN_MUST_USE enum minisign_error minisign_signed_text(
  * changed by opening a key, with minisign_open_sealed_key, and writing its text again with a new salt; a lost public
  * key is written again from the secret one. */
 
-/* How a secret key is sealed: the limits are those of libsodium's scrypt. */
+/* How a secret key is sealed, by libsodium's limits: with 0 and 0 a guess takes two rows of 1 KiB, made 512 times. */
 typedef struct minisign_sealing {
     uint8_t salt[32];          /* random bytes, of no other key */
     uint64_t operations_limit; /* how much work scrypt is */

@@ -16,26 +16,23 @@ typedef int minisign_sign_detached(unsigned char *sig, unsigned long long *sig_l
                                    unsigned long long m_len, const unsigned char *sk);
 
 /* MINISIGN_OK exactly where a public key and the text of a signature vouch for the data; legacy signatures are rejected.
- * The trusted comment is then the *comment_len bytes at *comment, in message: room for sig_text_len is always enough. */
+ * The trusted comment is then told by q: comment_len bytes of message from comment_offset on. Room for sig_text_len bytes
+ * is always enough. */
 MINISIGN_MUST_USE static inline enum minisign_error minisign_verify_in_memory(
     const minisign_public_key *key, const uint8_t *sig_text, size_t sig_text_len, const uint8_t *data, size_t len,
-    minisign_verify_detached *verify, uint8_t *message, size_t room, const uint8_t **comment, size_t *comment_len)
+    minisign_verify_detached *verify, minisign_questions *q, uint8_t *message, size_t room)
 {
-    minisign_questions q;
+    static const enum minisign_answer answers[2] = { MINISIGN_ANSWER_YES, MINISIGN_ANSWER_NO };
+    minisign_signature signature;
     minisign_state state;
-    int rejected[2];
 
     minisign_init(&state);
-    MINISIGN_TRY(minisign_ask(&state, key, sig_text, sig_text_len, 0, &q, message, room));
+    MINISIGN_TRY(minisign_read_signature(sig_text, sig_text_len, &signature));
+    MINISIGN_TRY(minisign_ask(&state, key, &signature, sig_text, sig_text_len, 0, q, message, room));
     MINISIGN_TRY(minisign_update(&state, data, len));
-    MINISIGN_TRY(minisign_digest(&state, q.digest));
-    rejected[0] = verify(q.signature, q.digest, sizeof q.digest, q.public_key);
-    rejected[1] = verify(q.comment_signature, message, q.message_len, q.public_key);
-    MINISIGN_TRY(minisign_verdict(&state, rejected[0] == 0 ? MINISIGN_ANSWER_YES : MINISIGN_ANSWER_NO,
-                                  rejected[1] == 0 ? MINISIGN_ANSWER_YES : MINISIGN_ANSWER_NO));
-    *comment = message + 64;
-    *comment_len = q.message_len - 64;
-    return MINISIGN_OK;
+    MINISIGN_TRY(minisign_digest(&state, q->digest));
+    return minisign_verdict(&state, answers[verify(q->signature, q->digest, sizeof q->digest, q->public_key) != 0],
+                            answers[verify(q->comment_signature, message, q->message_len, q->public_key) != 0]);
 }
 
 /* Writes the text of a signature of the data under a key that was opened, with the comments of parts, which gets both
@@ -47,21 +44,19 @@ MINISIGN_MUST_USE static inline enum minisign_error minisign_sign_in_memory(
     size_t *text_len)
 {
     minisign_public_key pk;
+    minisign_questions q;
     minisign_state state;
-    const uint8_t *comment;
-    uint8_t digest[64];
-    size_t comment_len;
     enum minisign_error error;
 
     MINISIGN_TRY(minisign_public_key_of(key, &pk));
     minisign_init(&state);
     MINISIGN_TRY(minisign_update(&state, data, len));
-    MINISIGN_TRY(minisign_digest(&state, digest));
-    sign(parts->signature, NULL, digest, sizeof digest, key->secret);
+    MINISIGN_TRY(minisign_digest(&state, q.digest));
+    sign(parts->signature, NULL, q.digest, sizeof q.digest, key->secret);
     MINISIGN_TRY(minisign_comment_message(parts->signature, parts->trusted_comment, parts->trusted_comment_len, message, room));
     sign(parts->comment_signature, NULL, message, 64 + parts->trusted_comment_len, key->secret);
     MINISIGN_TRY(minisign_signed_text(key, parts, text, room, text_len));
-    error = minisign_verify_in_memory(&pk, text, *text_len, data, len, verify, message, room, &comment, &comment_len);
+    error = minisign_verify_in_memory(&pk, text, *text_len, data, len, verify, &q, message, room);
     if (error != MINISIGN_OK) {
         memset(text, 0, *text_len);
         memset(parts->signature, 0, sizeof parts->signature);

@@ -16,6 +16,7 @@ use Rattle.minisign_base.specs.declared.faults.NamedFault.TheVariants as named
 use Rattle.minisign.specs.Records.{PublicKeyRecord}
 use Rattle.minisign.specs.Texts.{line, base64_of, base64_bytes, is_base64, untrusted_comment_label}
 use Rattle.minisign.specs.PublicKeyText.{read_public_key, read_bare_public_key}
+use Rattle.minisign.specs.CommentPlace.{comment_offset}
 use Rattle.minisign.specs.SignatureText.{SignatureTextRecord, read_signature, trusted_comment_label}
 use Rattle.minisign.specs.SecretKeyText.{read_secret_key}
 use Rattle.minisign.specs.Acceptance.{Verifier}
@@ -185,6 +186,18 @@ pub signature_of_text :
     ≡ Ok published_signature
 unfolding readers
 signature_of_text = refl
+
+-- where its trusted comment begins; with a carriage return at the end of each line the lines before it are longer, and two
+-- spaces before it do not belong to it
+pub comment_of_text : comment_offset (text_of untrusted_line signature_line trusted_line comment_signature_line) ≡ 172
+unfolding readers comment_offset
+comment_of_text = refl
+
+pub comment_behind_spaces :
+    comment_offset (text_of (untrusted_line ++ 13 ∷ []) (signature_line ++ 13 ∷ []) (codes "trusted comment:   x " ++ 13 ∷ [])
+    comment_signature_line) ≡ 176
+unfolding readers comment_offset
+comment_behind_spaces = refl
 
 -- a text for each error
 pub signature_without_first_line : read_signature [] ≡ Err (Named named.MissingUntrustedComment)

@@ -21,6 +21,7 @@ pub mod Choosing
 pub mod Conversations
 pub mod WrittenKeys
 pub mod SignatureTexts
+pub mod CommentPlaces
 pub mod SignedTexts
 pub mod DefaultComments
 pub mod Passes

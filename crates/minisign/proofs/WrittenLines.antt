@@ -23,7 +23,7 @@ stripped l x (inr e) =
     let front : take (length l - 1) l ≡ x = grind (arith, common_steps) in
     ap (λ t. cond t (take (length l - 1) l) l) (eq-eqb _ 13 last) ∙ front
 
-lines_of_parts-cons : (x : List ℕ) (parts : List (List ℕ)) → 0 < length parts → lines_of_parts (x ∷ parts) ≡ strip_carriage_return x ∷ lines_of_parts parts
+pub lines_of_parts-cons : (x : List ℕ) (parts : List (List ℕ)) → 0 < length parts → lines_of_parts (x ∷ parts) ≡ strip_carriage_return x ∷ lines_of_parts parts
 lines_of_parts-cons x [] l = absurd (omega arith)
 lines_of_parts-cons x (y ∷ more) l = refl
 

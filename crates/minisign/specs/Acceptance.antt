@@ -1,10 +1,14 @@
--- When a signature box vouches for data under a public key: as a record of conditions, and as a function that gives the
--- first one that fails. And what is said where it does.
-use Rattle.std.specs.Prelude.{◌≡◌, ⊤, ℕ, ◌≤◌, Bool, true, IsTrue, ◌⊎◌, ◌||◌, ◌&&◌, if◌then◌else◌, nat_le, List, [], ◌++◌, length, take, Option, IfSome, Result, Ok, codes, bytes_eq, option_map}
-use Rattle.minisign.specs.Common.{option_map_or, blake2b_digest, Fault, DifferentKeyIds, LegacyNotAccepted, SignatureRefused, CommentSignatureRefused}
+-- When a signature box vouches for data under a public key: as a record of conditions, and as a function that
+-- gives the first one that fails. And what is said where it does.
+use Rattle.std.specs.Prelude.{◌≡◌, ⊤, ℕ, ◌≤◌, Bool, true, IsTrue, ◌⊎◌, ◌||◌, ◌&&◌, if◌then◌else◌, nat_le}
+use Rattle.std.specs.Prelude.{List, [], ◌++◌, length, take, Option, IfSome, Result, Ok, codes, bytes_eq}
+use Rattle.std.specs.Prelude.{option_map}
+use Rattle.minisign.specs.Common.{option_map_or, blake2b_digest, Fault, DifferentKeyIds, LegacyNotAccepted}
+use Rattle.minisign.specs.Common.{SignatureRefused, CommentSignatureRefused}
 use Rattle.minisign.specs.Texts.{line, and_then, require}
 use Rattle.minisign.specs.declared.options.VerifyOptions.{VerifyOptions}
-use Rattle.minisign.specs.Records.{PublicKeyRecord, SignatureRecord, CommentsRecord, SignatureBoxRecord, is_prehashed, prehashed_algorithm}
+use Rattle.minisign.specs.Records.{PublicKeyRecord, SignatureRecord, CommentsRecord, SignatureBoxRecord}
+use Rattle.minisign.specs.Records.{is_prehashed, prehashed_algorithm}
 
 -- what a scheme accepts: a message, a public key and a signature
 abbrev pub Verifier : Type 0
@@ -25,7 +29,8 @@ pub record CommentIsSigned (accepts : Verifier) (pk : PublicKeyRecord) (s : Sign
   pub long_enough : 64 ≤ length c.signature
   pub signed : IsTrue (accepts (s.signature ++ c.trusted) pk.key (take 64 c.signature))
 
--- the box vouches for the message under the public key; legacy says whether a signature over the message itself will do
+-- the box vouches for the message under the public key; legacy says whether a signature over the message
+-- itself will do
 pub record Vouches (accepts : Verifier) (pk : PublicKeyRecord) (x : SignatureBoxRecord) (message : List ℕ)
     (legacy : Bool) : Type 0 where
   pub same_key : x.signature.keynum ≡ pk.keynum
@@ -33,14 +38,14 @@ pub record Vouches (accepts : Verifier) (pk : PublicKeyRecord) (x : SignatureBox
   pub signed : IsTrue (accepts (signed_bytes x message) pk.key x.signature.signature)
   pub comment_signed : IfSome x.comments (CommentIsSigned accepts pk x.signature)
 
--- the test of the comments of a box: the comment signature has 64 bytes, and the first 64 are accepted; a bare
--- signature has none to test
+-- the test of the comments of a box: the comment signature has 64 bytes, and the first 64 are accepted; a
+-- bare signature has none to test
 abbrev pub accepts_comments : Verifier → PublicKeyRecord → SignatureBoxRecord → Bool
 accepts_comments accepts pk x = option_map_or (λ c. nat_le 64 (length c.signature)
     && accepts (x.signature.signature ++ c.trusted) pk.key (take 64 c.signature)) x.comments true
 
--- what the key ID of a key and a signature alone decide, in this order: the signature is made by the key of this key
--- ID, and it is over the digest of the data, where one over the data itself will not do
+-- what the key ID of a key and a signature alone decide, in this order: the signature is made by the key of
+-- this key ID, and it is over the digest of the data, where one over the data itself will not do
 abbrev pub judge_key : List ℕ → SignatureRecord → Bool → Result ⊤ Fault
 judge_key key_id s legacy =
     require (bytes_eq s.keynum key_id) (DifferentKeyIds s.keynum key_id)
@@ -58,7 +63,8 @@ judge_answers signature comments =
 abbrev pub judge : Verifier → PublicKeyRecord → SignatureBoxRecord → List ℕ → Bool → Result ⊤ Fault
 judge accepts pk x message legacy =
     and_then (judge_key pk.keynum x.signature legacy) (λ _.
-    judge_answers (accepts (signed_bytes x message) pk.key x.signature.signature) (accepts_comments accepts pk x))
+    judge_answers (accepts (signed_bytes x message) pk.key x.signature.signature)
+    (accepts_comments accepts pk x))
 
 -- the box vouches for the message under every public key that has these 32 bytes and this key ID
 abbrev pub VouchesUnderEachKey : Verifier → List ℕ → List ℕ → List ℕ → SignatureBoxRecord → Type 0
@@ -69,7 +75,8 @@ VouchesUnderEachKey accepts key keynum message x =
 -- all but the algorithm of a key, the untrusted comment, and the bytes past the 64th of the comment signature
 abbrev pub judged_parts : PublicKeyRecord → SignatureBoxRecord
     → List ℕ × List ℕ × SignatureRecord × Option (List ℕ × List ℕ)
-judged_parts pk x = (pk.keynum, pk.key, x.signature, option_map (λ c. (c.trusted, take 64 c.signature)) x.comments)
+judged_parts pk x =
+    (pk.keynum, pk.key, x.signature, option_map (λ c. (c.trusted, take 64 c.signature)) x.comments)
 
 unfoldable pub verified_text : List ℕ
 verified_text = codes "Signature and comment signature verified"
@@ -79,4 +86,5 @@ trusted_comment_text = codes "Trusted comment: "
 
 -- what is said of a box that was accepted: that it was, and the trusted comment where there is one
 abbrev pub status_lines : SignatureBoxRecord → List ℕ
-status_lines x = line verified_text ++ option_map_or (λ c. line (trusted_comment_text ++ c.trusted)) x.comments []
+status_lines x = line verified_text
+    ++ option_map_or (λ c. line (trusted_comment_text ++ c.trusted)) x.comments []

@@ -1,9 +1,12 @@
 -- The pairs of keys that generation makes, from which random bytes, and what the sinks of a pair take.
 use Rattle.std.specs.Prelude.{◌≡◌, ℕ, ◌⊎◌, List, ◌++◌, length, replicate, Option, None, Ok, Err, codes}
-use Rattle.minisign.specs.Common.{w64, to_le_bytes, blake2b_digest, FailsAtPart, PromptCall, RandomCall, SinkCall, TakesPart, Fault, Named, OutOfMemory, RandomSourceFailed, WritingFailed, IsBytes}
+use Rattle.minisign.specs.Common.{w64, to_le_bytes, blake2b_digest, FailsAtPart, PromptCall, RandomCall}
+use Rattle.minisign.specs.Common.{SinkCall, TakesPart, Fault, Named, OutOfMemory, RandomSourceFailed}
+use Rattle.minisign.specs.Common.{WritingFailed, IsBytes}
 use Rattle.minisign.specs.NewPassword.{IsSealing}
 use Rattle.minisign.specs.PublicKeyText.{public_key_text}
-use Rattle.minisign.specs.Records.{PublicKeyRecord, SecretKeyRecord, legacy_algorithm, public_key_bytes, secret_key_bytes}
+use Rattle.minisign.specs.Records.{PublicKeyRecord, SecretKeyRecord, legacy_algorithm, public_key_bytes}
+use Rattle.minisign.specs.Records.{secret_key_bytes}
 use Rattle.minisign.specs.Sealing.{no_kdf, open_sealed, scrypt_kdf, sealed_by_scrypt, xored_key}
 use Rattle.minisign.specs.SecretKeyText.{read_secret_key, secret_key_text}
 use Rattle.minisign.specs.Reading.{HasFailed}
@@ -13,13 +16,15 @@ use Rattle.minisign.specs.Texts.{and_then}
 
 -- the public key of a seed under a key ID
 abbrev pub public_key_of : (List ℕ → List ℕ) → List ℕ → List ℕ → PublicKeyRecord
-public_key_of public_of seed keynum = record { algorithm = legacy_algorithm; keynum = keynum; key = public_of seed }
+public_key_of public_of seed keynum =
+    record { algorithm = legacy_algorithm; keynum = keynum; key = public_of seed }
 
 -- the 64 secret bytes of a seed
 abbrev pub secret_of : (List ℕ → List ℕ) → List ℕ → List ℕ
 secret_of public_of seed = seed ++ public_of seed
 
--- the secret key of a key ID and 64 secret bytes that is not to be sealed, with the checksum that these call for
+-- the secret key of a key ID and 64 secret bytes that is not to be sealed, with the checksum that these call
+-- for
 unfoldable pub unsealed_key : List ℕ → List ℕ → SecretKeyRecord
 unsealed_key keynum secret = record {
   algorithm = legacy_algorithm;
@@ -33,7 +38,8 @@ unsealed_key keynum secret = record {
   checksum = blake2b_digest 32 (legacy_algorithm ++ keynum ++ secret);
 }
 
--- the one that is to be sealed with a salt of 32 bytes and these limits, as it is before, and again once it is opened
+-- the one that is to be sealed with a salt of 32 bytes and these limits, as it is before, and again once it
+-- is opened
 unfoldable pub key_to_seal : List ℕ → List ℕ → List ℕ → ℕ → ℕ → SecretKeyRecord
 key_to_seal keynum secret salt operations memory = record (unsealed_key keynum secret) {
   kdf = scrypt_kdf;
@@ -46,8 +52,10 @@ key_to_seal keynum secret salt operations memory = record (unsealed_key keynum s
 abbrev pub opened_key : List ℕ → List ℕ → List ℕ → SecretKeyRecord
 opened_key keynum secret salt = key_to_seal keynum secret salt 1048576 33554432
 
--- the keys belong together: the secret key is a genuine one, and the public key is that of its seed and key ID
-pub record IsGenuinePair (public_of : List ℕ → List ℕ) (pk : PublicKeyRecord) (sk : SecretKeyRecord) : Type 0 where
+-- the keys belong together: the secret key is a genuine one, and the public key is that of its seed and key
+-- ID
+pub record IsGenuinePair (public_of : List ℕ → List ℕ) (pk : PublicKeyRecord) (sk : SecretKeyRecord)
+    : Type 0 where
   pub seed : List ℕ
   pub genuine : IsGenuine public_of sk seed
   pub key : pk.key ≡ public_of seed
@@ -88,8 +96,8 @@ pub record IsSealedPair {Z : Type 0} (public_of : List ℕ → List ℕ) (passwo
   pub drawn : HasDrawn z (seed ++ keynum ++ salt)
   pub sealed : IsSealedOf public_of seed keynum salt password pk sk
 
--- the secret key opens under the password, and then belongs to the public key; so does each text that reads as it, with
--- a parallelization of 1, and opens to no other key
+-- the secret key opens under the password, and then belongs to the public key; so does each text that reads
+-- as it, with a parallelization of 1, and opens to no other key
 pub record OpensToPair (public_of : List ℕ → List ℕ) (password : List ℕ)
     (pk : PublicKeyRecord) (sk : SecretKeyRecord) : Type 0 where
   pub opens : and_then (sealed_by_scrypt sk) (λ k. open_sealed k password None) ≡ Ok (xored_key sk password)
@@ -100,20 +108,22 @@ pub record OpensToPair (public_of : List ℕ → List ℕ) (password : List ℕ)
 abbrev pub AreUnwritten : {P K : Type 0} → SinkCall P → SinkCall K → Type 0
 AreUnwritten pk_sink sk_sink = (pk_sink.new ≡ pk_sink.old) × (sk_sink.new ≡ sk_sink.old)
 
--- a pair's parts are not written: an allocation failed, with both sinks as they were; or the public sink failed, with
--- the secret one as it was, or took and flushed its part, and the secret sink failed
+-- a pair's parts are not written: an allocation failed, with both sinks as they were; or the public sink
+-- failed, with the secret one as it was, or took and flushed its part, and the secret sink failed
 abbrev pub PartsFail : {P K : Type 0} → SinkCall P → SinkCall K → List ℕ → List ℕ → Fault → Type 0
 PartsFail pk_sink sk_sink public secret e = ((e ≡ Named OutOfMemory) × AreUnwritten pk_sink sk_sink)
     ⊎ ((e ≡ Named WritingFailed) × ((FailsAtPart pk_sink public × (sk_sink.new ≡ sk_sink.old))
     ⊎ (TakesPart pk_sink public × FailsAtPart sk_sink secret)))
 
--- a pair that is not sealed is not written as raw bytes: the random source failed, with both sinks as they were, or a
--- pair was made whose parts were not written
-abbrev pub RawPairFails : {Z P K : Type 0} → (List ℕ → List ℕ) → RandomCall Z → SinkCall P → SinkCall K → Fault → Type 0
+-- a pair that is not sealed is not written as raw bytes: the random source failed, with both sinks as they
+-- were, or a pair was made whose parts were not written
+abbrev pub RawPairFails : {Z P K : Type 0} → (List ℕ → List ℕ) → RandomCall Z → SinkCall P → SinkCall K
+    → Fault → Type 0
 RawPairFails public_of z pk_sink sk_sink e =
     (HasFailed RandomSourceFailed (z.random.random_faults z.old) (z.random.random_faults z.new) e
     × AreUnwritten pk_sink sk_sink)
-    ⊎ ((pk : PublicKeyRecord) × (sk : SecretKeyRecord) × IsUnsealedPair public_of z pk sk × RandomHasNoNewFault z
+    ⊎ ((pk : PublicKeyRecord) × (sk : SecretKeyRecord) × IsUnsealedPair public_of z pk sk
+    × RandomHasNoNewFault z
     × PartsFail pk_sink sk_sink (public_key_bytes pk) (secret_key_bytes sk) e)
 
 -- the 72 random bytes of a sealed pair were drawn
@@ -124,9 +134,11 @@ pub record AllDrawn {Z : Type 0} (z : RandomCall Z) : Type 0 where
   pub no_new_fault : RandomHasNoNewFault z
 
 -- a sealed pair is not made: the random source failed, before anything was asked, or else no key was sealed
-abbrev pub SealedPairFails : {Z R W : Type 0} → RandomCall Z → PromptCall R W → Option (List ℕ) → Fault → Type 0
+abbrev pub SealedPairFails : {Z R W : Type 0} → RandomCall Z → PromptCall R W → Option (List ℕ) → Fault
+    → Type 0
 SealedPairFails z p password e =
-    (HasFailed RandomSourceFailed (z.random.random_faults z.old) (z.random.random_faults z.new) e × (p.new ≡ p.old))
+    (HasFailed RandomSourceFailed (z.random.random_faults z.old) (z.random.random_faults z.new) e
+    × (p.new ≡ p.old))
     ⊎ (AllDrawn z × IsSealing p password (Err e))
 
 -- a sealed pair was made, under the password that was passed in or typed
@@ -137,10 +149,13 @@ pub record HasSealed {Z R W : Type 0} (public_of : List ℕ → List ℕ) (z : R
   pub pair : IsSealedPair public_of password z pk sk
   pub opens : OpensToPair public_of password pk sk
 
--- a sealed pair is not written as texts: it was not made, with both sinks as they were, or its parts were not written
-abbrev pub SealedTextsFail : {Z R W P K : Type 0} → (List ℕ → List ℕ) → RandomCall Z → PromptCall R W → Option (List ℕ)
+-- a sealed pair is not written as texts: it was not made, with both sinks as they were, or its parts were not
+-- written
+abbrev pub SealedTextsFail : {Z R W P K : Type 0} → (List ℕ → List ℕ) → RandomCall Z → PromptCall R W
+    → Option (List ℕ)
     → SinkCall P → SinkCall K → Option (List ℕ) → Fault → Type 0
 SealedTextsFail public_of z p password pk_sink sk_sink comment e =
     (SealedPairFails z p password e × AreUnwritten pk_sink sk_sink)
-    ⊎ ((pk : PublicKeyRecord) × (sk : SecretKeyRecord) × HasSealed public_of z p password pk sk × RandomHasNoNewFault z
+    ⊎ ((pk : PublicKeyRecord) × (sk : SecretKeyRecord) × HasSealed public_of z p password pk sk
+    × RandomHasNoNewFault z
     × PartsFail pk_sink sk_sink (public_key_text pk) (secret_key_text comment sk) e)

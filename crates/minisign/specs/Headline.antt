@@ -1,9 +1,11 @@
 -- What a caller may rely on, in the order of the headline's sentence. Verifying: when two texts vouch for a
 -- message, and which case fails first where they do not. Opening: when a sealed key opens under a password.
--- Signing: what the text of a signature is worth. The sentence is in docs/PROMISES.md; docs/TRUSTED.md explains the
--- notation, such as x.now, and that a key or a box of the code stands here for its record or its text.
+-- Signing: what the text of a signature is worth. The sentence is in docs/PROMISES.md; docs/TRUSTED.md
+-- explains the notation, such as x.now, and that a key or a box of the code stands here for its record or its
+-- text.
 use Rattle.std.specs.Prelude.{◌≡◌, ℕ, Bool, true, List, Option, Some, Ok, IfSome, Result}
-use Rattle.minisign.specs.Common.{Fault, IsFlushed, IsSteady, RereaderCall, SinkFails, SinkCall, SourceFails, Takes}
+use Rattle.minisign.specs.Common.{Fault, IsFlushed, IsSteady, RereaderCall, SinkFails, SinkCall, SourceFails}
+use Rattle.minisign.specs.Common.{Takes}
 use Rattle.minisign.specs.Records.{PublicKeyRecord, SecretKeyRecord, SignatureBoxRecord}
 use Rattle.minisign.specs.Acceptance.{Verifier, Vouches, VouchesUnderEachKey, judge}
 use Rattle.minisign.specs.Opening.{IsOpenedOrNoMemory, open_key}
@@ -14,9 +16,9 @@ use Rattle.minisign.specs.Texts.{IsReadOrNoMemory, and_then}
 
 -- == Verifying ==
 
--- the verdict on two texts and a message: the trusted comment, which was signed with the message; or the first case
--- that fails, of the public key text, of the signature text, and of the conditions that the box vouches for the message
--- under the key; legacy says whether a signature over the message itself will do
+-- the verdict on two texts and a message: the trusted comment, which was signed with the message; or the
+-- first case that fails, of the public key text, of the signature text, and of the conditions that the box
+-- vouches for the message under the key; legacy says whether a signature over the message itself will do
 unfoldable pub verdict : Verifier → List ℕ → List ℕ → List ℕ → Bool → Result (List ℕ) Fault
 verdict accepts pk_text sig_text message legacy =
     and_then (read_public_key pk_text) (λ key.
@@ -26,15 +28,16 @@ verdict accepts pk_text sig_text message legacy =
 
 -- the texts vouch for the message: one reads as a public key, the other as a signature box, and the box
 -- vouches for the message under the key; legacy says whether a signature over the message itself will do
-pub record TextsVouchFor (accepts : Verifier) (pk_text sig_text message : List ℕ) (legacy : Bool) : Type 0 where
+pub record TextsVouchFor (accepts : Verifier) (pk_text sig_text message : List ℕ) (legacy : Bool)
+    : Type 0 where
   pub key : PublicKeyRecord
   pub box : SignatureBoxRecord
   pub key_read : read_public_key pk_text ≡ Ok key
   pub box_read : read_signature_box sig_text ≡ Ok box
   pub vouches : Vouches accepts key box message legacy
 
--- over data that is known, where no device fails, and over a steady source where the data is copied, the answer is what
--- a function gives of the data, or out of memory
+-- over data that is known, where no device fails, and over a steady source where the data is copied, the
+-- answer is what a function gives of the data, or out of memory
 abbrev pub WhereNothingFails : {R W O V : Type 0} → Bool → RereaderCall R → SinkCall W → SinkCall O
     → Result V Fault → (List ℕ → Result V Fault) → Type 0
 WhereNothingFails output reader status out answer of_data =
@@ -50,14 +53,16 @@ pub record CopyIsVouchedFor {O : Type 0} (accepts : Verifier) (pk_text sig_text 
   pub flushed : IsFlushed out
   pub vouched : TextsVouchFor accepts pk_text sig_text copy legacy
 
--- opening: with a password that is passed in, the answer is what the text opens to, or out of memory where that
--- derives; the bound is on the parallelization, where there is one
+-- opening: with a password that is passed in, the answer is what the text opens to, or out of memory where
+-- that derives; the bound is on the parallelization, where there is one
 abbrev pub OpeningHeadline : Option (List ℕ) → List ℕ → Option ℕ → Result SecretKeyRecord Fault → Type 0
-OpeningHeadline password text bound answer = IfSome password (λ p. IsOpenedOrNoMemory text bound answer (open_key text p bound))
+OpeningHeadline password text bound answer = IfSome password
+    (λ p. IsOpenedOrNoMemory text bound answer (open_key text p bound))
 
--- signing: where the key is a genuine one, and neither comment has a line feed and the trusted one is trimmed,
--- the text reads as a box that every public key of its seed and key ID vouches for the message with
-abbrev pub SigningHeadline : Verifier → (List ℕ → List ℕ) → SecretKeyRecord → List ℕ → ChosenComments → List ℕ → Type 0
+-- signing: where the key is a genuine one, and neither comment has a line feed and the trusted one is
+-- trimmed, the text reads as a box that every public key of its seed and key ID vouches for the message with
+abbrev pub SigningHeadline : Verifier → (List ℕ → List ℕ) → SecretKeyRecord → List ℕ → ChosenComments → List ℕ
+    → Type 0
 SigningHeadline accepts public_of sk message chosen text =
     (seed : List ℕ) → IsGenuine public_of sk seed → AreOneLine chosen.untrusted chosen.trusted
     → (x : SignatureBoxRecord) × (read_signature_box text ≡ Ok x)

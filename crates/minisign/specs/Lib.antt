@@ -5,6 +5,7 @@ pub mod Reading
 pub mod Acceptance
 pub mod PublicKeyText
 pub mod SignatureText
+pub mod CommentPlace
 pub mod Sealing
 pub mod Signing
 pub mod Stages

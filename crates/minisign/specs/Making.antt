@@ -17,15 +17,16 @@ pub record IsOfParts (keynum secret : List ℕ) (key : SecretKeyRecord) : Type 0
   pub secret_is : key.secret ≡ secret
   pub opened : is_encrypted key ≡ false
 
--- the record that is written: with a password the key sealed under it, with this salt and these limits, and without
--- one the key as it stands, with neither
+-- the record that is written: with a password the key sealed under it, with this salt and these limits, and
+-- without one the key as it stands, with neither
 abbrev pub made_key : List ℕ → List ℕ → Option (List ℕ) → Sealing → SecretKeyRecord
 made_key keynum secret None s = unsealed_key keynum secret
 made_key keynum secret (Some password) s =
     xored_key (key_to_seal keynum secret s.salt s.operations_limit s.memory_limit) password
 
--- the text gives back the key of these parts: without a password it reads as this key, which was never sealed; under
--- the password it opens to this key, within each bound that its parallelization is within, and to no other
+-- the text gives back the key of these parts: without a password it reads as this key, which was never
+-- sealed; under the password it opens to this key, within each bound that its parallelization is within, and
+-- to no other
 abbrev pub GivesParts : List ℕ → Option (List ℕ) → List ℕ → List ℕ → Sealing → Type 0
 GivesParts text None keynum secret s =
     (key : SecretKeyRecord) × IsOfParts keynum secret key × (read_unencrypted_key text ≡ Ok key)

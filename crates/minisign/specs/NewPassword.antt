@@ -1,7 +1,10 @@
--- What a prompt writes and reads where a key is sealed: unless a password is passed in, it says what for, asks
--- twice, and tells of the derivation.
-use Rattle.std.specs.Prelude.{◌≡◌, ℕ, List, [], ◌∷◌, ◌++◌, Option, None, Some, Result, Ok, IfOk, MatchResult, bytes_eq, if◌then◌else◌}
-use Rattle.minisign.specs.Common.{Fault, Named, PromptCall, OutOfMemory, PasswordsDiffer, Allocate, ConversationEnds, Say, Step, Test, asking_steps, password_of, typed_password, without_value}
+-- What a prompt writes and reads where a key is sealed: unless a password is passed in, it says what for,
+-- asks twice, and tells of the derivation.
+use Rattle.std.specs.Prelude.{◌≡◌, ℕ, List, [], ◌∷◌, ◌++◌, Option, None, Some, Result, Ok, IfOk, MatchResult}
+use Rattle.std.specs.Prelude.{bytes_eq, if◌then◌else◌}
+use Rattle.minisign.specs.Common.{Fault, Named, PromptCall, OutOfMemory, PasswordsDiffer, Allocate}
+use Rattle.minisign.specs.Common.{ConversationEnds, Say, Step, Test, asking_steps, password_of}
+use Rattle.minisign.specs.Common.{typed_password, without_value}
 use Rattle.minisign.specs.Opening.{asking_text, done_text, purpose_line, sealing_text, second_question}
 
 -- two passwords that differ
@@ -10,15 +13,17 @@ difference password again = if bytes_eq password again then None else Some (Name
 
 -- a password is chosen: it is said what for, and asked for twice
 abbrev pub choosing_steps : List ℕ → List ℕ → List Step
-choosing_steps first second = Say purpose_line ∷ (asking_steps asking_text first ++ (asking_steps second_question second
+choosing_steps first second = Say purpose_line
+    ∷ (asking_steps asking_text first ++ (asking_steps second_question second
     ++ Test (difference (typed_password first) (typed_password second)) ∷ []))
 
 -- the derivation is told of
 abbrev pub sealing_steps : List Step
 sealing_steps = Say sealing_text ∷ Allocate ∷ Say done_text ∷ []
 
--- under which password a key is sealed, or why under none: one that is passed in, with the prompt as it was, where only
--- an allocation can fail; or else one that is typed twice, in these bytes, and then the derivation is told of
+-- under which password a key is sealed, or why under none: one that is passed in, with the prompt as it was,
+-- where only an allocation can fail; or else one that is typed twice, in these bytes, and then the derivation
+-- is told of
 abbrev pub IsSealing : {R W : Type 0} → PromptCall R W → Option (List ℕ) → Result (List ℕ) Fault → Type 0
 IsSealing p (Some given) answer =
     MatchResult answer (λ password. password ≡ given) (λ e. e ≡ Named OutOfMemory) × (p.new ≡ p.old)

@@ -1,8 +1,13 @@
 -- How opening the text of a sealed key ends, with a password that is passed in or asked for.
-use Rattle.std.specs.Prelude.{◌≡◌, ◌⊎◌, ℕ, List, [], ◌∷◌, ◌++◌, Option, None, Some, Result, Ok, Err, codes, Bool, false, if◌then◌else◌, IsOk}
-use Rattle.minisign.specs.Common.{result_err, Fault, Named, OutOfMemory, PromptCall, Allocate, ConversationEnds, Say, Step, Test, asking_steps, password_of, typed_password, option_map_or, result_ok, WorkTooHigh}
+use Rattle.std.specs.Prelude.{◌≡◌, ◌⊎◌, ℕ, List, [], ◌∷◌, ◌++◌, Option, None, Some, Result, Ok, Err, codes}
+use Rattle.std.specs.Prelude.{Bool, false, if◌then◌else◌, IsOk}
+use Rattle.minisign.specs.Common.{result_err, Fault, Named, OutOfMemory, PromptCall, Allocate}
+use Rattle.minisign.specs.Common.{ConversationEnds, Say, Step, Test, asking_steps, password_of}
+use Rattle.minisign.specs.Common.{typed_password, option_map_or, result_ok, WorkTooHigh}
 use Rattle.minisign.specs.Records.{SecretKeyRecord}
-use Rattle.minisign.specs.Sealing.{allowed_work, restored_key, sealed_by_scrypt, xored_key, checksum_of, is_within, no_kdf, open_sealed, scrypt_kdf, unencrypted_key, wants_password}
+use Rattle.minisign.specs.Sealing.{allowed_work, restored_key, sealed_by_scrypt, xored_key, checksum_of}
+use Rattle.minisign.specs.Sealing.{is_within, no_kdf, open_sealed, scrypt_kdf, unencrypted_key}
+use Rattle.minisign.specs.Sealing.{wants_password}
 use Rattle.minisign.specs.SecretKeyText.{read_secret_key, SecretKeyText}
 use Rattle.minisign.specs.Texts.{and_then, require, line}
 
@@ -39,19 +44,20 @@ read_unencrypted_key text = and_then (read_secret_key text) unencrypted_key
 unfoldable pub is_sealed_text : List ℕ → Bool
 is_sealed_text text = option_map_or wants_password (result_ok (read_secret_key text)) false
 
--- what a text gives to who has its password: a key that was never sealed as it stands, whatever the password, and any
--- other one opened
+-- what a text gives to who has its password: a key that was never sealed as it stands, whatever the password,
+-- and any other one opened
 abbrev pub key_with_password : List ℕ → List ℕ → Result SecretKeyRecord Fault
-key_with_password text password = if is_sealed_text text then open_key text password None else read_unencrypted_key text
+key_with_password text password = if is_sealed_text text then open_key text password None else
+    read_unencrypted_key text
 
--- the text opens under the password to this key, within each bound that its parallelization is within, and never to
--- another one
+-- the text opens under the password to this key, within each bound that its parallelization is within, and
+-- never to another one
 abbrev pub OpensTo : List ℕ → List ℕ → ℕ → SecretKeyRecord → Type 0
 OpensTo text password p key =
     (bound : Option ℕ) → open_key text password bound ≡ require (is_within bound p) WorkTooHigh (Ok key)
 
--- the text reads as a key that is sealed, whose limits are allowed and whose parallelization is within the bound; the
--- stream under the password restores its checksum; and this is the key opened
+-- the text reads as a key that is sealed, whose limits are allowed and whose parallelization is within the
+-- bound; the stream under the password restores its checksum; and this is the key opened
 pub record IsOpened (text password : List ℕ) (bound : Option ℕ) (opened : SecretKeyRecord) : Type 0 where
   pub sealed : SecretKeyRecord
   pub read : SecretKeyText text sealed
@@ -66,8 +72,8 @@ pub record IsUnencryptedText (text : List ℕ) (k : SecretKeyRecord) : Type 0 wh
   pub kdf : k.kdf ≡ no_kdf
   pub checksum : k.checksum ≡ checksum_of k
 
--- the derivation is told of, which the limits and the bound are to allow, and for which memory is to be found; it is
--- told to be done, and then the checksum is to be restored
+-- the derivation is told of, which the limits and the bound are to allow, and for which memory is to be
+-- found; it is told to be done, and then the checksum is to be restored
 abbrev pub telling_steps : SecretKeyRecord → List ℕ → Option ℕ → List Step
 telling_steps k password bound = Say deriving_text ∷ Test (result_err (allowed_work k bound)) ∷ Allocate
     ∷ Say done_text ∷ Test (result_err (restored_key (xored_key k password))) ∷ []
@@ -76,25 +82,31 @@ telling_steps k password bound = Say deriving_text ∷ Test (result_err (allowed
 abbrev pub opening_steps : SecretKeyRecord → Option ℕ → List ℕ → List Step
 opening_steps k bound bytes = asking_steps asking_text bytes ++ telling_steps k (typed_password bytes) bound
 
--- opening the key of the text derives: it is sealed by scrypt, with limits that are allowed and within the bound
+-- opening the key of the text derives: it is sealed by scrypt, with limits that are allowed and within the
+-- bound
 abbrev pub TakesDerivation : List ℕ → Option ℕ → Type 0
-TakesDerivation text bound = IsOk (and_then (and_then (read_secret_key text) sealed_by_scrypt) (λ k. allowed_work k bound))
+TakesDerivation text bound = IsOk
+    (and_then (and_then (read_secret_key text) sealed_by_scrypt) (λ k. allowed_work k bound))
 
 -- the answer is what the text gives; or out of memory, where opening its key derives
-abbrev pub IsOpenedOrNoMemory : List ℕ → Option ℕ → Result SecretKeyRecord Fault → Result SecretKeyRecord Fault → Type 0
+abbrev pub IsOpenedOrNoMemory : List ℕ → Option ℕ → Result SecretKeyRecord Fault
+    → Result SecretKeyRecord Fault → Type 0
 IsOpenedOrNoMemory text bound answer given =
     (answer ≡ given) ⊎ ((answer ≡ Err (Named OutOfMemory)) × TakesDerivation text bound)
 
--- how opening the key of a text ends, within a bound on the parallelization, where there is one. With a password that
--- is passed in the prompt is as it was, and the answer is what the text opens to, or out of memory where that derives.
--- Otherwise it is asked for one: the answer is what the text opens to with what was typed; or the conversation of opening stopped; or
--- the text reads as no sealed key, with the prompt as it was
+-- how opening the key of a text ends, within a bound on the parallelization, where there is one. With a
+-- password that is passed in the prompt is as it was, and the answer is what the text opens to, or out of
+-- memory where that derives. Otherwise it is asked for one: the answer is what the text opens to with what
+-- was typed; or the conversation of opening stopped; or the text reads as no sealed key, with the prompt as
+-- it was
 abbrev pub IsOpening : {R W : Type 0} → PromptCall R W → Option (List ℕ) → List ℕ → Option ℕ
     → Result SecretKeyRecord Fault → Type 0
-IsOpening p (Some password) text bound answer = (p.new ≡ p.old) × IsOpenedOrNoMemory text bound answer (open_key text password bound)
+IsOpening p (Some password) text bound answer = (p.new ≡ p.old)
+    × IsOpenedOrNoMemory text bound answer (open_key text password bound)
 IsOpening p None text bound (Ok opened) = (k : SecretKeyRecord) × (bytes : List ℕ) × (password : List ℕ)
     × (and_then (read_secret_key text) sealed_by_scrypt ≡ Ok k) × (password_of bytes ≡ Ok password)
     × (open_key text password bound ≡ Ok opened) × ConversationEnds p (opening_steps k bound bytes) (Ok tt)
-IsOpening p None text bound (Err e) = ((and_then (read_secret_key text) sealed_by_scrypt ≡ Err e) × (p.new ≡ p.old))
+IsOpening p None text bound (Err e) =
+    ((and_then (read_secret_key text) sealed_by_scrypt ≡ Err e) × (p.new ≡ p.old))
     ⊎ ((k : SecretKeyRecord) × (bytes : List ℕ) × (and_then (read_secret_key text) sealed_by_scrypt ≡ Ok k)
     × ConversationEnds p (opening_steps k bound bytes) (Err e))

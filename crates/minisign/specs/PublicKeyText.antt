@@ -1,9 +1,11 @@
--- Texts of public keys: what a text reads as, key or first error; the same as a relation; and the text that is written
--- for a key.
-use Rattle.std.specs.Prelude.{◌≡◌, ◌==◌, ℕ, List, [], ◌∷◌, ◌++◌, length, take, drop, nat_le, Result, Ok, Err, codes}
+-- Texts of public keys: what a text reads as, key or first error; the same as a relation; and the text that
+-- is written for a key.
+use Rattle.std.specs.Prelude.{◌≡◌, ◌==◌, ℕ, List, [], ◌∷◌, ◌++◌, length, take, drop, nat_le, Result, Ok, Err}
+use Rattle.std.specs.Prelude.{codes}
 use Rattle.minisign.specs.Common.{trim, lines, Fault, Named, NamedFault}
 use Rattle.minisign_base.specs.Identifiers.{identifier_text}
-use Rattle.minisign.specs.Texts.{line, IsBase64Of, base64_of, base64_bytes, is_base64, require, untrusted_comment_label}
+use Rattle.minisign.specs.Texts.{line, IsBase64Of, base64_of, base64_bytes, is_base64, require}
+use Rattle.minisign.specs.Texts.{untrusted_comment_label}
 use Rattle.minisign.specs.Records.{PublicKeyRecord, ReadsPublicKey, public_key_bytes}
 use Rattle.minisign_base.specs.declared.faults.NamedFault.TheVariants as named
 
@@ -15,15 +17,20 @@ decoded_key not_base64 text =
     let bytes = base64_bytes text in
     require (is_base64 text) not_base64
     (require (nat_le 42 (length bytes)) named.RecordTooShort
-    (Ok (record { algorithm = take 2 bytes; keynum = take 8 (drop 2 bytes); key = take 32 (drop 8 (drop 2 bytes)) })))
+    (Ok (record {
+      algorithm = take 2 bytes;
+      keynum = take 8 (drop 2 bytes);
+      key = take 32 (drop 8 (drop 2 bytes));
+    })))
 
--- the first line may be anything, and the second, of 56 bytes, is, trimmed, the base64 of the key; later lines do not
--- matter
+-- the first line may be anything, and the second, of 56 bytes, is, trimmed, the base64 of the key; later
+-- lines do not matter
 abbrev pub key_in_lines : List (List ℕ) → Result PublicKeyRecord Fault
 key_in_lines [] = Err (Named named.MissingPublicKeyComment)
 key_in_lines (comment ∷ []) = Err (Named named.MissingEncodedPublicKey)
 key_in_lines (comment ∷ encoded ∷ later) =
-    require (length encoded == 56) named.PublicKeyLineLength (decoded_key named.PublicKeyLineNotBase64 (trim encoded))
+    require (length encoded == 56) named.PublicKeyLineLength
+    (decoded_key named.PublicKeyLineNotBase64 (trim encoded))
 
 -- what a text reads as
 unfoldable pub read_public_key : List ℕ → Result PublicKeyRecord Fault
@@ -32,7 +39,8 @@ read_public_key text = key_in_lines (lines text)
 -- what the bare base64 of a key reads as: trimmed it has 56 bytes, and it is base64 as it stands
 unfoldable pub read_bare_public_key : List ℕ → Result PublicKeyRecord Fault
 read_bare_public_key text =
-    require (length (trim text) == 56) named.BarePublicKeyLength (decoded_key named.BarePublicKeyNotBase64 text)
+    require (length (trim text) == 56) named.BarePublicKeyLength
+    (decoded_key named.BarePublicKeyNotBase64 text)
 
 -- == The grammar as a relation ==
 
@@ -69,4 +77,5 @@ public_key_text k = line (untrusted_comment_label ++ public_key_label ++ identif
 
 -- the text that is written with a comment of the caller's
 abbrev pub commented_public_key_text : List ℕ → PublicKeyRecord → List ℕ
-commented_public_key_text comment k = line (untrusted_comment_label ++ comment) ++ line (base64_of (public_key_bytes k))
+commented_public_key_text comment k = line (untrusted_comment_label ++ comment)
+    ++ line (base64_of (public_key_bytes k))

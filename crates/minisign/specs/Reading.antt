@@ -1,6 +1,9 @@
--- What comes of reading to the end, and of copying what was read; why a text is not read from a source or a file.
+-- What comes of reading to the end, and of copying what was read; why a text is not read from a source or a
+-- file.
 use Rattle.std.specs.Prelude.{◌≡◌, ◌⊎◌, ⊤, ℕ, List, Option, IfSome, Result, IfErr, OnOk, OnErr, Err, IsUtf8}
-use Rattle.minisign.specs.Common.{IsAtEnd, Rose, IsUnflushed, IsWritingFault, RereaderCall, SinkCall, SinkHasNoNewFault, SourceGives, Takes, TakesFront, Fault, Named, NamedFault, OutOfMemory, ReadingFailed, NotUtf8, SourceOf}
+use Rattle.minisign.specs.Common.{IsAtEnd, Rose, IsUnflushed, IsWritingFault, RereaderCall, SinkCall}
+use Rattle.minisign.specs.Common.{SinkHasNoNewFault, SourceGives, Takes, TakesFront, Fault, Named, NamedFault}
+use Rattle.minisign.specs.Common.{OutOfMemory, ReadingFailed, NotUtf8, SourceOf}
 
 -- these were the bytes ahead, or those that were given; where these are not known, nothing is said of them
 abbrev pub IsAhead : Option (List ℕ) → List ℕ → Type 0
@@ -24,9 +27,9 @@ IsReadFault source old new e =
     ((e ≡ Named OutOfMemory) × (source.faults new ≡ source.faults old))
     ⊎ HasFailed ReadingFailed (source.faults old) (source.faults new) e
 
--- all that is ahead is read, and put to the output, which flushes nothing; or an allocation fails before anything is
--- read, or one of the two fails, and the output holds a prefix of what was ahead, and of what the source gave; a mark
--- stays
+-- all that is ahead is read, and put to the output, which flushes nothing; or an allocation fails before
+-- anything is read, or one of the two fails, and the output holds a prefix of what was ahead, and of what the
+-- source gave; a mark stays
 pub record Copies {R O : Type 0} (reader : RereaderCall R) (out : SinkCall O) (second : List ℕ)
     (answer : Result ⊤ Fault) : Type 0 where
   pub read : OnOk answer (ReadsWhole reader.source reader.old reader.new second)
@@ -45,17 +48,18 @@ pub record Copies {R O : Type 0} (reader : RereaderCall R) (out : SinkCall O) (s
   pub marked : reader.source.is_marked reader.new ≡ reader.source.is_marked reader.old
   pub unflushed : IsUnflushed out
 
--- why a source gave no text: an allocation failed, or it failed, or it was read to its end, and what it gave is not
--- UTF-8
+-- why a source gave no text: an allocation failed, or it failed, or it was read to its end, and what it gave
+-- is not UTF-8
 abbrev pub IsTextFault : {R : Type 0} → SourceOf R → R → R → Fault → Type 0
 IsTextFault source old new e = IsReadFault source old new e
     ⊎ ((bytes : List ℕ) × ReadsWhole source old new bytes × ¬ (IsUtf8 bytes) × (e ≡ Named NotUtf8))
 
--- the errors of a file that gives no text: out of memory, reading failed, not UTF-8; when each comes is not said
+-- the errors of a file that gives no text: out of memory, reading failed, not UTF-8; when each comes is not
+-- said
 abbrev pub IsTextFileFault : Fault → Type 0
 IsTextFileFault e = (e ≡ Named OutOfMemory) ⊎ (e ≡ Named ReadingFailed) ⊎ (e ≡ Named NotUtf8)
 
--- what is answered where a file is read: what some text reads as, or an error of the file; that it is the text of this
--- file is not said
+-- what is answered where a file is read: what some text reads as, or an error of the file; that it is the
+-- text of this file is not said
 abbrev pub IsReadFromFile : {V : Type 0} → (List ℕ → Result V Fault) → Result V Fault → Type 0
 IsReadFromFile read r = ((text : List ℕ) × (r ≡ read text)) ⊎ ((e : Fault) × (r ≡ Err e) × IsTextFileFault e)

@@ -1,5 +1,6 @@
 -- The records that keys and signatures are stored as: fields of fixed lengths, joined in their order.
-use Rattle.std.specs.Prelude.{◌≡◌, ℕ, Bool, List, ◌++◌, length, drop, Option, ◌⊎◌, codes, bytes_eq, false, flat_map}
+use Rattle.std.specs.Prelude.{◌≡◌, ℕ, Bool, List, ◌++◌, length, drop, Option, ◌⊎◌, codes, bytes_eq, false}
+use Rattle.std.specs.Prelude.{flat_map}
 use Rattle.std.specs.Fmt.{digits}
 
 -- a public key: 2 bytes of algorithm, 8 of key ID, 32 of key
@@ -79,7 +80,8 @@ pub record SecretKeyRecord : Type 0 where
 
 -- the 158 bytes of a secret key; the last three fields, 104 bytes, are those that are sealed
 abbrev pub secret_key_bytes : SecretKeyRecord → List ℕ
-secret_key_bytes k = (k.algorithm ++ k.kdf ++ k.checksum_algorithm) ++ (k.salt ++ k.operations_limit ++ k.memory_limit)
+secret_key_bytes k = (k.algorithm ++ k.kdf ++ k.checksum_algorithm)
+    ++ (k.salt ++ k.operations_limit ++ k.memory_limit)
     ++ (k.keynum ++ k.secret ++ k.checksum)
 
 -- the bytes begin with the record of the key; what follows it does not matter

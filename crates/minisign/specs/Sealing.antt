@@ -1,7 +1,9 @@
 -- The checksum of a secret key, whether the key is still sealed, and what sealing and opening do: the
 -- last 104 bytes of its record, as one list, are xored with a stream of scrypt (RFC 7914, section 6).
-use Rattle.std.specs.Prelude.{ℕ, ◌*◌, ◌^◌, Bool, true, not, ◌&&◌, nat_lt, List, [], ◌∷◌, ◌++◌, take, drop, Option, None, Result, Ok, bit_xor, bytes_eq, codes, if◌then◌else◌}
-use Rattle.minisign.specs.Common.{option_map_or, result_ok, w64, from_le_bytes, blake2b_digest, numbers, sealing_limits, Fault}
+use Rattle.std.specs.Prelude.{ℕ, ◌*◌, ◌^◌, Bool, true, not, ◌&&◌, nat_lt, List, [], ◌∷◌, ◌++◌, take, drop}
+use Rattle.std.specs.Prelude.{Option, None, Result, Ok, bit_xor, bytes_eq, codes, if◌then◌else◌}
+use Rattle.minisign.specs.Common.{option_map_or, result_ok, w64, from_le_bytes, blake2b_digest, numbers}
+use Rattle.minisign.specs.Common.{sealing_limits, Fault}
 use Rattle.std.specs.Simd.Lanes.{zip2}
 use Rattle.minisign_kdf.specs.Scrypt.{scrypt}
 use Rattle.minisign_kdf.specs.Params.{Numbers}
@@ -29,7 +31,8 @@ wants_password k = not (bytes_eq k.kdf no_kdf)
 abbrev pub is_encrypted : SecretKeyRecord → Bool
 is_encrypted k = wants_password k && not (bytes_eq k.checksum (checksum_of k))
 
--- the key with the bytes that are sealed, 8 of key ID, 64 of secret and 32 of checksum, xored with a stream of as many
+-- the key with the bytes that are sealed, 8 of key ID, 64 of secret and 32 of checksum, xored with a stream
+-- of as many
 unfoldable pub key_xor : SecretKeyRecord → List ℕ → SecretKeyRecord
 key_xor k stream =
     let part = zip2 bit_xor (k.keynum ++ k.secret ++ k.checksum) stream in
@@ -86,14 +89,15 @@ unencrypted_key k =
     require (bytes_eq k.kdf no_kdf) fault.KeyMightBeEncrypted
     (require (bytes_eq k.checksum (checksum_of k)) fault.CorruptedKey (Ok k))
 
--- what opening takes: scrypt's N, as its logarithm to base 2, and its p; zeros where the key wants no password, or its
--- limits are rejected
+-- what opening takes: scrypt's N, as its logarithm to base 2, and its p; zeros where the key wants no
+-- password, or its limits are rejected
 abbrev pub opening_work : SecretKeyRecord → ℕ × ℕ
 opening_work k =
     option_map_or (λ v. (v.n_log2, v.p)) (if wants_password k then result_ok (key_limits k) else None) (0, 0)
 
--- the memory that opening in place takes where every k-th row is kept, in words of 32 bits and in bytes: zeros where the
--- key wants no password, or its limits are rejected
+-- the memory that opening in place takes where every k-th row is kept, in words of 32 bits and in bytes:
+-- zeros where the key wants no password, or its limits are rejected
 abbrev pub opening_memory : SecretKeyRecord → ℕ → ℕ × ℕ
 opening_memory key k =
-    option_map_or (λ v. (wanted_words v k, wanted_bytes v)) (if wants_password key then result_ok (key_limits key) else None) (0, 0)
+    option_map_or (λ v. (wanted_words v k, wanted_bytes v))
+    (if wants_password key then result_ok (key_limits key) else None) (0, 0)

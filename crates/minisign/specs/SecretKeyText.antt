@@ -1,8 +1,10 @@
--- Texts of secret keys: what a text reads as, key or first error; the same as a relation; and the text that is written
--- for a key.
-use Rattle.std.specs.Prelude.{◌≡◌, ℕ, List, [], ◌∷◌, ◌++◌, length, take, drop, nat_le, Option, Result, Ok, Err, codes, unwrap_or}
+-- Texts of secret keys: what a text reads as, key or first error; the same as a relation; and the text that
+-- is written for a key.
+use Rattle.std.specs.Prelude.{◌≡◌, ℕ, List, [], ◌∷◌, ◌++◌, length, take, drop, nat_le, Option, Result, Ok}
+use Rattle.std.specs.Prelude.{Err, codes, unwrap_or}
 use Rattle.minisign.specs.Common.{lines, Fault, Named}
-use Rattle.minisign.specs.Texts.{line, IsBase64Of, base64_of, base64_bytes, is_base64, require, untrusted_comment_label}
+use Rattle.minisign.specs.Texts.{line, IsBase64Of, base64_of, base64_bytes, is_base64, require}
+use Rattle.minisign.specs.Texts.{untrusted_comment_label}
 use Rattle.minisign.specs.Records.{SecretKeyRecord, ReadsSecretKey, secret_key_bytes}
 use Rattle.minisign_base.specs.declared.faults.NamedFault.TheVariants as fault
 
@@ -24,9 +26,11 @@ secret_key_of_bytes bytes = record {
 
 -- the key in the first 158 bytes
 abbrev pub read_secret_key_bytes : List ℕ → Result SecretKeyRecord Fault
-read_secret_key_bytes bytes = require (nat_le 158 (length bytes)) fault.RecordTooShort (Ok (secret_key_of_bytes bytes))
+read_secret_key_bytes bytes = require (nat_le 158 (length bytes)) fault.RecordTooShort
+    (Ok (secret_key_of_bytes bytes))
 
--- the first line may be anything, and the second is, as it stands, the base64 of the key; later lines do not matter
+-- the first line may be anything, and the second is, as it stands, the base64 of the key; later lines do not
+-- matter
 abbrev pub secret_key_in_lines : List (List ℕ) → Result SecretKeyRecord Fault
 secret_key_in_lines [] = Err (Named fault.MissingSecretKeyComment)
 secret_key_in_lines (comment ∷ []) = Err (Named fault.MissingEncodedSecretKey)
@@ -39,8 +43,8 @@ read_secret_key text = secret_key_in_lines (lines text)
 
 -- == The grammar as a relation ==
 
--- the text reads as the key: the first line may be anything, and the second is the base64 of bytes that begin with the
--- record of the key, which has 158; later lines do not matter
+-- the text reads as the key: the first line may be anything, and the second is the base64 of bytes that begin
+-- with the record of the key, which has 158; later lines do not matter
 pub record SecretKeyText (text : List ℕ) (k : SecretKeyRecord) : Type 0 where
   pub comment : List ℕ
   pub encoded : List ℕ

@@ -1,10 +1,14 @@
--- Texts of signatures: what a text reads as, signature and comments or first error; the same as a relation; and the
--- text that is written for a box.
-use Rattle.std.specs.Prelude.{◌≡◌, ◌≢◌, ◌||◌, ◌-◌, ℕ, List, [], ◌∷◌, ◌++◌, length, take, drop, slice_index, nat_eq, nat_le, bytes_eq, Some, Result, Ok, Err, codes, if◌then◌else◌, Option, None, option_map}
+-- Texts of signatures: what a text reads as, signature and comments or first error; the same as a relation;
+-- and the text that is written for a box.
+use Rattle.std.specs.Prelude.{◌≡◌, ◌≢◌, ◌||◌, ◌-◌, ℕ, List, [], ◌∷◌, ◌++◌, length, take, drop, slice_index}
+use Rattle.std.specs.Prelude.{nat_eq, nat_le, bytes_eq, Some, Result, Ok, Err, codes, if◌then◌else◌, Option}
+use Rattle.std.specs.Prelude.{None, option_map}
 use Rattle.minisign.specs.Common.{trim, LacksByte, lines, strip_carriage_return, Fault, Named}
 use Rattle.std.specs.List.{starts_with}
-use Rattle.minisign.specs.Texts.{line, IsBase64Of, base64_of, base64_bytes, is_base64, map_ok, require, untrusted_comment_label}
-use Rattle.minisign.specs.Records.{CommentsRecord, SignatureRecord, SignatureBoxRecord, ReadsSignature, IsKnownAlgorithm, signature_bytes, legacy_algorithm, prehashed_algorithm}
+use Rattle.minisign.specs.Texts.{line, IsBase64Of, base64_of, base64_bytes, is_base64, map_ok, require}
+use Rattle.minisign.specs.Texts.{untrusted_comment_label}
+use Rattle.minisign.specs.Records.{CommentsRecord, SignatureRecord, SignatureBoxRecord, ReadsSignature}
+use Rattle.minisign.specs.Records.{IsKnownAlgorithm, signature_bytes, legacy_algorithm, prehashed_algorithm}
 use Rattle.minisign_base.specs.declared.faults.NamedFault.TheVariants as named
 
 unfoldable pub trusted_comment_label : List ℕ
@@ -21,9 +25,9 @@ pub record SignatureTextRecord : Type 0 where
 abbrev pub box_of : SignatureTextRecord → SignatureBoxRecord
 box_of t = record { signature = t.signature; comments = Some t.comments }
 
--- there are four lines; later ones do not matter; the first and the third line are a label and a comment, the trusted
--- one trimmed; the second and the fourth, trimmed, are base64, the second of bytes that begin with the 74 of the
--- signature, of an algorithm that is known
+-- there are four lines; later ones do not matter; the first and the third line are a label and a comment, the
+-- trusted one trimmed; the second and the fourth, trimmed, are base64, the second of bytes that begin with
+-- the 74 of the signature, of an algorithm that is known
 abbrev pub signature_in_lines : List (List ℕ) → Result SignatureTextRecord Fault
 signature_in_lines [] = Err (Named named.MissingUntrustedComment)
 signature_in_lines (first ∷ []) = Err (Named named.MissingSignature)
@@ -68,8 +72,9 @@ pub record EncodesSignature (text : List ℕ) (s : SignatureRecord) : Type 0 whe
   pub base64 : IsBase64Of text bytes
   pub reads : ReadsSignature bytes s
 
--- the text reads as the signature with its comments: four lines, of which the first and the third are a label and a
--- comment, the trusted one trimmed, and the second and the fourth, trimmed, are base64; later lines do not matter
+-- the text reads as the signature with its comments: four lines, of which the first and the third are a label
+-- and a comment, the trusted one trimmed, and the second and the fourth, trimmed, are base64; later lines do
+-- not matter
 pub record SignatureText (text : List ℕ) (t : SignatureTextRecord) : Type 0 where
   pub first : List ℕ
   pub second : List ℕ

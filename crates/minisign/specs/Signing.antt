@@ -1,6 +1,8 @@
 -- The box that signing makes.
-use Rattle.std.specs.Prelude.{◌≡◌, ℕ, true, false, List, ◌++◌, length, Option, Some, ◌⊎◌, IsSomeAnd, codes, option_copied, unwrap_or, decimal}
-use Rattle.minisign.specs.Common.{Consumes, blake2b_digest, RandomCall, SourceCall, Fault, Named, SchemeOf, IsBytes, AreRandomBytes}
+use Rattle.std.specs.Prelude.{◌≡◌, ℕ, true, false, List, ◌++◌, length, Option, Some, ◌⊎◌, IsSomeAnd, codes}
+use Rattle.std.specs.Prelude.{option_copied, unwrap_or, decimal}
+use Rattle.minisign.specs.Common.{Consumes, blake2b_digest, RandomCall, SourceCall, Fault, Named, SchemeOf}
+use Rattle.minisign.specs.Common.{IsBytes, AreRandomBytes}
 use denote.Ref.{Bor}
 use Rattle.minisign.specs.Records.{PublicKeyRecord, SecretKeyRecord, SignatureBoxRecord, prehashed_algorithm}
 use Rattle.minisign.specs.Acceptance.{Verifier, VouchesUnderEachKey, accepts_comments}
@@ -32,24 +34,32 @@ given_comments trusted untrusted moment = record {
   untrusted = unwrap_or (option_copied untrusted) default_untrusted_comment;
 }
 
--- the box that signing makes of the message: a signature of its digest, which has 64 bytes, with the first random
--- bytes, and a signature of that signature and the trusted comment with the second
-abbrev pub signed_box : Signer → SecretKeyRecord → List ℕ → ChosenComments → List ℕ → List ℕ → SignatureBoxRecord
+-- the box that signing makes of the message: a signature of its digest, which has 64 bytes, with the first
+-- random bytes, and a signature of that signature and the trusted comment with the second
+abbrev pub signed_box : Signer → SecretKeyRecord → List ℕ → ChosenComments → List ℕ → List ℕ
+    → SignatureBoxRecord
 signed_box sign sk message chosen z1 z2 =
     let signature = sign (blake2b_digest 64 message) sk.secret (Some z1) in
     let comment_signature = sign (signature ++ chosen.trusted) sk.secret (Some z2) in
     record {
       signature = record { algorithm = prehashed_algorithm; keynum = sk.keynum; signature = signature };
       comments =
-          Some (record { untrusted = chosen.untrusted; trusted = chosen.trusted; signature = comment_signature });
+          Some
+          (record {
+            untrusted = chosen.untrusted;
+            trusted = chosen.trusted;
+            signature = comment_signature;
+          });
     }
 
 -- these bytes were drawn, where they are known
 abbrev pub HasDrawn : {Z : Type 0} → RandomCall Z → List ℕ → Type 0
 HasDrawn z bytes = Consumes (z.random.random_ahead z.old) (z.random.random_ahead z.new) bytes
 
--- the box is the one that signing makes of the message with random bytes that were drawn: 64 for each signature
-pub record IsSigned {Z : Type 0} (sign : Signer) (sk : SecretKeyRecord) (message : List ℕ) (chosen : ChosenComments)
+-- the box is the one that signing makes of the message with random bytes that were drawn: 64 for each
+-- signature
+pub record IsSigned {Z : Type 0} (sign : Signer) (sk : SecretKeyRecord) (message : List ℕ)
+    (chosen : ChosenComments)
     (z : RandomCall Z) (x : SignatureBoxRecord) : Type 0 where
   pub first : List ℕ
   pub second : List ℕ
@@ -66,7 +76,8 @@ pub record IsGenuine (public_of : List ℕ → List ℕ) (sk : SecretKeyRecord) 
   pub opened : is_encrypted sk ≡ false
 
 -- the box is signed with the key, and where that is genuine it is accepted under its own public key
-abbrev pub HasSignedBox : {S Z : Type 0} → SchemeOf S → S → SecretKeyRecord → List ℕ → ChosenComments → RandomCall Z
+abbrev pub HasSignedBox : {S Z : Type 0} → SchemeOf S → S → SecretKeyRecord → List ℕ → ChosenComments
+    → RandomCall Z
     → SignatureBoxRecord → Type 0
 HasSignedBox s scheme sk message chosen z x = IsSigned (s.signature_of scheme) sk message chosen z x
     × ((seed : List ℕ) → IsGenuine (s.public_of scheme) sk seed
@@ -80,19 +91,21 @@ AreChosenReadBack chosen = AreReadBack chosen.untrusted chosen.trusted
 abbrev pub RandomHasNoNewFault : {Z : Type 0} → RandomCall Z → Type 0
 RandomHasNoNewFault z = z.random.random_faults z.new ≡ z.random.random_faults z.old
 
--- signing with an opened key fails: an allocation fails, with no new error of either; the data fails, with nothing
--- drawn; or all of it was read, and the random source fails
+-- signing with an opened key fails: an allocation fails, with no new error of either; the data fails, with
+-- nothing drawn; or all of it was read, and the random source fails
 abbrev pub OpenedSigningFails : {R Z : Type 0} → SourceCall R → RandomCall Z → Fault → Type 0
 OpenedSigningFails r z e =
-    (((e ≡ Named named.OutOfMemory) × RandomHasNoNewFault z) × (r.source.faults r.new ≡ r.source.faults r.old))
+    (((e ≡ Named named.OutOfMemory) × RandomHasNoNewFault z)
+    × (r.source.faults r.new ≡ r.source.faults r.old))
     ⊎ (HasFailed named.ReadingFailed (r.source.faults r.old) (r.source.faults r.new) e × (z.new ≡ z.old))
     ⊎ ((message : List ℕ) × ReadsWhole r.source r.old r.new message
     × HasFailed named.RandomSourceFailed (z.random.random_faults z.old) (z.random.random_faults z.new) e)
 
--- signing fails: the key is sealed, with nothing read or drawn; or it is opened, and signing with it fails; or all the
--- data was read, and the public key that was given does not accept the comment signature of the box that the opened key
--- made of it
-abbrev pub SigningFails : {R Z : Type 0} → Verifier → Signer → Option PublicKeyRecord → SecretKeyRecord → ChosenComments
+-- signing fails: the key is sealed, with nothing read or drawn; or it is opened, and signing with it fails;
+-- or all the data was read, and the public key that was given does not accept the comment signature of the
+-- box that the opened key made of it
+abbrev pub SigningFails : {R Z : Type 0} → Verifier → Signer → Option PublicKeyRecord → SecretKeyRecord
+    → ChosenComments
     → SourceCall R → RandomCall Z → Fault → Type 0
 SigningFails accepts sign pk sk chosen r z e =
     (((e ≡ Named named.EncryptedKeyRefused) × (is_encrypted sk ≡ true) × (r.new ≡ r.old) × (z.new ≡ z.old))

@@ -12,9 +12,10 @@ use Rattle.minisign.specs.Opening.{IsOpening, is_sealed_text, key_with_password,
 abbrev pub IsKeyOf : List ℕ → SecretKeyRecord → Type 0
 IsKeyOf text key = (password : List ℕ) × (key_with_password text password ≡ Ok key)
 
--- what comes of a text that a key is wanted of. Where it reads as a key that names a key derivation, what comes of
--- opening it; otherwise a key that was never sealed, or why there is none, with the prompt as it was
-abbrev pub GivesKey : {R W : Type 0} → PromptCall R W → Option (List ℕ) → List ℕ → Result SecretKeyRecord Fault → Type 0
+-- what comes of a text that a key is wanted of. Where it reads as a key that names a key derivation, what
+-- comes of opening it; otherwise a key that was never sealed, or why there is none, with the prompt as it was
+abbrev pub GivesKey : {R W : Type 0} → PromptCall R W → Option (List ℕ) → List ℕ
+    → Result SecretKeyRecord Fault → Type 0
 GivesKey p password text answer = ((is_sealed_text text ≡ true) × IsOpening p password text None answer)
     ⊎ ((is_sealed_text text ≡ false) × (p.new ≡ p.old) × (answer ≡ read_unencrypted_key text))
 
@@ -27,14 +28,19 @@ pub record IsSignedText {Z : Type 0} (sign : Signer) (sk : SecretKeyRecord) (mes
   pub both : box.comments ≡ Some comments
   pub written : text ≡ signature_text box.signature comments
 
--- the text is that of a box that is signed with the key, and where that is genuine it is read back as one that vouches
-abbrev pub HasSignedText : {S Z : Type 0} → SchemeOf S → S → SecretKeyRecord → List ℕ → ChosenComments → RandomCall Z
+-- the text is that of a box that is signed with the key, and where that is genuine it is read back as one
+-- that vouches
+abbrev pub HasSignedText : {S Z : Type 0} → SchemeOf S → S → SecretKeyRecord → List ℕ → ChosenComments
+    → RandomCall Z
     → List ℕ → Type 0
-HasSignedText s scheme sk message chosen z text = IsSignedText (s.signature_of scheme) sk message chosen z text
+HasSignedText s scheme sk message chosen z text = IsSignedText (s.signature_of scheme) sk message chosen z
+    text
     × SigningHeadline (s.accepts scheme) (s.public_of scheme) sk message chosen text
 
--- the text of a secret key gave a key, all the data was read, and this is the text of a signature that is made so
-abbrev pub HasSignedWithText : {S P Q R Z : Type 0} → SchemeOf S → S → PromptCall P Q → Option (List ℕ) → List ℕ
+-- the text of a secret key gave a key, all the data was read, and this is the text of a signature that is
+-- made so
+abbrev pub HasSignedWithText : {S P Q R Z : Type 0} → SchemeOf S → S → PromptCall P Q → Option (List ℕ)
+    → List ℕ
     → SourceCall R → ChosenComments → RandomCall Z → List ℕ → Type 0
 HasSignedWithText s scheme p password sk_text r chosen z text =
     (sk : SecretKeyRecord) × (message : List ℕ) × GivesKey p password sk_text (Ok sk)
@@ -43,5 +49,6 @@ HasSignedWithText s scheme p password sk_text r chosen z text =
 -- signing with a text fails: it gives no key, with nothing read or drawn, or signing with its key fails
 abbrev pub TextSigningFails : {P Q R Z : Type 0} → PromptCall P Q → Option (List ℕ) → List ℕ → SourceCall R
     → RandomCall Z → Fault → Type 0
-TextSigningFails p password text r z e = (GivesKey p password text (Err e) × (r.new ≡ r.old) × (z.new ≡ z.old))
+TextSigningFails p password text r z e =
+    (GivesKey p password text (Err e) × (r.new ≡ r.old) × (z.new ≡ z.old))
     ⊎ ((key : SecretKeyRecord) × GivesKey p password text (Ok key) × OpenedSigningFails r z e)

@@ -1,5 +1,7 @@
--- What texts of keys and signatures are made of: lines, base64 as RFC 4648 section 4 has it, and tests in an order.
-use Rattle.std.specs.Prelude.{◌≡◌, ◌↔◌, ◌⊎◌, ℕ, ◌%◌, Bool, if◌then◌else◌, bytes_eq, map, List, Result, Ok, Err, codes, [], ◌∷◌, ◌++◌}
+-- What texts of keys and signatures are made of: lines, base64 as RFC 4648 section 4 has it, and tests in an
+-- order.
+use Rattle.std.specs.Prelude.{◌≡◌, ◌↔◌, ◌⊎◌, ℕ, ◌%◌, Bool, if◌then◌else◌, bytes_eq, map, List, Result, Ok}
+use Rattle.std.specs.Prelude.{Err, codes, [], ◌∷◌, ◌++◌}
 use Rattle.minisign.specs.Common.{Fault, Named, NamedFault, OutOfMemory}
 use Rattle.base64.specs.Engines.{standard}
 use Rattle.base64.specs.GeneralPurpose.{encode_of, decoded_bytes_of, IsBytes}
@@ -43,8 +45,8 @@ map_ok f (Err e) = Err e
 abbrev pub IsReadOrNoMemory : {V : Type 0} → Result V Fault → Result V Fault → Type 0
 IsReadOrNoMemory answer read = (answer ≡ read) ⊎ (answer ≡ Err (Named OutOfMemory))
 
--- what is read is a value exactly where the text reads as this value, by the relation; it reads as one at most, and as
--- none where what is read is an error
+-- what is read is a value exactly where the text reads as this value, by the relation; it reads as one at
+-- most, and as none where what is read is an error
 pub record IsReading {V E : Type 0} (reads : V → Type 0) (read : Result V E) : Type 0 where
   pub value : (v : V) → (read ≡ Ok v) ↔ reads v
   pub one_value : (v w : V) → reads v → reads w → v ≡ w

@@ -1,7 +1,10 @@
--- How verifying ends, with a key and a box or with two texts: what holds on success, and that otherwise it failed at
--- one of its stages.
-use Rattle.std.specs.Prelude.{◌≡◌, ℕ, Bool, true, false, if◌then◌else◌, List, [], ◌++◌, IsSome, ◌⊎◌, Result, Ok, Err}
-use Rattle.minisign.specs.Common.{IsAtEnd, blake2b_digest, Fault, IsFlushed, IsSteady, IsUnflushed, RereaderCall, SinkCall, SinkHasNoNewFault, SourceHasNoNewFault, Takes, unused}
+-- How verifying ends, with a key and a box or with two texts: what holds on success, and that otherwise it
+-- failed at one of its stages.
+use Rattle.std.specs.Prelude.{◌≡◌, ℕ, Bool, true, false, if◌then◌else◌, List, [], ◌++◌, IsSome, ◌⊎◌, Result}
+use Rattle.std.specs.Prelude.{Ok, Err}
+use Rattle.minisign.specs.Common.{IsAtEnd, blake2b_digest, Fault, IsFlushed, IsSteady, IsUnflushed}
+use Rattle.minisign.specs.Common.{RereaderCall, SinkCall, SinkHasNoNewFault, SourceHasNoNewFault, Takes}
+use Rattle.minisign.specs.Common.{unused}
 use Rattle.minisign.specs.Records.{PublicKeyRecord, SignatureBoxRecord, is_prehashed}
 use Rattle.minisign.specs.Acceptance.{Verifier, Vouches, signed_bytes, status_lines}
 use Rattle.minisign.specs.declared.options.VerifyOptions.{VerifyOptions}
@@ -15,16 +18,17 @@ use Rattle.minisign.specs.Texts.{IsReadOrNoMemory, and_then, map_ok}
 abbrev pub wanted_status : Bool → SignatureBoxRecord → List ℕ
 wanted_status quiet x = if quiet then [] else status_lines x
 
--- the data was read to its end, which gave the message, and from its mark to its end again, which gave the copy, as
--- long as both have one digest
+-- the data was read to its end, which gave the message, and from its mark to its end again, which gave the
+-- copy, as long as both have one digest
 abbrev pub ReadsTwice : {R O : Type 0} → RereaderCall R → SinkCall O → List ℕ → List ℕ → Type 0
 ReadsTwice reader out message copy = StagesEnd reader unused out
     (reading_stages true message ++ second_copy_stages (blake2b_digest 64 message) copy) (Ok tt)
 
--- the output holds a copy that the box vouches for, as it does for the message: the two have one digest, or are
--- the same where the data itself is signed and over a steady source whose bytes are known; it was flushed, and for
--- a box over the digest it is what a second reading gave
-pub record HasCopy {R O : Type 0} (accepts : Verifier) (pk : PublicKeyRecord) (x : SignatureBoxRecord) (legacy : Bool)
+-- the output holds a copy that the box vouches for, as it does for the message: the two have one digest, or
+-- are the same where the data itself is signed and over a steady source whose bytes are known; it was
+-- flushed, and for a box over the digest it is what a second reading gave
+pub record HasCopy {R O : Type 0} (accepts : Verifier) (pk : PublicKeyRecord) (x : SignatureBoxRecord)
+    (legacy : Bool)
     (reader : RereaderCall R) (out : SinkCall O) (message : List ℕ) : Type 0 where
   pub copy : List ℕ
   pub all : Takes out copy
@@ -35,16 +39,19 @@ pub record HasCopy {R O : Type 0} (accepts : Verifier) (pk : PublicKeyRecord) (x
   pub legacy_same : is_prehashed x.signature ≡ false → copy ≡ message
   pub steady_same : IsSteady reader → IsSome (reader.source.ahead reader.old) → copy ≡ message
 
--- verifying succeeds: all the data was read to its end without an error, the box vouches for it, what is to be
--- said was said and not flushed, and the output holds a copy where one is wanted
-pub record VerifyingSucceeds {R W O : Type 0} (accepts : Verifier) (pk : PublicKeyRecord) (x : SignatureBoxRecord)
-    (options : VerifyOptions) (reader : RereaderCall R) (status : SinkCall W) (out : SinkCall O) : Type 0 where
+-- verifying succeeds: all the data was read to its end without an error, the box vouches for it, what is to
+-- be said was said and not flushed, and the output holds a copy where one is wanted
+pub record VerifyingSucceeds {R W O : Type 0} (accepts : Verifier) (pk : PublicKeyRecord)
+    (x : SignatureBoxRecord)
+    (options : VerifyOptions) (reader : RereaderCall R) (status : SinkCall W) (out : SinkCall O)
+    : Type 0 where
   pub message : List ℕ
   pub given : IsAhead (reader.source.ahead reader.old) message
   pub vouches : Vouches accepts pk x message options.allow_legacy
   pub end : IsAtEnd (reader.source.ahead reader.new)
   pub no_new_fault : SourceHasNoNewFault reader
-  pub mark : is_reread options.output x ≡ false → reader.source.behind reader.new ≡ reader.source.behind reader.old
+  pub mark : is_reread options.output x ≡ false
+      → reader.source.behind reader.new ≡ reader.source.behind reader.old
   pub said : Takes status (wanted_status options.quiet x)
   pub status_no_new_fault : SinkHasNoNewFault status
   pub status_unflushed : IsUnflushed status
@@ -65,15 +72,16 @@ read_texts pk_text sig_text =
 
 -- the texts read as a key and a box, and verifying succeeds with these
 pub record VerifyingTextsSucceeds {R W O : Type 0} (accepts : Verifier) (pk_text sig_text : List ℕ)
-    (options : VerifyOptions) (reader : RereaderCall R) (status : SinkCall W) (out : SinkCall O) : Type 0 where
+    (options : VerifyOptions) (reader : RereaderCall R) (status : SinkCall W) (out : SinkCall O)
+    : Type 0 where
   pub key : PublicKeyRecord
   pub box : SignatureBoxRecord
   pub key_read : read_public_key pk_text ≡ Ok key
   pub box_read : read_signature_box sig_text ≡ Ok box
   pub verified : VerifyingSucceeds accepts key box options reader status out
 
--- a text is rejected, or an allocation failed for one, before anything is read, said or copied; or verifying fails with
--- the key and the box that the texts read as
+-- a text is rejected, or an allocation failed for one, before anything is read, said or copied; or verifying
+-- fails with the key and the box that the texts read as
 abbrev pub VerifyingTextsFails : {R W O : Type 0} → Verifier → List ℕ → List ℕ → VerifyOptions
     → RereaderCall R → SinkCall W → SinkCall O → Fault → Type 0
 VerifyingTextsFails accepts pk_text sig_text options reader status out e =

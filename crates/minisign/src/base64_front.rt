@@ -1,6 +1,7 @@
 //! Base64 that is decoded without allocating: the bytes at the front are kept, and all of the text is judged.
 
-ghost use Rattle.std.specs.Prelude.{◌≡◌, ◌+◌, ◌*◌, ◌/◌, ◌%◌, ◌≤◌, List, ℕ, false, length, min, take, MatchOption};
+ghost use Rattle.std.specs.Prelude.{◌≡◌, ◌+◌, ◌*◌, ◌/◌, ◌%◌, ◌≤◌, List, ℕ, false, length, min, take};
+ghost use Rattle.std.specs.Prelude.{MatchOption};
 ghost use Rattle.minisign.specs.Texts.{IsBase64Of, is_base64};
 
 use base64::engine::general_purpose::STANDARD;
@@ -10,13 +11,14 @@ const PIECE_LETTERS: usize = 64;
 
 const PIECE_BYTES: usize = 48;
 
-// Decodes base64 into `room`: returns how many bytes of what the text is the base64 of stand at its front, all of them
-// or as many as there is room for; nothing where the text is not base64.
+// Decodes base64 into `room`: returns how many bytes of what the text is the base64 of stand at its front,
+// all of them or as many as there is room for; nothing where the text is not base64.
 pub(crate) fn decode_front(text: &[u8], room: &mut [u8]) -> Option<usize>
     requires { length room.old % 3 ≡ 0 }
     ensures { MatchOption result (is_base64 text.now ≡ false)
         (λ n. (bytes : List ℕ) × IsBase64Of text.now bytes
-        × (n ≡ min (length bytes) (length room.old)) × (n ≤ length room.new) × (take n room.new ≡ take n bytes)) }
+        × (n ≡ min (length bytes) (length room.old)) × (n ≤ length room.new)
+        × (take n room.new ≡ take n bytes)) }
 {
     let fitting = room.len() / 3 * 4;
     if text.len() <= fitting {

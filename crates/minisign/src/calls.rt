@@ -1,6 +1,7 @@
 //! Calls for callers: verifying with texts, and the comment that was signed.
 
-ghost use Rattle.std.specs.Prelude.{◌≡◌, ◌≤◌, ◌⊎◌, ℕ, List, Ok, Err, true, false, length, string_bytes, IfOk, IfErr, OnOk};
+ghost use Rattle.std.specs.Prelude.{◌≡◌, ◌≤◌, ◌⊎◌, ℕ, List, Ok, Err, true, false, length, string_bytes, IfOk};
+ghost use Rattle.std.specs.Prelude.{IfErr, OnOk};
 ghost use Rattle.minisign_base.specs.Fault.{Named};
 ghost use Rattle.minisign_base.specs.declared.faults.NamedFault.TheVariants.{OutOfMemory, ReadingFailed};
 ghost use Rattle.minisign_base.specs.DeviceCalls.{rereader_call, sink_call, unused};
@@ -46,21 +47,26 @@ pub fn verify_with<S: Scheme, R: Rereader, W: Sink, O: Sink>(
     status: &mut W,
     out: &mut O,
 ) -> Result<String>
-    // Over data that is known, where no device fails, and over a steady source where the data is copied: the answer is
-    // the verdict, a function of the two texts, the data and the flag, or out of memory.
-    ensures headline { WhereNothingFails options.output (rereader_call R.Source R.steady data_reader.old data_reader.new)
-        (sink_call W.Sink status.old status.new) (sink_call O.Sink out.old out.new) (map_ok string_bytes result)
+    // Over data that is known, where no device fails, and over a steady source where the data is copied: the
+    // answer is the verdict, a function of the two texts, the data and the flag, or out of memory.
+    ensures headline { WhereNothingFails options.output
+        (rereader_call R.Source R.steady data_reader.old data_reader.new)
+        (sink_call W.Sink status.old status.new) (sink_call O.Sink out.old out.new)
+        (map_ok string_bytes result)
         (λ bytes. verdict (S.accepts scheme.now) pk_text.now sig_text.now bytes options.allow_legacy) }
 
     // What is returned is the comment that the signature text holds.
-    ensures comment { IfOk result (λ t. map_ok (λ s. s.comments.trusted) (read_signature sig_text.now) ≡ Ok (string_bytes t)) }
+    ensures comment { IfOk result
+        (λ t. map_ok (λ s. s.comments.trusted) (read_signature sig_text.now) ≡ Ok (string_bytes t)) }
 
     // What is said of success and of a rejection is what the clauses `accepted` and `refused` of
     // `verify_texts` say.
-    ensures accepted { OnOk result (VerifyingTextsSucceeds (S.accepts scheme.now) pk_text.now sig_text.now options
+    ensures accepted { OnOk result
+        (VerifyingTextsSucceeds (S.accepts scheme.now) pk_text.now sig_text.now options
         (rereader_call R.Source R.steady data_reader.old data_reader.new)
         (sink_call W.Sink status.old status.new) (sink_call O.Sink out.old out.new)) }
-    ensures refused { IfErr result (VerifyingTextsFails (S.accepts scheme.now) pk_text.now sig_text.now options
+    ensures refused { IfErr result
+        (VerifyingTextsFails (S.accepts scheme.now) pk_text.now sig_text.now options
         (rereader_call R.Source R.steady data_reader.old data_reader.new)
         (sink_call W.Sink status.old status.new) (sink_call O.Sink out.old out.new)) }
 
@@ -93,9 +99,11 @@ fn read_with_comment(
     pk_text: &str,
     sig_text: &str,
 ) -> Result<(PublicKey, SignatureBox, String)>
-    ensures read { IsReadOrNoMemory {V = PublicKeyRecord × SignatureBoxRecord} (map_ok (λ all. (all.0, all.1)) result)
+    ensures read { IsReadOrNoMemory {V = PublicKeyRecord × SignatureBoxRecord}
+        (map_ok (λ all. (all.0, all.1)) result)
         (read_texts pk_text.now sig_text.now) }
-    ensures comment { IfOk result (λ all. map_ok (λ s. s.comments.trusted) (read_signature sig_text.now) ≡ Ok (string_bytes all.2)) }
+    ensures comment { IfOk result
+        (λ all. map_ok (λ s. s.comments.trusted) (read_signature sig_text.now) ≡ Ok (string_bytes all.2)) }
 {
     let (pk, signature_box) = read_texts(alloc, pk_text, sig_text)?;
     let comment = signature_box.trusted_comment(alloc)?;
@@ -120,7 +128,8 @@ pub fn verify_bytes<S: Scheme>(
     sig_text: &str,
     message: &[u8],
 ) -> Result<String>
-    // Of data in memory: the answer is the verdict, a function of the two texts and the data, or out of memory.
+    // Of data in memory: the answer is the verdict, a function of the two texts and the data, or out of
+    // memory.
     ensures { IsReadOrNoMemory (map_ok string_bytes result)
         (verdict (S.accepts scheme.now) pk_text.now sig_text.now message.now false) }
 {
@@ -129,15 +138,15 @@ pub fn verify_bytes<S: Scheme>(
     Ok(String::from_str(alloc, comment)?)
 }
 
-/// Verifies that the texts of a public key and of a signature vouch for the data in memory, and returns the trusted
-/// comment, which was signed with the data, where it lies in the text of the signature. Does not allocate: `room` has
-/// as many bytes as the text of the signature at least, and holds afterwards what the comment signature is over, or
-/// what it held before.
+/// Verifies that the texts of a public key and of a signature vouch for the data in memory, and returns the
+/// trusted comment, which was signed with the data, where it lies in the text of the signature. Does not
+/// allocate: `room` has as many bytes as the text of the signature at least, and holds afterwards what the
+/// comment signature is over, or what it held before.
 ///
-/// These are rejected, in this order: the text of the public key, as `read_public_key` says; the text of the signature,
-/// as `read_signature` says; key IDs that differ; a signature over the data itself, unless `allow_legacy`; a signature
-/// that the scheme does not accept; a comment signature that has fewer than 64 bytes, or that the scheme does not
-/// accept.
+/// These are rejected, in this order: the text of the public key, as `read_public_key` says; the text of the
+/// signature, as `read_signature` says; key IDs that differ; a signature over the data itself, unless
+/// `allow_legacy`; a signature that the scheme does not accept; a comment signature that has fewer than 64
+/// bytes, or that the scheme does not accept.
 ///
 /// ```
 /// let comment = verify_in_place(&scheme, PUBLIC_KEY, signature, update, false, &mut room)?;
@@ -152,9 +161,10 @@ pub fn verify_in_place<'a, S: Scheme>(
 ) -> Result<&'a str>
     requires { length sig_text.now ≤ length room.old }
 
-    // Of every scheme, all texts and all data: the answer is the verdict, a function of the two texts, the data and the
-    // flag.
-    ensures { map_ok (λ t. t.now) result ≡ verdict (S.accepts scheme.now) pk_text.now sig_text.now message.now allow_legacy }
+    // Of every scheme, all texts and all data: the answer is the verdict, a function of the two texts, the
+    // data and the flag.
+    ensures { map_ok (λ t. t.now) result
+        ≡ verdict (S.accepts scheme.now) pk_text.now sig_text.now message.now allow_legacy }
 {
     let pk = read_public_key(pk_text)?;
     let view = read_signature(sig_text)?;
@@ -183,10 +193,11 @@ pub fn verify_file<F: Files, S: Scheme>(
     sig_path: &str,
     data_path: &str,
 ) -> Result<String>
-    // Of files by name: the answer is the verdict on the text of the key, some signature text and some data; or out of
-    // memory, `reading failed` or the error of a text that is not UTF-8, and no contract says when. That the named
-    // files are the ones that are read, the code and tests show.
-    ensures { (message : List ℕ) × IsReadFromFile (λ sig_text. verdict (S.accepts scheme.now) pk_text.now sig_text message false)
+    // Of files by name: the answer is the verdict on the text of the key, some signature text and some data;
+    // or out of memory, `reading failed` or the error of a text that is not UTF-8, and no contract says when.
+    // That the named files are the ones that are read, the code and tests show.
+    ensures { (message : List ℕ)
+        × IsReadFromFile (λ sig_text. verdict (S.accepts scheme.now) pk_text.now sig_text message false)
         (map_ok string_bytes result) }
 {
     let sig_text = read_text_file(files, alloc, sig_path)?;
@@ -220,26 +231,32 @@ pub fn verify_reader<S: Scheme, R: Rereader>(
     sig_text: &str,
     data_reader: &mut R,
 ) -> Result<String>
-    // Over a source whose bytes are known, if it does not fail: the answer is the verdict, a function of the two texts
-    // and the data, or out of memory.
-    ensures headline { WhereNothingFails false (rereader_call R.Source R.steady data_reader.old data_reader.new) unused unused
-        (map_ok string_bytes result) (λ message. verdict (S.accepts scheme.now) pk_text.now sig_text.now message false) }
+    // Over a source whose bytes are known, if it does not fail: the answer is the verdict, a function of the
+    // two texts and the data, or out of memory.
+    ensures headline { WhereNothingFails false
+        (rereader_call R.Source R.steady data_reader.old data_reader.new) unused unused
+        (map_ok string_bytes result)
+        (λ message. verdict (S.accepts scheme.now) pk_text.now sig_text.now message false) }
 
     // Whether its bytes are known or not: on success the texts vouch for what was ahead, with the
     // comment that is returned; all of it was read to its end, without an error.
-    ensures vouched { IfOk result (λ t. (message : List ℕ) × ReadsWhole R.Source data_reader.old data_reader.new message
+    ensures vouched { IfOk result
+        (λ t. (message : List ℕ) × ReadsWhole R.Source data_reader.old data_reader.new message
         × TextsVouchWith (S.accepts scheme.now) pk_text.now sig_text.now message false (string_bytes t)) }
 
-    // Otherwise out of memory; or `reading failed`, only if the reader's count of errors rose; or the verdict's
-    // rejection.
-    ensures refused { IfErr result (λ e. (e ≡ Named OutOfMemory) ⊎ HasFailed ReadingFailed (R.faults data_reader.old) (R.faults data_reader.new) e
+    // Otherwise out of memory; or `reading failed`, only if the reader's count of errors rose; or the
+    // verdict's rejection.
+    ensures refused { IfErr result
+        (λ e. (e ≡ Named OutOfMemory)
+        ⊎ HasFailed ReadingFailed (R.faults data_reader.old) (R.faults data_reader.new) e
         ⊎ ((message : List ℕ) × IsAhead (R.ahead data_reader.old) message
         × (verdict (S.accepts scheme.now) pk_text.now sig_text.now message false ≡ Err e))) }
 
     // After a rejection a text was rejected, or an allocation for one failed, with the reader as it was; or
     // it failed at one of the stages of `verify`: at the reading, where an allocation failed or the reader
     // failed, or at the judging, which comes once all was read to its end without an error.
-    ensures failed { IfErr result (VerifyingTextsFails (S.accepts scheme.now) pk_text.now sig_text.now (options_of true false false)
+    ensures failed { IfErr result
+        (VerifyingTextsFails (S.accepts scheme.now) pk_text.now sig_text.now (options_of true false false)
         (rereader_call R.Source R.steady data_reader.old data_reader.new) unused unused) }
 
     // Whatever the result, the reader lost at most some bytes at its front.
@@ -266,7 +283,8 @@ fn verify_opened_file<S: Scheme, R: Rereader>(
     sig_text: &str,
     data_reader: &mut R,
 ) -> Result<String>
-    ensures { (message : List ℕ) × IsReadFromFile (λ sig_text. verdict (S.accepts scheme.now) pk_text.now sig_text message false)
+    ensures { (message : List ℕ)
+        × IsReadFromFile (λ sig_text. verdict (S.accepts scheme.now) pk_text.now sig_text message false)
         (map_ok string_bytes result) }
 {
     verify_reader(alloc, scheme, pk_text, sig_text, data_reader)
@@ -281,8 +299,8 @@ fn verify_opened_file<S: Scheme, R: Rereader>(
 /// what `verify_bytes` rejects of the data; all these with `out` untouched. Then a source that
 /// cannot go back, `GoingBackFailed`; a second reading or an `out` that fails, whichever comes
 /// first; a second reading that has another digest, `DataChanged`; an `out` that fails at its
-/// flush. An allocation may fail until the second reading begins. After any rejection nobody may rely on what `out`
-/// holds. On success `out` is flushed.
+/// flush. An allocation may fail until the second reading begins. After any rejection nobody may rely on what
+/// `out` holds. On success `out` is flushed.
 ///
 /// ```
 /// let comment = copy_verified(alloc, &scheme, PUBLIC_KEY, signature, &mut download, &mut new_file)?;
@@ -295,24 +313,29 @@ pub fn copy_verified<S: Scheme, R: Rereader, O: Sink>(
     data_reader: &mut R,
     out: &mut O,
 ) -> Result<String>
-    // Over a steady source whose bytes are known, if no device fails: the answer is the verdict, a function of the two
-    // texts and the data, or out of memory.
-    ensures headline { WhereNothingFails true (rereader_call R.Source R.steady data_reader.old data_reader.new) unused
+    // Over a steady source whose bytes are known, if no device fails: the answer is the verdict, a function
+    // of the two texts and the data, or out of memory.
+    ensures headline { WhereNothingFails true
+        (rereader_call R.Source R.steady data_reader.old data_reader.new) unused
         (sink_call O.Sink out.old out.new)
-        (map_ok string_bytes result) (λ message. verdict (S.accepts scheme.now) pk_text.now sig_text.now message false) }
+        (map_ok string_bytes result)
+        (λ message. verdict (S.accepts scheme.now) pk_text.now sig_text.now message false) }
 
     // What the output took and flushed is itself vouched for, with the comment that is returned; a
     // second reading gave it, with the digest of the first; and it is what was ahead of a steady
     // source, where that is known.
     ensures copied { IfOk result (λ t. CopyIsVouchedWith (S.accepts scheme.now) pk_text.now sig_text.now
-        (rereader_call R.Source R.steady data_reader.old data_reader.new) (sink_call O.Sink out.old out.new) (string_bytes t)) }
+        (rereader_call R.Source R.steady data_reader.old data_reader.new) (sink_call O.Sink out.old out.new)
+        (string_bytes t)) }
 
     // After a rejection a text was rejected, with nothing read or copied; or it failed at one of the
     // stages of `verify`. So nothing was copied, or the texts vouch for what was read first, and
     // going back, memory, the second reading or the output failed, or the second reading had
     // another digest.
-    ensures refused { IfErr result (VerifyingTextsFails (S.accepts scheme.now) pk_text.now sig_text.now (options_of true true false)
-        (rereader_call R.Source R.steady data_reader.old data_reader.new) unused (sink_call O.Sink out.old out.new)) }
+    ensures refused { IfErr result
+        (VerifyingTextsFails (S.accepts scheme.now) pk_text.now sig_text.now (options_of true true false)
+        (rereader_call R.Source R.steady data_reader.old data_reader.new) unused
+        (sink_call O.Sink out.old out.new)) }
 {
     verify_with(
         alloc,

@@ -1,13 +1,16 @@
 //! Copying the data of a box that was accepted: the data that was kept, or a second pass over the
 //! source that has to give the digest of the first.
 
-ghost use Rattle.std.specs.Prelude.{◌≡◌, ◌⊎◌, ℕ, ◌<◌, ◌++◌, List, true, false, bytes_eq, length, Ok, Err, IfOk, IfErr, OnOk, MatchResult};
+ghost use Rattle.std.specs.Prelude.{◌≡◌, ◌⊎◌, ℕ, ◌<◌, ◌++◌, List, true, false, bytes_eq, length, Ok, Err};
+ghost use Rattle.std.specs.Prelude.{IfOk, IfErr, OnOk, MatchResult};
 ghost use Rattle.minisign_hash.specs.Blake2b.{blake2b_digest};
 ghost use Rattle.minisign_hash.specs.Fed.{IsFed, has_finalized, output_length};
 ghost use Rattle.minisign_base.specs.Devices.{BeginsAnew};
 ghost use Rattle.minisign_base.specs.Fault.{Named};
-ghost use Rattle.minisign_base.specs.declared.faults.NamedFault.TheVariants.{DataChanged, GoingBackFailed, ReadingFailed, WritingFailed};
-ghost use Rattle.minisign_base.specs.DeviceCalls.{Flushes, GoesBack, IsWritingFault, Puts, rereader_call, sink_call, unused};
+ghost use Rattle.minisign_base.specs.declared.faults.NamedFault.TheVariants.{DataChanged, GoingBackFailed};
+ghost use Rattle.minisign_base.specs.declared.faults.NamedFault.TheVariants.{ReadingFailed, WritingFailed};
+ghost use Rattle.minisign_base.specs.DeviceCalls.{Flushes, GoesBack, IsWritingFault, Puts, rereader_call};
+ghost use Rattle.minisign_base.specs.DeviceCalls.{sink_call, unused};
 ghost use Rattle.minisign.specs.Reading.{Copies, HasFailed};
 ghost use Rattle.minisign.specs.Stages.{StagesEnd, second_copy_stages, held_copy_stages};
 
@@ -28,7 +31,8 @@ pub(crate) fn copy_out<R: Rereader, O: Sink>(
     output: bool,
     out: &mut O,
 ) -> Result<()>
-    ensures { (second : List ℕ) × StagesEnd (rereader_call R.Source R.steady data_reader.old data_reader.new) unused
+    ensures { (second : List ℕ)
+        × StagesEnd (rereader_call R.Source R.steady data_reader.old data_reader.new) unused
         (sink_call O.Sink out.old out.new) (held_copy_stages output signed.now second) result }
 {
     if !output {
@@ -51,7 +55,8 @@ fn copy_again<R: Rereader, O: Sink>(
     data_reader: &mut R,
     out: &mut O,
 ) -> Result<()>
-    ensures { (second : List ℕ) × StagesEnd (rereader_call R.Source R.steady data_reader.old data_reader.new) unused
+    ensures { (second : List ℕ)
+        × StagesEnd (rereader_call R.Source R.steady data_reader.old data_reader.new) unused
         (sink_call O.Sink out.old out.new) (second_copy_stages digest.now second) result }
 {
     go_back(data_reader)?;
@@ -108,7 +113,8 @@ fn copy_pieces<R: Rereader, O: Sink>(
     ensures refused { IfErr result (λ e. (message : List ℕ)
         × Copies (rereader_call R.Source R.steady data_reader.old data_reader.new)
         (sink_call O.Sink out.old out.new) message (Err e)) }
-    ensures failed { IfErr result (λ e. HasFailed ReadingFailed (R.faults data_reader.old) (R.faults data_reader.new) e
+    ensures failed { IfErr result
+        (λ e. HasFailed ReadingFailed (R.faults data_reader.old) (R.faults data_reader.new) e
         ⊎ IsWritingFault (sink_call O.Sink out.old out.new) e) }
     ensures length { output_length hasher.new ≡ output_length hasher.old }
 {
@@ -130,7 +136,8 @@ fn copy_pieces<R: Rereader, O: Sink>(
 fn go_back<R: Rereader>(data_reader: &mut R) -> Result<()>
     ensures { MatchResult result
         (λ _. GoesBack (rereader_call R.Source R.steady data_reader.old data_reader.new) (Ok tt))
-        (λ e. (e ≡ Named GoingBackFailed) × GoesBack (rereader_call R.Source R.steady data_reader.old data_reader.new) (Err tt)) }
+        (λ e. (e ≡ Named GoingBackFailed)
+        × GoesBack (rereader_call R.Source R.steady data_reader.old data_reader.new) (Err tt)) }
 {
     match data_reader.back() {
         Ok(()) => Ok(()),

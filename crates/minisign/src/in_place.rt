@@ -1,11 +1,16 @@
-//! Reading the texts of public keys and signatures where they lie, without allocating: what is decoded stands in
-//! arrays, and the comments stay in the text.
+//! Reading the texts of public keys and signatures where they lie, without allocating: what is decoded stands
+//! in arrays, and the comments stay in the text.
 
-ghost use Rattle.std.specs.Prelude.{◌≡◌, ◌==◌, ◌⊎◌, ◌+◌, ◌≤◌, ◌<◌, [], ◌∷◌, true, false, Ok, Err, length, MatchResult, IfOk, IfErr};
+ghost use Rattle.std.specs.Prelude.{◌≡◌, ◌==◌, ◌⊎◌, ◌+◌, ◌≤◌, ◌<◌, [], ◌∷◌, true, false, Ok, Err, length};
+ghost use Rattle.std.specs.Prelude.{MatchResult, IfOk, IfErr};
 ghost use Rattle.std.specs.Str.{trim};
 ghost use Rattle.minisign_base.specs.Fault.{Named};
-ghost use Rattle.minisign_base.specs.declared.faults.NamedFault.TheVariants.{PublicKeyLineLength, PublicKeyLineNotBase64, RecordTooShort, SignatureNotBase64};
-ghost use Rattle.minisign.specs.SignatureText.{first_64, view_of, EncodesSignature, read_signature, signature_in_lines};
+ghost use Rattle.minisign_base.specs.declared.faults.NamedFault.TheVariants.{PublicKeyLineLength};
+ghost use Rattle.minisign_base.specs.declared.faults.NamedFault.TheVariants.{PublicKeyLineNotBase64};
+ghost use Rattle.minisign_base.specs.declared.faults.NamedFault.TheVariants.{RecordTooShort};
+ghost use Rattle.minisign_base.specs.declared.faults.NamedFault.TheVariants.{SignatureNotBase64};
+ghost use Rattle.minisign.specs.SignatureText.{first_64, view_of, EncodesSignature, read_signature};
+ghost use Rattle.minisign.specs.SignatureText.{signature_in_lines};
 ghost use Rattle.minisign.specs.PublicKeyText.{decoded_key, read_bare_public_key, read_public_key};
 ghost use Rattle.minisign.specs.Records.{IsKnownAlgorithm, is_prehashed};
 ghost use Rattle.minisign.specs.Texts.{base64_bytes, is_base64, map_ok, require};
@@ -82,13 +87,14 @@ impl<'a> SignatureView<'a> {
     }
 }
 
-/// Reads a public key text: a first line that may be anything, and a second of 56 bytes that, trimmed of white space, is
-/// the base64 of the 42 bytes of a key. Later lines are ignored.
+/// Reads a public key text: a first line that may be anything, and a second of 56 bytes that, trimmed of
+/// white space, is the base64 of the 42 bytes of a key. Later lines are ignored.
 ///
-/// These are rejected, in this order: a text with no first line, one with no second line, another length of that line,
-/// what is not base64, fewer than 42 bytes. Does not allocate.
+/// These are rejected, in this order: a text with no first line, one with no second line, another length of
+/// that line, what is not base64, fewer than 42 bytes. Does not allocate.
 pub fn read_public_key(text: &str) -> Result<PublicKey>
-    // A public key text is read as its grammar has it, a function of the text: as the key, or the first case that fails.
+    // A public key text is read as its grammar has it, a function of the text: as the key, or the first case
+    // that fails.
     ensures { result ≡ read_public_key text.now }
 {
     let mut lines = text.lines();
@@ -103,11 +109,11 @@ pub fn read_public_key(text: &str) -> Result<PublicKey>
 
 /// Reads the bare base64 of a key, 56 bytes with nothing around them.
 ///
-/// These are rejected, in this order: a text that, trimmed of white space, has another length, what is not base64 as it
-/// stands, fewer than 42 bytes. Does not allocate.
+/// These are rejected, in this order: a text that, trimmed of white space, has another length, what is not
+/// base64 as it stands, fewer than 42 bytes. Does not allocate.
 pub fn read_bare_public_key(text: &str) -> Result<PublicKey>
-    // The base64 of a key is read as its grammar has it, a function of the text: as the key, or the first case that
-    // fails.
+    // The base64 of a key is read as its grammar has it, a function of the text: as the key, or the first
+    // case that fails.
     ensures { result ≡ read_bare_public_key text.now }
 {
     if text.trim().len() != ENCODED_BYTES {
@@ -116,18 +122,18 @@ pub fn read_bare_public_key(text: &str) -> Result<PublicKey>
     decode_key(text, NamedFault::BarePublicKeyNotBase64)
 }
 
-/// Reads a signature text, as `SignatureBox::from_string` does, and tells of it all but what stands after the first 64
-/// bytes of the comment signature. It has four lines: `untrusted comment: ` and a comment; the base64 of the 74 bytes of a
-/// signature; `trusted comment: ` and the comment that is signed; the base64 of the comment signature, of any length. The
-/// second and the fourth line and the trusted comment are trimmed of white space, the untrusted comment is kept as it
-/// stands, and later lines are ignored.
+/// Reads a signature text, as `SignatureBox::from_string` does, and tells of it all but what stands after the
+/// first 64 bytes of the comment signature. It has four lines: `untrusted comment: ` and a comment; the
+/// base64 of the 74 bytes of a signature; `trusted comment: ` and the comment that is signed; the base64 of
+/// the comment signature, of any length. The second and the fourth line and the trusted comment are trimmed
+/// of white space, the untrusted comment is kept as it stands, and later lines are ignored.
 ///
-/// These are rejected, in this order: a missing line, the first one first; another prefix of the first line; a second
-/// line that is not base64, or of fewer than 74 bytes; another prefix of the third line; an algorithm other than `Ed`
-/// and `ED`; a fourth line that is not base64. Does not allocate.
+/// These are rejected, in this order: a missing line, the first one first; another prefix of the first line;
+/// a second line that is not base64, or of fewer than 74 bytes; another prefix of the third line; an
+/// algorithm other than `Ed` and `ED`; a fourth line that is not base64. Does not allocate.
 pub fn read_signature(text: &str) -> Result<SignatureView<'_>>
-    // A signature text is read as its grammar has it, a function of the text: as the signature with its comments, or the
-    // first case that fails. Of the comment signature the first 64 bytes are told.
+    // A signature text is read as its grammar has it, a function of the text: as the signature with its
+    // comments, or the first case that fails. Of the comment signature the first 64 bytes are told.
     ensures view { result ≡ map_ok view_of (read_signature text.now) }
 
     // The trusted comment and the 64 bytes of a signature have no more bytes than the text.
@@ -183,7 +189,8 @@ pub(crate) fn read_parts(text: &str) -> Result<SignatureParts<'_>>
         signature = base64_bytes p.comment_signature.now;
       };
     })) }
-    ensures parts { IfOk result (λ p. (is_base64 p.comment_signature.now ≡ true) × IsKnownAlgorithm p.signature.algorithm
+    ensures parts { IfOk result
+        (λ p. (is_base64 p.comment_signature.now ≡ true) × IsKnownAlgorithm p.signature.algorithm
         × (64 + length p.trusted_comment.now ≤ length text.now)) }
     ensures refused { IfErr result (λ e. read_signature text.now ≡ Err e) }
 {
@@ -203,17 +210,20 @@ fn read_lines<'a>(
     third: &'a str,
     fourth: &'a str,
 ) -> Result<SignatureParts<'a>>
-    ensures read { IfOk result (λ p. signature_in_lines (first.now ∷ second.now ∷ third.now ∷ fourth.now ∷ []) ≡ Ok (record {
-      signature = p.signature;
-      comments = record {
-        untrusted = p.untrusted_comment.now;
-        trusted = p.trusted_comment.now;
-        signature = base64_bytes p.comment_signature.now;
-      };
-    })) }
-    ensures parts { IfOk result (λ p. (is_base64 p.comment_signature.now ≡ true) × IsKnownAlgorithm p.signature.algorithm
+    ensures read { IfOk result (λ p.
+        signature_in_lines (first.now ∷ second.now ∷ third.now ∷ fourth.now ∷ []) ≡ Ok (record {
+          signature = p.signature;
+          comments = record {
+            untrusted = p.untrusted_comment.now;
+            trusted = p.trusted_comment.now;
+            signature = base64_bytes p.comment_signature.now;
+          };
+        })) }
+    ensures parts { IfOk result
+        (λ p. (is_base64 p.comment_signature.now ≡ true) × IsKnownAlgorithm p.signature.algorithm
         × (64 + length p.trusted_comment.now ≤ length second.now + length third.now)) }
-    ensures refused { IfErr result (λ e. signature_in_lines (first.now ∷ second.now ∷ third.now ∷ fourth.now ∷ []) ≡ Err e) }
+    ensures refused { IfErr result
+        (λ e. signature_in_lines (first.now ∷ second.now ∷ third.now ∷ fourth.now ∷ []) ≡ Err e) }
 {
     let untrusted_comment = untrusted_comment_in(first)?;
     let signature = decode_signature(second.trim())?;

@@ -1,5 +1,5 @@
-//! The conditions of acceptance in their order, of data in memory and a signature text that is read where it lies: none
-//! of it takes memory.
+//! The conditions of acceptance in their order, of data in memory and a signature text that is read where it
+//! lies: none of it takes memory.
 
 ghost use Rattle.std.specs.Prelude.{◌≡◌, ◌+◌, ◌≤◌, ◌++◌, if◌then◌else◌, length, take};
 ghost use Rattle.minisign_hash.specs.Blake2b.{blake2b_digest};
@@ -16,12 +16,12 @@ use minisign_base::scheme::Scheme;
 use minisign_base::{NamedFault, Result};
 use minisign_hash::blake2b::Blake2b;
 
-/// What the key ID of a key and a signature alone decide, before a scheme is asked. Rejected are, in this order: a
-/// signature of another key ID, `DifferentKeyIds`; one over the data itself, unless `allow_legacy`,
+/// What the key ID of a key and a signature alone decide, before a scheme is asked. Rejected are, in this
+/// order: a signature of another key ID, `DifferentKeyIds`; one over the data itself, unless `allow_legacy`,
 /// `LegacyNotAccepted`. Does not allocate.
 pub fn judge_key(key_id: &[u8; 8], signature: &Signature, allow_legacy: bool) -> Result<()>
-    // A signature is taken exactly if it has this key ID and is over the digest of the data, or may be over the data
-    // itself; otherwise it is the first reason.
+    // A signature is taken exactly if it has this key ID and is over the digest of the data, or may be over
+    // the data itself; otherwise it is the first reason.
     ensures { result ≡ judge_key key_id.now signature.now allow_legacy }
 {
     if signature.keynum != *key_id {
@@ -37,8 +37,8 @@ pub fn judge_key(key_id: &[u8; 8], signature: &Signature, allow_legacy: bool) ->
     Ok(())
 }
 
-// Whether a signature text that was read where it lies vouches for the message; `room` takes what the comment signature
-// is over.
+// Whether a signature text that was read where it lies vouches for the message; `room` takes what the comment
+// signature is over.
 pub(crate) fn judge_view<S: Scheme>(
     scheme: &S,
     pk: &PublicKey,
@@ -68,7 +68,8 @@ fn accepts_message<S: Scheme>(
     signature: &Signature,
     message: &[u8],
 ) -> bool
-    ensures { result ≡ S.accepts scheme.now (if is_prehashed signature.now then blake2b_digest 64 message.now else message.now)
+    ensures { result ≡ S.accepts scheme.now
+        (if is_prehashed signature.now then blake2b_digest 64 message.now else message.now)
         pk.now.key signature.now.signature }
 {
     let key = &pk.keynum_pk.pk;
@@ -81,8 +82,8 @@ fn accepts_message<S: Scheme>(
     }
 }
 
-// Whether the comment signature has at least 64 bytes, and the first 64 are accepted for the signature followed by the
-// trusted comment.
+// Whether the comment signature has at least 64 bytes, and the first 64 are accepted for the signature
+// followed by the trusted comment.
 fn accepts_told_comment<S: Scheme>(
     scheme: &S,
     pk: &PublicKey,

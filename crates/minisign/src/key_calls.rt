@@ -1,7 +1,8 @@
 //! Calls for callers: opening a key with a password, making a pair under one, and signing bytes in
 //! memory, what a reader has ahead, or a file.
 
-ghost use Rattle.std.specs.Prelude.{◌≡◌, ◌≤◌, ◌⊎◌, List, ℕ, false, None, Some, length, string_bytes, IfOk, IfErr, OnOk, MatchResult};
+ghost use Rattle.std.specs.Prelude.{◌≡◌, ◌≤◌, ◌⊎◌, List, ℕ, false, None, Some, length, string_bytes, IfOk};
+ghost use Rattle.std.specs.Prelude.{IfErr, OnOk, MatchResult};
 ghost use Rattle.std.specs.Option.{option_map};
 ghost use Rattle.minisign_base.specs.Devices.{HasGiven};
 ghost use Rattle.minisign_base.specs.Fault.{Named};
@@ -124,7 +125,8 @@ pub fn sign_bytes<S: Scheme, Z: RandomSource>(
 ) -> Result<String>
     // What a genuine key signed is read back as a box that vouches for the data, if neither comment
     // has a line feed and the trusted one is trimmed.
-    ensures headline { IfOk result (λ t. SigningHeadline (S.accepts scheme.now) (S.public_of scheme.now) sk.now message.now
+    ensures headline { IfOk result
+        (λ t. SigningHeadline (S.accepts scheme.now) (S.public_of scheme.now) sk.now message.now
         (given_comments trusted_comment.entry None moment) (string_bytes t)) }
 
     // The text is that of the box that signing makes of the data, with an opened key.
@@ -141,7 +143,8 @@ pub fn sign_bytes<S: Scheme, Z: RandomSource>(
 
     // The rejections: a sealed key, with nothing drawn; and with an opened one out of memory, with no
     // new error of the random source, and a failing random source.
-    ensures refused { IfErr result (BytesSigningFails sk.now (random_call Z.RandomSource random.old random.new)) }
+    ensures refused { IfErr result
+        (BytesSigningFails sk.now (random_call Z.RandomSource random.old random.new)) }
 {
     let mut data = MemorySource::new(message);
     sign_reader(
@@ -164,7 +167,8 @@ pub fn sign_bytes<S: Scheme, Z: RandomSource>(
 /// of the trusted comment holds here too.
 ///
 /// ```
-/// let sig_text = sign_reader(alloc, &scheme, &sk, &mut data_reader, Some("update-1.2.tar"), &mut random, moment)?;
+/// let sig_text = sign_reader(alloc, &scheme, &sk, &mut data_reader, Some("update-1.2.tar"), &mut random,
+/// moment)?;
 /// ```
 pub fn sign_reader<S: Scheme, R: Source, Z: RandomSource>(
     alloc: Global,
@@ -178,7 +182,8 @@ pub fn sign_reader<S: Scheme, R: Source, Z: RandomSource>(
     // The text is that of the box that signing makes of all the data ahead, with an opened key; what
     // a genuine key signed is read back as a box that vouches for this data, if neither comment has
     // a line feed and the trusted one is trimmed.
-    ensures signed { IfOk result (λ t. (message : List ℕ) × ReadsWhole R.Source data_reader.old data_reader.new message
+    ensures signed { IfOk result
+        (λ t. (message : List ℕ) × ReadsWhole R.Source data_reader.old data_reader.new message
         × HasSignedText S.Scheme scheme.now sk.now message
         (given_comments trusted_comment.entry None moment)
         (random_call Z.RandomSource random.old random.new) (string_bytes t)) }
@@ -190,7 +195,8 @@ pub fn sign_reader<S: Scheme, R: Source, Z: RandomSource>(
     // The rejections: a sealed key, with nothing read or drawn; and with an opened one out of memory,
     // with no new error of either, a failing reader, with nothing drawn, and a failing random source,
     // once all was read.
-    ensures refused { IfErr result (SigningFails (S.accepts scheme.now) (S.signature_of scheme.now) None sk.now
+    ensures refused { IfErr result
+        (SigningFails (S.accepts scheme.now) (S.signature_of scheme.now) None sk.now
         (given_comments trusted_comment.entry None moment)
         (source_call R.Source data_reader.old data_reader.new)
         (random_call Z.RandomSource random.old random.new)) }
@@ -220,7 +226,8 @@ pub fn sign_reader<S: Scheme, R: Source, Z: RandomSource>(
 /// What `sign_bytes` says of the trusted comment holds here too.
 ///
 /// ```
-/// let sig_text = sign_file(&rt, rt.alloc(), &scheme, &sk, "update.tar", Some("update-1.2.tar"), &mut random, moment)?;
+/// let sig_text = sign_file(&rt, rt.alloc(), &scheme, &sk, "update.tar", Some("update-1.2.tar"), &mut random,
+/// moment)?;
 /// ```
 pub fn sign_file<F: Files, S: Scheme, Z: RandomSource>(
     files: &F,
@@ -248,7 +255,8 @@ pub fn sign_file<F: Files, S: Scheme, Z: RandomSource>(
     // The rejections: a sealed key, with nothing drawn; and with an opened one out of memory, with no
     // new error of the random source, a file that is not opened or not read, with nothing drawn, and
     // a failing random source.
-    ensures refused { IfErr result (PathSigningFails sk.now (random_call Z.RandomSource random.old random.new)) }
+    ensures refused { IfErr result
+        (PathSigningFails sk.now (random_call Z.RandomSource random.old random.new)) }
 
     // Whatever the result, the random source lost at most some bytes at its front.
     ensures drawn { HasGiven (Z.random_ahead random.old) (Z.random_ahead random.new) }
@@ -289,7 +297,8 @@ fn sign_opened_file<S: Scheme, R: Source, Z: RandomSource>(
         (given_comments comments.entry.trusted comments.entry.untrusted comments.entry.moment)
         (random_call Z.RandomSource random.old random.new) (string_bytes t)) }
     ensures random_no_new_fault { OnOk result (Z.random_faults random.new ≡ Z.random_faults random.old) }
-    ensures refused { IfErr result (PathSigningFails sk.now (random_call Z.RandomSource random.old random.new)) }
+    ensures refused { IfErr result
+        (PathSigningFails sk.now (random_call Z.RandomSource random.old random.new)) }
     ensures drawn { HasGiven (Z.random_ahead random.old) (Z.random_ahead random.new) }
 {
     sign_opened(alloc, scheme, sk, file, comments, random)

@@ -21,7 +21,8 @@ pub struct KeynumPK {
 impl PartialEq for KeynumPK {
     ghost eq = { λ a b. bytes_eq a.keynum b.keynum && bytes_eq a.pk b.pk };
 
-    ghost laws = { and_per (on_per (λ k. k.keynum) (partial_equiv_from_equiv nat_list_eq_equiv)) (on_per (λ k. k.pk) (partial_equiv_from_equiv nat_list_eq_equiv)) };
+    ghost laws = { and_per (on_per (λ k. k.keynum) (partial_equiv_from_equiv nat_list_eq_equiv))
+        (on_per (λ k. k.pk) (partial_equiv_from_equiv nat_list_eq_equiv)) };
 
     fn eq(&self, other: &KeynumPK) -> bool {
         self.keynum == other.keynum && fixed_time_eq(&self.pk, &other.pk)
@@ -29,7 +30,8 @@ impl PartialEq for KeynumPK {
 }
 
 impl Eq for KeynumPK {
-    ghost laws = { and_equiv (on_equiv (λ k. k.keynum) nat_list_eq_equiv) (on_equiv (λ k. k.pk) nat_list_eq_equiv) };
+    ghost laws = { and_equiv (on_equiv (λ k. k.keynum) nat_list_eq_equiv)
+        (on_equiv (λ k. k.pk) nat_list_eq_equiv) };
 }
 
 /// A secret key: a key ID of 8 bytes, the 64 secret bytes, which are those of a seed and of
@@ -70,7 +72,8 @@ impl fmt::Debug for KeynumSK {
 impl PartialEq for KeynumSK {
     ghost eq = { λ a b. bytes_eq a.keynum b.keynum && bytes_eq a.sk b.sk };
 
-    ghost laws = { and_per (on_per (λ k. k.keynum) (partial_equiv_from_equiv nat_list_eq_equiv)) (on_per (λ k. k.sk) (partial_equiv_from_equiv nat_list_eq_equiv)) };
+    ghost laws = { and_per (on_per (λ k. k.keynum) (partial_equiv_from_equiv nat_list_eq_equiv))
+        (on_per (λ k. k.sk) (partial_equiv_from_equiv nat_list_eq_equiv)) };
 
     fn eq(&self, other: &KeynumSK) -> bool {
         self.keynum == other.keynum && fixed_time_eq(&self.sk, &other.sk)
@@ -78,5 +81,6 @@ impl PartialEq for KeynumSK {
 }
 
 impl Eq for KeynumSK {
-    ghost laws = { and_equiv (on_equiv (λ k. k.keynum) nat_list_eq_equiv) (on_equiv (λ k. k.sk) nat_list_eq_equiv) };
+    ghost laws = { and_equiv (on_equiv (λ k. k.keynum) nat_list_eq_equiv)
+        (on_equiv (λ k. k.sk) nat_list_eq_equiv) };
 }

@@ -1,12 +1,15 @@
 //! Pairs of keys, and how they are made.
 
-ghost use Rattle.std.specs.Prelude.{◌≡◌, ◌⊎◌, ℕ, List, ◌++◌, length, string_bytes, None, Ok, Err, IfSome, IfOk, IfErr, OnOk, OnErr};
+ghost use Rattle.std.specs.Prelude.{◌≡◌, ◌⊎◌, ℕ, List, ◌++◌, length, string_bytes, None, Ok, Err, IfSome};
+ghost use Rattle.std.specs.Prelude.{IfOk, IfErr, OnOk, OnErr};
 ghost use Rattle.std.specs.Option.{option_copied, option_map};
 ghost use Rattle.std.specs.Str.Iter.{LacksByte};
 ghost use Rattle.minisign_base.specs.Devices.{HasGiven};
-ghost use Rattle.minisign_base.specs.DeviceCalls.{FailsAtPart, TakesPart, prompt_call, random_call, sink_call};
+ghost use Rattle.minisign_base.specs.DeviceCalls.{FailsAtPart, TakesPart, prompt_call, random_call};
+ghost use Rattle.minisign_base.specs.DeviceCalls.{sink_call};
 ghost use Rattle.minisign_base.specs.Fault.{Named};
-ghost use Rattle.minisign_base.specs.declared.faults.NamedFault.TheVariants.{OutOfMemory, RandomSourceFailed, WritingFailed};
+ghost use Rattle.minisign_base.specs.declared.faults.NamedFault.TheVariants.{OutOfMemory, RandomSourceFailed};
+ghost use Rattle.minisign_base.specs.declared.faults.NamedFault.TheVariants.{WritingFailed};
 ghost use Rattle.minisign.specs.Records.{public_key_bytes, secret_key_bytes};
 ghost use Rattle.minisign.specs.Sealing.{unencrypted_key, xored_key};
 ghost use Rattle.minisign.specs.Reading.{HasFailed};
@@ -16,7 +19,10 @@ ghost use Rattle.minisign_base.specs.Passwords.{password_of};
 ghost use Rattle.minisign.specs.NewPassword.{IsSealing, choosing_steps, sealing_steps};
 ghost use Rattle.minisign.specs.PublicKeyText.{public_key_text};
 ghost use Rattle.minisign.specs.SecretKeyText.{read_secret_key, secret_key_text};
-ghost use Rattle.minisign.specs.Generation.{AreSeedAndKeynum, HasSealed, IsGenuinePair, IsSealedOf, IsUnsealedPair, OpensToPair, PartsFail, RawPairFails, SealedPairFails, SealedTextsFail, public_key_of, secret_of, unsealed_key};
+ghost use Rattle.minisign.specs.Generation.{AreSeedAndKeynum, HasSealed, IsGenuinePair, IsSealedOf};
+ghost use Rattle.minisign.specs.Generation.{IsUnsealedPair, OpensToPair, PartsFail, RawPairFails};
+ghost use Rattle.minisign.specs.Generation.{SealedPairFails, SealedTextsFail, public_key_of, secret_of};
+ghost use Rattle.minisign.specs.Generation.{unsealed_key};
 ghost use Rattle.minisign.specs.Opening.{OpensTo, read_unencrypted_key};
 
 use crate::constants::{MEMLIMIT, OPSLIMIT, SIGALG};
@@ -277,7 +283,8 @@ fn seal_pair<S: Scheme, R: Source, W: Sink>(
     ensures sealed { IfOk result (λ pair. (typed : List ℕ)
         × IsSealing (prompt_call R.Source W.Sink prompt.old prompt.new)
         (option_map string_bytes password) (Ok typed)
-        × IsSealedOf (S.public_of scheme.now) drawn.now.seed drawn.now.keynum drawn.now.salt typed pair.pk pair.sk) }
+        × IsSealedOf (S.public_of scheme.now) drawn.now.seed drawn.now.keynum drawn.now.salt typed pair.pk
+        pair.sk) }
     ensures refused { IfErr result
         (λ e. IsSealing (prompt_call R.Source W.Sink prompt.old prompt.new)
         (option_map string_bytes password) (Err e)) }
@@ -298,7 +305,8 @@ fn ask_and_seal<S: Scheme, R: Source, W: Sink>(
     ensures typed { IfOk result
         (λ pair. (password : List ℕ)
         × IsSealing (prompt_call R.Source W.Sink prompt.old prompt.new) None (Ok password)
-        × IsSealedOf (S.public_of scheme.now) drawn.now.seed drawn.now.keynum drawn.now.salt password pair.pk pair.sk) }
+        × IsSealedOf (S.public_of scheme.now) drawn.now.seed drawn.now.keynum drawn.now.salt password pair.pk
+        pair.sk) }
     ensures refused { IfErr result
         (λ e. IsSealing (prompt_call R.Source W.Sink prompt.old prompt.new) None (Err e)) }
 {
@@ -312,7 +320,8 @@ fn choose_password<R: Source, W: Sink>(alloc: Global, prompt: &mut Prompt<R, W>)
     ensures chosen { IfOk result (λ password. (first : List ℕ) × (second : List ℕ)
         × (password_of first ≡ Ok (string_bytes password))
         × (password_of second ≡ Ok (string_bytes password))
-        × ConversationEnds (prompt_call R.Source W.Sink prompt.old prompt.new) (choosing_steps first second) (Ok tt)) }
+        × ConversationEnds (prompt_call R.Source W.Sink prompt.old prompt.new) (choosing_steps first second)
+        (Ok tt)) }
     ensures refused { IfErr result (λ e. (first : List ℕ) × (second : List ℕ)
         × ConversationEnds (prompt_call R.Source W.Sink prompt.old prompt.new)
         (choosing_steps first second) (Err e)) }
@@ -338,7 +347,8 @@ fn seal_aloud<S: Scheme, R: Source, W: Sink>(
     ensures told { OnOk result
         (ConversationEnds (prompt_call R.Source W.Sink prompt.old prompt.new) sealing_steps (Ok tt)) }
     ensures sealed { IfOk result
-        (λ pair. IsSealedOf (S.public_of scheme.now) drawn.now.seed drawn.now.keynum drawn.now.salt password.now pair.pk pair.sk) }
+        (λ pair. IsSealedOf (S.public_of scheme.now) drawn.now.seed drawn.now.keynum drawn.now.salt
+        password.now pair.pk pair.sk) }
     ensures refused { IfErr result
         (λ e. ConversationEnds (prompt_call R.Source W.Sink prompt.old prompt.new) sealing_steps (Err e)) }
 {
@@ -382,7 +392,8 @@ fn write_texts<P: Sink, K: Sink>(
         (TakesPart (sink_call K.Sink sk_sink.old sk_sink.new)
         (secret_key_text (option_copied comment.entry) pair.now.sk)) }
     ensures reads_back { IfSome comment.entry (λ s. LacksByte 10 s.now)
-        → OnOk result (read_secret_key (secret_key_text (option_copied comment.entry) pair.now.sk) ≡ Ok pair.now.sk) }
+        → OnOk result
+        (read_secret_key (secret_key_text (option_copied comment.entry) pair.now.sk) ≡ Ok pair.now.sk) }
     ensures refused { IfErr result (PartsFail (sink_call P.Sink pk_sink.old pk_sink.new)
         (sink_call K.Sink sk_sink.old sk_sink.new)
         (public_key_text pair.now.pk) (secret_key_text (option_copied comment.entry) pair.now.sk)) }
@@ -429,7 +440,8 @@ pub(crate) fn make_sealed_pair<S: Scheme>(
     password: &[u8],
 ) -> Result<KeyPair>
     ensures sealed { IfOk result
-        (λ pair. IsSealedOf (S.public_of scheme.now) drawn.now.seed drawn.now.keynum drawn.now.salt password.now pair.pk pair.sk) }
+        (λ pair. IsSealedOf (S.public_of scheme.now) drawn.now.seed drawn.now.keynum drawn.now.salt
+        password.now pair.pk pair.sk) }
     ensures refused { IfErr result (λ e. e ≡ Named OutOfMemory) }
 {
     let KeyPair { pk, sk } = make_pair(scheme, &drawn.seed, drawn.keynum);

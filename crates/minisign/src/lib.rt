@@ -7,6 +7,7 @@
 
 mod base64_front;
 pub mod calls;
+mod comment_place;
 mod comment_signature;
 mod constants;
 mod copying;
@@ -44,6 +45,7 @@ pub mod verifying_texts;
 pub use calls::{
     copy_verified, verify_bytes, verify_file, verify_in_place, verify_reader, verify_with,
 };
+pub use comment_place::trusted_comment_place;
 pub use constants::{
     DEFAULT_COMMENT, SIG_DEFAULT_CONFIG_DIR, SIG_DEFAULT_CONFIG_DIR_ENV_VAR, SIG_DEFAULT_PKFILE,
     SIG_DEFAULT_SKFILE, SIG_SUFFIX,

@@ -72,7 +72,9 @@ impl SecretKey {
         ensures sealed { (keynum secret : List ℕ) → self ≡ unsealed_key keynum secret
             → IfOk result (λ sk. sk ≡ made_key keynum secret (Some password.now) sealing) }
         ensures opened { (keynum secret : List ℕ) → self ≡ unsealed_key keynum secret
-            → IfOk result (λ sk. xored_key sk password.now ≡ key_to_seal keynum secret sealing.salt sealing.operations_limit sealing.memory_limit) }
+            → IfOk result
+            (λ sk. xored_key sk password.now
+            ≡ key_to_seal keynum secret sealing.salt sealing.operations_limit sealing.memory_limit) }
         ensures allowed { OnOk result (IsOk (sealing_limits sealing.memory_limit sealing.operations_limit)) }
         ensures refused { IfErr result (λ e. e ≡ making_fault (Some password.now) sealing) }
     {
@@ -114,11 +116,13 @@ pub fn make_secret_key(
     // bound that p is within, and to no other key, or reads without a password as this key and no
     // other. It has 233 bytes more than the comment. This is so for every salt, all limits and
     // every k.
-    ensures text { IfOk result (IsMadeText key_id secret (option_map (λ p. p.now) password.entry) sealing.now comment.now) }
+    ensures text { IfOk result (IsMadeText key_id secret (option_map (λ p. p.now) password.entry) sealing.now
+        comment.now) }
 
     // It is rejected exactly where a password is passed in and sealing does not allow the limits,
     // with their error, or else an allocation failed.
-    ensures refused { IfErr result (λ e. e ≡ making_fault (option_map (λ p. p.now) password.entry) sealing.now) }
+    ensures refused { IfErr result
+        (λ e. e ≡ making_fault (option_map (λ p. p.now) password.entry) sealing.now) }
 {
     let sk = SecretKey::from_parts(key_id, secret);
     match password {

@@ -1,11 +1,14 @@
 //! The key of a text: opened with a password where it is sealed.
 
-ghost use Rattle.std.specs.Prelude.{◌≡◌, ◌≤◌, ◌⊎◌, ◌∷◌, [], ℕ, List, None, Some, Ok, Err, false, string_bytes, IfOk, IfErr, IsOk, IsErrAnd, MatchResult, OnOk};
+ghost use Rattle.std.specs.Prelude.{◌≡◌, ◌≤◌, ◌⊎◌, ◌∷◌, [], ℕ, List, None, Some, Ok, Err, false};
+ghost use Rattle.std.specs.Prelude.{string_bytes, IfOk, IfErr, IsOk, IsErrAnd, MatchResult, OnOk};
 ghost use Rattle.std.specs.Option.{option_map};
 ghost use Rattle.std.specs.Result.{result_err};
 ghost use Rattle.minisign.specs.Headline.{OpeningHeadline};
-ghost use Rattle.minisign.specs.Sealing.{allowed_work, is_encrypted, open_sealed, restored_key, sealed_by_scrypt};
-ghost use Rattle.minisign.specs.Opening.{IsOpening, opening_steps, telling_steps, asking_text, deriving_text, done_text, read_unencrypted_key};
+ghost use Rattle.minisign.specs.Sealing.{allowed_work, is_encrypted, open_sealed, restored_key};
+ghost use Rattle.minisign.specs.Sealing.{sealed_by_scrypt};
+ghost use Rattle.minisign.specs.Opening.{IsOpening, opening_steps, telling_steps, asking_text, deriving_text};
+ghost use Rattle.minisign.specs.Opening.{done_text, read_unencrypted_key};
 ghost use Rattle.minisign_base.specs.Fault.{Named};
 ghost use Rattle.minisign_base.specs.declared.faults.NamedFault.TheVariants.{OutOfMemory};
 ghost use Rattle.minisign_base.specs.DeviceCalls.{prompt_call};
@@ -338,7 +341,8 @@ impl SecretKey {
 
     // Tests that opening restored the checksum.
     pub(crate) fn test_restored(&self) -> Result<()>
-        ensures { MatchResult result (λ _. restored_key self.now ≡ Ok self.now) (λ e. restored_key self.now ≡ Err e) }
+        ensures { MatchResult result (λ _. restored_key self.now ≡ Ok self.now)
+            (λ e. restored_key self.now ≡ Err e) }
     {
         if self.keynum_sk.chk != self.read_checksum() {
             return Err(NamedFault::WrongPassword.into());

@@ -1,8 +1,10 @@
 //! Opening a sealed key in memory that is passed in, without allocating.
 
-ghost use Rattle.std.specs.Prelude.{◌≡◌, ◌≤◌, ℕ, List, Some, Ok, Err, IfErr, IfOk, IsOk, OnOk, length, replicate};
+ghost use Rattle.std.specs.Prelude.{◌≡◌, ◌≤◌, ℕ, List, Some, Ok, Err, IfErr, IfOk, IsOk, OnOk, length};
+ghost use Rattle.std.specs.Prelude.{replicate};
 ghost use Rattle.minisign.specs.Opening.{open_key};
-ghost use Rattle.minisign.specs.Sealing.{allowed_work, open_sealed, opening_memory, sealed_by_scrypt, stream_of, xored_key};
+ghost use Rattle.minisign.specs.Sealing.{allowed_work, open_sealed, opening_memory, sealed_by_scrypt};
+ghost use Rattle.minisign.specs.Sealing.{stream_of, xored_key};
 ghost use Rattle.minisign.specs.SecretKeyText.{read_secret_key};
 ghost use Rattle.minisign.specs.Texts.{and_then};
 
@@ -12,9 +14,10 @@ use minisign_base::Result;
 use minisign_kdf::{clear_memory, scrypt_in};
 
 impl SecretKey {
-    /// How much memory `open_in_place` takes with every k-th of scrypt's rows kept, for k from 1 on: so many words of
-    /// 32 bits and so many bytes, 1 KiB for each kept row, of which there are at most 2^20 / k, for three more, and for
-    /// each of p parts. Zeros where the key wants no password, and where opening rejects its limits. Does not allocate.
+    /// How much memory `open_in_place` takes with every k-th of scrypt's rows kept, for k from 1 on: so many
+    /// words of 32 bits and so many bytes, 1 KiB for each kept row, of which there are at most 2^20 / k, for
+    /// three more, and for each of p parts. Zeros where the key wants no password, and where opening rejects
+    /// its limits. Does not allocate.
     pub fn opening_memory(&self, k: u64) -> (u64, u64)
         requires { 1 ≤ k }
 
@@ -30,9 +33,10 @@ impl SecretKey {
         }
     }
 
-    /// Opens a sealed key that was read with a password, as `open_keeping_within` does, in memory that is passed in:
-    /// `words` and `bytes` have at least the lengths that `opening_memory` tells for the same k. So an allocation never
-    /// fails. What the memory held is not read, and all of it is left with zeros, after an error too.
+    /// Opens a sealed key that was read with a password, as `open_keeping_within` does, in memory that is
+    /// passed in: `words` and `bytes` have at least the lengths that `opening_memory` tells for the same k.
+    /// So an allocation never fails. What the memory held is not read, and all of it is left with zeros,
+    /// after an error too.
     ///
     /// What is rejected, and in which order, `open_keeping_within` says. Does not allocate.
     pub fn open_in_place(
@@ -47,11 +51,12 @@ impl SecretKey {
         requires words { (opening_memory self k).0 ≤ length words.old }
         requires bytes { (opening_memory self k).1 ≤ length bytes.old }
 
-        // In memory that is passed in, whatever it held, a key that was read opens under the password as its text
-        // does: it is the key opened, or the first error, and never out of memory.
+        // In memory that is passed in, whatever it held, a key that was read opens under the password as its
+        // text does: it is the key opened, or the first error, and never out of memory.
         ensures opens { (text : List ℕ) → read_secret_key text ≡ Ok self
             → result ≡ open_key text password.now (Some max_p) }
-        ensures result { result ≡ and_then (sealed_by_scrypt self) (λ sealed. open_sealed sealed password.now (Some max_p)) }
+        ensures result { result ≡ and_then (sealed_by_scrypt self)
+            (λ sealed. open_sealed sealed password.now (Some max_p)) }
 
         // That memory then holds zeros, all of it, whatever the result.
         ensures words_cleared { words.new ≡ replicate (length words.old) 0 }

@@ -1,11 +1,13 @@
 //! The parts of keys and boxes that a caller needs whose signature scheme stands outside.
 
-ghost use Rattle.std.specs.Prelude.{◌≡◌, ◌≤◌, ◌+◌, ◌*◌, ◌^◌, ◌++◌, ◌⊎◌, None, Some, Err, IsOk, IfOk, IfErr, MatchOption, IsSomeAnd, length, nat_lt, take, drop};
+ghost use Rattle.std.specs.Prelude.{◌≡◌, ◌≤◌, ◌+◌, ◌*◌, ◌^◌, ◌++◌, ◌⊎◌, None, Some, Err, IsOk, IfOk, IfErr};
+ghost use Rattle.std.specs.Prelude.{MatchOption, IsSomeAnd, length, nat_lt, take, drop};
 ghost use Rattle.minisign_base.specs.Fault.{Named};
 ghost use Rattle.minisign_base.specs.declared.faults.NamedFault.TheVariants.{OutOfMemory};
 ghost use Rattle.minisign.specs.Records.{prehashed_algorithm};
 ghost use Rattle.minisign_base.specs.Steps.{without_value};
-ghost use Rattle.minisign.specs.Sealing.{allowed_rows, allowed_work, open_sealed, opening_work, sealed_by_scrypt, unencrypted_key, wants_password};
+ghost use Rattle.minisign.specs.Sealing.{allowed_rows, allowed_work, open_sealed, opening_work};
+ghost use Rattle.minisign.specs.Sealing.{sealed_by_scrypt, unencrypted_key, wants_password};
 ghost use Rattle.minisign.specs.Texts.{and_then};
 
 use crate::constants::{KDF_NONE, SIGALG_PREHASHED};
@@ -86,8 +88,9 @@ impl SecretKey {
         self.kdf_alg != KDF_NONE
     }
 
-    /// What opening the key takes: scrypt's N, as its logarithm to base 2, at most 20, and its p: N rows of 1 KiB are
-    /// made p times. Zeros where the key wants no password, and where opening rejects its limits. Does not allocate.
+    /// What opening the key takes: scrypt's N, as its logarithm to base 2, at most 20, and its p: N rows of 1
+    /// KiB are made p times. Zeros where the key wants no password, and where opening rejects its limits.
+    /// Does not allocate.
     pub fn opening_work(&self) -> (u8, u32)
         // The work of opening is that of the parameters that the limits of the key lead to.
         ensures { result ≡ opening_work self.now }
@@ -101,8 +104,8 @@ impl SecretKey {
         }
     }
 
-    /// The greatest parallelization p with which opening the key makes at most so many rows, N for each of the p parts;
-    /// 0 where opening rejects the limits of the key. Does not allocate.
+    /// The greatest parallelization p with which opening the key makes at most so many rows, N for each of
+    /// the p parts; 0 where opening rejects the limits of the key. Does not allocate.
     pub fn times_within(&self, most_rows: u64) -> u32
         // Within that p opening allows what it allows where at most so many rows are made.
         ensures { allowed_work self.now (Some result) ≡ allowed_rows self.now most_rows }
@@ -113,13 +116,14 @@ impl SecretKey {
         }
     }
 
-    /// Opens a sealed key that was read with a password, within a bound on the work and with every k-th of scrypt's rows
-    /// kept, for k from 1 on: as `from_box_keeping_within` does with its text. Nobody is asked for a password.
+    /// Opens a sealed key that was read with a password, within a bound on the work and with every k-th of
+    /// scrypt's rows kept, for k from 1 on: as `from_box_keeping_within` does with its text. Nobody is asked
+    /// for a password.
     ///
-    /// Rejected are, in this order: a key that was never sealed, `KeyNotEncrypted`; one that is not sealed by scrypt,
-    /// `UnsupportedEncryptionAlgorithm`; limits, with `ParametersTooHigh` or `InvalidParameters`; p above `max_p`,
-    /// `WorkTooHigh`; a checksum that opening does not restore, `WrongPassword`. An allocation may fail for the rows,
-    /// where all of these but the last let it derive.
+    /// Rejected are, in this order: a key that was never sealed, `KeyNotEncrypted`; one that is not sealed by
+    /// scrypt, `UnsupportedEncryptionAlgorithm`; limits, with `ParametersTooHigh` or `InvalidParameters`; p
+    /// above `max_p`, `WorkTooHigh`; a checksum that opening does not restore, `WrongPassword`. An allocation
+    /// may fail for the rows, where all of these but the last let it derive.
     pub fn open_keeping_within(
         self,
         alloc: Global,
@@ -129,10 +133,11 @@ impl SecretKey {
     ) -> Result<SecretKey>
         requires kept { 1 ≤ k }
 
-        // A key that was read opens under the password as its text does, whatever number of rows is kept: it is the key
-        // opened, or the first error. Only a key that is sealed by scrypt, with limits that are allowed and p within
-        // the bound, may meet out of memory.
-        ensures { (result ≡ and_then (sealed_by_scrypt self) (λ sealed. open_sealed sealed password.now (Some max_p)))
+        // A key that was read opens under the password as its text does, whatever number of rows is kept: it
+        // is the key opened, or the first error. Only a key that is sealed by scrypt, with limits that are
+        // allowed and p within the bound, may meet out of memory.
+        ensures { (result ≡ and_then (sealed_by_scrypt self)
+            (λ sealed. open_sealed sealed password.now (Some max_p)))
             ⊎ ((result ≡ Err (Named OutOfMemory))
             × IsOk (and_then (sealed_by_scrypt self) (λ sealed. allowed_work sealed (Some max_p)))) }
     {
@@ -150,12 +155,13 @@ fn times(most_rows: u64, params: &Params) -> u32
     times.min(u64::from(u32::MAX)) as u32
 }
 
-/// Writes the message of a comment signature to the front of `message`: the signature of the data followed by the
-/// trusted comment, 64 bytes more than the comment has. Does not allocate.
+/// Writes the message of a comment signature to the front of `message`: the signature of the data followed by
+/// the trusted comment, 64 bytes more than the comment has. Does not allocate.
 pub fn write_comment_message(signature: &[u8; 64], trusted: &[u8], message: &mut [u8])
     requires room { 64 + length trusted.now ≤ length message.old }
 
-    // The message stands at the front of the buffer, whose length stays; so does what stands behind the message.
+    // The message stands at the front of the buffer, whose length stays; so does what stands behind the
+    // message.
     ensures size { length message.new ≡ length message.old }
     ensures written { take (64 + length trusted.now) message.new ≡ signature.now ++ trusted.now }
     ensures rest { drop (64 + length trusted.now) message.new ≡ drop (64 + length trusted.now) message.old }
@@ -188,8 +194,14 @@ impl SignatureBox {
     ) -> Result<SignatureBox>
         // A box of parts is the box of these parts; the only error is out of memory.
         ensures parts { IfOk result (λ x. x ≡ record {
-          signature = record { algorithm = prehashed_algorithm; keynum = key_id.now; signature = signature.now };
-          comments = Some (record { untrusted = untrusted_comment.now; trusted = trusted_comment.now; signature = comment_signature.now });
+          signature =
+              record { algorithm = prehashed_algorithm; keynum = key_id.now; signature = signature.now };
+          comments = Some
+              (record {
+                untrusted = untrusted_comment.now;
+                trusted = trusted_comment.now;
+                signature = comment_signature.now;
+              });
         }) }
         ensures refused { IfErr result (λ e. e ≡ Named OutOfMemory) }
     {

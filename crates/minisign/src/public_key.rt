@@ -1,13 +1,15 @@
 //! A public key, which vouches for what was signed with its secret key.
 
-ghost use Rattle.std.specs.Prelude.{◌≡◌, ◌<◌, ◌+◌, Ok, length, string_bytes, MatchResult, IsOk, IfOk, IfErr, bytes_eq};
+ghost use Rattle.std.specs.Prelude.{◌≡◌, ◌<◌, ◌+◌, Ok, length, string_bytes, MatchResult, IsOk, IfOk, IfErr};
+ghost use Rattle.std.specs.Prelude.{bytes_eq};
 ghost use Rattle.std.specs.Cmp.{on_per, on_equiv, partial_equiv_from_equiv};
 ghost use Rattle.std.specs.Cmp.Lexicographic.{nat_list_eq_equiv};
 ghost use Rattle.minisign_base.specs.Fault.{Named};
 ghost use Rattle.minisign_base.specs.declared.faults.NamedFault.TheVariants.{OutOfMemory, RecordTooShort};
 ghost use Rattle.minisign.specs.Texts.{base64_of};
 ghost use Rattle.minisign.specs.Records.{own_public_key};
-ghost use Rattle.minisign.specs.PublicKeyText.{commented_public_key_text, public_key_text, read_bare_public_key, read_public_key};
+ghost use Rattle.minisign.specs.PublicKeyText.{commented_public_key_text, public_key_text};
+ghost use Rattle.minisign.specs.PublicKeyText.{read_bare_public_key, read_public_key};
 ghost use Rattle.std.specs.Str.Iter.{LacksByte};
 ghost use Rattle.minisign.specs.Reading.{IsReadFromFile};
 
@@ -66,14 +68,15 @@ impl PublicKey {
         })
     }
 
-    /// Reads a public key text, as `read_public_key` does: a first line that may be anything, and a second of 56 bytes
-    /// that, trimmed of white space, is the base64 of the 42 bytes of a key. Later lines are ignored.
+    /// Reads a public key text, as `read_public_key` does: a first line that may be anything, and a second of
+    /// 56 bytes that, trimmed of white space, is the base64 of the 42 bytes of a key. Later lines are
+    /// ignored.
     ///
     /// These are rejected, in this order: a text with no first line, one with no second line,
     /// another length of that line, what is not base64, fewer than 42 bytes. Does not allocate.
     pub fn from_box(_alloc: Global, public_key_box: PublicKeyBox) -> Result<PublicKey>
-        // A public key text is read as its grammar has it, a function of the text: as the key, or the first case that
-        // fails.
+        // A public key text is read as its grammar has it, a function of the text: as the key, or the first
+        // case that fails.
         ensures { result ≡ read_public_key public_key_box }
     {
         read_public_key(public_key_box.as_str())
@@ -101,8 +104,8 @@ impl PublicKey {
     /// These are rejected, in this order: a text that, trimmed of white space, has another length,
     /// what is not base64 as it stands, fewer than 42 bytes. Does not allocate.
     pub fn from_base64(_alloc: Global, text: &str) -> Result<PublicKey>
-        // The base64 of a key is read as its grammar has it, a function of the text: as the key, or the first case that
-        // fails.
+        // The base64 of a key is read as its grammar has it, a function of the text: as the key, or the first
+        // case that fails.
         ensures { result ≡ read_bare_public_key text.now }
     {
         read_bare_public_key(text)
@@ -183,8 +186,8 @@ impl PublicKey {
 
     /// The 42 bytes that `from_bytes` reads as this key. The only error is `OutOfMemory`.
     pub fn to_bytes(&self, alloc: Global) -> Result<Vec<u8>>
-        // The bytes are those of the record, and are read as this record, and by the law `texts_are_decided` as no
-        // other; the only error is out of memory.
+        // The bytes are those of the record, and are read as this record, and by the law `texts_are_decided`
+        // as no other; the only error is out of memory.
         ensures bytes { IfOk result (λ v. v.items ≡ public_key_bytes self.now) }
         ensures reads_back { IfOk result (λ v. ReadsPublicKey v.items self.now) }
         ensures refused { IfErr result (λ e. e ≡ Named OutOfMemory) }

@@ -1,6 +1,7 @@
 //! Reading data to its end: hashed as it comes, kept whole, or taken as a text.
 
-ghost use Rattle.std.specs.Prelude.{◌≡◌, ℕ, ◌<◌, List, ◌++◌, false, length, string_bytes, vec_len, MatchResult, IfOk, IfErr};
+ghost use Rattle.std.specs.Prelude.{◌≡◌, ℕ, ◌<◌, List, ◌++◌, false, length, string_bytes, vec_len};
+ghost use Rattle.std.specs.Prelude.{MatchResult, IfOk, IfErr};
 ghost use Rattle.minisign_hash.specs.Blake2b.{blake2b_digest};
 ghost use Rattle.minisign_hash.specs.Fed.{IsFed, has_finalized, output_length};
 ghost use Rattle.minisign_base.specs.Devices.{Rose, HasGiven};

@@ -1,6 +1,7 @@
 //! Sealing and opening: the last 104 bytes of a secret key are xored with a stream of scrypt.
 
-ghost use Rattle.std.specs.Prelude.{◌≡◌, ◌≤◌, ◌⊎◌, ℕ, List, None, Some, Ok, Err, length, bit_xor, IsOk, MatchResult, IfOk, IfErr, OnOk, OnErr};
+ghost use Rattle.std.specs.Prelude.{◌≡◌, ◌≤◌, ◌⊎◌, ℕ, List, None, Some, Ok, Err, length, bit_xor, IsOk};
+ghost use Rattle.std.specs.Prelude.{MatchResult, IfOk, IfErr, OnOk, OnErr};
 ghost use Rattle.std.specs.Int.{from_le_bytes, to_le_bytes, w64};
 ghost use Rattle.std.specs.Simd.Lanes.{zip2};
 ghost use Rattle.minisign_base.specs.Fault.{Named};
@@ -128,7 +129,8 @@ fn derive_stream(
 #[tactic(auto, using(crate::proofs::SealingLimits::allowed_numbers))]
 pub(crate) fn bounded_params(sk: &SecretKey, bound: Option<u32>) -> Result<Params>
     ensures { MatchResult result
-        (λ v. (numbers (from_le_bytes w64 sk.now.memory_limit) (from_le_bytes w64 sk.now.operations_limit) ≡ v)
+        (λ v. (numbers (from_le_bytes w64 sk.now.memory_limit) (from_le_bytes w64 sk.now.operations_limit)
+        ≡ v)
         × (allowed_work sk.now bound ≡ Ok v))
         (λ e. allowed_work sk.now bound ≡ Err e) }
 {

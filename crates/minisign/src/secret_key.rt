@@ -114,8 +114,8 @@ impl SecretKey {
 
     /// The 158 bytes that `from_bytes` reads as this key. The only error is `OutOfMemory`.
     pub fn to_bytes(&self, alloc: Global) -> Result<Vec<u8>>
-        // The bytes are those of the record, and are read as this record, and by the law `texts_are_decided` as no
-        // other; the only error is out of memory.
+        // The bytes are those of the record, and are read as this record, and by the law `texts_are_decided`
+        // as no other; the only error is out of memory.
         ensures bytes { IfOk result (λ v. v.items ≡ secret_key_bytes self.now) }
         ensures reads_back { IfOk result (λ v. read_secret_key_bytes v.items ≡ Ok self.now) }
         ensures refused { IfErr result (λ e. e ≡ Named OutOfMemory) }

@@ -12,11 +12,11 @@ use minisign_base::{NamedFault, Result};
 /// Reads the text of a secret key as it stands, of a sealed key the sealed bytes: the 158 bytes of the key's
 /// record, which `SecretKey::from_bytes` reads.
 ///
-/// Rejected are, in this order: a text without a first line, without a second one, with a second line that is not
-/// base64, or of fewer than 158 bytes. Does not allocate.
+/// Rejected are, in this order: a text without a first line, without a second one, with a second line that is
+/// not base64, or of fewer than 158 bytes. Does not allocate.
 pub fn read_secret_key(text: &str) -> Result<[u8; 158]>
-    // The text of a secret key is read as its grammar has it, a function of the text: the record is that of the key
-    // that it reads as, and otherwise the error is the first case that fails.
+    // The text of a secret key is read as its grammar has it, a function of the text: the record is that of
+    // the key that it reads as, and otherwise the error is the first case that fails.
     ensures { read_secret_key text.now ≡ map_ok secret_key_of_bytes result }
 {
     let mut lines = text.lines();
@@ -31,7 +31,8 @@ pub fn read_secret_key(text: &str) -> Result<[u8; 158]>
 
 // The record that the second line of a text is the base64 of, whatever stands after it.
 fn decode_record(encoded: &str) -> Result<[u8; 158]>
-    ensures { require (is_base64 encoded.now) SecretKeyNotBase64 (read_secret_key_bytes (base64_bytes encoded.now))
+    ensures { require (is_base64 encoded.now) SecretKeyNotBase64
+        (read_secret_key_bytes (base64_bytes encoded.now))
         ≡ map_ok secret_key_of_bytes result }
 {
     let mut decoded = [0u8; 159];

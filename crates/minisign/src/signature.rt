@@ -1,6 +1,7 @@
 //! A signature as it is stored: algorithm, key ID, signature.
 
-ghost use Rattle.std.specs.Prelude.{◌≡◌, Some, ◌<◌, ◌++◌, length, vec_len, replicate, MatchResult, IfOk, IfErr};
+ghost use Rattle.std.specs.Prelude.{◌≡◌, Some, ◌<◌, ◌++◌, length, vec_len, replicate, MatchResult, IfOk};
+ghost use Rattle.std.specs.Prelude.{IfErr};
 ghost use Rattle.minisign_base.specs.Scheme.{IsBytes};
 ghost use Rattle.minisign_base.specs.Fault.{Named};
 ghost use Rattle.minisign_base.specs.declared.faults.NamedFault.TheVariants.{OutOfMemory, RecordTooShort};
@@ -42,8 +43,8 @@ impl Signature {
     /// The 74 bytes that `from_bytes` reads as this signature. The
     /// only error is `OutOfMemory`.
     pub fn to_bytes(&self, alloc: Global) -> Result<Vec<u8>>
-        // The bytes are those of the record, and are read as this record, and by the law `texts_are_decided` as no
-        // other; the only error is out of memory.
+        // The bytes are those of the record, and are read as this record, and by the law `texts_are_decided`
+        // as no other; the only error is out of memory.
         ensures bytes { IfOk result (λ v. v.items ≡ signature_bytes self.now) }
         ensures reads_back { IfOk result (λ v. ReadsSignature v.items self.now) }
         ensures len { IfOk result (λ v. vec_len v ≡ Self.BYTES) }
@@ -122,7 +123,8 @@ impl fmt::Display for Signature {
 
 /// 74 zeros.
 impl Default for Signature {
-    ghost is_default = { λ s. s ≡ record { algorithm = replicate 2 0; keynum = replicate 8 0; signature = replicate 64 0 } };
+    ghost is_default = { λ s. s
+        ≡ record { algorithm = replicate 2 0; keynum = replicate 8 0; signature = replicate 64 0 } };
 
     fn default() -> Signature {
         Signature {

@@ -2,7 +2,8 @@
 
 ghost use Rattle.std.specs.Prelude.{◌≡◌, ◌<◌, ◌≤◌, ◌⊎◌, length, take, vec_len, IfOk, IfErr};
 ghost use Rattle.minisign_base.specs.Fault.{Named};
-ghost use Rattle.minisign_base.specs.declared.faults.NamedFault.TheVariants.{OutOfMemory, RecordTooShort, UnsupportedSignatureAlgorithm};
+ghost use Rattle.minisign_base.specs.declared.faults.NamedFault.TheVariants.{OutOfMemory, RecordTooShort};
+ghost use Rattle.minisign_base.specs.declared.faults.NamedFault.TheVariants.{UnsupportedSignatureAlgorithm};
 
 use crate::constants::{SIGALG, SIGALG_PREHASHED};
 use crate::signature::Signature;
@@ -28,7 +29,8 @@ impl Model for SignatureBones {
 }
 
 impl SignatureBones {
-    ghost use Rattle.minisign.specs.Records.{SignatureRecord, ReadsSignature, signature_bytes, is_prehashed, IsKnownAlgorithm};
+    ghost use Rattle.minisign.specs.Records.{SignatureRecord, ReadsSignature, signature_bytes, is_prehashed};
+    ghost use Rattle.minisign.specs.Records.{IsKnownAlgorithm};
 
     /// The length of a stored signature in bytes.
     pub const BYTES: usize = Signature::BYTES;
@@ -48,7 +50,8 @@ impl SignatureBones {
         ensures read { IfOk result
             (λ s. ReadsSignature bytes.now s × IsKnownAlgorithm s.algorithm) }
         ensures refused { IfErr result (λ e. ((e ≡ Named RecordTooShort) × (length bytes.now < 74))
-            ⊎ ((e ≡ Named UnsupportedSignatureAlgorithm) × (74 ≤ length bytes.now) × ¬ (IsKnownAlgorithm (take 2 bytes.now)))) }
+            ⊎ ((e ≡ Named UnsupportedSignatureAlgorithm) × (74 ≤ length bytes.now)
+            × ¬ (IsKnownAlgorithm (take 2 bytes.now)))) }
     {
         let signature = Signature::from_bytes(bytes)?;
         if signature.sig_alg != SIGALG && signature.sig_alg != SIGALG_PREHASHED {
@@ -60,8 +63,8 @@ impl SignatureBones {
     /// The 74 bytes that `from_bytes` reads as this signature. The only error is
     /// `OutOfMemory`.
     pub fn to_bytes(&self, alloc: Global) -> Result<Vec<u8>>
-        // The bytes are those of the record, and are read as this record, and by the law `texts_are_decided` as no
-        // other; the only rejection is out of memory.
+        // The bytes are those of the record, and are read as this record, and by the law `texts_are_decided`
+        // as no other; the only rejection is out of memory.
         ensures bytes { IfOk result (λ v. v.items ≡ signature_bytes self.now) }
         ensures reads_back { IfOk result (λ v. ReadsSignature v.items self.now) }
         ensures len { IfOk result (λ v. vec_len v ≡ Self.BYTES) }

@@ -1,10 +1,20 @@
 //! A signature with its comments.
 
-ghost use Rattle.std.specs.Prelude.{◌≡◌, ◌≢◌, ◌||◌, ◌+◌, ◌≤◌, [], ◌∷◌, ◌++◌, List, ℕ, bytes_eq, false, None, Some, Ok, Err, length, string_bytes, MatchOption, MatchResult, IfOk, IfErr, IfSome};
+ghost use Rattle.std.specs.Prelude.{◌≡◌, ◌≢◌, ◌||◌, ◌+◌, ◌≤◌, [], ◌∷◌, ◌++◌, List, ℕ, bytes_eq, false, None};
+ghost use Rattle.std.specs.Prelude.{Some, Ok, Err, length, string_bytes, MatchOption, MatchResult, IfOk};
+ghost use Rattle.std.specs.Prelude.{IfErr, IfSome};
 ghost use Rattle.minisign_base.specs.Fault.{Named};
-ghost use Rattle.minisign_base.specs.declared.faults.NamedFault.TheVariants.{OutOfMemory, SignatureBoxIncomplete, TrustedCommentAbsent, TrustedCommentPrefix, UnsupportedSignatureAlgorithm, UntrustedCommentPrefix};
-ghost use Rattle.minisign.specs.Records.{CommentsRecord, SignatureBoxRecord, IsKnownAlgorithm, legacy_algorithm, prehashed_algorithm};
-ghost use Rattle.minisign.specs.SignatureText.{AreOneLine, AreReadBack, box_read_back, comments_read_back, read_signature, read_signature_box, signature_in_lines, signature_text, trusted_comment_label};
+ghost use Rattle.minisign_base.specs.declared.faults.NamedFault.TheVariants.{OutOfMemory};
+ghost use Rattle.minisign_base.specs.declared.faults.NamedFault.TheVariants.{SignatureBoxIncomplete};
+ghost use Rattle.minisign_base.specs.declared.faults.NamedFault.TheVariants.{TrustedCommentAbsent};
+ghost use Rattle.minisign_base.specs.declared.faults.NamedFault.TheVariants.{TrustedCommentPrefix};
+ghost use Rattle.minisign_base.specs.declared.faults.NamedFault.TheVariants.{UnsupportedSignatureAlgorithm};
+ghost use Rattle.minisign_base.specs.declared.faults.NamedFault.TheVariants.{UntrustedCommentPrefix};
+ghost use Rattle.minisign.specs.Records.{CommentsRecord, SignatureBoxRecord, IsKnownAlgorithm};
+ghost use Rattle.minisign.specs.Records.{legacy_algorithm, prehashed_algorithm};
+ghost use Rattle.minisign.specs.SignatureText.{AreOneLine, AreReadBack, box_read_back, comments_read_back};
+ghost use Rattle.minisign.specs.SignatureText.{read_signature, read_signature_box, signature_in_lines};
+ghost use Rattle.minisign.specs.SignatureText.{signature_text, trusted_comment_label};
 ghost use Rattle.minisign.specs.Reading.{IsReadFromFile};
 ghost use Rattle.minisign.specs.Texts.{IsReadOrNoMemory, untrusted_comment_label};
 
@@ -84,8 +94,8 @@ impl SignatureBox {
     /// prefix of the third line; an algorithm other than `Ed` and `ED`; a fourth line that is
     /// not base64. An allocation may fail once the text is read.
     pub fn from_string(alloc: Global, text: &str) -> Result<SignatureBox>
-        // A signature text is read as the box that its grammar has it, a function of the text, or the first case that
-        // fails; otherwise out of memory.
+        // A signature text is read as the box that its grammar has it, a function of the text, or the first
+        // case that fails; otherwise out of memory.
         ensures { IsReadOrNoMemory result (read_signature_box text.now) }
     {
         read_text(alloc, text)
@@ -200,7 +210,8 @@ impl SignatureBox {
     pub fn untrusted_comment(&self, alloc: Global) -> Result<String>
         // The untrusted comment, which of a bare signature is empty; the only error is out of
         // memory.
-        ensures comment { IfOk result (λ t. string_bytes t ≡ option_map_or (λ c. c.untrusted) self.now.comments []) }
+        ensures comment { IfOk result
+            (λ t. string_bytes t ≡ option_map_or (λ c. c.untrusted) self.now.comments []) }
         ensures refused { IfErr result (λ e. e ≡ Named OutOfMemory) }
     {
         match &self.comments {
@@ -246,10 +257,16 @@ impl Comments {
 // The text of a signature with comments.
 fn written(alloc: Global, signature: &Signature, comments: &Comments) -> Result<String>
     ensures text { IfOk result (λ t. string_bytes t ≡ signature_text signature.now comments.now) }
-    ensures reads_back { AreReadBack comments.now.untrusted comments.now.trusted → IsKnownAlgorithm signature.now.algorithm →
-        IfOk result (λ t. read_signature_box (string_bytes t) ≡ Ok (record { signature = signature.now; comments = Some comments.now })) }
-    ensures reads { AreOneLine comments.now.untrusted comments.now.trusted → IsKnownAlgorithm signature.now.algorithm →
-        IfOk result (λ t. read_signature_box (string_bytes t) ≡ Ok (record { signature = signature.now; comments = Some (comments_read_back comments.now) })) }
+    ensures reads_back { AreReadBack comments.now.untrusted comments.now.trusted
+        → IsKnownAlgorithm signature.now.algorithm →
+        IfOk result
+        (λ t. read_signature_box (string_bytes t)
+        ≡ Ok (record { signature = signature.now; comments = Some comments.now })) }
+    ensures reads { AreOneLine comments.now.untrusted comments.now.trusted
+        → IsKnownAlgorithm signature.now.algorithm →
+        IfOk result
+        (λ t. read_signature_box (string_bytes t)
+        ≡ Ok (record { signature = signature.now; comments = Some (comments_read_back comments.now) })) }
     ensures refused { IfErr result (λ e. e ≡ Named OutOfMemory) }
 {
     let bytes = signature.to_bytes(alloc)?;
@@ -293,7 +310,9 @@ fn read_text(alloc: Global, text: &str) -> Result<SignatureBox>
 // The first four lines of a text.
 pub(crate) fn four_lines(text: &str) -> Result<TextLines<'_>>
     ensures { MatchResult result
-        (λ l. (read_signature text.now ≡ signature_in_lines (l.untrusted_comment.now ∷ l.signature.now ∷ l.trusted_comment.now ∷ l.global_sig.now ∷ []))
+        (λ l. (read_signature text.now
+        ≡ signature_in_lines
+        (l.untrusted_comment.now ∷ l.signature.now ∷ l.trusted_comment.now ∷ l.global_sig.now ∷ []))
         × (length l.signature.now + length l.trusted_comment.now ≤ length text.now))
         (λ e. read_signature text.now ≡ Err e) }
 {
@@ -323,7 +342,8 @@ pub(crate) fn four_lines(text: &str) -> Result<TextLines<'_>>
 pub(crate) fn untrusted_comment_in(line: &str) -> Result<&str>
     ensures { MatchResult result
         (λ c. line.now ≡ untrusted_comment_label ++ c.now)
-        (λ e. (e ≡ Named UntrustedCommentPrefix) × ((comment : List ℕ) → line.now ≢ untrusted_comment_label ++ comment)) }
+        (λ e. (e ≡ Named UntrustedCommentPrefix)
+        × ((comment : List ℕ) → line.now ≢ untrusted_comment_label ++ comment)) }
 {
     match line.strip_prefix("untrusted comment: ") {
         Some(comment) => Ok(comment),
@@ -336,7 +356,8 @@ pub(crate) fn untrusted_comment_in(line: &str) -> Result<&str>
 pub(crate) fn trusted_comment_in(line: &str) -> Result<&str>
     ensures { MatchResult result
         (λ c. line.now ≡ trusted_comment_label ++ c.now)
-        (λ e. (e ≡ Named TrustedCommentPrefix) × ((comment : List ℕ) → line.now ≢ trusted_comment_label ++ comment)) }
+        (λ e. (e ≡ Named TrustedCommentPrefix)
+        × ((comment : List ℕ) → line.now ≢ trusted_comment_label ++ comment)) }
 {
     match line.strip_prefix("trusted comment: ") {
         Some(comment) => Ok(comment),
@@ -348,7 +369,9 @@ pub(crate) fn trusted_comment_in(line: &str) -> Result<&str>
 pub(crate) fn known(signature: Signature) -> Result<Signature>
     ensures { MatchResult result
         (λ s. (s ≡ signature) × IsKnownAlgorithm s.algorithm)
-        (λ e. (e ≡ Named UnsupportedSignatureAlgorithm) × ((bytes_eq signature.algorithm legacy_algorithm || bytes_eq signature.algorithm prehashed_algorithm) ≡ false)) }
+        (λ e. (e ≡ Named UnsupportedSignatureAlgorithm)
+        × ((bytes_eq signature.algorithm legacy_algorithm || bytes_eq signature.algorithm prehashed_algorithm)
+        ≡ false)) }
 {
     if signature.sig_alg != SIGALG && signature.sig_alg != SIGALG_PREHASHED {
         return Err(NamedFault::UnsupportedSignatureAlgorithm.into());

@@ -1,16 +1,19 @@
 //! Signing with an opened secret key.
 
-ghost use Rattle.std.specs.Prelude.{◌≡◌, ℕ, true, false, List, None, Some, ◌⊎◌, string_bytes, IfOk, IfErr, OnOk, IfSome, IsSomeAnd};
+ghost use Rattle.std.specs.Prelude.{◌≡◌, ℕ, true, false, List, None, Some, ◌⊎◌, string_bytes, IfOk, IfErr};
+ghost use Rattle.std.specs.Prelude.{OnOk, IfSome, IsSomeAnd};
 ghost use Rattle.std.specs.Option.{option_copied, unwrap_or};
 ghost use Rattle.minisign_hash.specs.Blake2b.{blake2b_digest};
 ghost use Rattle.minisign_base.specs.Devices.{HasGiven};
 ghost use Rattle.minisign_base.specs.DeviceCalls.{random_call, source_call};
 ghost use Rattle.minisign_base.specs.Fault.{Named};
-ghost use Rattle.minisign_base.specs.declared.faults.NamedFault.TheVariants.{OutOfMemory, RandomSourceFailed, RefusedByGivenKey};
+ghost use Rattle.minisign_base.specs.declared.faults.NamedFault.TheVariants.{OutOfMemory, RandomSourceFailed};
+ghost use Rattle.minisign_base.specs.declared.faults.NamedFault.TheVariants.{RefusedByGivenKey};
 ghost use Rattle.minisign.specs.Reading.{HasFailed, ReadsWhole};
 ghost use Rattle.minisign.specs.Sealing.{is_encrypted};
 ghost use Rattle.minisign.specs.Acceptance.{accepts_comments};
-ghost use Rattle.minisign.specs.Signing.{AreChosenReadBack, HasSignedBox, OpenedSigningFails, SigningFails, default_trusted_comment, default_untrusted_comment, given_comments};
+ghost use Rattle.minisign.specs.Signing.{AreChosenReadBack, HasSignedBox, OpenedSigningFails, SigningFails};
+ghost use Rattle.minisign.specs.Signing.{default_trusted_comment, default_untrusted_comment, given_comments};
 
 use crate::comment_signature::accepts_comments;
 use crate::constants::{DEFAULT_COMMENT, SIGALG_PREHASHED};

@@ -9,7 +9,8 @@ ghost use Rattle.minisign.specs.Reading.{IsAhead, ReadsWhole};
 ghost use Rattle.minisign.specs.Sealing.{is_encrypted};
 ghost use Rattle.minisign.specs.Signing.{OpenedSigningFails, given_comments};
 ghost use Rattle.minisign.specs.Headline.{SigningHeadline};
-ghost use Rattle.minisign.specs.SigningTexts.{GivesKey, HasSignedText, HasSignedWithText, IsKeyOf, TextSigningFails};
+ghost use Rattle.minisign.specs.SigningTexts.{GivesKey, HasSignedText, HasSignedWithText, IsKeyOf};
+ghost use Rattle.minisign.specs.SigningTexts.{TextSigningFails};
 
 use crate::constants::KDF_NONE;
 use crate::sealing::Derivation;

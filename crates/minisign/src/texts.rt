@@ -1,14 +1,17 @@
 //! Reading and writing texts: their lines one after the other, and base64.
 
-ghost use Rattle.std.specs.Prelude.{◌≡◌, ℕ, ◌+◌, ◌≤◌, List, [], ◌∷◌, ◌++◌, length, false, Option, string_bytes, IfOk, IfErr, OnOk, IfSome, IfNone};
+ghost use Rattle.std.specs.Prelude.{◌≡◌, ℕ, ◌+◌, ◌≤◌, List, [], ◌∷◌, ◌++◌, length, false, Option};
+ghost use Rattle.std.specs.Prelude.{string_bytes, IfOk, IfErr, OnOk, IfSome, IfNone};
 ghost use Rattle.std.specs.Str.Lines.{lines};
 ghost use Rattle.std.specs.Str.Iter.{lines_rest};
 ghost use Rattle.minisign_base.specs.Fault.{Named};
 ghost use Rattle.minisign_base.specs.declared.faults.NamedFault.TheVariants.{OutOfMemory};
 ghost use Rattle.minisign.specs.Texts.{line, IsBase64Of, IsReading, base64_of, is_base64};
-ghost use Rattle.minisign.specs.PublicKeyText.{BarePublicKey, PublicKeyText, read_bare_public_key, read_public_key};
+ghost use Rattle.minisign.specs.PublicKeyText.{BarePublicKey, PublicKeyText, read_bare_public_key};
+ghost use Rattle.minisign.specs.PublicKeyText.{read_public_key};
 ghost use Rattle.minisign.specs.Opening.{IsOpened, IsUnencryptedText, open_key, read_unencrypted_key};
-ghost use Rattle.minisign.specs.Records.{PublicKeyRecord, ReadsPublicKey, ReadsSecretKey, ReadsSignature, SignatureRecord};
+ghost use Rattle.minisign.specs.Records.{PublicKeyRecord, ReadsPublicKey, ReadsSecretKey, ReadsSignature};
+ghost use Rattle.minisign.specs.Records.{SignatureRecord};
 ghost use Rattle.minisign.specs.SecretKeyText.{SecretKeyText, read_secret_key, read_secret_key_bytes};
 ghost use Rattle.minisign.specs.SignatureText.{SignatureText, read_signature};
 
@@ -18,18 +21,20 @@ use minisign_base::{NamedFault, Result};
 use std::alloc::Global;
 use std::str::Lines;
 
-/// A law, for which nothing is done: the functions that read texts, and those that open and take secret keys, agree with
-/// the relations that the grammars are.
+/// A law, for which nothing is done: the functions that read texts, and those that open and take secret keys,
+/// agree with the relations that the grammars are.
 #[tactic(auto, using(crate::proofs::PublicKeyTexts::read_as, crate::proofs::PublicKeyTexts::bare_read_as, crate::proofs::SignatureTexts::read_as, crate::proofs::SecretKeyTexts::read_as, crate::proofs::SecretKeyTexts::bytes_read_as, crate::proofs::Openings::opened_as, crate::proofs::Openings::unencrypted_as))]
 pub fn texts_are_decided()
-    // What is read of a text, by the function of its grammar, is a public key (of its text, or of bare base64), a
-    // signature with its comments or a secret key exactly where the text reads as these by the relation that its
-    // grammar is; it reads as one at most, and as none where what is read is an error. So do the bytes of a secret key.
+    // What is read of a text, by the function of its grammar, is a public key (of its text, or of bare
+    // base64), a signature with its comments or a secret key exactly where the text reads as these by the
+    // relation that its grammar is; it reads as one at most, and as none where what is read is an error. So
+    // do the bytes of a secret key.
     ensures public_key { (text : List ℕ) → IsReading (PublicKeyText text) (read_public_key text) }
     ensures bare_public_key { (text : List ℕ) → IsReading (BarePublicKey text) (read_bare_public_key text) }
     ensures signature { (text : List ℕ) → IsReading (SignatureText text) (read_signature text) }
     ensures secret_key { (text : List ℕ) → IsReading (SecretKeyText text) (read_secret_key text) }
-    ensures secret_key_bytes { (bytes : List ℕ) → IsReading (ReadsSecretKey bytes) (read_secret_key_bytes bytes) }
+    ensures secret_key_bytes { (bytes : List ℕ)
+        → IsReading (ReadsSecretKey bytes) (read_secret_key_bytes bytes) }
 
     // The records of public keys and signatures are each the front of the bytes in one way at most.
     ensures public_key_bytes { (bytes : List ℕ) (k other : PublicKeyRecord)
@@ -37,13 +42,14 @@ pub fn texts_are_decided()
     ensures signature_bytes { (bytes : List ℕ) (s other : SignatureRecord)
         → ReadsSignature bytes s → ReadsSignature bytes other → s ≡ other }
 
-    // A text opens under a password to a key exactly where it reads as a key that is sealed by scrypt, whose limits are
-    // allowed and within the bound and whose checksum the stream under the password restores, and this is the key
-    // opened; and it is taken as a key that was never sealed exactly where it reads as one whose checksum matches. In
-    // both cases there is one key at most, and none where what comes is an error.
+    // A text opens under a password to a key exactly where it reads as a key that is sealed by scrypt, whose
+    // limits are allowed and within the bound and whose checksum the stream under the password restores, and
+    // this is the key opened; and it is taken as a key that was never sealed exactly where it reads as one
+    // whose checksum matches. In both cases there is one key at most, and none where what comes is an error.
     ensures opened_key { (text password : List ℕ) (bound : Option ℕ)
         → IsReading (IsOpened text password bound) (open_key text password bound) }
-    ensures unencrypted_key { (text : List ℕ) → IsReading (IsUnencryptedText text) (read_unencrypted_key text) }
+    ensures unencrypted_key { (text : List ℕ)
+        → IsReading (IsUnencryptedText text) (read_unencrypted_key text) }
 {}
 
 // The next line of a text: what comes before a line feed, less one carriage return at its end, or
@@ -52,7 +58,8 @@ pub(crate) fn next_line<'a>(rest: &mut Lines<'a>) -> Option<&'a str>
     ensures some { IfSome result
         (λ x. lines (lines_rest rest.old) ≡ x.now ∷ lines (lines_rest rest.new)) }
     ensures none { IfNone result (lines (lines_rest rest.old) ≡ []) }
-    ensures size { IfSome result (λ x. length x.now + length (lines_rest rest.new) ≤ length (lines_rest rest.old)) }
+    ensures size { IfSome result
+        (λ x. length x.now + length (lines_rest rest.new) ≤ length (lines_rest rest.old)) }
 {
     match rest.next() {
         Some(line) => Some(line),

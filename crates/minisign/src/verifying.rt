@@ -1,12 +1,15 @@
 //! Whether a signature box vouches for data under a public key.
 
-ghost use Rattle.std.specs.Prelude.{◌≡◌, ◌↔◌, ℕ, Bool, List, true, false, ◌⊎◌, Ok, Err, IfOk, IfErr, OnOk, OnErr};
+ghost use Rattle.std.specs.Prelude.{◌≡◌, ◌↔◌, ℕ, Bool, List, true, false, ◌⊎◌, Ok, Err, IfOk, IfErr, OnOk};
+ghost use Rattle.std.specs.Prelude.{OnErr};
 ghost use Rattle.minisign_base.specs.Devices.{HasGiven};
 ghost use Rattle.minisign_base.specs.Fault.{Named};
 ghost use Rattle.minisign_base.specs.declared.faults.NamedFault.TheVariants.{GoingBackFailed, OutOfMemory};
-ghost use Rattle.minisign_base.specs.DeviceCalls.{IsWritingFault, Marks, Takes, TakesFront, rereader_call, sink_call, unused};
+ghost use Rattle.minisign_base.specs.DeviceCalls.{IsWritingFault, Marks, Takes, TakesFront, rereader_call};
+ghost use Rattle.minisign_base.specs.DeviceCalls.{sink_call, unused};
 ghost use Rattle.minisign.specs.Records.{PublicKeyRecord, SignatureBoxRecord};
-ghost use Rattle.minisign.specs.Acceptance.{Verifier, Vouches, accepts_comments, options_of, judge, judge_answers, judge_key, judged_parts, status_lines};
+ghost use Rattle.minisign.specs.Acceptance.{Verifier, Vouches, accepts_comments, options_of, judge};
+ghost use Rattle.minisign.specs.Acceptance.{judge_answers, judge_key, judged_parts, status_lines};
 ghost use Rattle.minisign.specs.Calls.{TextsVouchWith};
 ghost use Rattle.minisign.specs.Headline.{WhereNothingFails, verdict};
 ghost use Rattle.minisign.specs.Stages.{HoldsSigned, StagesEnd, is_reread, reading_stages};
@@ -56,9 +59,10 @@ pub fn verify<S: Scheme, R: Rereader, W: Sink, O: Sink>(
     status: &mut W,
     out: &mut O,
 ) -> Result<()>
-    // Over data that is known, where no device fails, and over a steady source where the data is copied: the answer is
-    // that of the function `judge`, of key, box, data and flag, or out of memory.
-    ensures headline { WhereNothingFails output (rereader_call R.Source R.steady data_reader.old data_reader.new)
+    // Over data that is known, where no device fails, and over a steady source where the data is copied: the
+    // answer is that of the function `judge`, of key, box, data and flag, or out of memory.
+    ensures headline { WhereNothingFails output
+        (rereader_call R.Source R.steady data_reader.old data_reader.new)
         (sink_call W.Sink status.old status.new) (sink_call O.Sink out.old out.new) result
         (λ message. judge (S.accepts scheme.now) pk.now signature_box.now message allow_legacy) }
 
@@ -85,7 +89,9 @@ pub fn verify<S: Scheme, R: Rereader, W: Sink, O: Sink>(
     //
     // The copy is flushed on success (`flushed` of `HasCopy`), and by clause `refused` (`unflushed`
     // of `Copies`) on no rejection before the digests are compared.
-    ensures accepted { OnOk result (VerifyingSucceeds (S.accepts scheme.now) pk.now signature_box.now (options_of quiet output allow_legacy)
+    ensures accepted { OnOk result
+        (VerifyingSucceeds (S.accepts scheme.now) pk.now signature_box.now
+        (options_of quiet output allow_legacy)
         (rereader_call R.Source R.steady data_reader.old data_reader.new)
         (sink_call W.Sink status.old status.new) (sink_call O.Sink out.old out.new)) }
 
@@ -96,8 +102,8 @@ pub fn verify<S: Scheme, R: Rereader, W: Sink, O: Sink>(
     // with that of the data, and the output is flushed; or for a legacy box the data is put out and
     // flushed (`verifying_stages`). A stage changes no device but its own (`StageEnds`).
     //
-    // A rejection of the box is that of the function `judge` for the data, all of which was read without an error;
-    // status and output are untouched (`Judge`).
+    // A rejection of the box is that of the function `judge` for the data, all of which was read without an
+    // error; status and output are untouched (`Judge`).
     //
     // `going back failed` comes only at the mark, with nothing read, or at the return, with nothing
     // copied; the source's count of errors rose, and no place is marked (`Mark`, `Return`).
@@ -124,16 +130,19 @@ pub fn verify<S: Scheme, R: Rereader, W: Sink, O: Sink>(
     // A reading takes at most some bytes off the front of what the source has ahead; going back
     // puts those ahead that the mark keeps, which are what was ahead at first if it is steady
     // (`Read`, `Copy`, `Return`, `Mark`).
-    ensures refused { IfErr result (VerifyingFails (S.accepts scheme.now) pk.now signature_box.now (options_of quiet output allow_legacy)
+    ensures refused { IfErr result
+        (VerifyingFails (S.accepts scheme.now) pk.now signature_box.now (options_of quiet output allow_legacy)
         (rereader_call R.Source R.steady data_reader.old data_reader.new)
         (sink_call W.Sink status.old status.new) (sink_call O.Sink out.old out.new)) }
 
     // After a rejection the status took a prefix of the lines of the box.
-    ensures said_front { OnErr result (TakesFront (sink_call W.Sink status.old status.new) (wanted_status quiet signature_box.now)) }
+    ensures said_front { OnErr result
+        (TakesFront (sink_call W.Sink status.old status.new) (wanted_status quiet signature_box.now)) }
 
     // Whatever the result, but for `output` of a prehashed box, the source lost at most some bytes
     // at its front.
-    ensures given { is_reread output signature_box.now ≡ false → HasGiven (R.ahead data_reader.old) (R.ahead data_reader.new) }
+    ensures given { is_reread output signature_box.now ≡ false
+        → HasGiven (R.ahead data_reader.old) (R.ahead data_reader.new) }
 
     // With quiet the status is untouched.
     ensures quiet { quiet ≡ true → status.new ≡ status.old }
@@ -164,18 +173,20 @@ pub fn unvouched_parts_change_no_verdict()
         judge accepts key other message legacy ≡ judge accepts pk x message legacy }
 {}
 
-/// A law, for which nothing is done: the functions that judge a box, and two texts, agree with the records of conditions
-/// that acceptance is.
+/// A law, for which nothing is done: the functions that judge a box, and two texts, agree with the records of
+/// conditions that acceptance is.
 #[tactic(auto, using(crate::proofs::Verdicts::judge_decided, crate::proofs::Verdicts::verdict_decided))]
 pub fn verdicts_are_decided()
     // The judge passes a box exactly where it vouches for the message under the key.
-    ensures judge { (accepts : Verifier) (pk : PublicKeyRecord) (x : SignatureBoxRecord) (message : List ℕ) (legacy : Bool) →
+    ensures judge { (accepts : Verifier) (pk : PublicKeyRecord) (x : SignatureBoxRecord) (message : List ℕ)
+        (legacy : Bool) →
         (judge accepts pk x message legacy ≡ Ok tt) ↔ Vouches accepts pk x message legacy }
 
-    // The verdict gives a comment exactly where the texts vouch for the message, with this comment; they do with one at
-    // most, and with none where the verdict is an error.
+    // The verdict gives a comment exactly where the texts vouch for the message, with this comment; they do
+    // with one at most, and with none where the verdict is an error.
     ensures verdict { (accepts : Verifier) (pk_text sig_text message : List ℕ) (legacy : Bool) →
-        IsReading (TextsVouchWith accepts pk_text sig_text message legacy) (verdict accepts pk_text sig_text message legacy) }
+        IsReading (TextsVouchWith accepts pk_text sig_text message legacy)
+        (verdict accepts pk_text sig_text message legacy) }
 {}
 
 // Marks the place where the data will be read again, and reads it to its end.
@@ -209,7 +220,8 @@ fn reads_again(signature_box: &SignatureBox, output: bool) -> bool
 fn mark_place<R: Rereader>(data_reader: &mut R, again: bool) -> Result<()>
     ensures ahead { OnOk result (R.ahead data_reader.new ≡ R.ahead data_reader.old) }
     ensures unmarked { again ≡ false → data_reader.new ≡ data_reader.old }
-    ensures marked { again ≡ true → OnOk result (Marks (rereader_call R.Source R.steady data_reader.old data_reader.new) (Ok tt)) }
+    ensures marked { again ≡ true
+        → OnOk result (Marks (rereader_call R.Source R.steady data_reader.old data_reader.new) (Ok tt)) }
     ensures refused { IfErr result (λ e. (again ≡ true) × (e ≡ Named GoingBackFailed)
         × Marks (rereader_call R.Source R.steady data_reader.old data_reader.new) (Err tt)) }
 {
@@ -231,7 +243,8 @@ fn judge<S: Scheme>(
     signed: &[u8],
     allow_legacy: bool,
 ) -> Result<()>
-    ensures { IsReadOrNoMemory result (and_then (judge_key pk.now.keynum signature_box.now.signature allow_legacy) (λ _.
+    ensures { IsReadOrNoMemory result
+        (and_then (judge_key pk.now.keynum signature_box.now.signature allow_legacy) (λ _.
         judge_answers (S.accepts scheme.now signed.now pk.now.key signature_box.now.signature.signature)
         (accepts_comments (S.accepts scheme.now) pk.now signature_box.now))) }
 {
@@ -253,13 +266,16 @@ fn say<W: Sink>(
     signature_box: &SignatureBox,
     quiet: bool,
 ) -> Result<()>
-    ensures said { OnOk result (Takes (sink_call W.Sink status.old status.new) (wanted_status quiet signature_box.now)) }
+    ensures said { OnOk result (Takes (sink_call W.Sink status.old status.new)
+        (wanted_status quiet signature_box.now)) }
     ensures no_new_fault { OnOk result (W.sink_faults status.new ≡ W.sink_faults status.old) }
     ensures quiet { quiet ≡ true → status.new ≡ status.old }
-    ensures refused { IfErr result (λ e. (quiet ≡ false) × (((e ≡ Named OutOfMemory) × (status.new ≡ status.old))
+    ensures refused { IfErr result
+        (λ e. (quiet ≡ false) × (((e ≡ Named OutOfMemory) × (status.new ≡ status.old))
         ⊎ IsWritingFault (sink_call W.Sink status.old status.new) e)) }
     ensures unflushed { W.flushed status.new ≡ W.flushed status.old }
-    ensures front { OnErr result (TakesFront (sink_call W.Sink status.old status.new) (wanted_status quiet signature_box.now)) }
+    ensures front { OnErr result
+        (TakesFront (sink_call W.Sink status.old status.new) (wanted_status quiet signature_box.now)) }
 {
     if quiet {
         return Ok(());
@@ -270,12 +286,14 @@ fn say<W: Sink>(
 // Writes what is said of a box that was accepted, in one write.
 #[tactic(auto, unfolding(crate::specs::Acceptance::verified_text, crate::specs::Acceptance::trusted_comment_text))]
 fn say_lines<W: Sink>(alloc: Global, status: &mut W, signature_box: &SignatureBox) -> Result<()>
-    ensures said { OnOk result (Takes (sink_call W.Sink status.old status.new) (status_lines signature_box.now)) }
+    ensures said { OnOk result (Takes (sink_call W.Sink status.old status.new)
+        (status_lines signature_box.now)) }
     ensures no_new_fault { OnOk result (W.sink_faults status.new ≡ W.sink_faults status.old) }
     ensures refused { IfErr result (λ e. ((e ≡ Named OutOfMemory) × (status.new ≡ status.old))
         ⊎ IsWritingFault (sink_call W.Sink status.old status.new) e) }
     ensures unflushed { W.flushed status.new ≡ W.flushed status.old }
-    ensures front { OnErr result (TakesFront (sink_call W.Sink status.old status.new) (status_lines signature_box.now)) }
+    ensures front { OnErr result
+        (TakesFront (sink_call W.Sink status.old status.new) (status_lines signature_box.now)) }
 {
     match &signature_box.comments {
         Some(comments) => put_line(

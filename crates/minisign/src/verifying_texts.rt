@@ -5,7 +5,8 @@ ghost use Rattle.minisign_base.specs.Devices.{HasGiven};
 ghost use Rattle.minisign_base.specs.DeviceCalls.{TakesFront, rereader_call, sink_call};
 ghost use Rattle.minisign.specs.Acceptance.{options_of};
 ghost use Rattle.minisign.specs.Records.{PublicKeyRecord, SignatureBoxRecord};
-ghost use Rattle.minisign.specs.Verifying.{wanted_status, VerifyingTextsFails, VerifyingTextsSucceeds, read_texts};
+ghost use Rattle.minisign.specs.Verifying.{wanted_status, VerifyingTextsFails, VerifyingTextsSucceeds};
+ghost use Rattle.minisign.specs.Verifying.{read_texts};
 ghost use Rattle.minisign.specs.Texts.{IsReadOrNoMemory, map_ok};
 ghost use Rattle.minisign.specs.Headline.{CopyIsVouchedFor, WhereNothingFails, verdict};
 
@@ -38,21 +39,27 @@ pub fn verify_texts<S: Scheme, R: Rereader, W: Sink, O: Sink>(
     status: &mut W,
     out: &mut O,
 ) -> Result<()>
-    // The headline's first part: over data that is known, where no device fails, and over a steady source where the data
-    // is copied, the answer is the verdict, a function of the two texts, the data and the flag; or out of memory.
-    ensures headline { WhereNothingFails output (rereader_call R.Source R.steady data_reader.old data_reader.new)
+    // The headline's first part: over data that is known, where no device fails, and over a steady source
+    // where the data is copied, the answer is the verdict, a function of the two texts, the data and the
+    // flag; or out of memory.
+    ensures headline { WhereNothingFails output
+        (rereader_call R.Source R.steady data_reader.old data_reader.new)
         (sink_call W.Sink status.old status.new) (sink_call O.Sink out.old out.new) result
-        (λ message. map_ok (λ _. tt) (verdict (S.accepts scheme.now) pk_text.now sig_text.now message allow_legacy)) }
+        (λ message. map_ok (λ _. tt)
+        (verdict (S.accepts scheme.now) pk_text.now sig_text.now message allow_legacy)) }
 
     // On success both texts were read by the grammar, as a key and a box for which everything holds
     // that `verify` promises on success.
-    ensures accepted { OnOk result (VerifyingTextsSucceeds (S.accepts scheme.now) pk_text.now sig_text.now (options_of quiet output allow_legacy)
+    ensures accepted { OnOk result
+        (VerifyingTextsSucceeds (S.accepts scheme.now) pk_text.now sig_text.now
+        (options_of quiet output allow_legacy)
         (rereader_call R.Source R.steady data_reader.old data_reader.new)
         (sink_call W.Sink status.old status.new) (sink_call O.Sink out.old out.new)) }
 
     // On success with `output` the two texts vouch for what the output took, whatever a second
     // reading gave.
-    ensures vouched { output ≡ true → OnOk result (CopyIsVouchedFor (S.accepts scheme.now) pk_text.now sig_text.now allow_legacy
+    ensures vouched { output ≡ true
+        → OnOk result (CopyIsVouchedFor (S.accepts scheme.now) pk_text.now sig_text.now allow_legacy
         (sink_call O.Sink out.old out.new)) }
 
     // A rejection of the public key text comes before one of the signature text, and both come before
@@ -60,12 +67,15 @@ pub fn verify_texts<S: Scheme, R: Rereader, W: Sink, O: Sink>(
     //
     // Otherwise verifying fails as `verify` does, with the key and the box that the texts read as
     // (`VerifyingFails`).
-    ensures refused { IfErr result (VerifyingTextsFails (S.accepts scheme.now) pk_text.now sig_text.now (options_of quiet output allow_legacy)
+    ensures refused { IfErr result
+        (VerifyingTextsFails (S.accepts scheme.now) pk_text.now sig_text.now
+        (options_of quiet output allow_legacy)
         (rereader_call R.Source R.steady data_reader.old data_reader.new)
         (sink_call W.Sink status.old status.new) (sink_call O.Sink out.old out.new)) }
 
     // After a rejection the status is untouched, or took a prefix of the lines of the box.
-    ensures said_front { OnErr result ((status.new ≡ status.old) ⊎ ((key : PublicKeyRecord) × (box : SignatureBoxRecord)
+    ensures said_front { OnErr result
+        ((status.new ≡ status.old) ⊎ ((key : PublicKeyRecord) × (box : SignatureBoxRecord)
         × (read_texts pk_text.now sig_text.now ≡ Ok (key, box))
         × TakesFront (sink_call W.Sink status.old status.new) (wanted_status quiet box))) }
 

@@ -1,5 +1,5 @@
--- A device over one call, as one value: what contracts see of it, how it was at the call (old) and how it is at
--- the return (new); and what is said of that.
+-- A device over one call, as one value: what contracts see of it, how it was at the call (old) and how it is
+-- at the return (new); and what is said of that.
 use Rattle.std.specs.Prelude.{◌≡◌, ⊤, ℕ, List, None, Result, MatchResult}
 use Rattle.std.specs.Io.KnownBytes.{Appends}
 use Rattle.minisign_base.specs.Devices.{AppendsFront, HasFlushed, HasGiven, HasGoneBack, HasMarked, Rose}
@@ -53,7 +53,8 @@ Marks r answer =
 
 abbrev pub GoesBack : {R : Type 0} → RereaderCall R → Result ⊤ ⊤ → Type 0
 GoesBack r answer =
-    HasGoneBack r.source.ahead r.source.behind r.source.since r.source.is_marked r.source.faults r.old r.new answer
+    HasGoneBack r.source.ahead r.source.behind r.source.since r.source.is_marked r.source.faults r.old r.new
+    answer
 
 -- the sink failed: its count of errors rose, or stands at its greatest value
 abbrev pub SinkFails : {W : Type 0} → SinkCall W → Type 0
@@ -101,12 +102,18 @@ IsWritingFault sink e = (e ≡ Named WritingFailed) × SinkFails sink
 -- bytes are put to a sink, which flushes nothing: it takes all of them, or a prefix where it fails
 abbrev pub Puts : {W : Type 0} → SinkCall W → List ℕ → Result ⊤ Fault → Type 0
 Puts out bytes answer =
-    MatchResult answer (λ _. Takes out bytes × SinkHasNoNewFault out) (λ e. IsWritingFault out e × TakesFront out bytes)
+    MatchResult answer (λ _. Takes out bytes × SinkHasNoNewFault out)
+    (λ e. IsWritingFault out e × TakesFront out bytes)
     × IsUnflushed out
 
 -- a sink that nothing uses
 abbrev pub unused : SinkCall ⊤
-unused = record { sink = record { taken = λ _. None; flushed = λ _. None; sink_faults = λ _. 0 }; old = tt; new = tt }
+unused =
+    record {
+      sink = record { taken = λ _. None; flushed = λ _. None; sink_faults = λ _. 0 };
+      old = tt;
+      new = tt;
+    }
 
 -- a source over a call
 pub record SourceCall (R : Type 0) : Type 1 where

@@ -1,8 +1,8 @@
 -- What calls on a device do to what is known of its bytes and to its count of errors. Each kind of call has a
 -- record over the members of the device's trait, the device at the call (old) and at the return (new), and
 -- the answer.
-use Rattle.std.specs.Prelude.{◌≡◌, ℕ, ◌+◌, ◌-◌, ◌^◌, ◌<◌, ◌≤◌, min, Bool, true, false, List, [], ◌++◌, length, take}
-use Rattle.std.specs.Prelude.{Option, Some, IfSome, Result, IsErr, IfOk, OnOk, OnErr}
+use Rattle.std.specs.Prelude.{◌≡◌, ℕ, ◌+◌, ◌-◌, ◌^◌, ◌<◌, ◌≤◌, min, Bool, true, false, List, [], ◌++◌, length}
+use Rattle.std.specs.Prelude.{take, Option, Some, IfSome, Result, IsErr, IfOk, OnOk, OnErr}
 use Rattle.std.specs.Io.KnownBytes.{append_known, Appends, Consumes, IsAtEnd, Keeps}
 
 -- the count rose, or stood at its greatest value
@@ -44,7 +44,8 @@ pub record HasRead {S E : Type 0} (ahead_of behind_of since_of : S → Option (L
   pub since_kept : OnErr answer (SameWhereKnown (since_of old) (since_of new))
 
 -- a steady source remembers the bytes ahead, which stay; a place is marked now, or after an error none is
-pub record HasMarked {S A E : Type 0} (steady_of : S → Type 0) (ahead_of behind_of since_of : S → Option (List ℕ))
+pub record HasMarked {S A E : Type 0} (steady_of : S → Type 0)
+    (ahead_of behind_of since_of : S → Option (List ℕ))
     (is_marked_of : S → Bool) (faults_of : S → ℕ)
     (old new : S) (answer : Result A E) : Type 0 where
   pub bytes : OnOk answer (ahead_of new ≡ ahead_of old)
@@ -89,7 +90,8 @@ pub record HasWritten {S E : Type 0} (taken_of flushed_of : S → Option (List �
   pub kept : OnErr answer (Keeps (taken_of old) (taken_of new))
   pub unflushed : flushed_of new ≡ flushed_of old
 
--- nothing was taken, and all that was taken before was flushed; at an error what was flushed stays, or is known no more
+-- nothing was taken, and all that was taken before was flushed; at an error what was flushed stays, or is
+-- known no more
 pub record HasFlushed {S A E : Type 0} (taken_of flushed_of : S → Option (List ℕ)) (faults_of : S → ℕ)
     (old new : S) (answer : Result A E) : Type 0 where
   pub bytes : Keeps (taken_of old) (taken_of new)

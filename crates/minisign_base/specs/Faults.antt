@@ -1,4 +1,5 @@
--- The named errors: of each the number by which a program in another language knows it, the kind, and the text.
+-- The named errors: of each the number by which a program in another language knows it, the kind, and the
+-- text.
 use Rattle.std.specs.Prelude.{ℕ, List, ◌++◌, codes}
 use Rattle.minisign_base.specs.Identifiers.{identifier_text}
 use Rattle.minisign_base.specs.declared.errors.ErrorKind.{ErrorKind}
@@ -36,7 +37,8 @@ fault_row fault.MissingGlobalSignature = row 24 kind.Io (codes "Missing global s
 fault_row fault.UntrustedCommentPrefix =
     row 25 kind.Verify (codes "Untrusted comment must start with: untrusted comment: ")
 fault_row fault.SignatureNotBase64 = row 26 kind.Io (codes "invalid base64")
-fault_row fault.TrustedCommentPrefix = row 27 kind.Verify (codes "Trusted comment should start with: trusted comment: ")
+fault_row fault.TrustedCommentPrefix = row 27 kind.Verify
+    (codes "Trusted comment should start with: trusted comment: ")
 fault_row fault.UnsupportedSignatureAlgorithm = row 28 kind.Verify (codes "Unsupported signature algorithm")
 fault_row fault.MissingPublicKeyComment = row 16 kind.Io (codes "Missing comment in public key")
 fault_row fault.MissingEncodedPublicKey = row 17 kind.Io (codes "Missing encoded key in public key")
@@ -56,15 +58,18 @@ fault_row fault.KeyNotEncrypted = row 38 kind.Io (codes "Key is not encrypted")
 fault_row fault.UnsupportedEncryptionAlgorithm = row 39 kind.Io (codes "Unsupported encryption algorithm")
 fault_row fault.WrongPassword = row 42 kind.Verify (codes "Wrong password for that key")
 fault_row fault.CorruptedKey = row 37 kind.Verify (codes "Corrupted key")
-fault_row fault.EncryptedKeyRefused = row 71 kind.EncryptedKey (codes "Cannot sign with an encrypted secret key.")
+fault_row fault.EncryptedKeyRefused = row 71 kind.EncryptedKey
+    (codes "Cannot sign with an encrypted secret key.")
 fault_row (fault.RefusedByGivenKey _) =
     row 72 kind.Verify (codes "Could not verify signature with the provided public key ID")
-fault_row (fault.DifferentKeyIds _ _) = row 29 kind.Verify (codes "Signature key id is different from public key")
+fault_row (fault.DifferentKeyIds _ _) = row 29 kind.Verify
+    (codes "Signature key id is different from public key")
 fault_row fault.LegacyNotAccepted = row 30 kind.Verify (codes "Legacy signatures are not accepted")
 fault_row fault.SignatureRefused = row 31 kind.Verify (codes "Signature verification failed")
 fault_row fault.CommentSignatureRefused = row 32 kind.Verify (codes "Comment signature verification failed")
 fault_row fault.TrustedCommentAbsent = row 73 kind.Misc (codes "trusted comment is not present")
-fault_row fault.SignatureBoxIncomplete = row 74 kind.Misc (codes "Incomplete SignatureBox: trusted comment is missing")
+fault_row fault.SignatureBoxIncomplete = row 74 kind.Misc
+    (codes "Incomplete SignatureBox: trusted comment is missing")
 fault_row fault.ClockIncorrect = row 75 kind.Misc (codes "system clock is incorrect")
 fault_row fault.DataChanged = row 76 kind.Verify (codes "Data changed between verification and output")
 fault_row fault.InvalidOutputLength = row 77 kind.KDF (codes "invalid output length")

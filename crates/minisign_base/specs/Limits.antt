@@ -1,6 +1,7 @@
 -- The parameters of scrypt that a key's memory limit, in bytes, and its operations limit lead to. All
 -- divisions round down.
-use Rattle.std.specs.Prelude.{◌≡◌, ◌⊎◌, ℕ, ◌/◌, ◌%◌, ◌^◌, ◌<◌, ◌≤◌, min, max, nat_lt, if◌then◌else◌, Result, Ok, Err}
+use Rattle.std.specs.Prelude.{◌≡◌, ◌⊎◌, ℕ, ◌/◌, ◌%◌, ◌^◌, ◌<◌, ◌≤◌, min, max, nat_lt, if◌then◌else◌, Result}
+use Rattle.std.specs.Prelude.{Ok, Err}
 use Rattle.std.specs.List.{find, range_with_len}
 use Rattle.std.specs.Option.{unwrap_or}
 use Rattle.minisign_kdf.specs.Params.{Numbers, is_accepted}
@@ -18,9 +19,9 @@ pub record IsCostLog2 (greatest n : ℕ) : Type 0 where
 unfoldable pub cost_log2 : ℕ → ℕ
 cost_log2 greatest = unwrap_or (find (λ n. nat_lt (greatest / 2) (2 ^ n)) (range_with_len 1 62)) 63
 
--- the numbers of a memory limit and an operations limit; at least 32768 operations count. Where they are below a 32nd
--- of the memory, they bound N, and p is 1. Otherwise the memory bounds N, and p is a quarter of the operations divided
--- by N, of that the low 32 bits, of those at most 0x3fffffff, divided by r
+-- the numbers of a memory limit and an operations limit; at least 32768 operations count. Where they are
+-- below a 32nd of the memory, they bound N, and p is 1. Otherwise the memory bounds N, and p is a quarter of
+-- the operations divided by N, of that the low 32 bits, of those at most 0x3fffffff, divided by r
 unfoldable pub numbers : ℕ → ℕ → Numbers
 numbers memlimit opslimit =
     let operations = max 32768 opslimit in
@@ -38,4 +39,5 @@ limits v n_log2_max =
 -- the limits of sealing and opening: at most 1073741824 bytes, and N at most 2 ^ 20
 abbrev pub sealing_limits : ℕ → ℕ → Result Numbers Fault
 sealing_limits memlimit opslimit =
-    if nat_lt 1073741824 memlimit then Err (Named ParametersTooHigh) else limits (numbers memlimit opslimit) 20
+    if nat_lt 1073741824 memlimit then Err (Named ParametersTooHigh) else
+    limits (numbers memlimit opslimit) 20

@@ -1,8 +1,9 @@
--- What contracts see of a device or of a scheme, as one value: the ghost members of its trait. A clause writes it
--- `S.Source`, `W.Sink`, `Z.RandomSource` or `S.Scheme`, also where `S` is a `Rereader`, whose own member is `S.steady`.
+-- What contracts see of a device or of a scheme, as one value: the ghost members of its trait. A clause
+-- writes it `S.Source`, `W.Sink`, `Z.RandomSource` or `S.Scheme`, also where `S` is a `Rereader`, whose own
+-- member is `S.steady`.
 --
--- The traits' own contracts cannot cite what takes these records, since the records come of the traits: so the
--- records of the calls in `Devices` take the members one by one.
+-- The traits' own contracts cannot cite what takes these records, since the records come of the traits: so
+-- the records of the calls in `Devices` take the members one by one.
 use Rattle.minisign_base.specs.declared.devices.random_sources.RandomSource as random_source
 use Rattle.minisign_base.specs.declared.devices.sinks.Sink as sink
 use Rattle.minisign_base.specs.declared.devices.sources.Source as source

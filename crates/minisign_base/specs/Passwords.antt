@@ -1,5 +1,6 @@
 -- Which password is in a line that is typed.
-use Rattle.std.specs.Prelude.{ℕ, ◌+◌, min, nat_lt, ◌==◌, not, List, [], length, take, Result, Ok, Err, if◌then◌else◌}
+use Rattle.std.specs.Prelude.{ℕ, ◌+◌, min, nat_lt, ◌==◌, not, List, [], length, take, Result, Ok, Err}
+use Rattle.std.specs.Prelude.{if◌then◌else◌}
 use Rattle.std.specs.List.{position_or_len}
 use Rattle.std.specs.Result.{result_unwrap_or}
 use Rattle.std.specs.Str.{is_utf8}

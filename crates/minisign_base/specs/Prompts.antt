@@ -1,14 +1,16 @@
--- What a prompt reads and writes: how a conversation ends, step by step, of which asking for a password is one. The
--- bytes of a prompt are all that its reader has ahead.
-use Rattle.std.specs.Prelude.{◌≡◌, ⊤, ℕ, ◌+◌, ◌<◌, List, [], ◌∷◌, ◌++◌, length, take, drop, Option, Some, IfSome}
-use Rattle.std.specs.Prelude.{Result, codes}
+-- What a prompt reads and writes: how a conversation ends, step by step, of which asking for a password is
+-- one. The bytes of a prompt are all that its reader has ahead.
+use Rattle.std.specs.Prelude.{◌≡◌, ⊤, ℕ, ◌+◌, ◌<◌, List, [], ◌∷◌, ◌++◌, length, take, drop, Option, Some}
+use Rattle.std.specs.Prelude.{IfSome, Result, codes}
 use Rattle.std.specs.Result.{result_err}
 use Rattle.minisign_base.specs.Devices.{Rose}
 use Rattle.minisign_base.specs.Fault.{Fault}
-use Rattle.minisign_base.specs.DeviceCalls.{FailsAtPart, PromptCall, SourceCall, TakesPart, reader_of, writer_of}
+use Rattle.minisign_base.specs.DeviceCalls.{FailsAtPart, PromptCall, SourceCall, TakesPart, reader_of}
+use Rattle.minisign_base.specs.DeviceCalls.{writer_of}
 use Rattle.minisign_base.specs.Passwords.{password_of, read_count, typed_password}
 use Rattle.minisign_base.specs.Steps.{EndsWith, StepsEnd}
-use Rattle.minisign_base.specs.declared.faults.NamedFault.TheVariants.{OutOfMemory, ReadingFailed, WritingFailed}
+use Rattle.minisign_base.specs.declared.faults.NamedFault.TheVariants.{OutOfMemory, ReadingFailed}
+use Rattle.minisign_base.specs.declared.faults.NamedFault.TheVariants.{WritingFailed}
 
 -- what is written where the password is empty
 abbrev pub empty_mark : List ℕ
@@ -17,7 +19,8 @@ empty_mark = codes "<empty>" ++ 10 ∷ []
 -- a reader gave the line of these bytes, which were all that it had ahead where that is known
 pub record HasReadLine {R : Type 0} (r : SourceCall R) (bytes : List ℕ) : Type 0 where
   pub ahead : IfSome (r.source.ahead r.old) (λ xs. xs ≡ bytes)
-  pub unread : IfSome (r.source.ahead r.old) (λ _. r.source.ahead r.new ≡ Some (drop (read_count bytes) bytes))
+  pub unread : IfSome (r.source.ahead r.old)
+      (λ _. r.source.ahead r.new ≡ Some (drop (read_count bytes) bytes))
   pub left : r.source.left r.new + length (take (read_count bytes) bytes) ≡ r.source.left r.old
   pub no_new_fault : r.source.faults r.new ≡ r.source.faults r.old
 
@@ -27,16 +30,16 @@ pub record HasFailedInLine {R : Type 0} (r : SourceCall R) : Type 0 where
   pub given : IfSome (r.source.ahead r.new) (λ ys. IfSome (r.source.ahead r.old) (λ xs.
       (front : List ℕ) × (xs ≡ front ++ ys) × (length front < 1026)))
 
--- a step of a conversation: memory is asked for; a text is said; a line of these bytes is heard; or something is
--- tested, which may be rejected
+-- a step of a conversation: memory is asked for; a text is said; a line of these bytes is heard; or something
+-- is tested, which may be rejected
 pub data Step : Type 0 where
   Allocate : Step
   Say : List ℕ → Step
   Hear : List ℕ → Step
   Test : Option Fault → Step
 
--- how a step ends, and what it leaves alone: nothing is read while a text is said, and nothing said while a line is
--- heard
+-- how a step ends, and what it leaves alone: nothing is read while a text is said, and nothing said while a
+-- line is heard
 abbrev pub StepEnds : {R W : Type 0} → PromptCall R W → Step → Result ⊤ Fault → Type 0
 StepEnds p Allocate answer = EndsWith ⊤ OutOfMemory ⊤ answer × (p.new ≡ p.old)
 StepEnds p (Say text) answer =
@@ -60,7 +63,8 @@ marking_steps (b ∷ password) = []
 -- a password is asked for with a text, and typed in these bytes
 abbrev pub asking_steps : List ℕ → List ℕ → List Step
 asking_steps text bytes =
-    Allocate ∷ Say text ∷ Hear bytes ∷ Test (result_err (password_of bytes)) ∷ marking_steps (typed_password bytes)
+    Allocate ∷ Say text ∷ Hear bytes ∷ Test (result_err (password_of bytes))
+    ∷ marking_steps (typed_password bytes)
 
 -- what a conversation writes
 abbrev pub written : List Step → List ℕ

@@ -1,12 +1,12 @@
--- How far a call came that does one thing after another, and how it ended. What its steps are is up to the call: Ends
--- says of a step what became of the devices (old at its begin, new at its end) and how it ended, with Ok where it was
--- done, and otherwise with the error for which the call ended.
+-- How far a call came that does one thing after another, and how it ended. What its steps are is up to the
+-- call: Ends says of a step what became of the devices (old at its begin, new at its end) and how it ended,
+-- with Ok where it was done, and otherwise with the error for which the call ended.
 use Rattle.std.specs.Prelude.{◌≡◌, ◌⊎◌, ⊤, List, [], ◌∷◌, Result, Ok, Err, MatchResult}
 use Rattle.minisign_base.specs.Fault.{Fault, Named}
 use Rattle.minisign_base.specs.declared.faults.NamedFault.{NamedFault}
 
--- how these steps end: all were done, one after another; or one was not, where each before it was done, and none after
--- it was begun
+-- how these steps end: all were done, one after another; or one was not, where each before it was done, and
+-- none after it was begun
 abbrev pub StepsEnd : {Step D E : Type 0} → (Step → D → D → Result ⊤ E → Type 0) → List Step → D → D
     → Result ⊤ E → Type 0
 StepsEnd Ends [] old new (Ok _) = new ≡ old

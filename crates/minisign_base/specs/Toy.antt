@@ -1,7 +1,7 @@
 -- A scheme for tests that meets the laws of a scheme and protects nothing: whoever knows the public
 -- key can sign.
-use Rattle.std.specs.Prelude.{ℕ, ◌+◌, ◌%◌, ◌==◌, ◌&&◌, ◌||◌, Bool, Option, Some, None, List, [], ◌∷◌, ◌++◌, map, take}
-use Rattle.std.specs.Prelude.{drop, replicate, bit_xor, if◌then◌else◌}
+use Rattle.std.specs.Prelude.{ℕ, ◌+◌, ◌%◌, ◌==◌, ◌&&◌, ◌||◌, Bool, Option, Some, None, List, [], ◌∷◌, ◌++◌}
+use Rattle.std.specs.Prelude.{map, take, drop, replicate, bit_xor, if◌then◌else◌}
 use Rattle.std.specs.List.{list_any, range_with_len}
 use Rattle.std.specs.Simd.Lanes.{zip2}
 use Rattle.std.specs.Str.{bytes_eq}
@@ -40,7 +40,8 @@ toy_accepts m key signature = bytes_eq (drop 32 signature) (tied_half (take 32 s
 -- the message, the public key and the signature stand in the table together
 abbrev pub is_listed : List Triple → List ℕ → List ℕ → List ℕ → Bool
 is_listed table m key signature =
-    list_any (λ t. bytes_eq t.message.now m && (bytes_eq t.public_key key && bytes_eq t.signature signature)) table
+    list_any (λ t. bytes_eq t.message.now m && (bytes_eq t.public_key key && bytes_eq t.signature signature))
+    table
 
 -- what a toy with a table accepts
 abbrev pub toy_accepts_with : List Triple → List ℕ → List ℕ → List ℕ → Bool

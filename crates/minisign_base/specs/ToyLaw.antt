@@ -1,5 +1,6 @@
 -- The toy accepts what it signed, whatever table it has.
-use Rattle.std.proofs.Common.{◌≡◌, ℕ, Option, None, Some, List, ◌++◌, length, drop, ◌||◌, true, false, refl, arith}
+use Rattle.std.proofs.Common.{◌≡◌, ℕ, Option, None, Some, List, ◌++◌, length, drop, ◌||◌, true, false, refl}
+use Rattle.std.proofs.Common.{arith}
 use Rattle.std.proofs.lemmas.List.{drop_at, length-replicate, length-take-le, take_at}
 use Rattle.std.proofs.lemmas.Slice.Eq.{bytes_eq-Decides}
 use Rattle.minisign_base.specs.Scheme.{IsBytes, AreRandomBytes}
@@ -12,7 +13,8 @@ length-random_half : (z : Option (List ℕ)) → AreRandomBytes z → length (ra
 length-random_half None h = length-replicate {A = ℕ} 32 0
 length-random_half (Some z) h = length-take-le 32 z (omega (arith, h.1))
 
-tied_accepted : (seed m : List ℕ) (z : Option (List ℕ)) → IsBytes seed → length seed ≡ 32 → IsBytes m → AreRandomBytes z
+tied_accepted : (seed m : List ℕ) (z : Option (List ℕ)) → IsBytes seed → length seed ≡ 32 → IsBytes m
+    → AreRandomBytes z
     → toy_accepts m (toy_public_of seed) (toy_signature_of m (seed ++ toy_public_of seed) z) ≡ true
 tied_accepted seed m z bytes len message nonce =
     let random = random_half z in
@@ -22,11 +24,13 @@ tied_accepted seed m z bytes len message nonce =
     rw (take_at random tied 32 size, drop_at random tied 32 size, drop_at seed key 32 len)
     ((bytes_eq-Decides (tied_half random key m) (tied_half random key m)).1 refl)
 
-pub own_accepted : (table : List Triple) (seed m : List ℕ) (z : Option (List ℕ)) → IsBytes seed → length seed ≡ 32
+pub own_accepted : (table : List Triple) (seed m : List ℕ) (z : Option (List ℕ)) → IsBytes seed
+    → length seed ≡ 32
     → IsBytes m → AreRandomBytes z
     → toy_accepts_with table m (toy_public_of seed) (toy_signature_of m (seed ++ toy_public_of seed) z) ≡ true
 own_accepted table seed m z bytes len message nonce =
     let key = toy_public_of seed in
     let signature = toy_signature_of m (seed ++ key) z in
     rw (tied_accepted seed m z bytes len message nonce)
-    (elim (is_listed table m key signature) as (λ listed. (listed || true) ≡ true) [ true ↦ refl | false ↦ refl ])
+    (elim (is_listed table m key signature) as (λ listed. (listed || true) ≡ true)
+    [ true ↦ refl | false ↦ refl ])

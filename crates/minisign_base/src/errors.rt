@@ -3,7 +3,11 @@
 
 ghost use Rattle.std.specs.Prelude.{◌≡◌, Some, string_bytes};
 ghost use Rattle.minisign_base.specs.Fault.{Named, Worded, kind_of, name_of, text_of};
-ghost use Rattle.minisign_base.specs.declared.faults.NamedFault.TheVariants.{OutOfMemory, InputOrOutputFailed, FormattingFailed, InvalidUtf8, InvalidParameters, InvalidOutputLength};
+ghost use Rattle.minisign_base.specs.declared.faults.NamedFault.TheVariants.{OutOfMemory};
+ghost use Rattle.minisign_base.specs.declared.faults.NamedFault.TheVariants.{InputOrOutputFailed};
+ghost use Rattle.minisign_base.specs.declared.faults.NamedFault.TheVariants.{FormattingFailed, InvalidUtf8};
+ghost use Rattle.minisign_base.specs.declared.faults.NamedFault.TheVariants.{InvalidParameters};
+ghost use Rattle.minisign_base.specs.declared.faults.NamedFault.TheVariants.{InvalidOutputLength};
 ghost use Rattle.minisign_base.specs.Derivation.{derivation_fault};
 ghost use Rattle.minisign_base.specs.Decoding.{decoding_fault};
 

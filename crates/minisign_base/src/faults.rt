@@ -1,5 +1,5 @@
-//! The errors that calls of Minisign return, one enum of them all: of each the number, the kind and the text. None
-//! takes memory.
+//! The errors that calls of Minisign return, one enum of them all: of each the number, the kind and the text.
+//! None takes memory.
 
 ghost use Rattle.std.specs.Prelude.{◌≡◌, Some};
 ghost use Rattle.minisign_base.specs.Faults.{fault_row, named_text};
@@ -224,7 +224,8 @@ impl NamedFault {
 
     // The number, the kind and the summary.
     fn row(&self) -> &'static (u32, ErrorKind, &'static str)
-        ensures { record { number = result.now.0; kind = result.now.1; summary = result.now.2.now } ≡ fault_row self.now }
+        ensures { record { number = result.now.0; kind = result.now.1; summary = result.now.2.now }
+            ≡ fault_row self.now }
     {
         use NamedFault::*;
         match self {

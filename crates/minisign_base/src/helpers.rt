@@ -1,8 +1,8 @@
 //! Numbers as bytes, the parameters of scrypt that a key's limits lead to, asking for a password,
 //! and the clock.
 
-ghost use Rattle.std.specs.Prelude.{◌≡◌, ℕ, ◌+◌, ◌/◌, ◌%◌, ◌^◌, ◌<◌, ◌≤◌, ◌++◌, List, Ok, Err, IfOk, IfErr, length, string_bytes, take};
-ghost use Rattle.std.specs.Prelude.{if◌then◌else◌, max, min, nat_lt};
+ghost use Rattle.std.specs.Prelude.{◌≡◌, ℕ, ◌+◌, ◌/◌, ◌%◌, ◌^◌, ◌<◌, ◌≤◌, ◌++◌, List, Ok, Err, IfOk, IfErr};
+ghost use Rattle.std.specs.Prelude.{length, string_bytes, take, if◌then◌else◌, max, min, nat_lt};
 ghost use Rattle.std.specs.Int.{from_le_bytes, to_le_bytes, w64};
 ghost use Rattle.std.specs.Time.{system_time_nanos};
 ghost use Rattle.minisign_base.specs.Fault.{Named};
@@ -157,7 +157,8 @@ pub fn raw_scrypt_params(memlimit: u64, opslimit: u64, n_log2_max: u8) -> Result
     ensures outcome { result ≡ limits (numbers memlimit opslimit) n_log2_max }
 
     // The logarithm of the cost is the one that the greatest cost within the limits has.
-    ensures least { IsCostLog2 (if nat_lt (max 32768 opslimit) (memlimit / 32) then max 32768 opslimit / 32 else memlimit / 1024)
+    ensures least { IsCostLog2 (if nat_lt (max 32768 opslimit) (memlimit / 32) then max 32768 opslimit / 32
+        else memlimit / 1024)
         (numbers memlimit opslimit).n_log2 }
 {
     let operations = opslimit.max(32768);

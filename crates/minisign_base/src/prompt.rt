@@ -1,13 +1,17 @@
 //! Where a person is asked: texts are written, and lines are read.
 
-ghost use Rattle.std.specs.Prelude.{◌≡◌, ◌⊎◌, ℕ, ◌+◌, ◌≤◌, List, [], ◌∷◌, length, take, Ok, Err, IfOk, IfErr, OnOk, OnErr, MatchOption, MatchResult, string_bytes};
+ghost use Rattle.std.specs.Prelude.{◌≡◌, ◌⊎◌, ℕ, ◌+◌, ◌≤◌, List, [], ◌∷◌, length, take, Ok, Err, IfOk, IfErr};
+ghost use Rattle.std.specs.Prelude.{OnOk, OnErr, MatchOption, MatchResult, string_bytes};
 ghost use Rattle.std.specs.Io.KnownBytes.{Appends, Consumes, IsAtEnd};
 ghost use Rattle.std.specs.Str.Lines.{strip_carriage_return};
 ghost use Rattle.minisign_base.specs.Devices.{AppendsFront, Rose, SameWhereKnown};
-ghost use Rattle.minisign_base.specs.DeviceCalls.{FailsAtPart, TakesPart, prompt_call, sink_call, source_call};
+ghost use Rattle.minisign_base.specs.DeviceCalls.{FailsAtPart, TakesPart, prompt_call, sink_call};
+ghost use Rattle.minisign_base.specs.DeviceCalls.{source_call};
 ghost use Rattle.minisign_base.specs.Fault.{Fault, Named};
-ghost use Rattle.minisign_base.specs.declared.faults.NamedFault.TheVariants.{EndOfInput, ReadingFailed, WritingFailed};
-ghost use Rattle.minisign_base.specs.Prompts.{ConversationEnds, HasFailedInLine, HasReadLine, Say, Step, StepEnds, marking_steps, written};
+ghost use Rattle.minisign_base.specs.declared.faults.NamedFault.TheVariants.{EndOfInput, ReadingFailed};
+ghost use Rattle.minisign_base.specs.declared.faults.NamedFault.TheVariants.{WritingFailed};
+ghost use Rattle.minisign_base.specs.Prompts.{ConversationEnds, HasFailedInLine, HasReadLine, Say, Step};
+ghost use Rattle.minisign_base.specs.Prompts.{StepEnds, marking_steps, written};
 ghost use Rattle.minisign_base.specs.Passwords.{accepted_line, password_of};
 
 use crate::devices::sinks::{NoSink, Sink, put_and_flush};
@@ -167,13 +171,16 @@ fn next_byte<R: Source>(source: &mut R) -> Result<Option<u8>>
 
 /// A law, for which nothing is done: what a prompt's writer takes follows from the steps of its conversation.
 pub fn conversations_are_written<R: Source, W: Sink>()
-    // Where all steps were done, the writer took all that they write, with no new error; where a conversation stopped,
-    // it took a prefix of that.
-    ensures taken { (old new : Prompt R W) (steps : List Step) → ConversationEnds (prompt_call R.Source W.Sink old new) steps (Ok tt)
+    // Where all steps were done, the writer took all that they write, with no new error; where a conversation
+    // stopped, it took a prefix of that.
+    ensures taken { (old new : Prompt R W) (steps : List Step)
+        → ConversationEnds (prompt_call R.Source W.Sink old new) steps (Ok tt)
         → Appends (W.taken old.writer) (W.taken new.writer) (written steps) }
-    ensures no_new_fault { (old new : Prompt R W) (steps : List Step) → ConversationEnds (prompt_call R.Source W.Sink old new) steps (Ok tt)
+    ensures no_new_fault { (old new : Prompt R W) (steps : List Step)
+        → ConversationEnds (prompt_call R.Source W.Sink old new) steps (Ok tt)
         → W.sink_faults new.writer ≡ W.sink_faults old.writer }
-    ensures front { (old new : Prompt R W) (steps : List Step) (e : Fault) → ConversationEnds (prompt_call R.Source W.Sink old new) steps (Err e)
+    ensures front { (old new : Prompt R W) (steps : List Step) (e : Fault)
+        → ConversationEnds (prompt_call R.Source W.Sink old new) steps (Err e)
         → AppendsFront (W.taken old.writer) (W.taken new.writer) (written steps) }
 {}
 

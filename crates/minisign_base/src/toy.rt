@@ -2,7 +2,8 @@
 
 ghost use Rattle.std.specs.Prelude.{◌≡◌, ℕ, List, ◌++◌, Option, take, drop, bit_xor};
 ghost use Rattle.std.specs.Simd.Lanes.{zip2};
-ghost use Rattle.minisign_base.specs.Toy.{toy_public_of, fold_of, toy_signature_of, toy_accepts, toy_accepts_with, is_listed};
+ghost use Rattle.minisign_base.specs.Toy.{toy_public_of, fold_of, toy_signature_of, toy_accepts};
+ghost use Rattle.minisign_base.specs.Toy.{toy_accepts_with, is_listed};
 ghost use Rattle.minisign_base.specs.ToyLaw.{own_accepted};
 
 use crate::scheme::Scheme;

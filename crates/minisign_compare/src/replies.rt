@@ -89,7 +89,8 @@ impl Fields {
 
     // A field's name.
     fn begin(&mut self, name: &str) -> Result<(), Refusal>
-        ensures text { OnOk result (string_bytes self.new.text ≡ begun (string_bytes self.old.text) name.now) }
+        ensures text { OnOk result
+            (string_bytes self.new.text ≡ begun (string_bytes self.old.text) name.now) }
     {
         if !self.text.is_empty() {
             self.text.push_str(" ")?;

@@ -21,5 +21,6 @@ abbrev pub IsOpeningAgain : {R W : Type 0} → SourceOf R → SinkOf W → ℕ �
 IsOpeningAgain source sink zero old new text answer = IsOpeningOnce source sink old new text answer
 IsOpeningAgain {R = R} {W = W} source sink (suc more) old new text answer =
     (IsOpeningOnce source sink old new text answer × (answer ≢ Err (Named WrongPassword)))
-    ⊎ ((asked : Prompt R W) × IsOpening (prompt_call source sink old asked) None text None (Err (Named WrongPassword))
+    ⊎ ((asked : Prompt R W) × IsOpening (prompt_call source sink old asked) None text None
+    (Err (Named WrongPassword))
     × IsOpeningAgain source sink more asked new text answer)

@@ -8,7 +8,8 @@ use Rattle.minisign.specs.Generation.{IsGenuinePair}
 use Rattle.minisign.specs.Opening.{OpensTo}
 
 -- one text reads as a public key, and the other opens under the password to the secret key that belongs to it
-pub record ArePairTexts (public_of : List ℕ → List ℕ) (password pk_text sk_text : List ℕ) (pk : PublicKeyRecord)
+pub record ArePairTexts (public_of : List ℕ → List ℕ) (password pk_text sk_text : List ℕ)
+    (pk : PublicKeyRecord)
     (sk : SecretKeyRecord) : Type 0 where
   pub public : read_public_key pk_text ≡ Ok pk
   pub secret : OpensTo sk_text password 1 sk

@@ -9,8 +9,8 @@ use Rattle.minisign.specs.Headline.{verdict}
 unfoldable pub another_name : Fault
 another_name = Worded Verify (codes "the update has another name")
 
--- why an update is rejected: the texts do not vouch for it, and this is the first reason; or they do, and the comment
--- that was signed with it is another one than the name
+-- why an update is rejected: the texts do not vouch for it, and this is the first reason; or they do, and the
+-- comment that was signed with it is another one than the name
 abbrev pub RefusesUpdate : Verifier → List ℕ → List ℕ → List ℕ → List ℕ → Fault → Type 0
 RefusesUpdate accepts pk_text sig_text update name e =
     (verdict accepts pk_text sig_text update false ≡ Err e)

@@ -30,11 +30,15 @@ pub fn sign_and_verify<S: Scheme, Z: RandomSource>(
     moment: u64,
 ) -> Result<String>
     // The text is that of the box that signing makes of the message.
-    ensures signed { IfOk result (λ t. IsSignedText (S.signature_of scheme.now) secret_key.now message.now (given_comments None None moment)
+    ensures signed { IfOk result
+        (λ t. IsSignedText (S.signature_of scheme.now) secret_key.now message.now
+        (given_comments None None moment)
         (random_call Z.RandomSource random.old random.new) (string_bytes t)) }
 
     // It vouches for the message under the public key.
-    ensures accepted { IfOk result (λ t. TextsVouchFor (S.accepts scheme.now) (public_key_text public_key.now) (string_bytes t) message.now false) }
+    ensures accepted { IfOk result
+        (λ t. TextsVouchFor (S.accepts scheme.now) (public_key_text public_key.now) (string_bytes t)
+        message.now false) }
 
     // With a genuine secret key and its own public key it fails only where an allocation fails or the
     // random source fails, never for the signature.

@@ -48,7 +48,9 @@ pub fn sign_release<S: Scheme, Z: RandomSource>(
 ) -> Result<Release>
     // A pair is made and kept as texts, its key is opened again and signs, and what is published
     // vouches for the update, whatever the scheme, the password, the update and the random bytes.
-    ensures vouches { IfOk result (λ r. TextsVouchFor (S.accepts scheme.now) (string_bytes r.pk_text) (string_bytes r.sig_text) update.now false) }
+    ensures vouches { IfOk result
+        (λ r. TextsVouchFor (S.accepts scheme.now) (string_bytes r.pk_text) (string_bytes r.sig_text)
+        update.now false) }
 
     // The only errors are a failed allocation, a failing random source, and a password of more
     // than 1024 bytes.
@@ -70,7 +72,8 @@ pub fn make_keys<S: Scheme, Z: RandomSource>(
 ) -> Result<KeyTexts>
     // The texts are those of a pair whose secret key is sealed under the password.
     ensures made { IfOk result (λ t. (pk : PublicKeyRecord) × (sk : SecretKeyRecord)
-        × ArePairTexts (S.public_of scheme.now) password.now (string_bytes t.pk_text) (string_bytes t.sk_text) pk sk) }
+        × ArePairTexts (S.public_of scheme.now) password.now (string_bytes t.pk_text) (string_bytes t.sk_text)
+        pk sk) }
 
     // The only errors are a failed allocation, a failing random source, and a password of more
     // than 1024 bytes.
@@ -95,7 +98,9 @@ pub fn sign_update<S: Scheme, Z: RandomSource>(
     // With the key of a genuine pair the text is that of a box that vouches for the update, and the
     // only errors are a failed allocation and a failing random source.
     ensures { (pk : PublicKeyRecord) → IsGenuinePair (S.public_of scheme.now) pk sk.now
-        → MatchResult result (λ t. (x : SignatureBoxRecord) × (read_signature_box (string_bytes t) ≡ Ok x) × Vouches (S.accepts scheme.now) pk x update.now false) IsMemoryOrRandomFault }
+        → MatchResult result
+        (λ t. (x : SignatureBoxRecord) × (read_signature_box (string_bytes t) ≡ Ok x)
+        × Vouches (S.accepts scheme.now) pk x update.now false) IsMemoryOrRandomFault }
 {
     default_comments_are_read_back(moment);
     sign_bytes(alloc, scheme, sk, update, None, random, moment)

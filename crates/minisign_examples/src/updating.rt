@@ -20,8 +20,10 @@ pub fn check_update<S: Scheme>(
     update: &[u8],
     name: &str,
 ) -> Result<()>
-    ensures { MatchResult result (λ _. verdict (S.accepts scheme.now) pk_text.now sig_text.now update.now false ≡ Ok name.now)
-        (λ e. (e ≡ Named OutOfMemory) ⊎ RefusesUpdate (S.accepts scheme.now) pk_text.now sig_text.now update.now name.now e) }
+    ensures { MatchResult result
+        (λ _. verdict (S.accepts scheme.now) pk_text.now sig_text.now update.now false ≡ Ok name.now)
+        (λ e. (e ≡ Named OutOfMemory)
+        ⊎ RefusesUpdate (S.accepts scheme.now) pk_text.now sig_text.now update.now name.now e) }
 {
     let comment = verify_bytes(alloc, scheme, pk_text, sig_text, update)?;
     if comment.as_str() != name {

@@ -1,20 +1,21 @@
 -- The answers of a scheme to the questions of a key and a text are the ones that a verdict asks for.
-use Rattle.std.proofs.Common.{◌≡◌, ℕ, Bool, true, false, ◌||◌, List, ◌++◌, Result, Ok, Err, IsTrue, ap, sym, subst, refl, ◌∙◌, length, take, bytes_eq, if◌then◌else◌, [], ◌+◌, nat_le, ◌==◌, ◌&&◌, not}
+use Rattle.std.proofs.Common.{◌≡◌, ℕ, Bool, true, false, ◌||◌, List, ◌++◌, Result, Ok, Err, IsTrue, ap, sym, subst, refl, ◌∙◌, length, take, if◌then◌else◌, [], ◌+◌, nat_le, ◌≤◌, le-leb}
 use Rattle.std.specs.Prelude.{⊤}
 use Rattle.minisign_hash.specs.Blake2b.{blake2b_digest}
 use Rattle.minisign_base.specs.Fault.{Fault}
 use Rattle.minisign_base.specs.declared.faults.NamedFault.{NamedFault}
 use Rattle.minisign.specs.Acceptance.{Verifier, judge_key, signed_bytes}
-use Rattle.minisign.specs.Records.{PublicKeyRecord, SignatureRecord, is_prehashed}
+use Rattle.minisign.specs.Records.{is_prehashed}
 use Rattle.minisign.specs.SignatureText.{SignatureTextRecord, box_of, read_signature}
-use Rattle.minisign.specs.Texts.{and_then, require}
+use Rattle.minisign.specs.Texts.{and_then, map_ok, require}
+use Rattle.minisign_external.specs.Signatures.{read_signature_value, signature_value}
 use Rattle.minisign_external.specs.PublicKeys.{read_utf8}
-use Rattle.minisign_external.specs.Questions.{Answers, has_whole_signature, read_under, told_signature, HoldsMessage}
-use Rattle.minisign_external.specs.States.{AreAsked, IsBlank, IsFedState, asked_of, asking_misuse, asking_result, fed_mark, given_verdict, is_asked, questions_of}
+use Rattle.minisign_external.specs.Questions.{Answers, has_whole_signature, read_under, told_signature}
+use Rattle.minisign_external.specs.States.{AreAsked, IsBlank, IsFedState, asked_under, asking_misuse, asking_under, given_verdict, may_ask}
 use Rattle.minisign_external.specs.Questions.{verdict_under}
 use Rattle.minisign_external.specs.declared.state.Misuse.TheVariants.{NoRoom}
 use Rattle.minisign_external.specs.declared.state.Refusal.{Refusal}
-use Rattle.minisign_external.specs.declared.state.Refusal.TheVariants.{WrongUse}
+use Rattle.minisign_external.specs.declared.state.Refusal.TheVariants.{Refused, WrongUse}
 use Rattle.minisign_external.specs.declared.state.State.{State}
 use Rattle.minisign_external.specs.declared.public_keys.PublicKeyValue.{PublicKeyValue}
 use Rattle.minisign_external.specs.declared.state.Questions.{Questions}
@@ -74,22 +75,31 @@ module _ (accepts : Verifier) (v : PublicKeyValue) (text m room digest : List �
       let one = subst (λ x. Answers accepts v text m x (accepts (take q.message_len room) q.public_key q.comment_signature)) (sym is) both in
       subst (λ x. Answers accepts v text m first x) (sym also) one
 
-abbrev fits : Bool → Result Unit (Refusal Fault)
-fits b = if b then Ok tt else Err (WrongUse NoRoom)
+-- there is room
+roomy : (b : Bool) (r : Refusal Fault) → b ≡ true → ◌≡◌ {A = Result Unit (Refusal Fault)} (Err r) (if b then Ok tt else Err (WrongUse NoRoom)) → ⊥
+roomy true r is h = cc h
+roomy false r is h = cc is
 
-no_room : (b : Bool) (r : Refusal Fault) → Err r ≡ fits b → r ≡ WrongUse NoRoom
-no_room true r h = cc h
-no_room false r h = cc h
-
-module _ (accepts : Verifier) (v : PublicKeyValue) (text message : List ℕ) (room : ℕ) (r : Refusal Fault) (has_room : ¬ (r ≡ WrongUse NoRoom)) where
-  of_asked : (x : Result SignatureTextRecord Fault) → read_under v false text ≡ x → Err r ≡ asked_of x room
+module _ (accepts : Verifier) (v : PublicKeyValue) (text message : List ℕ) (room : ℕ) (r : Refusal Fault)
+    (fits : (t : SignatureTextRecord) → read_under v false text ≡ Ok t → 64 + length t.comments.trusted ≤ room) where
+  of_asked : (x : Result SignatureTextRecord Fault) → read_under v false text ≡ x → Err r ≡ asked_under x room
       → Err r ≡ given_verdict (verdict_under accepts v text message false)
-  of_asked (Ok t) e h = absurd (has_room (no_room (nat_le (64 + length t.comments.trusted) room) r h))
+  of_asked (Ok t) e h = absurd (roomy (nat_le (64 + length t.comments.trusted) room) r (le-leb _ _ (fits t e)) h)
   of_asked (Err f) e h = rw e h
 
   -- what is rejected of a state that was just begun is what the verdict is
-  pub unasked : (s : State) → IsFedState s [] → IsBlank s → Err r ≡ asking_result s v text false room
+  pub unasked : (s : State) → IsFedState s [] → IsBlank s → Err r ≡ asking_under s v text false room
       → Err r ≡ given_verdict (verdict_under accepts v text message false)
   unasked s fed blank is =
-      let may : ((s.mark == fed_mark) && not (is_asked s)) ≡ true = rw (fed.mark, blank.asked) refl in
-      of_asked (read_under v false text) refl (is ∙ ap (λ b. if b then asked_of (read_under v false text) room else Err (WrongUse (asking_misuse s))) may)
+      let may : may_ask s ≡ true = rw (fed.mark, blank.asked) refl in
+      of_asked (read_under v false text) refl (is ∙ ap (λ b. if b then asked_under (read_under v false text) room else Err (WrongUse (asking_misuse s))) may)
+
+-- what is rejected of the text itself is what the verdict is
+pub unread : (accepts : Verifier) (v : PublicKeyValue) (text message : List ℕ) (e : Fault) → read_signature_value text ≡ Err e
+    → Err (Refused e) ≡ given_verdict (verdict_under accepts v text message false)
+unread accepts v text message e h = of_text (read_utf8 read_signature text) refl h
+  where
+    of_text : (r : Result SignatureTextRecord Fault) → read_utf8 read_signature text ≡ r → map_ok (signature_value text) r ≡ Err e
+        → Err (Refused e) ≡ given_verdict (verdict_under accepts v text message false)
+    of_text (Ok t) is none = cc none
+    of_text (Err f) is same = let one : f ≡ e = cc same in rw (is, one) refl

@@ -3,5 +3,7 @@ pub mod Verdicts
 pub mod GivenAnswers
 pub mod OwnTexts
 pub mod Utf8
+pub mod ReadValues
 pub mod UnopenedKeys
+pub mod OpenedKeys
 pub mod WithinRows

@@ -1,22 +1,22 @@
 -- What a key and the text of a signature decide is what every text that reads as the key decides with it.
-use Rattle.std.proofs.Common.{◌≡◌, ◌⊎◌, ℕ, ◌≤◌, Bool, true, false, ◌||◌, ◌&&◌, ◌==◌, not, ◌+◌, if◌then◌else◌, List, ◌++◌, Option, Some, None, Result, Ok, Err, IsTrue, bytes_eq, inl, inr, ap, sym, subst, refl, ◌∙◌, nat_le, length, take, arith}
+use Rattle.std.proofs.Common.{◌≡◌, ◌⊎◌, ℕ, Bool, true, false, ◌||◌, ◌&&◌, ◌==◌, not, ◌+◌, if◌then◌else◌, List, ◌++◌, Result, Ok, Err, IsTrue, bytes_eq, inl, inr, ap, sym, subst, refl, ◌∙◌, nat_le, length, take, arith}
 use Rattle.std.specs.Prelude.{⊤}
 use Rattle.std.specs.Str.{IsUtf8, is_utf8}
 use Rattle.std.proofs.lemmas.Str.{IsUtf8-from_is_utf8, is_utf8-from_IsUtf8}
 use Rattle.std.proofs.lemmas.Slice.Eq.{bytes_eq-Decides}
 use Rattle.std.proofs.lemmas.Bool.Decides.{nat_tests}
-use Rattle.minisign_base.specs.Fault.{Fault, Named}
+use Rattle.minisign_base.specs.Fault.{Fault}
 use Rattle.minisign_base.specs.declared.faults.NamedFault.{NamedFault}
-use Rattle.minisign_base.specs.declared.faults.NamedFault.TheVariants.{CommentSignatureRefused, DifferentKeyIds, LegacyNotAccepted, NotUtf8, SignatureRefused}
-use Rattle.minisign.specs.Records.{CommentsRecord, PublicKeyRecord, SignatureBoxRecord, SignatureRecord, is_prehashed, prehashed_algorithm}
+use Rattle.minisign_base.specs.declared.faults.NamedFault.TheVariants.{DifferentKeyIds, LegacyNotAccepted, NotUtf8}
+use Rattle.minisign.specs.Records.{PublicKeyRecord, is_prehashed, prehashed_algorithm}
 use Rattle.minisign.specs.Acceptance.{Verifier, Vouches, accepts_comments, judge_answers, judge_key, signed_bytes}
 use Rattle.minisign.specs.Headline.{TextsVouchFor, verdict}
 use Rattle.minisign.specs.PublicKeyText.{read_public_key}
-use Rattle.minisign.specs.SignatureText.{SignatureTextRecord, box_of, read_signature, read_signature_box}
+use Rattle.minisign.specs.SignatureText.{SignatureTextRecord, box_of, read_signature}
 use Rattle.minisign.specs.Texts.{and_then, map_ok, require}
 use Rattle.minisign_external.specs.PublicKeys.{key_of, read_utf8, value_of}
 use Rattle.minisign_external.specs.Questions.{Answers, IsKeyText, has_whole_signature, read_under, verdict_under}
-use Rattle.minisign_external.specs.States.{IsTextRefusal, asked_of, asking_misuse, asking_result, fed_mark, is_asked}
+use Rattle.minisign_external.specs.States.{IsTextRefusal, asked_under, asking_misuse, asking_under, fed_mark, is_asked}
 use Rattle.minisign_external.specs.declared.public_keys.PublicKeyValue.{PublicKeyValue}
 use Rattle.minisign_external.specs.declared.state.Misuse.{Misuse}
 use Rattle.minisign_external.specs.declared.state.Misuse.TheVariants.{NoRoom, NotBegun}
@@ -211,7 +211,7 @@ has_room true e h = cc h
 has_room false e h = cc h
 
 abbrev begun : Bool → Result SignatureTextRecord Fault → ℕ → Misuse → Result Unit (Refusal Fault)
-begun b r room m = if b then asked_of r room else Err (WrongUse m)
+begun b r room m = if b then asked_under r room else Err (WrongUse m)
 
 refused_text : (b : Bool) (r : Result SignatureTextRecord Fault) (room : ℕ) (m : Misuse) (e : Fault)
     → begun b r room m ≡ Err (Refused e) → r ≡ Err e
@@ -221,13 +221,13 @@ refused_text false r room m e h = cc h
 
 -- of a state that may be asked
 pub opening_refusal : (v : PublicKeyValue) (sig_text : List ℕ) (legacy : Bool) (room : ℕ) (r : Refusal Fault)
-    → asked_of (read_under v legacy sig_text) room ≡ Err r → IsTextRefusal v sig_text legacy r
+    → asked_under (read_under v legacy sig_text) room ≡ Err r → IsTextRefusal v sig_text legacy r
 opening_refusal v sig_text legacy room (WrongUse m) h = tt
 opening_refusal v sig_text legacy room (Refused e) h = λ utf8 pk_text message accepts keyed.
     refuse accepts pk_text sig_text message legacy v keyed utf8 e (rw (refused_text true (read_under v legacy sig_text) room NotBegun e h) refl)
 
 pub text_refusal : (s : State) (v : PublicKeyValue) (sig_text : List ℕ) (legacy : Bool) (room : ℕ) (r : Refusal Fault)
-    → asking_result s v sig_text legacy room ≡ Err r → IsTextRefusal v sig_text legacy r
+    → asking_under s v sig_text legacy room ≡ Err r → IsTextRefusal v sig_text legacy r
 text_refusal s v sig_text legacy room (WrongUse m) h = tt
 text_refusal s v sig_text legacy room (Refused e) h = λ utf8 pk_text message accepts keyed.
     let failed : read_under v legacy sig_text ≡ Err e =

@@ -1,5 +1,5 @@
 -- Opening within a number of rows is opening within the greatest number of times that makes no more.
-use Rattle.std.proofs.Common.{◌≡◌, ◌⊎◌, ◌∙◌, ℕ, Bool, true, false, not, bytes_eq, List, Result, Some, Ok, Err, IsOk, ap, inl, inr, refl, subst, sym}
+use Rattle.std.proofs.Common.{◌≡◌, ◌⊎◌, ◌∙◌, ℕ, Bool, true, false, not, bytes_eq, List, Result, Some, Ok, Err, IsOk, ap, inl, inr, refl, subst}
 use Rattle.std.specs.Str.{IsUtf8}
 use Rattle.minisign_base.specs.Fault.{Fault, Named}
 use Rattle.minisign_base.specs.declared.faults.NamedFault.TheVariants.{KeyNotEncrypted, OutOfMemory, UnsupportedEncryptionAlgorithm}

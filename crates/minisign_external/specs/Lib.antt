@@ -4,4 +4,5 @@ pub mod States
 pub mod SecretKeys
 pub mod Signing
 pub mod PublicKeys
+pub mod Signatures
 pub mod Making

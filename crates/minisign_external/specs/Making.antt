@@ -1,5 +1,6 @@
 -- Texts of keys that are made of their parts, at the start of a buffer.
-use Rattle.std.specs.Prelude.{◌≡◌, ◌⊎◌, ◌<◌, ◌≤◌, ◌+◌, ℕ, true, false, List, length, take, Option, Some, Ok, IfSome}
+use Rattle.std.specs.Prelude.{◌≡◌, ◌⊎◌, ◌<◌, ◌≤◌, ◌+◌, ℕ, true, false, List, length, take, Option, Some, Ok}
+use Rattle.std.specs.Prelude.{IfSome}
 use Rattle.std.specs.Str.{IsUtf8}
 use Rattle.std.specs.Str.Iter.{LacksByte}
 use Rattle.minisign_base.specs.Fault.{Fault, Named}
@@ -12,14 +13,15 @@ use Rattle.minisign.specs.SecretKeyText.{secret_key_text}
 use Rattle.minisign.specs.declared.making.Sealing.{Sealing}
 use Rattle.minisign_external.specs.Numbers.{fault_number, misuse_number, refusal_number}
 use Rattle.minisign_external.specs.declared.state.Misuse.{Misuse}
-use Rattle.minisign_external.specs.declared.state.Misuse.TheVariants.{BadComment, BadPasswordFlag, KeyNotOpened, NoRoom, UnreadableComment}
+use Rattle.minisign_external.specs.declared.state.Misuse.TheVariants.{BadComment, BadPasswordFlag}
+use Rattle.minisign_external.specs.declared.state.Misuse.TheVariants.{KeyNotOpened, NoRoom, UnreadableComment}
 use Rattle.minisign_external.specs.SecretKeys.{is_opened}
 use Rattle.minisign_external.specs.declared.secrets.SecretKeyValue.{SecretKeyValue}
 use Rattle.minisign_external.specs.declared.state.Refusal.{Refusal}
 use Rattle.minisign_external.specs.declared.state.Refusal.TheVariants.{WrongUse, Refused}
 
--- a comment on one line that Minisign reads whole in a key's first line: with no carriage return and no zero byte, and
--- no longer than its buffer
+-- a comment on one line that Minisign reads whole in a key's first line: with no carriage return and no zero
+-- byte, and no longer than its buffer
 pub record IsReadInKey (comment : List ℕ) : Type 0 where
   pub no_return : LacksByte 13 comment
   pub no_zero : LacksByte 0 comment
@@ -28,8 +30,10 @@ pub record IsReadInKey (comment : List ℕ) : Type 0 where
 abbrev pub IsKeyComment : List ℕ → Type 0
 IsKeyComment comment = LacksByte 10 comment × IsReadInKey comment
 
--- the text of the secret key of these parts stands at the start of a buffer, in so many bytes: it gives back the key
-pub record HoldsSecretKey (keynum secret : List ℕ) (password : Option (List ℕ)) (s : Sealing) (comment bytes : List ℕ)
+-- the text of the secret key of these parts stands at the start of a buffer, in so many bytes: it gives back
+-- the key
+pub record HoldsSecretKey (keynum secret : List ℕ) (password : Option (List ℕ)) (s : Sealing)
+    (comment bytes : List ℕ)
     (len : ℕ) : Type 0 where
   pub fits : len ≤ length bytes
   pub size : len ≡ length comment + 233
@@ -40,12 +44,13 @@ pub record HoldsSecretKey (keynum secret : List ℕ) (password : Option (List �
 pub record HoldsPublicKey (keynum secret comment bytes : List ℕ) (len : ℕ) : Type 0 where
   pub fits : len ≤ length bytes
   pub size : len ≡ length comment + 77
-  pub written : take len bytes ≡ commented_public_key_text comment (own_public_key (unsealed_key keynum secret))
+  pub written : take len bytes
+      ≡ commented_public_key_text comment (own_public_key (unsealed_key keynum secret))
   pub reads : (key : SecretKeyRecord) → IsOfParts keynum secret key
       → read_public_key (take len bytes) ≡ Ok (own_public_key key)
 
--- a text with a comment, longer by so many bytes, was not written to a buffer: the comment is not on one line, or else
--- none that Minisign reads, or else there is no room
+-- a text with a comment, longer by so many bytes, was not written to a buffer: the comment is not on one
+-- line, or else none that Minisign reads, or else there is no room
 abbrev pub IsUnwritable : List ℕ → ℕ → List ℕ → Misuse → Type 0
 IsUnwritable comment more bytes m =
     ((m ≡ BadComment) × ¬ (LacksByte 10 comment))
@@ -60,15 +65,17 @@ IsWritable comment more bytes = IsKeyComment comment × (length comment + more �
 abbrev pub AreUtf8KeyTexts : List ℕ → Option (List ℕ) → Type 0
 AreUtf8KeyTexts comment password = IsUtf8 comment × IfSome password IsUtf8
 
--- the text of a secret key, of a comment and a password that are texts, was not written: a usage error; then limits
--- that are rejected, or out of memory
+-- the text of a secret key, of a comment and a password that are texts, was not written: a usage error; then
+-- limits that are rejected, or out of memory
 abbrev pub IsMadeRefusal : Option (List ℕ) → Sealing → List ℕ → List ℕ → Refusal Fault → Type 0
 IsMadeRefusal password s comment bytes (WrongUse m) = IsUnwritable comment 233 bytes m
-IsMadeRefusal password s comment bytes (Refused e) = IsWritable comment 233 bytes × (e ≡ making_fault password s)
+IsMadeRefusal password s comment bytes (Refused e) = IsWritable comment 233 bytes
+    × (e ≡ making_fault password s)
 
--- the text of a secret key was not written: the key was not opened, a comment or a password is not UTF-8, or else as
--- above
-abbrev pub IsMakingRefusal : SecretKeyValue → Option (List ℕ) → Sealing → List ℕ → List ℕ → Refusal Fault → Type 0
+-- the text of a secret key was not written: the key was not opened, a comment or a password is not UTF-8, or
+-- else as above
+abbrev pub IsMakingRefusal : SecretKeyValue → Option (List ℕ) → Sealing → List ℕ → List ℕ → Refusal Fault
+    → Type 0
 IsMakingRefusal v password s comment bytes r =
     ((r ≡ WrongUse KeyNotOpened) × (is_opened v ≡ false))
     ⊎ ((r ≡ Refused (Named NotUtf8)) × (is_opened v ≡ true) × ¬ (AreUtf8KeyTexts comment password))

@@ -1,11 +1,17 @@
--- The numbers by which a program in another language knows rejections, and what they mean. The numbers of named errors
--- stand in their table.
-use Rattle.std.specs.Prelude.{◌≡◌, ◌==◌, ◌||◌, ℕ, Bool, true, ◌<◌, ◌-◌, ◌+◌, List, [], ◌∷◌, ◌++◌, codes, length, take, drop, min}
+-- The numbers by which a program in another language knows rejections, and what they mean. The numbers of
+-- named errors stand in their table.
+use Rattle.std.specs.Prelude.{◌≡◌, ◌==◌, ◌||◌, ℕ, Bool, true, ◌<◌, ◌-◌, ◌+◌, List, [], ◌∷◌, ◌++◌, codes}
+use Rattle.std.specs.Prelude.{length, take, drop, min}
 use Rattle.minisign_base.specs.Fault.{Fault, Named, Worded}
 use Rattle.minisign_base.specs.Faults.{fault_row}
 use Rattle.minisign_base.specs.declared.faults.NamedFault.{NamedFault}
 use Rattle.minisign_external.specs.declared.state.Misuse.{Misuse}
-use Rattle.minisign_external.specs.declared.state.Misuse.TheVariants.{NotBegun, AlreadyAsked, NotAsked, BadAnswer, NoRoom, BadLegacyFlag, BadComment, BadPasswordFlag, UnreadableComment, NotDue, BadFirstFlag, BadNumbering, KeyNotOpened, KeyNotRead}
+use Rattle.minisign_external.specs.declared.state.Misuse.TheVariants.{NotBegun, AlreadyAsked, NotAsked}
+use Rattle.minisign_external.specs.declared.state.Misuse.TheVariants.{BadAnswer, NoRoom, BadLegacyFlag}
+use Rattle.minisign_external.specs.declared.state.Misuse.TheVariants.{BadComment, BadPasswordFlag}
+use Rattle.minisign_external.specs.declared.state.Misuse.TheVariants.{UnreadableComment, NotDue, BadFirstFlag}
+use Rattle.minisign_external.specs.declared.state.Misuse.TheVariants.{BadNumbering, KeyNotOpened, KeyNotRead}
+use Rattle.minisign_external.specs.declared.state.Misuse.TheVariants.{SignatureNotRead, OtherSignatureText}
 use Rattle.minisign_external.specs.declared.state.Refusal.{Refusal}
 use Rattle.minisign_external.specs.declared.state.Refusal.TheVariants.{WrongUse, Refused}
 
@@ -24,6 +30,8 @@ misuse_number BadFirstFlag = 13
 misuse_number BadNumbering = 14
 misuse_number KeyNotOpened = 15
 misuse_number KeyNotRead = 63
+misuse_number SignatureNotRead = 62
+misuse_number OtherSignatureText = 61
 
 abbrev pub misuse_text : Misuse → List ℕ
 misuse_text NotBegun = codes "the state was never begun"
@@ -34,15 +42,19 @@ misuse_text NoRoom = codes "the buffer is too short"
 misuse_text BadLegacyFlag = codes "allow_legacy is neither 0 nor 1"
 misuse_text BadComment = codes "a comment has a line break, or the trusted one white space at an end"
 misuse_text BadPasswordFlag = codes "with_password is neither 0 nor 1"
-misuse_text UnreadableComment = codes "a comment is too long for minisign, or has a zero byte or a carriage return"
+misuse_text UnreadableComment = codes
+    "a comment is too long for minisign, or has a zero byte or a carriage return"
 misuse_text NotDue = codes "the call is not due, or cannot go so"
 misuse_text BadFirstFlag = codes "is_first is neither 0 nor 1"
-misuse_text BadNumbering = codes "numbering is neither MINISIGN_NUMBERING_TIMESTAMP nor MINISIGN_NUMBERING_VERSION"
+misuse_text BadNumbering = codes
+    "numbering is neither MINISIGN_NUMBERING_TIMESTAMP nor MINISIGN_NUMBERING_VERSION"
 misuse_text KeyNotOpened = codes "the secret key was not opened"
 misuse_text KeyNotRead = codes "the secret key was not read"
+misuse_text SignatureNotRead = codes "the signature was not read"
+misuse_text OtherSignatureText = codes "the signature was read from another text"
 
--- the numbers of the two answers of a signature scheme: the letters "yes" and "no", each letter a byte. They are
--- neither 0 nor 1, nor the number of an error, so that no such number is taken for an answer
+-- the numbers of the two answers of a signature scheme: the letters "yes" and "no", each letter a byte. They
+-- are neither 0 nor 1, nor the number of an error, so that no such number is taken for an answer
 abbrev pub answer_yes : ℕ
 answer_yes = 7955827
 
@@ -72,8 +84,8 @@ pub record IsMeaning (n : ℕ) (text : List ℕ) : Type 0 where
   pub misuse : (m : Misuse) → n ≡ misuse_number m → text ≡ misuse_text m
   pub fault : (f : NamedFault) → n ≡ (fault_row f).number → text ≡ (fault_row f).summary
 
--- at the front the text, or as much of it as there is room for, and then a 0, and what stands behind it stays; where
--- there is no byte nothing is written
+-- at the front the text, or as much of it as there is room for, and then a 0, and what stands behind it
+-- stays; where there is no byte nothing is written
 abbrev pub WritesCut : List ℕ → List ℕ → List ℕ → Type 0
 WritesCut text old new =
     let n = 1 + min (length text) (length old - 1) in

@@ -1,14 +1,13 @@
--- A secret key as a value: what a text reads as, which is not opened yet; what opening that gives; and a key that was
--- opened or taken in.
-use Rattle.std.specs.Prelude.{◌≡◌, ◌==◌, ◌⊎◌, ◌<◌, ◌&&◌, ℕ, max, not, nat_le, Bool, true, false, if◌then◌else◌, bytes_eq, List, drop}
-use Rattle.std.specs.Prelude.{Option, None, Some, Result, Ok, Err, IfNone, IfSome, IsOk, replicate}
+-- A secret key as a value: what a text reads as, which is not opened yet; what opening that gives; and a key
+-- that was opened or taken in.
+use Rattle.std.specs.Prelude.{◌≡◌, ◌==◌, ◌⊎◌, ◌&&◌, ℕ, max, not, nat_le, Bool, true, if◌then◌else◌, bytes_eq}
+use Rattle.std.specs.Prelude.{List, drop, Option, None, Some, Result, Ok, Err, IsOk, replicate}
 use Rattle.std.specs.Str.{IsUtf8}
 use Rattle.minisign_base.specs.Fault.{Fault, Named}
-use Rattle.minisign_base.specs.declared.faults.NamedFault.TheVariants.{OutOfMemory, NotUtf8}
-use Rattle.minisign.specs.Opening.{open_key}
+use Rattle.minisign_base.specs.declared.faults.NamedFault.TheVariants.{OutOfMemory}
 use Rattle.minisign.specs.Records.{SecretKeyRecord}
-use Rattle.minisign.specs.Sealing.{allowed_rows, allowed_work, no_kdf, open_sealed, open_within_rows, opening_memory, opening_work, sealed_by_scrypt, unencrypted_key}
-use Rattle.minisign.specs.Sealing.{wants_password}
+use Rattle.minisign.specs.Sealing.{allowed_rows, no_kdf, open_within_rows, opening_memory, opening_work}
+use Rattle.minisign.specs.Sealing.{sealed_by_scrypt, unencrypted_key, wants_password}
 use Rattle.minisign.specs.SecretKeyText.{read_secret_key, secret_key_of_bytes}
 use Rattle.minisign.specs.Texts.{and_then}
 use Rattle.minisign_external.specs.Numbers.{fault_number, misuse_number, refusal_number}
@@ -17,7 +16,7 @@ use Rattle.minisign_external.specs.declared.public_keys.PublicKeyValue.{PublicKe
 use Rattle.minisign_external.specs.declared.secrets.SecretKeyValue.{SecretKeyValue}
 use Rattle.minisign_external.specs.declared.unopened_keys.UnopenedKeyValue.{UnopenedKeyValue}
 use Rattle.minisign_external.specs.declared.state.Misuse.{Misuse}
-use Rattle.minisign_external.specs.declared.state.Misuse.TheVariants.{BadPasswordFlag, KeyNotOpened, KeyNotRead, NoRoom}
+use Rattle.minisign_external.specs.declared.state.Misuse.TheVariants.{KeyNotOpened, KeyNotRead, NoRoom}
 use Rattle.minisign_external.specs.declared.state.Refusal.{Refusal}
 use Rattle.minisign_external.specs.declared.state.Refusal.TheVariants.{WrongUse, Refused}
 
@@ -67,7 +66,8 @@ taken_key key_id secret = record { mark = opened_mark; key_id = key_id; secret =
 
 -- the public key of a key that was opened: the last 32 of its 64 secret bytes
 abbrev pub public_value_of : SecretKeyValue → Result PublicKeyValue Misuse
-public_value_of v = if is_opened v then Ok (record { key = drop 32 v.secret; key_id = v.key_id }) else Err KeyNotOpened
+public_value_of v = if is_opened v then Ok (record { key = drop 32 v.secret; key_id = v.key_id }) else
+    Err KeyNotOpened
 
 -- the same as a number, and the public key that is told or stays
 abbrev pub told_public_key : Result PublicKeyValue Misuse → PublicKeyValue → ℕ × PublicKeyValue
@@ -88,7 +88,8 @@ open_unsealed k = if lacks_checksum k then Ok k else unencrypted_key k
 abbrev pub open_within : SecretKeyRecord → List ℕ → ℕ → Result SecretKeyRecord Fault
 open_within k password most_rows = and_then (sealed_by_scrypt k) (λ s. open_within_rows s password most_rows)
 
--- opening the value gives what its text gives: without a password, and under each one, within each number of rows
+-- opening the value gives what its text gives: without a password, and under each one, within each number of
+-- rows
 abbrev pub OpensAs : UnopenedKeyValue → List ℕ → Type 0
 OpensAs v text = (open_unsealed (unopened_record v) ≡ and_then (read_secret_key text) open_unsealed)
     × ((password : List ℕ) (most_rows : ℕ) → open_within (unopened_record v) password most_rows
@@ -101,7 +102,8 @@ with_refusal (Err e) = Err (Refused e)
 
 -- what opening a value gives without a password: a key that was read has to be one that was never sealed
 abbrev pub opened_unsealed : UnopenedKeyValue → Result SecretKeyRecord (Refusal Fault)
-opened_unsealed v = if is_read v then with_refusal (open_unsealed (unopened_record v)) else Err (WrongUse KeyNotRead)
+opened_unsealed v = if is_read v then with_refusal (open_unsealed (unopened_record v)) else
+    Err (WrongUse KeyNotRead)
 
 -- and with one, where at most so many rows are made: the password has to be UTF-8, and the key a sealed one
 abbrev pub opened_sealed : UnopenedKeyValue → List ℕ → ℕ → Result SecretKeyRecord (Refusal Fault)
@@ -109,14 +111,14 @@ opened_sealed v password most_rows =
     if is_read v then with_refusal (read_utf8 (λ p. open_within (unopened_record v) p most_rows) password)
     else Err (WrongUse KeyNotRead)
 
--- opening a value with a password derives: it was read, the password is UTF-8, and the key is sealed by scrypt, with
--- limits that are allowed and lead to at most so many rows
+-- opening a value with a password derives: it was read, the password is UTF-8, and the key is sealed by
+-- scrypt, with limits that are allowed and lead to at most so many rows
 abbrev pub DerivesWithin : UnopenedKeyValue → List ℕ → ℕ → Type 0
 DerivesWithin v password most_rows = (is_read v ≡ true) × IsUtf8 password
     × IsOk (and_then (sealed_by_scrypt (unopened_record v)) (λ s. allowed_rows s most_rows))
 
--- the memory that opening a value in place takes where every k-th row is kept, in words of 32 bits and in bytes; 0 is
--- for 1
+-- the memory that opening a value in place takes where every k-th row is kept, in words of 32 bits and in
+-- bytes; 0 is for 1
 abbrev pub value_memory : UnopenedKeyValue → ℕ → ℕ × ℕ
 value_memory v k = opening_memory (unopened_record v) (max k 1)
 
@@ -125,12 +127,48 @@ abbrev pub is_enough : UnopenedKeyValue → ℕ → ℕ → ℕ → Bool
 is_enough v k words bytes = nat_le (value_memory v k).0 words && nat_le (value_memory v k).1 bytes
 
 -- what opening a value in so much memory gives: first it was read, and then the memory is enough
-abbrev pub opened_in_place : UnopenedKeyValue → List ℕ → ℕ → ℕ → ℕ → ℕ → Result SecretKeyRecord (Refusal Fault)
+abbrev pub opened_in_place : UnopenedKeyValue → List ℕ → ℕ → ℕ → ℕ → ℕ
+    → Result SecretKeyRecord (Refusal Fault)
 opened_in_place v password k most_rows words bytes =
-    if is_read v && not (is_enough v k words bytes) then Err (WrongUse NoRoom) else opened_sealed v password most_rows
+    if is_read v && not (is_enough v k words bytes) then Err (WrongUse NoRoom) else
+    opened_sealed v password most_rows
 
--- what a call that opens answers, and the key that it leaves: the one that was opened, or else the one that was there
-abbrev pub opened_or_kept : Result SecretKeyRecord (Refusal Fault) → SecretKeyValue → Result Unit (Refusal Fault) × SecretKeyValue
+-- what a key that was read opens to: without a password one that was never sealed, and with one a sealed key,
+-- where at most so many rows are made
+abbrev pub open_record : SecretKeyRecord → Option (List ℕ) → ℕ → Result SecretKeyRecord Fault
+open_record k None most_rows = open_unsealed k
+open_record k (Some password) most_rows = read_utf8 (λ p. open_within k p most_rows) password
+
+-- opening it derives
+abbrev pub DerivesRecord : SecretKeyRecord → Option (List ℕ) → ℕ → Type 0
+DerivesRecord k None most_rows = ⊥
+DerivesRecord k (Some password) most_rows = IsUtf8 password
+    × IsOk (and_then (sealed_by_scrypt k) (λ s. allowed_rows s most_rows))
+
+-- what the text of a secret key opens to
+abbrev pub opened_text : List ℕ → Option (List ℕ) → ℕ → Result SecretKeyRecord Fault
+opened_text text password most_rows = and_then (read_utf8 read_secret_key text)
+    (λ k. open_record k password most_rows)
+
+-- a key that was read does not open: for this error, or for a failed allocation, where opening derives
+abbrev pub IsOpeningRefusal : SecretKeyRecord → Option (List ℕ) → ℕ → Refusal Fault → Type 0
+IsOpeningRefusal k password most_rows (WrongUse m) = ⊥
+IsOpeningRefusal k password most_rows (Refused e) =
+    (open_record k password most_rows ≡ Err e)
+    ⊎ ((e ≡ Named OutOfMemory) × DerivesRecord k password most_rows)
+
+-- the same of a text, which may also not read as a key
+abbrev pub IsTextOpeningRefusal : List ℕ → Option (List ℕ) → ℕ → Refusal Fault → Type 0
+IsTextOpeningRefusal text password most_rows (WrongUse m) = ⊥
+IsTextOpeningRefusal text password most_rows (Refused e) =
+    (opened_text text password most_rows ≡ Err e)
+    ⊎ ((e ≡ Named OutOfMemory) × (k : SecretKeyRecord) × (read_utf8 read_secret_key text ≡ Ok k)
+    × DerivesRecord k password most_rows)
+
+-- what a call that opens answers, and the key that it leaves: the one that was opened, or else the one that
+-- was there
+abbrev pub opened_or_kept : Result SecretKeyRecord (Refusal Fault) → SecretKeyValue
+    → Result Unit (Refusal Fault) × SecretKeyValue
 opened_or_kept (Ok key) old = (Ok tt, taken_key key.keynum key.secret)
 opened_or_kept (Err r) old = (Err r, old)
 

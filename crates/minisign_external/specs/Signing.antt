@@ -6,7 +6,8 @@ use Rattle.minisign_hash.specs.Blake2b.{blake2b_digest}
 use Rattle.minisign_base.specs.Fault.{Fault, Named}
 use Rattle.minisign_base.specs.Scheme.{IsBytes}
 use Rattle.minisign_base.specs.declared.faults.NamedFault.TheVariants.{OutOfMemory, NotUtf8}
-use Rattle.minisign.specs.Records.{CommentsRecord, SecretKeyRecord, SignatureRecord, SignatureBoxRecord, prehashed_algorithm}
+use Rattle.minisign.specs.Records.{CommentsRecord, SecretKeyRecord, SignatureRecord, SignatureBoxRecord}
+use Rattle.minisign.specs.Records.{prehashed_algorithm}
 use Rattle.minisign.specs.Acceptance.{Verifier, VouchesUnderEachKey}
 use Rattle.minisign.specs.Headline.{SigningHeadline}
 use Rattle.minisign.specs.Signing.{AreChosenReadBack, ChosenComments, IsGenuine, Signer, signed_box}
@@ -15,24 +16,29 @@ use Rattle.minisign_external.specs.Numbers.{fault_number, refusal_number}
 use Rattle.minisign_external.specs.SecretKeys.{is_opened}
 use Rattle.minisign_external.specs.declared.secrets.SecretKeyValue.{SecretKeyValue}
 use Rattle.minisign_external.specs.declared.state.Misuse.{Misuse}
-use Rattle.minisign_external.specs.declared.state.Misuse.TheVariants.{BadComment, KeyNotOpened, NoRoom, UnreadableComment}
+use Rattle.minisign_external.specs.declared.state.Misuse.TheVariants.{BadComment, KeyNotOpened, NoRoom}
+use Rattle.minisign_external.specs.declared.state.Misuse.TheVariants.{UnreadableComment}
 use Rattle.minisign_external.specs.declared.state.Refusal.{Refusal}
 use Rattle.minisign_external.specs.declared.state.Refusal.TheVariants.{WrongUse, Refused}
 
 -- the box of two answers, under a key's key ID and with these comments
 abbrev pub answered_signature : List ℕ → List ℕ → SignatureRecord
-answered_signature key_id first = record { algorithm = prehashed_algorithm; keynum = key_id; signature = first }
+answered_signature key_id first =
+    record { algorithm = prehashed_algorithm; keynum = key_id; signature = first }
 
 abbrev pub answered_comments : ChosenComments → List ℕ → CommentsRecord
-answered_comments chosen second = record { untrusted = chosen.untrusted; trusted = chosen.trusted; signature = second }
+answered_comments chosen second =
+    record { untrusted = chosen.untrusted; trusted = chosen.trusted; signature = second }
 
 abbrev pub answered_box : List ℕ → ChosenComments → List ℕ → List ℕ → SignatureBoxRecord
 answered_box key_id chosen first second =
     record { signature = answered_signature key_id first; comments = Some (answered_comments chosen second) }
 
--- the scheme answers the two questions about the message so, with the random bytes z1 and z2: the first is the
--- digest of the message, the second the first answer followed by the trusted comment, both with the key's secret
-pub record SignsSo (sign : Signer) (key : SecretKeyRecord) (message trusted z1 z2 first second : List ℕ) : Type 0 where
+-- the scheme answers the two questions about the message so, with the random bytes z1 and z2: the first is
+-- the digest of the message, the second the first answer followed by the trusted comment, both with the key's
+-- secret
+pub record SignsSo (sign : Signer) (key : SecretKeyRecord) (message trusted z1 z2 first second : List ℕ)
+    : Type 0 where
   pub to_first : sign (blake2b_digest 64 message) key.secret (Some z1) ≡ first
   pub to_second : sign (first ++ trusted) key.secret (Some z2) ≡ second
 
@@ -41,13 +47,14 @@ pub record AcceptsAnswers (accepts : Verifier) (public message trusted first sec
   pub to_first : accepts (blake2b_digest 64 message) public first ≡ true
   pub to_second : accepts (first ++ trusted) public second ≡ true
 
--- the signatures that a scheme makes of a message with a secret of 64 bytes and no random ones: of its digest, and of
--- that signature followed by the trusted comment
+-- the signatures that a scheme makes of a message with a secret of 64 bytes and no random ones: of its
+-- digest, and of that signature followed by the trusted comment
 abbrev pub first_signature : Signer → List ℕ → List ℕ → List ℕ
 first_signature sign secret message = sign (blake2b_digest 64 message) secret None
 
 abbrev pub second_signature : Signer → List ℕ → List ℕ → List ℕ → List ℕ
-second_signature sign secret message trusted = sign (first_signature sign secret message ++ trusted) secret None
+second_signature sign secret message trusted = sign (first_signature sign secret message ++ trusted) secret
+    None
 
 -- the secret of the key is a seed and the seed's public key
 pub record IsPairOf (public_of : List ℕ → List ℕ) (seed : List ℕ) (v : SecretKeyValue) : Type 0 where
@@ -55,10 +62,11 @@ pub record IsPairOf (public_of : List ℕ → List ℕ) (seed : List ℕ) (v : S
   pub seed_bytes : IsBytes seed
   pub secret : v.secret ≡ seed ++ public_of seed
 
--- the text is that of the two answers: it is UTF-8, and reads as their box. For every scheme that answers the questions so, that is
--- the box that signing makes; and where the answers are accepted under a public key, it vouches for the message
--- under it. So what is promised of the texts that signing makes holds of this one
-pub record IsAnsweredText (key_id : List ℕ) (chosen : ChosenComments) (first second text : List ℕ) : Type 0 where
+-- the text is that of the two answers: it is UTF-8, and reads as their box. For every scheme that answers the
+-- questions so, that is the box that signing makes; and where the answers are accepted under a public key, it
+-- vouches for the message under it. So what is promised of the texts that signing makes holds of this one
+pub record IsAnsweredText (key_id : List ℕ) (chosen : ChosenComments) (first second text : List ℕ)
+    : Type 0 where
   pub written : text ≡ signature_text (answered_signature key_id first) (answered_comments chosen second)
   pub utf8 : IsUtf8 text
   pub read_back : read_signature_box text ≡ Ok (answered_box key_id chosen first second)
@@ -79,9 +87,9 @@ pub record IsAnsweredText (key_id : List ℕ) (chosen : ChosenComments) (first s
 abbrev pub comments_of : List ℕ → List ℕ → ChosenComments
 comments_of trusted untrusted = record { trusted = trusted; untrusted = untrusted }
 
--- Minisign's own program, of version 0.11, reads the comments back as they are: each line fits its buffer, which has
--- 1,024 bytes for the untrusted comment and 8,192 for the trusted one, and in them a label of 19 or 17 bytes, a line
--- feed and a zero; and no line is cut at a zero byte or a carriage return
+-- Minisign's own program, of version 0.11, reads the comments back as they are: each line fits its buffer,
+-- which has 1,024 bytes for the untrusted comment and 8,192 for the trusted one, and in them a label of 19 or
+-- 17 bytes, a line feed and a zero; and no line is cut at a zero byte or a carriage return
 pub record AreReadByMinisign (chosen : ChosenComments) : Type 0 where
   pub untrusted_fits : length chosen.untrusted < 1004
   pub trusted_fits : length chosen.trusted < 8174
@@ -90,8 +98,8 @@ pub record AreReadByMinisign (chosen : ChosenComments) : Type 0 where
   pub untrusted_return : LacksByte 13 chosen.untrusted
   pub trusted_return : LacksByte 13 chosen.trusted
 
--- the comments are rejected, and this is the first reason: one would not be read back as it is, or not by Minisign's
--- own program
+-- the comments are rejected, and this is the first reason: one would not be read back as it is, or not by
+-- Minisign's own program
 abbrev pub IsCommentMisuse : ChosenComments → Misuse → Type 0
 IsCommentMisuse chosen m =
     ((m ≡ BadComment) × ¬ (AreChosenReadBack chosen))
@@ -102,7 +110,8 @@ abbrev pub AreUtf8 : ChosenComments → Type 0
 AreUtf8 chosen = IsUtf8 chosen.trusted × IsUtf8 chosen.untrusted
 
 -- a text of answers stands at the start of a buffer, in so many bytes
-pub record HoldsText (key_id : List ℕ) (chosen : ChosenComments) (first second bytes : List ℕ) (len : ℕ) : Type 0 where
+pub record HoldsText (key_id : List ℕ) (chosen : ChosenComments) (first second bytes : List ℕ) (len : ℕ)
+    : Type 0 where
   pub fits : len ≤ length bytes
   pub text : IsAnsweredText key_id chosen first second (take len bytes)
 
@@ -111,13 +120,15 @@ abbrev pub HasNoRoom : List ℕ → ChosenComments → List ℕ → List ℕ →
 HasNoRoom key_id chosen first second bytes =
     length bytes < length (signature_text (answered_signature key_id first) (answered_comments chosen second))
 
--- the text was not written, and this is the first reason: the key was not opened, a comment is not UTF-8, a comment is
--- rejected, or the text has no room; or an allocation failed, of comments that are not rejected
-abbrev pub IsWritingRefusal : SecretKeyValue → ChosenComments → List ℕ → List ℕ → List ℕ → Refusal Fault → Type 0
+-- the text was not written, and this is the first reason: the key was not opened, a comment is not UTF-8, a
+-- comment is rejected, or the text has no room; or an allocation failed, of comments that are not rejected
+abbrev pub IsWritingRefusal : SecretKeyValue → ChosenComments → List ℕ → List ℕ → List ℕ → Refusal Fault
+    → Type 0
 IsWritingRefusal v chosen first second bytes (WrongUse m) =
     ((m ≡ KeyNotOpened) × (is_opened v ≡ false))
     ⊎ ((is_opened v ≡ true) × AreUtf8 chosen × IsCommentMisuse chosen m)
-    ⊎ ((m ≡ NoRoom) × (is_opened v ≡ true) × AreUtf8 chosen × AreChosenReadBack chosen × AreReadByMinisign chosen
+    ⊎ ((m ≡ NoRoom) × (is_opened v ≡ true) × AreUtf8 chosen × AreChosenReadBack chosen
+    × AreReadByMinisign chosen
     × HasNoRoom v.key_id chosen first second bytes)
 IsWritingRefusal v chosen first second bytes (Refused e) =
     (is_opened v ≡ true)

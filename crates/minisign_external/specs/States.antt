@@ -1,19 +1,25 @@
 -- What a state that a program in another language holds tells: what it was fed, and what was asked of it.
-use Rattle.std.specs.Prelude.{◌≡◌, ⊤, ◌==◌, ◌⊎◌, ◌<◌, ◌≤◌, ◌||◌, ◌&&◌, not, nat_le, ℕ, Bool, true, false, if◌then◌else◌, List, ◌+◌, length, replicate, MatchResult, Result, Ok, Err}
+use Rattle.std.specs.Prelude.{◌≡◌, ⊤, ◌==◌, ◌⊎◌, ◌<◌, ◌||◌, ◌&&◌, not, nat_le, ℕ, Bool, if◌then◌else◌, List}
+use Rattle.std.specs.Prelude.{◌+◌, length, replicate, MatchResult, Result, Ok, Err}
 use Rattle.std.specs.Str.{IsUtf8}
 use Rattle.minisign_hash.specs.Stored.{WasFed}
 use Rattle.minisign_base.specs.Fault.{Fault}
 use Rattle.minisign_base.specs.declared.faults.NamedFault.TheVariants.{CommentSignatureRefused}
 use Rattle.minisign.specs.Records.{is_prehashed}
-use Rattle.minisign.specs.Acceptance.{Verifier, judge_answers}
+use Rattle.minisign.specs.Acceptance.{Verifier, judge_answers, judge_key}
 use Rattle.minisign.specs.Headline.{TextsVouchFor, verdict}
 use Rattle.minisign.specs.SignatureText.{SignatureTextRecord}
 use Rattle.minisign.specs.Texts.{require}
-use Rattle.minisign_external.specs.Questions.{Answers, AnswersTexts, HoldsMessage, IsKeyText, has_whole_signature, read_under, told_signature}
-use Rattle.minisign_external.specs.Numbers.{IsAnswer, answer_yes, is_answer, fault_number, misuse_number, refusal_number}
+use Rattle.minisign_external.specs.Questions.{Answers, AnswersTexts, HoldsMessage, IsKeyText}
+use Rattle.minisign_external.specs.Questions.{has_whole_signature, read_under, told_signature}
+use Rattle.minisign_external.specs.Signatures.{comment_of, signature_of_value}
+use Rattle.minisign_external.specs.Numbers.{IsAnswer, answer_yes, is_answer, fault_number, misuse_number}
+use Rattle.minisign_external.specs.Numbers.{refusal_number}
 use Rattle.minisign_external.specs.declared.public_keys.PublicKeyValue.{PublicKeyValue}
+use Rattle.minisign_external.specs.declared.signatures.SignatureValue.{SignatureValue}
 use Rattle.minisign_external.specs.declared.state.Misuse.{Misuse}
-use Rattle.minisign_external.specs.declared.state.Misuse.TheVariants.{NotBegun, AlreadyAsked, NotAsked, BadAnswer, NoRoom, BadLegacyFlag}
+use Rattle.minisign_external.specs.declared.state.Misuse.TheVariants.{NotBegun, AlreadyAsked, NotAsked}
+use Rattle.minisign_external.specs.declared.state.Misuse.TheVariants.{BadAnswer, NoRoom, BadLegacyFlag}
 use Rattle.minisign_external.specs.declared.state.Refusal.{Refusal}
 use Rattle.minisign_external.specs.declared.state.Refusal.TheVariants.{WrongUse, Refused}
 use Rattle.minisign_external.specs.declared.state.State.{State}
@@ -74,13 +80,14 @@ no_questions = record {
   signature = replicate 64 0;
   comment_signature = replicate 64 0;
   message_len = 0;
-  public_key_id = replicate 8 0;
-  signature_key_id = replicate 8 0;
+  comment_offset = 0;
+  comment_len = 0;
   legacy = 0;
   reserved = 0;
 }
 
--- the questions of the key and of what the text of the signature reads as, but for the digest
+-- the questions of the key and of what the text of the signature reads as, but for the digest. The message of
+-- the second is the signature, of 64 bytes, followed by the trusted comment
 abbrev pub questions_of : PublicKeyValue → SignatureTextRecord → Questions
 questions_of v t = record {
   public_key = v.key;
@@ -88,11 +95,29 @@ questions_of v t = record {
   signature = t.signature.signature;
   comment_signature = told_signature t.comments;
   message_len = 64 + length t.comments.trusted;
-  public_key_id = v.key_id;
-  signature_key_id = t.signature.keynum;
+  comment_offset = 64;
+  comment_len = length t.comments.trusted;
   legacy = if is_prehashed t.signature then 0 else 1;
   reserved = 0;
 }
+
+-- the same of a signature that was read
+abbrev pub questions_about : PublicKeyValue → SignatureValue → Questions
+questions_about v s = record {
+  public_key = v.key;
+  digest = replicate 64 0;
+  signature = s.signature;
+  comment_signature = s.comment_signature;
+  message_len = 64 + s.comment_len;
+  comment_offset = 64;
+  comment_len = s.comment_len;
+  legacy = s.legacy;
+  reserved = 0;
+}
+
+-- the state after it was asked about a signature
+abbrev pub asked_about : State → SignatureValue → State
+asked_about state s = record state { asked = record { mark = asked_mark; whole = s.whole } }
 
 -- why a state that ought to be fed is not: it has told its digest, or was never begun
 abbrev pub feeding_misuse : State → Misuse
@@ -107,35 +132,64 @@ pub record IsBlank (s : State) : Type 0 where
   pub asked : s.asked ≡ record { mark = 0; whole = 0 }
   pub reserved : s.reserved ≡ replicate 18 0
 
--- the questions of the key and of what the text reads as, whatever the digest, with the message of the second in these
--- bytes
-pub record AreQuestions (q : Questions) (bytes : List ℕ) (v : PublicKeyValue) (t : SignatureTextRecord) : Type 0 where
+-- the questions of the key and of what the text reads as, whatever the digest, with the message of the second
+-- in these bytes
+pub record AreQuestions (q : Questions) (bytes : List ℕ) (v : PublicKeyValue) (t : SignatureTextRecord)
+    : Type 0 where
   pub questions : q ≡ record (questions_of v t) { digest = q.digest }
   pub message : HoldsMessage t.signature t.comments.trusted bytes q.message_len
 
 -- the same with zeros for the digest
 abbrev pub AreAsked : Questions → List ℕ → PublicKeyValue → SignatureTextRecord → Type 0
-AreAsked q bytes v t = (q ≡ questions_of v t) × HoldsMessage t.signature t.comments.trusted bytes q.message_len
+AreAsked q bytes v t = (q ≡ questions_of v t)
+    × HoldsMessage t.signature t.comments.trusted bytes q.message_len
 
--- what asking answers, with room for so many bytes of the message: a state that is not being fed or was asked before is
--- rejected first, then what the text of the signature is rejected for under the key, and then too little room
-abbrev pub room_for : SignatureTextRecord → ℕ → Result Unit (Refusal Fault)
-room_for t room = if nat_le (64 + length t.comments.trusted) room then Ok tt else Err (WrongUse NoRoom)
+-- there is room for a message with so many bytes of the trusted comment
+abbrev pub room_for : ℕ → ℕ → Result Unit (Refusal Fault)
+room_for len room = if nat_le (64 + len) room then Ok tt else Err (WrongUse NoRoom)
 
-abbrev pub asked_of : Result SignatureTextRecord Fault → ℕ → Result Unit (Refusal Fault)
-asked_of (Ok t) room = room_for t room
-asked_of (Err e) room = Err (Refused e)
+-- asking goes on where no error of the library was found, or no usage error
+abbrev pub judged_before : Result ⊤ Fault → Result Unit (Refusal Fault) → Result Unit (Refusal Fault)
+judged_before (Ok t) more = more
+judged_before (Err e) more = Err (Refused e)
+
+abbrev pub placed_before : Result (List ℕ) Misuse → Result Unit (Refusal Fault) → Result Unit (Refusal Fault)
+placed_before (Ok comment) more = more
+placed_before (Err m) more = Err (WrongUse m)
+
+-- what asking about a key, a signature and its text is rejected for, whatever the state is: the signature was
+-- not read, or from another text; then what is rejected under the key; and then too little room
+abbrev pub asked_of : PublicKeyValue → SignatureValue → List ℕ → Bool → ℕ → Result Unit (Refusal Fault)
+asked_of v s text legacy room =
+    placed_before (comment_of s text)
+    (judged_before (judge_key v.key_id (signature_of_value s) legacy) (room_for s.comment_len room))
 
 -- why a state cannot be asked: it was asked before or has told its digest, or was never begun
 abbrev pub asking_misuse : State → Misuse
 asking_misuse s = if is_begun s then AlreadyAsked else NotBegun
 
-abbrev pub asking_result : State → PublicKeyValue → List ℕ → Bool → ℕ → Result Unit (Refusal Fault)
-asking_result s v sig_text legacy room =
-    if (s.mark == fed_mark) && not (is_asked s) then asked_of (read_under v legacy sig_text) room
-    else Err (WrongUse (asking_misuse s))
+-- the state may be asked
+abbrev pub may_ask : State → Bool
+may_ask s = (s.mark == fed_mark) && not (is_asked s)
 
--- why a state gives no verdict: the questions were not asked or the digest was not told, or it was never begun
+-- what asking answers: a state that is not being fed or was asked before is rejected first
+abbrev pub asking_result : State → PublicKeyValue → SignatureValue → List ℕ → Bool → ℕ
+    → Result Unit (Refusal Fault)
+asking_result s v signature text legacy room =
+    if may_ask s then asked_of v signature text legacy room else Err (WrongUse (asking_misuse s))
+
+-- the same of a signature that was read from this text: what the text is rejected for under the key, and then
+-- too little room
+abbrev pub asked_under : Result SignatureTextRecord Fault → ℕ → Result Unit (Refusal Fault)
+asked_under (Ok t) room = room_for (length t.comments.trusted) room
+asked_under (Err e) room = Err (Refused e)
+
+abbrev pub asking_under : State → PublicKeyValue → List ℕ → Bool → ℕ → Result Unit (Refusal Fault)
+asking_under s v text legacy room =
+    if may_ask s then asked_under (read_under v legacy text) room else Err (WrongUse (asking_misuse s))
+
+-- why a state gives no verdict: the questions were not asked or the digest was not told, or it was never
+-- begun
 abbrev pub verdict_misuse : State → Misuse
 verdict_misuse s = if is_begun s then NotAsked else NotBegun
 
@@ -148,8 +202,8 @@ decision (Err e) = Err (Refused e)
 abbrev pub has_asked_whole : State → Bool
 has_asked_whole s = s.asked.whole == 1
 
--- the verdict of a state from two answers, and the state after it. One that has asked and told its digest gives what the
--- answers decide, and is ended; another is rejected, and stays
+-- the verdict of a state from two answers, and the state after it. One that has asked and told its digest
+-- gives what the answers decide, and is ended; another is rejected, and stays
 abbrev pub told_verdict : State → Bool → Bool → Result Unit (Refusal Fault) × State
 told_verdict s first second =
     if is_asked s && (s.mark == told_mark)
@@ -168,27 +222,29 @@ abbrev pub IsFaultOf : (Fault → Type 0) → Refusal Fault → Type 0
 IsFaultOf holds (WrongUse m) = ⊥
 IsFaultOf holds (Refused e) = holds e
 
--- asking about all that a state was fed was rejected: it is not being fed; or else the text of the signature or the
--- room is rejected as above
+-- asking about all that a state was fed was rejected: it is not being fed; or else the signature, its text or
+-- the room is rejected as above
 abbrev pub IsNotFedRefusal : State → Refusal Fault → Type 0
 IsNotFedRefusal s (WrongUse m) = IsNotFed s m
 IsNotFedRefusal s (Refused e) = ⊥
 
-abbrev pub IsAskFedRefusal : State → PublicKeyValue → List ℕ → Bool → ℕ → Refusal Fault → Type 0
-IsAskFedRefusal s v sig_text legacy room r =
-    IsNotFedRefusal s r ⊎ (IsMarkedFed s × (asked_of (read_under v legacy sig_text) room ≡ Err r))
+abbrev pub IsAskFedRefusal : State → PublicKeyValue → SignatureValue → List ℕ → Bool → ℕ → Refusal Fault
+    → Type 0
+IsAskFedRefusal s v signature text legacy room r =
+    IsNotFedRefusal s r ⊎ (IsMarkedFed s × (asked_of v signature text legacy room ≡ Err r))
 
--- where it is an error, every text that reads as the key and the text of the signature, which is UTF-8 then, reject for
--- it, whatever the scheme and the message; or the text of the signature is not UTF-8
+-- where it is an error, every text that reads as the key and the text of the signature, which is UTF-8 then,
+-- reject for it, whatever the scheme and the message; or the text of the signature is not UTF-8
 abbrev pub IsTextRefusal : PublicKeyValue → List ℕ → Bool → Refusal Fault → Type 0
 IsTextRefusal v sig_text legacy (WrongUse m) = ⊤
 IsTextRefusal v sig_text legacy (Refused e) =
     IsUtf8 sig_text → (pk_text message : List ℕ) (accepts : Verifier) → IsKeyText pk_text v
     → verdict accepts pk_text sig_text message legacy ≡ Err e
 
--- the verdict on the texts and the message: success exactly where they vouch for it, otherwise the first case that
--- fails
-abbrev pub GivesVerdict : {T : Type 0} → Verifier → List ℕ → List ℕ → List ℕ → Bool → Result T (Refusal Fault) → Type 0
+-- the verdict on the texts and the message: success exactly where they vouch for it, otherwise the first case
+-- that fails
+abbrev pub GivesVerdict : {T : Type 0} → Verifier → List ℕ → List ℕ → List ℕ → Bool → Result T (Refusal Fault)
+    → Type 0
 GivesVerdict accepts pk_text sig_text message legacy r =
     MatchResult r (λ _. TextsVouchFor accepts pk_text sig_text message legacy)
     (IsFaultOf (λ e. verdict accepts pk_text sig_text message legacy ≡ Err e))
@@ -198,9 +254,10 @@ abbrev pub given_verdict : Result (List ℕ) Fault → Result Unit (Refusal Faul
 given_verdict (Ok trusted) = Ok tt
 given_verdict (Err e) = Err (Refused e)
 
--- the state has asked about the key and the text of the signature and has told its digest, both numbers are answers,
--- and the scheme answers so
-pub record IsAnswered (s : State) (accepts : Verifier) (v : PublicKeyValue) (sig_text message : List ℕ) (legacy : Bool)
+-- the state has asked about the key and the text of the signature and has told its digest, both numbers are
+-- answers, and the scheme answers so
+pub record IsAnswered (s : State) (accepts : Verifier) (v : PublicKeyValue) (sig_text message : List ℕ)
+    (legacy : Bool)
     (first second : ℕ) : Type 0 where
   pub asked : HasAsked s v sig_text legacy
   pub told : IsMarkedTold s
@@ -221,30 +278,33 @@ abbrev pub result_number : Result Unit (Refusal Fault) → ℕ
 result_number (Ok t) = 0
 result_number (Err r) = refusal_number fault_number r
 
--- the verdict on the texts and the message as a number: 0 exactly where they vouch for it, otherwise that of the first
--- case that fails
+-- the verdict on the texts and the message as a number: 0 exactly where they vouch for it, otherwise that of
+-- the first case that fails
 abbrev pub GivesNumber : Verifier → List ℕ → List ℕ → List ℕ → Bool → ℕ → Type 0
 GivesNumber accepts pk_text sig_text message legacy n =
     ((n ≡ 0) × TextsVouchFor accepts pk_text sig_text message legacy)
-    ⊎ ((0 < n) × (e : Fault) × (n ≡ fault_number e) × (verdict accepts pk_text sig_text message legacy ≡ Err e))
+    ⊎ ((0 < n) × (e : Fault) × (n ≡ fault_number e)
+    × (verdict accepts pk_text sig_text message legacy ≡ Err e))
 
 -- a number that is no answer is rejected, and only then the other reasons come
 abbrev pub comment_number : State → ℕ → ℕ
 comment_number s second =
-    if is_answer second then result_number (comment_result s (second == answer_yes)) else misuse_number BadAnswer
+    if is_answer second then result_number (comment_result s (second == answer_yes)) else
+    misuse_number BadAnswer
 
 -- a number that is no flag is rejected, and only then the other reasons come
-abbrev pub asking_number : State → PublicKeyValue → List ℕ → ℕ → ℕ → ℕ
-asking_number s v sig_text legacy room =
+abbrev pub asking_number : State → PublicKeyValue → SignatureValue → List ℕ → ℕ → ℕ → ℕ
+asking_number s v signature text legacy room =
     if nat_le 2 legacy then misuse_number BadLegacyFlag else result_number
-    (asking_result s v sig_text (legacy == 1) room)
+    (asking_result s v signature text (legacy == 1) room)
 
 -- the number of a verdict: 0, or that of the first case that fails
 abbrev pub verdict_number : Result (List ℕ) Fault → ℕ
 verdict_number (Ok trusted) = 0
 verdict_number (Err e) = fault_number e
 
--- the number of a verdict from two numbers, and the state after it: where one of them is no answer, the state stays
+-- the number of a verdict from two numbers, and the state after it: where one of them is no answer, the state
+-- stays
 abbrev pub numbered : Result Unit (Refusal Fault) × State → ℕ × State
 numbered (r, s) = (result_number r, s)
 

@@ -1,12 +1,15 @@
 //! The texts of keys that were opened or taken in, written to a buffer: so a key gets another
 //! password, or its public key is written again.
 
-ghost use Rattle.std.specs.Prelude.{◌≡◌, ◌⊎◌, ◌<◌, ◌≤◌, ◌+◌, List, ℕ, Some, length, drop, true, false, OnOk, OnErr, IfOk, IfErr};
+ghost use Rattle.std.specs.Prelude.{◌≡◌, ◌⊎◌, ◌<◌, ◌≤◌, ◌+◌, List, ℕ, Some, length, drop, true, false, OnOk};
+ghost use Rattle.std.specs.Prelude.{OnErr, IfOk, IfErr};
 ghost use Rattle.std.specs.Option.{option_map};
 ghost use Rattle.minisign_base.specs.Fault.{Named};
 ghost use Rattle.minisign_base.specs.declared.faults.NamedFault.TheVariants.{OutOfMemory};
 ghost use Rattle.minisign.specs.Making.{making_fault};
-ghost use Rattle.minisign_external.specs.Making.{HoldsPublicKey, HoldsSecretKey, IsMadeRefusal, IsMakingRefusal, IsPublicKeyRefusal, IsReadInKey, IsUnwritable, IsWritable};
+ghost use Rattle.minisign_external.specs.Making.{HoldsPublicKey, HoldsSecretKey, IsMadeRefusal};
+ghost use Rattle.minisign_external.specs.Making.{IsMakingRefusal, IsPublicKeyRefusal, IsReadInKey};
+ghost use Rattle.minisign_external.specs.Making.{IsUnwritable, IsWritable};
 ghost use Rattle.minisign_external.specs.SecretKeys.{is_opened};
 
 use crate::secrets::SecretKeyValue;
@@ -25,8 +28,8 @@ const SECRET_KEY_BYTES: usize = 233;
 const PUBLIC_KEY_BYTES: usize = 77;
 
 /// Writes the text of a secret key to the start of `to`, and returns its length, which
-/// is 233 bytes more than that of the comment. With a password the key is sealed under it, with the salt and the limits
-/// of `sealing`; without one it is not sealed, and `sealing` is not looked at.
+/// is 233 bytes more than that of the comment. With a password the key is sealed under it, with the salt and
+/// the limits of `sealing`; without one it is not sealed, and `sealing` is not looked at.
 ///
 /// `keep_every` is k, where every k-th of scrypt's rows is kept, 1 KiB each, of at most 2^20; 0 and
 /// 1 keep them all. The text is the same for every k.
@@ -41,20 +44,22 @@ pub fn write_secret_key(
     comment: &[u8],
     to: &mut [u8],
 ) -> std::result::Result<usize, Refusal>
-    // The text of a secret key stands at the start of the buffer, in 233 bytes more than the comment has, and is the
-    // one by definition: it opens under the password, within each bound that its p is within, or reads without one, to
-    // the key with exactly this key ID and these 64 secret bytes, and to no other.
+    // The text of a secret key stands at the start of the buffer, in 233 bytes more than the comment has, and
+    // is the one by definition: it opens under the password, within each bound that its p is within, or reads
+    // without one, to the key with exactly this key ID and these 64 secret bytes, and to no other.
     ensures opened { OnOk result (is_opened key.now ≡ true) }
-    ensures text { IfOk result (HoldsSecretKey key.now.key_id key.now.secret (option_map (λ p. p.now) password.entry) sealing.now comment.now to.new) }
+    ensures text { IfOk result (HoldsSecretKey key.now.key_id key.now.secret
+        (option_map (λ p. p.now) password.entry) sealing.now comment.now to.new) }
 
     // What stands behind the text stays: no byte of a secret is left there.
     ensures rest { IfOk result (λ len. drop len to.new ≡ drop len to.old) }
 
-    // What is rejected comes in this order: a key that was not opened; a comment or a password that is not UTF-8; a
-    // comment with a line feed; one with a carriage return or a zero byte, or of more than 1003 bytes, which Minisign
-    // does not read whole; too short a buffer; with a password limits that sealing does not allow; out of memory. The
-    // buffer is then as it was.
-    ensures refused { IfErr result (IsMakingRefusal key.now (option_map (λ p. p.now) password.entry) sealing.now comment.now to.old) }
+    // What is rejected comes in this order: a key that was not opened; a comment or a password that is not
+    // UTF-8; a comment with a line feed; one with a carriage return or a zero byte, or of more than 1003
+    // bytes, which Minisign does not read whole; too short a buffer; with a password limits that sealing does
+    // not allow; out of memory. The buffer is then as it was.
+    ensures refused { IfErr result
+        (IsMakingRefusal key.now (option_map (λ p. p.now) password.entry) sealing.now comment.now to.old) }
     ensures kept { OnErr result (to.new ≡ to.old) }
 {
     if !key.is_opened() {
@@ -94,9 +99,11 @@ fn write_made(
     comment: &str,
     to: &mut [u8],
 ) -> std::result::Result<usize, Refusal>
-    ensures text { IfOk result (HoldsSecretKey key_id secret (option_map (λ p. p.now) password.entry) sealing.now comment.now to.new) }
+    ensures text { IfOk result (HoldsSecretKey key_id secret (option_map (λ p. p.now) password.entry)
+        sealing.now comment.now to.new) }
     ensures rest { IfOk result (λ len. drop len to.new ≡ drop len to.old) }
-    ensures refused { IfErr result (IsMadeRefusal (option_map (λ p. p.now) password.entry) sealing.now comment.now to.old) }
+    ensures refused { IfErr result
+        (IsMadeRefusal (option_map (λ p. p.now) password.entry) sealing.now comment.now to.old) }
     ensures kept { OnErr result (to.new ≡ to.old) }
 {
     test_writable(comment.as_bytes(), SECRET_KEY_BYTES, to)?;
@@ -117,14 +124,14 @@ pub fn write_public_key(
     comment: &[u8],
     to: &mut [u8],
 ) -> std::result::Result<usize, Refusal>
-    // The text of a public key stands at the start of the buffer, in 77 bytes more than the comment has, and reads as
-    // the public key of every secret key of these parts; what stands behind it stays.
+    // The text of a public key stands at the start of the buffer, in 77 bytes more than the comment has, and
+    // reads as the public key of every secret key of these parts; what stands behind it stays.
     ensures opened { OnOk result (is_opened key.now ≡ true) }
     ensures text { IfOk result (HoldsPublicKey key.now.key_id key.now.secret comment.now to.new) }
     ensures rest { IfOk result (λ len. drop len to.new ≡ drop len to.old) }
 
-    // What is rejected comes in the order of `write_secret_key`, less what concerns a password. The buffer is then as
-    // it was.
+    // What is rejected comes in the order of `write_secret_key`, less what concerns a password. The buffer is
+    // then as it was.
     ensures refused { IfErr result (IsPublicKeyRefusal key.now comment.now to.old) }
     ensures kept { OnErr result (to.new ≡ to.old) }
 {

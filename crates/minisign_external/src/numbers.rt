@@ -1,8 +1,10 @@
-//! The numbers by which a program in another language knows rejections, and what they mean. None of it allocates.
+//! The numbers by which a program in another language knows rejections, and what they mean. None of it
+//! allocates.
 
 ghost use Rattle.std.specs.Prelude.{◌≡◌, ◌==◌, ◌<◌, List, ℕ, find, length};
 ghost use Rattle.minisign_base.specs.Faults.{fault_row};
-ghost use Rattle.minisign_external.specs.Numbers.{IsMeaning, WritesCut, is_answer, fault_number, misuse_number, misuse_text, refusal_number};
+ghost use Rattle.minisign_external.specs.Numbers.{IsMeaning, WritesCut, is_answer, fault_number};
+ghost use Rattle.minisign_external.specs.Numbers.{misuse_number, misuse_text, refusal_number};
 
 use crate::state::{Misuse, Refusal};
 use minisign_base::{NamedFault, PError};
@@ -50,8 +52,8 @@ impl Numbered for PError {
 impl<F: Numbered> Refusal<F> {
     /// The number of the rejection: that of the usage error, or that of the error.
     pub fn number(&self) -> u32
-        // The number of a rejection is that of its usage error or of its error, by a table: of the library's 7 is out
-        // of memory and nothing else.
+        // The number of a rejection is that of its usage error or of its error, by a table: of the library's
+        // 7 is out of memory and nothing else.
         ensures { result ≡ refusal_number F.number_of self.now }
     {
         match self {
@@ -63,7 +65,7 @@ impl<F: Numbered> Refusal<F> {
 
 impl Misuse {
     /// All usage errors.
-    pub const ALL: [Misuse; 14] = [
+    pub const ALL: [Misuse; 16] = [
         Misuse::NotBegun,
         Misuse::AlreadyAsked,
         Misuse::NotAsked,
@@ -78,9 +80,11 @@ impl Misuse {
         Misuse::BadNumbering,
         Misuse::KeyNotOpened,
         Misuse::KeyNotRead,
+        Misuse::SignatureNotRead,
+        Misuse::OtherSignatureText,
     ];
 
-    /// The number of the usage error, from 1 to 15, or 63.
+    /// The number of the usage error, from 1 to 15, or from 61 to 63.
     pub fn number(&self) -> u32
         ensures { result ≡ misuse_number self.now }
     {
@@ -99,6 +103,8 @@ impl Misuse {
             Misuse::BadNumbering => 14,
             Misuse::KeyNotOpened => 15,
             Misuse::KeyNotRead => 63,
+            Misuse::SignatureNotRead => 62,
+            Misuse::OtherSignatureText => 61,
         }
     }
 
@@ -129,6 +135,8 @@ impl Misuse {
             }
             Misuse::KeyNotOpened => "the secret key was not opened",
             Misuse::KeyNotRead => "the secret key was not read",
+            Misuse::SignatureNotRead => "the signature was not read",
+            Misuse::OtherSignatureText => "the signature was read from another text",
         }
     }
 }
@@ -137,9 +145,10 @@ impl Misuse {
 /// is no room for more: returns the length of the whole text, which is at most 127 bytes. What stands
 /// behind the 0 stays; where `to` has no byte nothing is written.
 pub fn write_error_text(number: u32, to: &mut [u8]) -> usize
-    // The text of a number is that of the usage error, or what the error of this number says without its key IDs; it
-    // has less than 128 bytes, is cut to its room and ended by a 0, behind which the buffer stays.
-    ensures written { (text : List ℕ) × IsMeaning number text × (result ≡ length text) × WritesCut text to.old to.new }
+    // The text of a number is that of the usage error, or what the error of this number says without its key
+    // IDs; it has less than 128 bytes, is cut to its room and ended by a 0, behind which the buffer stays.
+    ensures written { (text : List ℕ) × IsMeaning number text × (result ≡ length text)
+        × WritesCut text to.old to.new }
     ensures room { result < 128 }
 {
     write_cut(error_text(number), to)
@@ -147,8 +156,8 @@ pub fn write_error_text(number: u32, to: &mut [u8]) -> usize
 
 /// Writes a text, cut where there is no room for more, and a 0. Returns the length of the text.
 pub fn write_cut(text: &str, to: &mut [u8]) -> usize
-    // The text stands at the start of the buffer, cut where there is no room for more, and a 0 after it; the rest of the
-    // buffer stays.
+    // The text stands at the start of the buffer, cut where there is no room for more, and a 0 after it; the
+    // rest of the buffer stays.
     ensures length { result ≡ length text.now }
     ensures cut { WritesCut text.now to.old to.new }
 {

@@ -19,11 +19,11 @@ pub struct PublicKeyValue {
 
 /// Tells the value of the key that a text of two lines reads as.
 ///
-/// Rejected are, in this order: a text that is not UTF-8; what `minisign::read_public_key` rejects. Then the value
-/// stays as it was.
+/// Rejected are, in this order: a text that is not UTF-8; what `minisign::read_public_key` rejects. Then the
+/// value stays as it was.
 pub fn tell_public_key(text: &[u8], value: &mut PublicKeyValue) -> Result<()>
-    // The value is told of the public key that a text of two lines reads as: a function of the bytes, which have to be
-    // UTF-8. Otherwise the first case that fails is told, and the value stays.
+    // The value is told of the public key that a text of two lines reads as: a function of the bytes, which
+    // have to be UTF-8. Otherwise the first case that fails is told, and the value stays.
     ensures { (result, value.new) ≡ told_key (read_utf8 read_public_key text.now) value.old }
 {
     tell(read(text), value)
@@ -31,8 +31,8 @@ pub fn tell_public_key(text: &[u8], value: &mut PublicKeyValue) -> Result<()>
 
 /// Tells the value of the key that a bare base64 reads as, 56 bytes.
 ///
-/// Rejected are, in this order: a text that is not UTF-8; what `minisign::read_bare_public_key` rejects. Then the value
-/// stays as it was.
+/// Rejected are, in this order: a text that is not UTF-8; what `minisign::read_bare_public_key` rejects. Then
+/// the value stays as it was.
 pub fn tell_bare_public_key(text: &[u8], value: &mut PublicKeyValue) -> Result<()>
     // The same is told of the base64 of a public key alone.
     ensures { (result, value.new) ≡ told_key (read_utf8 read_bare_public_key text.now) value.old }

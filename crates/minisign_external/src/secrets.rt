@@ -1,4 +1,5 @@
-//! A secret key as a value, which was opened or taken in. The secret leaves the library here. None of it allocates.
+//! A secret key as a value, which was opened or taken in. The secret leaves the library here. None of it
+//! allocates.
 
 ghost use Rattle.std.specs.Prelude.{◌≡◌};
 ghost use Rattle.minisign_external.specs.SecretKeys.{is_opened, public_value_of, taken_key};
@@ -41,8 +42,8 @@ impl SecretKeyValue {
         self.mark == OPENED
     }
 
-    /// The public key of the key: the last 32 bytes of the secret, under its key ID. A key that was not opened is
-    /// rejected.
+    /// The public key of the key: the last 32 bytes of the secret, under its key ID. A key that was not
+    /// opened is rejected.
     pub fn public_key(&self) -> Result<PublicKeyValue, Misuse>
         // The last 32 bytes and the key ID of a key that was opened; another is rejected.
         ensures { result ≡ public_value_of self.now }

@@ -1,11 +1,15 @@
 //! The text of a signature, from the answers of a signature scheme.
 
-ghost use Rattle.std.specs.Prelude.{◌≡◌, ◌⊎◌, ◌<◌, ◌≤◌, ◌+◌, ◌++◌, Some, Ok, true, false, string_bytes, length, take, drop, OnOk, OnErr, IfOk, IfErr, IfNone, IfSome, MatchOption, MatchResult};
+ghost use Rattle.std.specs.Prelude.{◌≡◌, ◌⊎◌, ◌<◌, ◌≤◌, ◌+◌, ◌++◌, Some, Ok, true, false, string_bytes};
+ghost use Rattle.std.specs.Prelude.{length, take, drop, OnOk, OnErr, IfOk, IfErr, IfNone, IfSome};
+ghost use Rattle.std.specs.Prelude.{MatchOption, MatchResult};
 ghost use Rattle.minisign_base.specs.Fault.{Named};
 ghost use Rattle.minisign_base.specs.declared.faults.NamedFault.TheVariants.{OutOfMemory};
 ghost use Rattle.minisign.specs.Signing.{AreChosenReadBack};
 ghost use Rattle.minisign.specs.SignatureText.{read_signature_box, signature_text};
-ghost use Rattle.minisign_external.specs.Signing.{AreReadByMinisign, HoldsText, IsAnsweredText, IsCommentMisuse, IsWritingRefusal, answered_box, answered_comments, answered_signature, comments_of};
+ghost use Rattle.minisign_external.specs.Signing.{AreReadByMinisign, HoldsText, IsAnsweredText};
+ghost use Rattle.minisign_external.specs.Signing.{IsCommentMisuse, IsWritingRefusal, answered_box};
+ghost use Rattle.minisign_external.specs.Signing.{answered_comments, answered_signature, comments_of};
 ghost use Rattle.minisign_external.specs.SecretKeys.{is_opened};
 ghost use Rattle.minisign_external.specs.declared.state.Misuse.{Misuse};
 ghost use Rattle.minisign_external.specs.declared.state.Misuse.TheVariants.{NoRoom};
@@ -28,20 +32,25 @@ pub fn signed_text(
     trusted: &str,
     untrusted: &str,
 ) -> std::result::Result<String, Refusal>
-    // The text of two signatures reads as the box with exactly this key ID, these comments and these signatures;
-    // for every scheme that answers the two questions so, that is the box that signing makes; under every public key
-    // under which the signatures are accepted it vouches for the message, and for a genuine key the headline's third
-    // part holds of it.
-    ensures text { IfOk result (λ t. IsAnsweredText key_id.now (comments_of trusted.now untrusted.now) first.now second.now (string_bytes t)) }
+    // The text of two signatures reads as the box with exactly this key ID, these comments and these
+    // signatures; for every scheme that answers the two questions so, that is the box that signing makes;
+    // under every public key under which the signatures are accepted it vouches for the message, and for a
+    // genuine key the headline's third part holds of it.
+    ensures text { IfOk result (λ t.
+        IsAnsweredText key_id.now (comments_of trusted.now untrusted.now) first.now second.now
+        (string_bytes t)) }
 
-    // Rejected are comments that would not be read back as they are: one with a line feed, an untrusted one with a
-    // carriage return at its end, a trusted one with white space at either end. Then those that Minisign 0.11 would not
-    // read back: an untrusted one of 1,004 bytes or more, a trusted one of 8,174 or more, one with a zero byte or a
-    // carriage return. For all others there is a text, unless an allocation fails: no comment that is rejected is
-    // called out of memory.
-    ensures refused { IfErr result (λ r. ((r ≡ Refused (Named OutOfMemory)) × AreChosenReadBack (comments_of trusted.now untrusted.now) × AreReadByMinisign (comments_of trusted.now untrusted.now))
+    // Rejected are comments that would not be read back as they are: one with a line feed, an untrusted one
+    // with a carriage return at its end, a trusted one with white space at either end. Then those that
+    // Minisign 0.11 would not read back: an untrusted one of 1,004 bytes or more, a trusted one of 8,174 or
+    // more, one with a zero byte or a carriage return. For all others there is a text, unless an allocation
+    // fails: no comment that is rejected is called out of memory.
+    ensures refused { IfErr result
+        (λ r. ((r ≡ Refused (Named OutOfMemory)) × AreChosenReadBack (comments_of trusted.now untrusted.now)
+        × AreReadByMinisign (comments_of trusted.now untrusted.now))
         ⊎ ((m : Misuse) × (r ≡ WrongUse m) × IsCommentMisuse (comments_of trusted.now untrusted.now) m)) }
-    ensures kept { OnOk result (AreChosenReadBack (comments_of trusted.now untrusted.now) × AreReadByMinisign (comments_of trusted.now untrusted.now)) }
+    ensures kept { OnOk result (AreChosenReadBack (comments_of trusted.now untrusted.now)
+        × AreReadByMinisign (comments_of trusted.now untrusted.now)) }
 {
     test_comments(trusted, untrusted)?;
     Ok(written(alloc, key_id, first, second, trusted, untrusted)?)
@@ -57,8 +66,8 @@ pub fn write_signed_text(
     untrusted: &[u8],
     to: &mut [u8],
 ) -> std::result::Result<usize, Refusal>
-    // The text is that of `signed_text`, under the key ID of the key, which was opened, at the start of the buffer, behind
-    // which the buffer stays.
+    // The text is that of `signed_text`, under the key ID of the key, which was opened, at the start of the
+    // buffer, behind which the buffer stays.
     ensures text { IfOk result (λ len. (is_opened key.now ≡ true)
         × HoldsText key.now.key_id (comments_of trusted.now untrusted.now) first.now second.now to.new len) }
     ensures rest { IfOk result (λ len. drop len to.new ≡ drop len to.old) }
@@ -66,7 +75,8 @@ pub fn write_signed_text(
 
     // Rejected are, in this order: a key that was not opened, comments that are not UTF-8, what `signed_text`
     // rejects, and too short a buffer, which is then as it was.
-    ensures refused { IfErr result (IsWritingRefusal key.now (comments_of trusted.now untrusted.now) first.now second.now to.old) }
+    ensures refused { IfErr result
+        (IsWritingRefusal key.now (comments_of trusted.now untrusted.now) first.now second.now to.old) }
     ensures kept { OnErr result (to.new ≡ to.old) }
 {
     if !key.is_opened() {
@@ -101,21 +111,22 @@ pub(crate) fn write_front(bytes: &[u8], to: &mut [u8]) -> Option<usize>
     Some(bytes.len())
 }
 
-/// Writes the message of the second question to the start of `message`, and returns its length: the first signature
-/// followed by the trusted comment, which is 64 bytes longer than the comment. Where there is no room nothing is
-/// written.
+/// Writes the message of the second question to the start of `message`, and returns its length: the first
+/// signature followed by the trusted comment, which is 64 bytes longer than the comment. Where there is no
+/// room nothing is written.
 pub fn write_comment_message(
     first: &[u8; 64],
     trusted: &[u8],
     message: &mut [u8],
 ) -> Result<usize, Misuse>
-    // The message of the second question is the first signature followed by the trusted comment, behind which the buffer
-    // stays; where there is no room for it, it stays as it was.
+    // The message of the second question is the first signature followed by the trusted comment, behind which
+    // the buffer stays; where there is no room for it, it stays as it was.
     ensures message { IfOk result (λ n. (n ≡ 64 + length trusted.now) × (n ≤ length message.new)
         × (take n message.new ≡ first.now ++ trusted.now)) }
     ensures rest { IfOk result (λ n. drop n message.new ≡ drop n message.old) }
     ensures room { OnOk result (64 + length trusted.now ≤ length message.old) }
-    ensures refused { IfErr result (λ m. (m ≡ NoRoom) × (length message.old < 64 + length trusted.now) × (message.new ≡ message.old)) }
+    ensures refused { IfErr result
+        (λ m. (m ≡ NoRoom) × (length message.old < 64 + length trusted.now) × (message.new ≡ message.old)) }
 {
     if message.len() < 64 || message.len() - 64 < trusted.len() {
         return Err(Misuse::NoRoom);
@@ -126,7 +137,9 @@ pub fn write_comment_message(
 
 // Tests comments: whether they are read back as they are written, and by Minisign's own program too.
 fn test_comments(trusted: &str, untrusted: &str) -> Result<(), Misuse>
-    ensures { MatchResult result (λ _. AreChosenReadBack (comments_of trusted.now untrusted.now) × AreReadByMinisign (comments_of trusted.now untrusted.now))
+    ensures { MatchResult result
+        (λ _. AreChosenReadBack (comments_of trusted.now untrusted.now)
+        × AreReadByMinisign (comments_of trusted.now untrusted.now))
         (IsCommentMisuse (comments_of trusted.now untrusted.now)) }
 {
     if !are_kept(trusted, untrusted) {
@@ -173,7 +186,8 @@ fn written(
 ) -> minisign::Result<String>
     ensures text { IfOk result (λ t. string_bytes t ≡ signature_text (answered_signature key_id.now first.now)
         (answered_comments (comments_of trusted.now untrusted.now) second.now)) }
-    ensures reads_back { AreChosenReadBack (comments_of trusted.now untrusted.now) → IfOk result (λ t. read_signature_box (string_bytes t)
+    ensures reads_back { AreChosenReadBack (comments_of trusted.now untrusted.now)
+        → IfOk result (λ t. read_signature_box (string_bytes t)
         ≡ Ok (answered_box key_id.now (comments_of trusted.now untrusted.now) first.now second.now)) }
     ensures refused { IfErr result (λ e. e ≡ Named OutOfMemory) }
 {

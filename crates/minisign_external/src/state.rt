@@ -1,18 +1,21 @@
-//! A state of fixed size that a program in another language holds: it is asked about a key and a signature, is fed the
-//! data in pieces, tells the digest, and gives the verdict.
+//! A state of fixed size that a program in another language holds: it is asked about a key and a signature,
+//! is fed the data in pieces, tells the digest, and gives the verdict.
 
-ghost use Rattle.std.specs.Prelude.{◌≡◌, ◌++◌, ℕ, List, [], false, true, Ok, OnOk, IfOk, IfErr, MatchResult, length};
+ghost use Rattle.std.specs.Prelude.{◌≡◌, ◌++◌, ℕ, List, [], false, true, Ok, OnOk, IfOk, IfErr, MatchResult};
+ghost use Rattle.std.specs.Prelude.{length};
 ghost use Rattle.minisign_hash.specs.Blake2b.{blake2b_digest};
 ghost use Rattle.minisign_hash.specs.Fed.{IsFed, has_finalized, output_length};
-ghost use Rattle.minisign_external.specs.States.{HasToldDigest, IsBlank, IsFedState, IsMarkedFed, IsMarkedTold, IsNotFed, KeepsAsked, fed_mark, is_asked, is_begun, no_questions};
+ghost use Rattle.minisign_external.specs.States.{HasToldDigest, IsBlank, IsFedState, IsMarkedFed};
+ghost use Rattle.minisign_external.specs.States.{IsMarkedTold, IsNotFed, KeepsAsked, fed_mark, is_asked};
+ghost use Rattle.minisign_external.specs.States.{is_begun, no_questions};
 ghost use Rattle.minisign_external.specs.declared.state.Refusal.TheVariants.{Refused, WrongUse};
 
 use minisign_base::PError;
 use minisign_hash::blake2b::Blake2b;
 use minisign_hash::blake2b::stored::StoredBlake2b;
 
-// A state that is being fed begins with the letters `minisign`, one that has told its digest with `minissum`. Questions
-// that were asked are marked by `minisask`.
+// A state that is being fed begins with the letters `minisign`, one that has told its digest with `minissum`.
+// Questions that were asked are marked by `minisask`.
 pub(crate) const FED: u64 = 7955443211184269677;
 
 pub(crate) const TOLD: u64 = 7887337261936568685;
@@ -29,7 +32,8 @@ pub struct State {
     reserved: [u64; 18],
 }
 
-// What was asked. It is written as a whole where the questions are asked; before that it is the default, zeros.
+// What was asked. It is written as a whole where the questions are asked; before that it is the default,
+// zeros.
 #[repr(C)]
 #[derive(Clone, Copy, Default)]
 pub(crate) struct Asked {
@@ -54,10 +58,10 @@ pub struct Questions {
     pub comment_signature: [u8; 64],
     /// The length of the message of the second question.
     pub message_len: u64,
-    /// The key ID of the public key.
-    pub public_key_id: [u8; 8],
-    /// The key ID of the signature.
-    pub signature_key_id: [u8; 8],
+    /// Where in the message of the second question the trusted comment begins.
+    pub comment_offset: u64,
+    /// How many bytes the trusted comment has.
+    pub comment_len: u64,
     /// 1 where the signature is over the data itself, otherwise 0.
     pub legacy: u32,
     /// Nothing yet.
@@ -96,6 +100,10 @@ pub enum Misuse {
     KeyNotOpened,
     /// A secret key that is to be opened was not read.
     KeyNotRead,
+    /// A signature that is asked about was not read.
+    SignatureNotRead,
+    /// The text is not the one that the signature was read from.
+    OtherSignatureText,
 }
 
 /// Why a call did not go: mostly for an error of the library.
@@ -137,8 +145,8 @@ impl Questions {
             signature: [0; 64],
             comment_signature: [0; 64],
             message_len: 0,
-            public_key_id: [0; 8],
-            signature_key_id: [0; 8],
+            comment_offset: 0,
+            comment_len: 0,
             legacy: 0,
             reserved: 0,
         }
@@ -163,9 +171,10 @@ impl State {
     /// Feeds the next bytes of the data. Does not allocate. A state that was never begun is rejected,
     /// and one that has told its digest; then it stays as it was.
     pub fn update(&mut self, piece: &[u8]) -> Result<(), Misuse>
-        // Each update appends to what the state was fed, and what was asked stays. A state that is not being fed takes
-        // no data, and stays as it was.
-        ensures fed { (m : List ℕ) → IsFedState self.old m → MatchResult result (λ _. IsFedState self.new (m ++ piece.now)) (λ _. ⊥) }
+        // Each update appends to what the state was fed, and what was asked stays. A state that is not being
+        // fed takes no data, and stays as it was.
+        ensures fed { (m : List ℕ) → IsFedState self.old m
+            → MatchResult result (λ _. IsFedState self.new (m ++ piece.now)) (λ _. ⊥) }
         ensures asked { KeepsAsked self.old self.new }
         ensures begun { OnOk result (IsMarkedFed self.old) }
         ensures refused { IfErr result (λ e. IsNotFed self.old e × (self.new ≡ self.old)) }
@@ -179,13 +188,15 @@ impl State {
     /// Tells the digest of what the state was fed, 64 bytes; the state then takes no more data.
     /// Rejected as `update`; then the state and the digest stay as they were.
     pub fn digest(&mut self, digest: &mut [u8; 64]) -> Result<(), Misuse>
-        // The digest of everything the state was fed, which it has then told; what was asked stays. A state that is not
-        // being fed tells none, and stays as it was.
+        // The digest of everything the state was fed, which it has then told; what was asked stays. A state
+        // that is not being fed tells none, and stays as it was.
         ensures digest { (m : List ℕ) → IsFedState self.old m
-            → MatchResult result (λ _. (digest.new ≡ blake2b_digest 64 m) × HasToldDigest self.new m) (λ _. ⊥) }
+            → MatchResult result (λ _. (digest.new ≡ blake2b_digest 64 m) × HasToldDigest self.new m)
+            (λ _. ⊥) }
         ensures asked { KeepsAsked self.old self.new }
         ensures told { OnOk result (IsMarkedFed self.old × IsMarkedTold self.new) }
-        ensures refused { IfErr result (λ e. IsNotFed self.old e × (self.new ≡ self.old) × (digest.new ≡ digest.old)) }
+        ensures refused { IfErr result
+            (λ e. IsNotFed self.old e × (self.new ≡ self.old) × (digest.new ≡ digest.old)) }
     {
         let mut hasher = self.hasher()?;
         hasher.finalize(digest);

@@ -1,6 +1,8 @@
-//! A secret key as its text has it: read once into a value, which tells what opening takes, and opened from that.
+//! A secret key as its text has it: read once into a value, which tells what opening takes, and opened from
+//! that.
 
-ghost use Rattle.std.specs.Prelude.{◌≡◌, ◌⊎◌, if◌then◌else◌, true, false, Some, Ok, Err, OnOk, OnErr, IfOk, IfErr, IsOk, length, replicate};
+ghost use Rattle.std.specs.Prelude.{◌≡◌, ◌⊎◌, if◌then◌else◌, true, false, None, Some, MatchResult, Ok, Err};
+ghost use Rattle.std.specs.Prelude.{OnOk, OnErr, IfOk, IfErr, IsOk, length, replicate};
 ghost use Rattle.std.specs.Option.{option_map};
 ghost use Rattle.std.specs.Str.{IsUtf8};
 ghost use Rattle.minisign_base.specs.Fault.{Named};
@@ -13,7 +15,12 @@ ghost use Rattle.minisign.specs.Texts.{and_then, map_ok};
 ghost use Rattle.minisign_external.specs.PublicKeys.{read_utf8};
 ghost use Rattle.minisign_external.specs.declared.state.Misuse.TheVariants.{KeyNotRead, NoRoom};
 ghost use Rattle.minisign_external.specs.declared.state.Refusal.TheVariants.{Refused};
-ghost use Rattle.minisign_external.specs.SecretKeys.{DerivesWithin, OpensAs, is_enough, is_read, lacks_checksum, open_unsealed, open_within, opened_in_place, opened_or_kept, opened_sealed, opened_unsealed, read_value, unopened_record, value_memory, with_refusal};
+ghost use Rattle.minisign_external.specs.SecretKeys.{DerivesWithin, IsOpeningRefusal, IsTextOpeningRefusal};
+ghost use Rattle.minisign_external.specs.SecretKeys.{OpensAs, is_enough, is_read, lacks_checksum};
+ghost use Rattle.minisign_external.specs.SecretKeys.{open_record, open_unsealed, open_within};
+ghost use Rattle.minisign_external.specs.SecretKeys.{opened_in_place, opened_or_kept, opened_sealed};
+ghost use Rattle.minisign_external.specs.SecretKeys.{opened_text, opened_unsealed, read_value, taken_key};
+ghost use Rattle.minisign_external.specs.SecretKeys.{unopened_record, value_memory, with_refusal};
 
 use crate::secrets::SecretKeyValue;
 use crate::state::{Misuse, Refusal};
@@ -30,8 +37,8 @@ const UNSEALED: [u8; 2] = [0, 0];
 // What Minisign writes in place of a checksum where it does not seal the key.
 const NO_CHECKSUM: [u8; 32] = [0; 32];
 
-/// A secret key as its text has it, 176 bytes with the layout of C. It is opened by its mark and its bytes; what
-/// else it tells is for the caller.
+/// A secret key as its text has it, 176 bytes with the layout of C. It is opened by its mark and its bytes;
+/// what else it tells is for the caller.
 #[repr(C)]
 #[derive(Clone, Copy)]
 pub struct UnopenedKeyValue {
@@ -41,13 +48,109 @@ pub struct UnopenedKeyValue {
     pub bytes: [u8; 158],
     /// 1 where the key wants a password, otherwise 0.
     pub is_sealed: u8,
-    /// How many rows of 1 KiB opening takes, as a logarithm to base 2, at most 20; 0 where it is not sealed, or its
-    /// limits are rejected.
+    /// How many rows of 1 KiB opening takes, as a logarithm to base 2, at most 20; 0 where it is not sealed,
+    /// or its limits are rejected.
     pub log2_rows: u8,
     /// How often all rows are made; 0 where the key is not sealed, or its limits are rejected.
     pub work: u32,
     /// Nothing yet.
     pub reserved: u32,
+}
+
+/// The text of a secret key, and how it is opened.
+#[derive(Clone, Copy)]
+pub struct KeyText<'a> {
+    /// Both lines of the text.
+    pub text: &'a [u8],
+    /// The password; nothing for a key that was never sealed.
+    pub password: Option<&'a [u8]>,
+    /// Every k-th of scrypt's rows is kept, where this is k; 0 and 1 keep them all.
+    pub keep_every: u64,
+    /// How many of scrypt's rows may be made in all.
+    pub most_rows: u64,
+}
+
+impl<'a> KeyText<'a> {
+    /// Reads the key and opens it, as `read_unopened_key` and the calls that open do.
+    pub fn open(&self, alloc: Global) -> std::result::Result<SecretKeyValue, Refusal>
+        // The key is the one that the text opens to, with the mark of one that was opened; otherwise the
+        // first case that fails is told, or, where opening derives, a failed allocation.
+        ensures { MatchResult result
+            (λ v. (k : SecretKeyRecord)
+            × (opened_text self.now.text.now (option_map (λ p. p.now) self.now.password) self.now.most_rows
+            ≡ Ok k) × (v ≡ taken_key k.keynum k.secret))
+            (IsTextOpeningRefusal self.now.text.now (option_map (λ p. p.now) self.now.password)
+            self.now.most_rows) }
+    {
+        let mut unopened = UnopenedKeyValue::of_bytes([0; 158]);
+        match read_unopened_key(self.text, &mut unopened) {
+            Ok(()) => self.open_read(alloc, &unopened),
+            Err(fault) => Err(Refusal::Refused(fault)),
+        }
+    }
+
+    // Opens the key that was read.
+    fn open_read(
+        &self,
+        alloc: Global,
+        unopened: &UnopenedKeyValue,
+    ) -> std::result::Result<SecretKeyValue, Refusal>
+        requires { is_read unopened.now ≡ true }
+        ensures { MatchResult result
+            (λ v. (k : SecretKeyRecord)
+            × (open_record (unopened_record unopened.now) (option_map (λ p. p.now) self.now.password)
+            self.now.most_rows ≡ Ok k) × (v ≡ taken_key k.keynum k.secret))
+            (IsOpeningRefusal (unopened_record unopened.now) (option_map (λ p. p.now) self.now.password)
+            self.now.most_rows) }
+    {
+        match self.password {
+            Some(password) => open_sealed(
+                alloc,
+                unopened,
+                password,
+                self.keep_every,
+                self.most_rows,
+            ),
+            None => open_unsealed_read(unopened),
+        }
+    }
+}
+
+// Opens a key that was read and is sealed.
+fn open_sealed(
+    alloc: Global,
+    unopened: &UnopenedKeyValue,
+    password: &[u8],
+    keep_every: u64,
+    most_rows: u64,
+) -> std::result::Result<SecretKeyValue, Refusal>
+    requires { is_read unopened.now ≡ true }
+    ensures { MatchResult result
+        (λ v. (k : SecretKeyRecord)
+        × (open_record (unopened_record unopened.now) (Some password.now) most_rows ≡ Ok k)
+        × (v ≡ taken_key k.keynum k.secret))
+        (IsOpeningRefusal (unopened_record unopened.now) (Some password.now) most_rows) }
+{
+    let mut key = SecretKeyValue::take(&[0; 8], &[0; 64]);
+    match open_sealed_key(alloc, unopened, password, keep_every, most_rows, &mut key) {
+        Ok(()) => Ok(key),
+        Err(refusal) => Err(refusal),
+    }
+}
+
+// Opens a key that was read and was never sealed.
+fn open_unsealed_read(unopened: &UnopenedKeyValue) -> std::result::Result<SecretKeyValue, Refusal>
+    requires { is_read unopened.now ≡ true }
+    ensures { MatchResult result
+        (λ v. (k : SecretKeyRecord) × (open_record (unopened_record unopened.now) None 0 ≡ Ok k)
+        × (v ≡ taken_key k.keynum k.secret))
+        (IsOpeningRefusal (unopened_record unopened.now) None 0) }
+{
+    let mut key = SecretKeyValue::take(&[0; 8], &[0; 64]);
+    match open_unsealed_key(unopened, &mut key) {
+        Ok(()) => Ok(key),
+        Err(refusal) => Err(refusal),
+    }
 }
 
 impl UnopenedKeyValue {
@@ -107,16 +210,16 @@ fn told_by(key: &SecretKey) -> (u8, u8, u32)
 
 /// Reads the text of a secret key into a value, which is opened then.
 ///
-/// Rejected are, in this order: a text that is not UTF-8; what `minisign::read_secret_key` rejects. Then the value
-/// stays as it was. Does not allocate.
+/// Rejected are, in this order: a text that is not UTF-8; what `minisign::read_secret_key` rejects. Then the
+/// value stays as it was. Does not allocate.
 pub fn read_unopened_key(sk_text: &[u8], value: &mut UnopenedKeyValue) -> Result<()>
-    // Whether a text is read is a function of the bytes, which have to be UTF-8: otherwise the first case that fails is
-    // told, and the value stays.
+    // Whether a text is read is a function of the bytes, which have to be UTF-8: otherwise the first case
+    // that fails is told, and the value stays.
     ensures result { result ≡ without_value (read_utf8 read_secret_key sk_text.now) }
     ensures kept { OnErr result (value.new ≡ value.old) }
 
-    // The value holds the record of the key that the text reads as, and tells what opening it takes. Opening it gives
-    // what the text gives, under each password and within each bound on the work.
+    // The value holds the record of the key that the text reads as, and tells what opening it takes. Opening
+    // it gives what the text gives, under each password and within each bound on the work.
     ensures read { OnOk result (read_utf8 read_secret_key sk_text.now ≡ Ok (unopened_record value.new)) }
     ensures told { OnOk result (value.new ≡ read_value value.new.bytes) }
     ensures opens { OnOk result (OpensAs value.new sk_text.now) }
@@ -142,14 +245,15 @@ fn read(sk_text: &[u8]) -> Result<[u8; 158]>
 
 /// Opens a secret key that was read and that was never sealed. It takes no memory and no password.
 ///
-/// Rejected are, in this order: a key that was not read, `KeyNotRead`; a sealed one, `KeyMightBeEncrypted`; one whose
-/// checksum does not match and is not 32 zeros, as Minisign writes them, `CorruptedKey`. Does not allocate.
+/// Rejected are, in this order: a key that was not read, `KeyNotRead`; a sealed one, `KeyMightBeEncrypted`;
+/// one whose checksum does not match and is not 32 zeros, as Minisign writes them, `CorruptedKey`. Does not
+/// allocate.
 pub fn open_unsealed_key(
     unopened: &UnopenedKeyValue,
     value: &mut SecretKeyValue,
 ) -> std::result::Result<(), Refusal>
-    // What is answered, and the key: a key that was read and was never sealed is the one opened, with the mark of one
-    // that was; otherwise it is the first reason, and the key as it was.
+    // What is answered, and the key: a key that was read and was never sealed is the one opened, with the
+    // mark of one that was; otherwise it is the first reason, and the key as it was.
     ensures { (result, value.new) ≡ opened_or_kept (opened_unsealed unopened.now) value.old }
 {
     if unopened.is_read() {
@@ -161,14 +265,15 @@ pub fn open_unsealed_key(
 
 /// Opens a sealed secret key that was read, with its password.
 ///
-/// It takes the memory and the time of scrypt by the key's limits. `keep_every` is k, where every k-th of scrypt's rows
-/// is kept, 1 KiB each, of at most 2^20; 0 and 1 keep them all. `most_rows` is how many rows may be made in all: N for
-/// each of scrypt's p parts, at most 2^20 for a key of Minisign's own.
+/// It takes the memory and the time of scrypt by the key's limits. `keep_every` is k, where every k-th of
+/// scrypt's rows is kept, 1 KiB each, of at most 2^20; 0 and 1 keep them all. `most_rows` is how many rows
+/// may be made in all: N for each of scrypt's p parts, at most 2^20 for a key of Minisign's own.
 ///
-/// Rejected are, in this order: a key that was not read, `KeyNotRead`; a password that is not UTF-8, `NotUtf8`; a key
-/// that was never sealed, `KeyNotEncrypted`; one that is not sealed by scrypt, `UnsupportedEncryptionAlgorithm`; limits,
-/// with `ParametersTooHigh` or `InvalidParameters`; more rows, `WorkTooHigh`; another password, `WrongPassword`. Where
-/// all of these but the last let it derive, an allocation may fail.
+/// Rejected are, in this order: a key that was not read, `KeyNotRead`; a password that is not UTF-8,
+/// `NotUtf8`; a key that was never sealed, `KeyNotEncrypted`; one that is not sealed by scrypt,
+/// `UnsupportedEncryptionAlgorithm`; limits, with `ParametersTooHigh` or `InvalidParameters`; more rows,
+/// `WorkTooHigh`; another password, `WrongPassword`. Where all of these but the last let it derive, an
+/// allocation may fail.
 #[tactic(auto, using(crate::proofs::WithinRows::sealed_or_none))]
 pub fn open_sealed_key(
     alloc: Global,
@@ -178,10 +283,11 @@ pub fn open_sealed_key(
     most_rows: u64,
     value: &mut SecretKeyValue,
 ) -> std::result::Result<(), Refusal>
-    // What is answered, and the key, whatever number of rows is kept: a key that was read and that the password opens is
-    // the one opened, with the mark of one that was; otherwise it is the first reason, and the key as it was. Only where
-    // opening derives is it possibly out of memory instead.
-    ensures { ((result, value.new) ≡ opened_or_kept (opened_sealed unopened.now password.now most_rows) value.old)
+    // What is answered, and the key, whatever number of rows is kept: a key that was read and that the
+    // password opens is the one opened, with the mark of one that was; otherwise it is the first reason, and
+    // the key as it was. Only where opening derives is it possibly out of memory instead.
+    ensures { ((result, value.new)
+        ≡ opened_or_kept (opened_sealed unopened.now password.now most_rows) value.old)
         ⊎ (((result, value.new) ≡ opened_or_kept (Err (Refused (Named OutOfMemory))) value.old)
         × DerivesWithin unopened.now password.now most_rows) }
 {
@@ -193,9 +299,9 @@ pub fn open_sealed_key(
     }
 }
 
-/// How much memory `open_sealed_key_in_place` takes with every k-th of scrypt's rows kept, where k is `keep_every`: so
-/// many words of 32 bits and so many bytes. Zeros for a key that wants no password, and where its limits are rejected.
-/// Does not allocate.
+/// How much memory `open_sealed_key_in_place` takes with every k-th of scrypt's rows kept, where k is
+/// `keep_every`: so many words of 32 bits and so many bytes. Zeros for a key that wants no password, and
+/// where its limits are rejected. Does not allocate.
 pub fn memory_to_open(unopened: &UnopenedKeyValue, keep_every: u64) -> (u64, u64)
     // The memory is that of the key in the value.
     ensures { result ≡ value_memory unopened.now keep_every }
@@ -206,11 +312,13 @@ pub fn memory_to_open(unopened: &UnopenedKeyValue, keep_every: u64) -> (u64, u64
     }
 }
 
-/// Opens a sealed secret key that was read, with its password, in memory that is passed in, as `open_sealed_key` does,
-/// and allocates none: `words` and `bytes` have at least the lengths that `memory_to_open` tells. What they held is not
-/// read, and all of both is left with zeros, after an error too.
+/// Opens a sealed secret key that was read, with its password, in memory that is passed in, as
+/// `open_sealed_key` does, and allocates none: `words` and `bytes` have at least the lengths that
+/// `memory_to_open` tells. What they held is not read, and all of both is left with zeros, after an error
+/// too.
 ///
-/// Rejected is what `open_sealed_key` rejects, and behind a key that was not read too little memory, `NoRoom`.
+/// Rejected is what `open_sealed_key` rejects, and behind a key that was not read too little memory,
+/// `NoRoom`.
 pub fn open_sealed_key_in_place(
     unopened: &UnopenedKeyValue,
     password: &[u8],
@@ -220,10 +328,13 @@ pub fn open_sealed_key_in_place(
     bytes: &mut [u8],
     value: &mut SecretKeyValue,
 ) -> std::result::Result<(), Refusal>
-    // What is answered, and the key, whatever the memory held and whatever number of rows is kept: a key that was read
-    // and that the password opens is the one opened, with the mark of one that was; otherwise it is the first reason,
-    // which is never out of memory, and the key as it was.
-    ensures opened { (result, value.new) ≡ opened_or_kept (opened_in_place unopened.now password.now keep_every most_rows (length words.old) (length bytes.old)) value.old }
+    // What is answered, and the key, whatever the memory held and whatever number of rows is kept: a key that
+    // was read and that the password opens is the one opened, with the mark of one that was; otherwise it is
+    // the first reason, which is never out of memory, and the key as it was.
+    ensures opened { (result, value.new)
+        ≡ opened_or_kept
+        (opened_in_place unopened.now password.now keep_every most_rows (length words.old) (length bytes.old))
+        value.old }
 
     // That memory then holds zeros, all of it, whatever the result.
     ensures words_cleared { words.new ≡ replicate (length words.old) 0 }
@@ -244,9 +355,12 @@ fn test_room(
     words: &[u32],
     bytes: &[u8],
 ) -> std::result::Result<(), Misuse>
-    ensures passed { OnOk result ((is_read unopened.now ≡ true) × (is_enough unopened.now keep_every (length words.now) (length bytes.now) ≡ true)) }
+    ensures passed { OnOk result
+        ((is_read unopened.now ≡ true)
+        × (is_enough unopened.now keep_every (length words.now) (length bytes.now) ≡ true)) }
     ensures refused { IfErr result (λ m. ((m ≡ KeyNotRead) × (is_read unopened.now ≡ false))
-        ⊎ ((m ≡ NoRoom) × (is_read unopened.now ≡ true) × (is_enough unopened.now keep_every (length words.now) (length bytes.now) ≡ false))) }
+        ⊎ ((m ≡ NoRoom) × (is_read unopened.now ≡ true)
+        × (is_enough unopened.now keep_every (length words.now) (length bytes.now) ≡ false))) }
 {
     let is_read = unopened.is_read();
     if !is_read {
@@ -307,7 +421,8 @@ fn derive_in_place(
     bytes: &mut [u8],
 ) -> Result<SecretKey>
     requires { is_enough unopened.now keep_every (length words.old) (length bytes.old) ≡ true }
-    ensures opened { result ≡ read_utf8 (λ p. open_within (unopened_record unopened.now) p most_rows) password.now }
+    ensures opened { result ≡ read_utf8 (λ p. open_within (unopened_record unopened.now) p most_rows)
+        password.now }
     ensures words_cleared { words.new ≡ replicate (length words.old) 0 }
     ensures bytes_cleared { bytes.new ≡ replicate (length bytes.old) 0 }
 {
@@ -321,8 +436,8 @@ fn derive_in_place(
     key.open_in_place(typed.as_bytes(), keep_every.max(1), times, words, bytes)
 }
 
-// The key that was never sealed: one with 32 zeros in place of its checksum, as Minisign writes it, or else what
-// `SecretKey::test_unencrypted` takes.
+// The key that was never sealed: one with 32 zeros in place of its checksum, as Minisign writes it, or else
+// what `SecretKey::test_unencrypted` takes.
 fn open_unsealed(unopened: &UnopenedKeyValue) -> Result<SecretKey>
     ensures { result ≡ open_unsealed (unopened_record unopened.now) }
 {

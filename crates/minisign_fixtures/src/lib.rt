@@ -1,5 +1,5 @@
-//! What the tests share, and the program of the comparison: key A and texts of it, devices that fail, and directories of
-//! files. It has no tests of its own.
+//! What the tests share, and the program of the comparison: key A and texts of it, devices that fail, and
+//! directories of files. It has no tests of its own.
 
 #![tactic(auto)]
 

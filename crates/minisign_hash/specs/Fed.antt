@@ -14,7 +14,8 @@ has_finalized s = s.finalized
 
 -- after i blocks of the message m, none of which is the last, the state under the digest's length n is h and
 -- the count is theirs, and the first used bytes of the buffer are the bytes of m after them
-pub record HeldAfter (n : ℕ) (h : List ℕ) (count : ℕ) (buffer : List ℕ) (used : ℕ) (m : List ℕ) (i : ℕ) : Type 0 where
+pub record HeldAfter (n : ℕ) (h : List ℕ) (count : ℕ) (buffer : List ℕ) (used : ℕ) (m : List ℕ) (i : ℕ)
+    : Type 0 where
   pub len : length m ≡ 128 * i + used
   pub state : h ≡ state_after n m i
   pub rest : take used buffer ≡ drop (128 * i) m

@@ -4,8 +4,8 @@ use Rattle.std.specs.Prelude.{ℕ, ◌*◌, ◌+◌, ◌^◌, ◌<◌, ◌≤◌
 use Rattle.minisign_hash.specs.Fed.{HeldAfter}
 use Rattle.minisign_hash.specs.declared.blake2b.stored.StoredBlake2b.{StoredBlake2b}
 
--- the state, which is for a digest of 64 bytes, was fed the message m: it holds it in its buffer and in the hash
--- of the blocks before, and keeps the last block back
+-- the state, which is for a digest of 64 bytes, was fed the message m: it holds it in its buffer and in the
+-- hash of the blocks before, and keeps the last block back
 unfoldable pub WasFed : StoredBlake2b → List ℕ → Type 0
 WasFed s m =
     (i : ℕ) × HeldAfter 64 s.h (2 ^ 64 * s.count_high + s.count_low) s.buffer s.used m i

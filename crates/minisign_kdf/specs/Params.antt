@@ -23,5 +23,6 @@ pub record IsAccepted (v : Numbers) : Type 0 where
 -- the same as a test
 abbrev pub is_accepted : Numbers → Bool
 is_accepted v =
-    nat_le 1 v.n_log2 && nat_le 1 v.r && nat_le 1 v.p && nat_lt v.n_log2 (16 * v.r) && nat_lt (v.r * v.p) (2 ^ 30)
+    nat_le 1 v.n_log2 && nat_le 1 v.r && nat_le 1 v.p && nat_lt v.n_log2 (16 * v.r)
+    && nat_lt (v.r * v.p) (2 ^ 30)
     && nat_lt (128 * v.r * 2 ^ v.n_log2) (2 ^ 64)

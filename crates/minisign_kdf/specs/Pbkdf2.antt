@@ -8,8 +8,8 @@ use Rattle.minisign_kdf.specs.Hmac.{hmac}
 abbrev pub longest_key : ℕ
 longest_key = (2 ^ 32 - 1) * 32
 
--- T_1, .., T_l joined and cut to len bytes, l being len / 32 rounded up; T_i is U_1 alone, whose text ends with i as
--- four bytes, high byte first
+-- T_1, .., T_l joined and cut to len bytes, l being len / 32 rounded up; T_i is U_1 alone, whose text ends
+-- with i as four bytes, high byte first
 unfoldable pub pbkdf2 : List ℕ → List ℕ → ℕ → List ℕ
 pbkdf2 password salt len =
     take len (joined_lists (λ i. hmac password (salt ++ to_be_bytes w32 (i + 1))) ((len + 31) / 32))

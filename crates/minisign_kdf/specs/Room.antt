@@ -3,7 +3,8 @@ use Rattle.std.specs.Prelude.{ℕ, ◌+◌, ◌*◌, ◌^◌}
 use Rattle.std.specs.Int.{div_ceil}
 use Rattle.minisign_kdf.specs.Params.{Numbers}
 
--- how many words are wanted where every k-th row is kept: those of the kept rows of a part, and of three rows more
+-- how many words are wanted where every k-th row is kept: those of the kept rows of a part, and of three rows
+-- more
 abbrev pub wanted_words : Numbers → ℕ → ℕ
 wanted_words v k = 32 * v.r * (div_ceil (2 ^ v.n_log2) k + 3)
 

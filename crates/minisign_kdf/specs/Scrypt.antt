@@ -13,15 +13,16 @@ mixed_block r b (suc i) = salsa20_8 (zip2 bit_xor (mixed_block r b i) (block 64 
 
 -- scryptBlockMix: Y_0, Y_2, .., Y_(2r-2), Y_1, Y_3, .., Y_(2r-1) (section 4)
 unfoldable pub block_mix : ℕ → List ℕ → List ℕ
-block_mix r b = joined_lists (λ i. mixed_block r b (2 * i)) r ++ joined_lists (λ i. mixed_block r b (2 * i + 1)) r
+block_mix r b = joined_lists (λ i. mixed_block r b (2 * i)) r
+    ++ joined_lists (λ i. mixed_block r b (2 * i + 1)) r
 
 -- V_i: scryptBlockMix applied i times to B (section 5)
 unfoldable pub row_at : ℕ → List ℕ → ℕ → List ℕ
 row_at r b zero = b
 row_at r b (suc i) = block_mix r (row_at r b i)
 
--- x after t times j = Integerify(X) mod N, X = scryptBlockMix(X xor V_j), with n for N; Integerify reads the last block
--- as a number, low byte first (section 5)
+-- x after t times j = Integerify(X) mod N, X = scryptBlockMix(X xor V_j), with n for N; Integerify reads the
+-- last block as a number, low byte first (section 5)
 unfoldable pub mixed_part : ℕ → ℕ → (ℕ → List ℕ) → List ℕ → ℕ → List ℕ
 mixed_part r n v x zero = x
 mixed_part r n v x (suc t) =

@@ -1,7 +1,8 @@
 //! The rows of scryptROMix (RFC 7914, section 5) of which every k-th is kept, in one vector of
 //! words: the words of each block stand in diagonal order.
 
-ghost use Rattle.std.specs.Prelude.{◌≡◌, ℕ, ◌+◌, ◌*◌, ◌%◌, ◌/◌, ◌^◌, ◌<◌, ◌≤◌, IfErr, IfOk, OnOk, length, vec_capacity, vec_len};
+ghost use Rattle.std.specs.Prelude.{◌≡◌, ℕ, ◌+◌, ◌*◌, ◌%◌, ◌/◌, ◌^◌, ◌<◌, ◌≤◌, IfErr, IfOk, OnOk, length};
+ghost use Rattle.std.specs.Prelude.{vec_capacity, vec_len};
 ghost use Rattle.std.specs.Int.{div_ceil};
 ghost use Rattle.minisign_kdf.specs.Blocks.{block};
 ghost use Rattle.minisign_kdf.specs.Diagonal.{diagonal_bytes};
@@ -31,9 +32,15 @@ pub struct Rows {
 impl Model for Rows {
     ghost Value = { KeptRows };
 
-    ghost view = { λ s. record { r = s.r; n = 2 ^ s.n_log2; k = s.k; rows = rows_of s.r (div_ceil (2 ^ s.n_log2) s.k) s.words.items } };
+    ghost view = { λ s. record {
+      r = s.r;
+      n = 2 ^ s.n_log2;
+      k = s.k;
+      rows = rows_of s.r (div_ceil (2 ^ s.n_log2) s.k) s.words.items;
+    } };
 
-    ghost invariant = { λ s. (s.n_log2 < 64) × (1 ≤ s.k) × (length s.words.items ≡ 32 * s.r * div_ceil (2 ^ s.n_log2) s.k) };
+    ghost invariant = { λ s. (s.n_log2 < 64) × (1 ≤ s.k)
+        × (length s.words.items ≡ 32 * s.r * div_ceil (2 ^ s.n_log2) s.k) };
 }
 
 impl Rows {
@@ -53,7 +60,8 @@ impl Rows {
 
         // The kept rows of a block are V_0, V_k, V_2k, .. with numbers below N, and no others.
         ensures rows { let r = length block.now / 128 in
-            IfOk result (λ v. v ≡ record { r = r; n = 2 ^ n_log2; k = k; rows = kept_rows r (2 ^ n_log2) k block.now }) }
+            IfOk result
+            (λ v. v ≡ record { r = r; n = 2 ^ n_log2; k = k; rows = kept_rows r (2 ^ n_log2) k block.now }) }
 
         // The only error is out of memory.
         ensures refused { IfErr result (λ e. e ≡ KdfError.OutOfMemory) }

@@ -1,6 +1,7 @@
 //! scrypt (RFC 7914, section 6).
 
-ghost use Rattle.std.specs.Prelude.{◌≡◌, ◌+◌, ◌*◌, ◌/◌, ◌%◌, ◌^◌, ◌<◌, ◌≤◌, IfErr, IfOk, IsTrue, OnErr, OnOk, if◌then◌else◌, is_ok, length, replicate, vec_capacity, vec_len};
+ghost use Rattle.std.specs.Prelude.{◌≡◌, ◌+◌, ◌*◌, ◌/◌, ◌%◌, ◌^◌, ◌<◌, ◌≤◌, IfErr, IfOk, IsTrue, OnErr, OnOk};
+ghost use Rattle.std.specs.Prelude.{if◌then◌else◌, is_ok, length, replicate, vec_capacity, vec_len};
 ghost use Rattle.std.specs.Int.{div_ceil};
 ghost use Rattle.minisign_kdf.specs.Blocks.{block, joined_lists};
 ghost use Rattle.minisign_kdf.specs.Pbkdf2.{longest_key};

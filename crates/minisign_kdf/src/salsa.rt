@@ -4,8 +4,8 @@
 ghost use Rattle.std.specs.Prelude.{◌≡◌, ◌<◌, length, map, bit_xor};
 ghost use Rattle.std.specs.Int.{w32, rotate_left};
 ghost use Rattle.std.specs.Simd.Lanes.{zip2};
-ghost use Rattle.minisign_kdf.specs.Diagonal.{block_words, column_round, placed_words, row_round, salsa_words};
-ghost use Rattle.minisign_kdf.specs.Diagonal.{transposed_square};
+ghost use Rattle.minisign_kdf.specs.Diagonal.{block_words, column_round, placed_words, row_round};
+ghost use Rattle.minisign_kdf.specs.Diagonal.{salsa_words, transposed_square};
 ghost use Rattle.minisign_kdf.specs.Salsa20.{add32, double_round};
 
 use std::simd::u32x4;

@@ -1,22 +1,28 @@
-//! What the page that verifies a download calls, built for WebAssembly: the calls of `minisign_c` that verify, under
-//! their contracts and with their numbers. `bindings/javascript/calls.js` calls them, and says what a caller owes. None
-//! of it allocates.
+//! What the page that verifies a download calls, built for WebAssembly: the calls of `minisign_c` that
+//! verify, under their contracts and with their numbers. `bindings/javascript/calls.js` calls them, and says
+//! what a caller owes. None of it allocates.
 
 #![tactic(auto)]
 
 ghost use Rattle.std.specs.Prelude.{◌≡◌, ◌⊎◌, ◌==◌, ◌<◌, ◌++◌, ℕ, Bool, List, [], Ok, false, length, drop};
 ghost use Rattle.minisign_hash.specs.Blake2b.{blake2b_digest};
 ghost use Rattle.minisign.specs.PublicKeyText.{read_bare_public_key, read_public_key};
-ghost use Rattle.minisign.specs.SignatureText.{SignatureTextRecord, read_signature};
+ghost use Rattle.minisign.specs.SignatureText.{SignatureTextRecord};
 ghost use Rattle.minisign.specs.Acceptance.{Verifier};
-ghost use Rattle.minisign_external.specs.Questions.{HoldsMessage, IsKeyText, read_under, verdict_under};
-ghost use Rattle.minisign_external.specs.Numbers.{IsMeaning, WritesCut, fault_number, misuse_number, refusal_number};
+ghost use Rattle.minisign_external.specs.Questions.{IsKeyText, read_under, verdict_under};
+ghost use Rattle.minisign_external.specs.Numbers.{IsMeaning, WritesCut, fault_number, misuse_number};
+ghost use Rattle.minisign_external.specs.Numbers.{refusal_number};
 ghost use Rattle.minisign_external.specs.PublicKeys.{read_utf8, told_key_number};
-ghost use Rattle.minisign_external.specs.States.{GivesNumber, HasAsked, HasToldDigest, IsAnswered, IsBlank, IsFedState, IsMarkedFed, IsMarkedTold, KeepsAsked, asking_number, feeding_misuse, is_asked, questions_of, told_verdict_number, verdict_number};
+ghost use Rattle.minisign_external.specs.Signatures.{IsReadFrom, read_signature_value, told_signature_value};
+ghost use Rattle.minisign_external.specs.States.{AreAsked, GivesNumber, HasAsked, HasToldDigest, IsAnswered};
+ghost use Rattle.minisign_external.specs.States.{IsBlank, IsFedState, IsMarkedFed, IsMarkedTold, KeepsAsked};
+ghost use Rattle.minisign_external.specs.States.{asking_number, asking_under, feeding_misuse, result_number};
+ghost use Rattle.minisign_external.specs.States.{told_verdict_number, verdict_number};
 ghost use Rattle.minisign_external.specs.declared.public_keys.PublicKeyValue.{PublicKeyValue};
 
 use minisign_external::numbers::{ANSWER_YES, is_answer, write_error_text};
 use minisign_external::public_keys::{PublicKeyValue, tell_bare_public_key, tell_public_key};
+use minisign_external::signatures::SignatureValue;
 use minisign_external::state::{Misuse, Questions, Refusal, State};
 use std::mem::forget;
 
@@ -24,7 +30,8 @@ use std::mem::forget;
 /// Returns the length of the whole text.
 #[unsafe(no_mangle)]
 pub extern "C" fn page_error_text(error: u32, text: &mut [u8]) -> usize
-    ensures written { (meaning : List ℕ) × IsMeaning error meaning × (result ≡ length meaning) × WritesCut meaning text.old text.new }
+    ensures written { (meaning : List ℕ) × IsMeaning error meaning × (result ≡ length meaning)
+        × WritesCut meaning text.old text.new }
     ensures room { result < 128 }
 {
     write_error_text(error, text)
@@ -42,10 +49,12 @@ pub extern "C" fn page_init(state: &mut State)
 /// Feeds the next bytes of the data.
 #[unsafe(no_mangle)]
 pub extern "C" fn page_update(state: &mut State, piece: &[u8]) -> u32
-    ensures fed { (m : List ℕ) → IsFedState state.old m → (result ≡ 0) × IsFedState state.new (m ++ piece.now) }
+    ensures fed { (m : List ℕ) → IsFedState state.old m → (result ≡ 0)
+        × IsFedState state.new (m ++ piece.now) }
     ensures asked { KeepsAsked state.old state.new }
     ensures begun { result ≡ 0 → IsMarkedFed state.old }
-    ensures refused { 0 < result → (result ≡ misuse_number (feeding_misuse state.old)) × (state.new ≡ state.old) }
+    ensures refused { 0 < result → (result ≡ misuse_number (feeding_misuse state.old))
+        × (state.new ≡ state.old) }
 {
     match state.update(piece) {
         Ok(()) => 0,
@@ -60,7 +69,8 @@ pub extern "C" fn page_digest(state: &mut State, digest: &mut [u8; 64]) -> u32
         → (result ≡ 0) × (digest.new ≡ blake2b_digest 64 m) × HasToldDigest state.new m }
     ensures asked { KeepsAsked state.old state.new }
     ensures told { result ≡ 0 → IsMarkedFed state.old × IsMarkedTold state.new }
-    ensures refused { 0 < result → (result ≡ misuse_number (feeding_misuse state.old)) × (state.new ≡ state.old) × (digest.new ≡ digest.old) }
+    ensures refused { 0 < result → (result ≡ misuse_number (feeding_misuse state.old))
+        × (state.new ≡ state.old) × (digest.new ≡ digest.old) }
 {
     match state.digest(digest) {
         Ok(()) => 0,
@@ -90,45 +100,75 @@ pub extern "C" fn page_read_bare_public_key(base64: &[u8], key: &mut PublicKeyVa
     }
 }
 
-/// Asks what Ed25519 has to answer before it is known whether the key and the text of the signature vouch for the data.
-/// Does not allocate.
+/// Reads the signature of a text.
+#[unsafe(no_mangle)]
+pub extern "C" fn page_read_signature(sig_text: &[u8], signature: &mut SignatureValue) -> u32
+    ensures number { (result, signature.new)
+        ≡ told_signature_value (read_signature_value sig_text.now) signature.old }
+    ensures read { result ≡ 0 → (t : SignatureTextRecord) × IsReadFrom signature.new sig_text.now t }
+{
+    match SignatureValue::read(sig_text) {
+        Ok(read) => {
+            *signature = read;
+            0
+        }
+        Err(fault) => number_of(Refusal::Refused(fault)),
+    }
+}
+
+/// Asks what Ed25519 has to answer before it is known whether the key and the text of the signature vouch for
+/// the data. Does not allocate.
 #[unsafe(no_mangle)]
 pub extern "C" fn page_ask(
     state: &mut State,
     key: &PublicKeyValue,
+    signature: &SignatureValue,
     sig_text: &[u8],
     allow_legacy: u32,
     questions: &mut Questions,
     message: &mut [u8],
 ) -> u32
-    ensures number { result ≡ asking_number state.old key.now sig_text.now allow_legacy (length message.old) }
-    ensures asked { result ≡ 0 → (t : SignatureTextRecord) × (read_under key.now (allow_legacy == 1) sig_text.now ≡ Ok t)
-        × (questions.new ≡ questions_of key.now t) × HoldsMessage t.signature t.comments.trusted message.new questions.new.message_len }
-    ensures asking { result ≡ 0 → HasAsked state.new key.now sig_text.now (allow_legacy == 1) }
+    ensures number { result ≡ asking_number state.old key.now signature.now sig_text.now allow_legacy
+        (length message.old) }
+    ensures text { (t : SignatureTextRecord) → IsReadFrom signature.now sig_text.now t → allow_legacy < 2
+        → result
+        ≡ result_number
+        (asking_under state.old key.now sig_text.now (allow_legacy == 1) (length message.old)) }
+    ensures asked { result ≡ 0 → (t : SignatureTextRecord) → IsReadFrom signature.now sig_text.now t
+        → (read_under key.now (allow_legacy == 1) sig_text.now ≡ Ok t)
+        × AreAsked questions.new message.new key.now t
+        × HasAsked state.new key.now sig_text.now (allow_legacy == 1) }
     ensures fed { (m : List ℕ) → IsFedState state.old m → IsFedState state.new m }
-    ensures rest { result ≡ 0 → drop questions.new.message_len message.new ≡ drop questions.new.message_len message.old }
-    ensures kept { 0 < result → (state.new ≡ state.old) × (message.new ≡ message.old) }
-    ensures key_ids { allow_legacy < 2 → IsMarkedFed state.old → is_asked state.old ≡ false
-        → (t : SignatureTextRecord) → read_utf8 read_signature sig_text.now ≡ Ok t
-        → (questions.new.public_key_id ≡ key.now.key_id) × (questions.new.signature_key_id ≡ t.signature.keynum) }
-    ensures unasked { (questions.new ≡ questions.old) ⊎ ((allow_legacy < 2) × IsMarkedFed state.old × (is_asked state.old ≡ false)) }
+    ensures rest { result ≡ 0 → drop questions.new.message_len message.new
+        ≡ drop questions.new.message_len message.old }
+    ensures kept { 0 < result → (state.new ≡ state.old) × (questions.new ≡ questions.old)
+        × (message.new ≡ message.old) }
 {
     if allow_legacy > 1 {
         return Misuse::BadLegacyFlag.number();
     }
-    match state.ask(key, sig_text, allow_legacy == 1, questions, message) {
+    match state.ask(
+        key,
+        signature,
+        sig_text,
+        allow_legacy == 1,
+        questions,
+        message,
+    ) {
         Ok(()) => 0,
         Err(refusal) => number_of(refusal),
     }
 }
 
-/// The verdict from what Ed25519 answered to the two questions, `ANSWER_YES` or `ANSWER_NO`. It ends the state.
+/// The verdict from what Ed25519 answered to the two questions, `ANSWER_YES` or `ANSWER_NO`. It ends the
+/// state.
 #[unsafe(no_mangle)]
 pub extern "C" fn page_verdict(state: &mut State, first: u32, second: u32) -> u32
     ensures verdict { (v : PublicKeyValue) (sig_text message : List ℕ) (legacy : Bool) (accepts : Verifier)
         → IsAnswered state.old accepts v sig_text message legacy first second
         → result ≡ verdict_number (verdict_under accepts v sig_text message legacy) }
-    ensures texts { (v : PublicKeyValue) (pk_text sig_text message : List ℕ) (legacy : Bool) (accepts : Verifier)
+    ensures texts { (v : PublicKeyValue) (pk_text sig_text message : List ℕ) (legacy : Bool)
+        (accepts : Verifier)
         → IsAnswered state.old accepts v sig_text message legacy first second → IsKeyText pk_text v
         → GivesNumber accepts pk_text sig_text message legacy result }
     ensures number { (result, state.new) ≡ told_verdict_number state.old first second }
@@ -142,8 +182,8 @@ pub extern "C" fn page_verdict(state: &mut State, first: u32, second: u32) -> u3
     }
 }
 
-// The number of a rejection. It is forgotten and not dropped: it has no memory to give back, and the type of an error,
-// which may have a text of its own, would have the module call for giving memory back.
+// The number of a rejection. It is forgotten and not dropped: it has no memory to give back, and the type of
+// an error, which may have a text of its own, would have the module call for giving memory back.
 fn number_of(refusal: Refusal) -> u32
     ensures { result ≡ refusal_number fault_number refusal }
 {

@@ -18,13 +18,13 @@ pub record HasBits (mode of_owner of_group of_others : ℕ) : Type 0 where
   pub others : other_bits mode ≡ of_others
   pub nothing_else : mode < 2 ^ 9
 
--- the owner and all others have the bits that they had in the older mode, and the group has just those of its older
--- bits that all others have too
+-- the owner and all others have the bits that they had in the older mode, and the group has just those of its
+-- older bits that all others have too
 abbrev pub KeepsPermissions : ℕ → ℕ → Type 0
 KeepsPermissions older new =
     HasBits new (owner_bits older) (bit_and (group_bits older) (other_bits older)) (other_bits older)
 
--- of a file whose group could not be given: the owner has the bits that it had, the group has none, and all others have
--- just those of their bits that the group had too
+-- of a file whose group could not be given: the owner has the bits that it had, the group has none, and all
+-- others have just those of their bits that the group had too
 abbrev pub LosesGroup : ℕ → ℕ → Type 0
 LosesGroup older new = HasBits new (owner_bits older) 0 (bit_and (group_bits older) (other_bits older))

@@ -52,7 +52,8 @@ pub fn read_arguments<R: Env + AllocGlobal>(rt: &R) -> Result<Option<Vec<String>
     }
 }
 
-/// The words of the arguments behind the first one, which is the program. It fails only where an allocation fails.
+/// The words of the arguments behind the first one, which is the program. It fails only where an allocation
+/// fails.
 pub fn words_of(alloc: Global, arguments: &[String]) -> std::result::Result<Vec<&str>, AllocError>
     ensures { IfOk result (λ v. map (λ w. w.now) v.items ≡ map (λ s. string_bytes s) (drop 1 arguments.now)) }
 {

@@ -1,7 +1,8 @@
 -- Which command the arguments ask for.
 use Rattle.std.specs.Prelude.{◌≡◌, ℕ, ◌⊎◌, List, [], ◌∷◌, Option, Some, None, codes}
 use Rattle.minisign_tool.specs.declared.commands.Command.{Command}
-use Rattle.minisign_tool.specs.declared.commands.Command.TheVariants.{Cat, Keygen, Sign, Usage, Verify, VerifyRaw}
+use Rattle.minisign_tool.specs.declared.commands.Command.TheVariants.{Cat, Keygen, Sign, Usage, Verify}
+use Rattle.minisign_tool.specs.declared.commands.Command.TheVariants.{VerifyRaw}
 
 -- the words are this name and two paths
 abbrev pub NamesTwo : List (List ℕ) → List ℕ → Type 0
@@ -26,7 +27,8 @@ AsksFor words (VerifyRaw pk sig) = words ≡ codes "verify-raw" ∷ pk.now ∷ s
 AsksFor words (Cat pk file sig) = words ≡ codes "cat" ∷ pk.now ∷ file.now ∷ sig.now ∷ []
 AsksFor words Usage = ¬ (IsForm words)
 
--- what was read after the program's name asks for this command, and for the usage where an argument is not UTF-8
+-- what was read after the program's name asks for this command, and for the usage where an argument is not
+-- UTF-8
 abbrev pub ReadAsksFor : Option (List (List ℕ)) → Command → Type 0
 ReadAsksFor None command = command ≡ Usage
 ReadAsksFor (Some words) command = AsksFor words command

@@ -5,19 +5,22 @@ use Rattle.minisign.specs.Acceptance.{Verifier, status_lines, verified_text}
 use Rattle.minisign.specs.Records.{SignatureBoxRecord}
 use Rattle.minisign.specs.Texts.{line}
 use Rattle.minisign.specs.Headline.{TextsVouchFor}
-use Rattle.minisign_tool.specs.Report.{EndsWithFault, SaysAfterWarning, ShowsOnlyFault, TakesOrFails, usage_line}
-use Rattle.minisign_tool.specs.Report.{warning_line}
+use Rattle.minisign_tool.specs.Report.{EndsWithFault, SaysAfterWarning, ShowsOnlyFault, TakesOrFails}
+use Rattle.minisign_tool.specs.Report.{usage_line, warning_line}
 use Rattle.minisign_tool.specs.VerifyRaw.{VouchesRaw}
 use Rattle.minisign_tool.specs.declared.commands.Command.{Command}
-use Rattle.minisign_tool.specs.declared.commands.Command.TheVariants.{Cat, Keygen, Sign, Usage, Verify, VerifyRaw}
+use Rattle.minisign_tool.specs.declared.commands.Command.TheVariants.{Cat, Keygen, Sign, Usage, Verify}
+use Rattle.minisign_tool.specs.declared.commands.Command.TheVariants.{VerifyRaw}
 
 -- there are two texts and data for which they vouch, legacy signatures being rejected
 abbrev pub SomeTextsVouch : Verifier → Type 0
-SomeTextsVouch accepts = (pk_text sig_text message : List ℕ) × TextsVouchFor accepts pk_text sig_text message false
+SomeTextsVouch accepts = (pk_text sig_text message : List ℕ)
+    × TextsVouchFor accepts pk_text sig_text message false
 
 -- there are the bytes of a public key and of a bare signature, and data for which they vouch
 abbrev pub SomeBytesVouch : Verifier → Type 0
-SomeBytesVouch accepts = (key_file signature_file message : List ℕ) × VouchesRaw accepts key_file signature_file message
+SomeBytesVouch accepts = (key_file signature_file message : List ℕ)
+    × VouchesRaw accepts key_file signature_file message
 
 -- what is so where this command ends well
 abbrev pub HoldsAfter : Verifier → Command → Type 0
@@ -32,13 +35,15 @@ HoldsAfter accepts Usage = ⊥
 abbrev pub ShowsCommand : Verifier → Command → ℕ → Type 0
 ShowsCommand accepts command status = status ≡ 0 → HoldsAfter accepts command
 
--- what a command says that is quiet where it ends well: the warning, and with status 1 the line of an error after it
+-- what a command says that is quiet where it ends well: the warning, and with status 1 the line of an error
+-- after it
 abbrev pub SaysOnlyFaults : {S : Type 0} → SinkOf S → S → S → ℕ → Type 0
 SaysOnlyFaults sink old new status =
-    (status ≡ 0 → TakesOrFails sink old new warning_line) × (status ≡ 1 → ShowsOnlyFault sink old new (λ _. ⊤))
+    (status ≡ 0 → TakesOrFails sink old new warning_line)
+    × (status ≡ 1 → ShowsOnlyFault sink old new (λ _. ⊤))
 
--- what a command says that verifies: the warning, and with status 0 the status lines of a box after it, with 1 the
--- line of an error at the end
+-- what a command says that verifies: the warning, and with status 0 the status lines of a box after it, with
+-- 1 the line of an error at the end
 abbrev pub SaysVerdict : {S : Type 0} → SinkOf S → S → S → ℕ → Type 0
 SaysVerdict sink old new status =
     (status ≡ 0 → (box : SignatureBoxRecord) × SaysAfterWarning sink old new (status_lines box))
@@ -55,8 +60,8 @@ abbrev pub ShowsWarningAndUsage : {S : Type 0} → SinkOf S → S → S → Type
 ShowsWarningAndUsage {S = S} sink old new =
     (warned : S) × TakesOrFails sink old warned warning_line × TakesOrFails sink warned new usage_line
 
--- what a run says that this command was asked of: as the command does, with the status 0 or 1, or the usage with the
--- status 2
+-- what a run says that this command was asked of: as the command does, with the status 0 or 1, or the usage
+-- with the status 2
 abbrev pub SaysCommand : {S : Type 0} → SinkOf S → Command → S → S → ℕ → Type 0
 SaysCommand sink (Keygen pk sk) old new status = (status ≤ 1) × SaysOnlyFaults sink old new status
 SaysCommand sink (Sign sk file sig) old new status = (status ≤ 1) × SaysOnlyFaults sink old new status

@@ -12,7 +12,8 @@ use Rattle.minisign.specs.SecretKeyText.{secret_key_text}
 -- a pair was made of the random bytes that were drawn, under a password that was typed twice; one sink took
 -- the text of its public key, the other that of its secret key with the default comment, and this text
 -- opens under the password to the secret key of that public one, and to no other
-pub record MakesKeys {Z R W P K : Type 0} (public_of : List ℕ → List ℕ) (z : RandomCall Z) (p : PromptCall R W)
+pub record MakesKeys {Z R W P K : Type 0} (public_of : List ℕ → List ℕ) (z : RandomCall Z)
+    (p : PromptCall R W)
     (pk_sink : SinkCall P) (sk_sink : SinkCall K) : Type 0 where
   pub password : List ℕ
   pub pk : PublicKeyRecord

@@ -14,7 +14,8 @@ warning_line = line (codes "warning: insecure toy scheme, for tests only")
 -- the arguments that there are
 unfoldable pub usage_line : List ℕ
 usage_line =
-    line (codes "usage: minisign_tool keygen PK SK | sign SK FILE SIG | verify PK FILE SIG | verify-raw PK SIG | cat PK FILE SIG")
+    line
+    (codes "usage: minisign_tool keygen PK SK | sign SK FILE SIG | verify PK FILE SIG | verify-raw PK SIG | cat PK FILE SIG")
 
 -- how an error is shown
 abbrev pub fault_line : Fault → List ℕ
@@ -24,7 +25,8 @@ fault_line e = codes "error: " ++ line (text_of e)
 abbrev pub TakesOrFails : {S : Type 0} → SinkOf S → S → S → List ℕ → Type 0
 TakesOrFails sink old new text =
     (Appends (sink.taken old) (sink.taken new) text × (sink.sink_faults new ≡ sink.sink_faults old))
-    ⊎ (AppendsFront (sink.taken old) (sink.taken new) text × Rose (sink.sink_faults old) (sink.sink_faults new))
+    ⊎ (AppendsFront (sink.taken old) (sink.taken new) text
+    × Rose (sink.sink_faults old) (sink.sink_faults new))
 
 -- the warning was said, or the sink failed at it, and then the sink took this text whole
 abbrev pub SaysAfterWarning : {S : Type 0} → SinkOf S → S → S → List ℕ → Type 0
@@ -42,7 +44,9 @@ EndsWithFault {S = S} sink old new Fails =
     (e : Fault) × (warned told : S) × TakesOrFails sink old warned warning_line × ShowsFault sink told new e
     × Fails (sink_call sink warned told) e
 
--- a run that says nothing else ends with an error for which Fails holds: the warning was said, and then its line
+-- a run that says nothing else ends with an error for which Fails holds: the warning was said, and then its
+-- line
 abbrev pub ShowsOnlyFault : {S : Type 0} → SinkOf S → S → S → (Fault → Type 0) → Type 0
 ShowsOnlyFault {S = S} sink old new Fails =
-    (e : Fault) × (warned : S) × TakesOrFails sink old warned warning_line × ShowsFault sink warned new e × Fails e
+    (e : Fault) × (warned : S) × TakesOrFails sink old warned warning_line × ShowsFault sink warned new e
+    × Fails e

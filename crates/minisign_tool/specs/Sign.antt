@@ -1,8 +1,8 @@
 -- How a run that signs with a text file ends.
 use Rattle.std.specs.Prelude.{◌≡◌, ℕ, ◌⊎◌, None, Ok, List}
 use Rattle.minisign.specs.Members.{RandomOf, SchemeOf, SinkOf, SourceOf}
-use Rattle.minisign.specs.DeviceCalls.{FailsAtPart, PromptCall, RandomCall, SinkCall, SourceCall, Takes, TakesPart}
-use Rattle.minisign.specs.DeviceCalls.{prompt_call, random_call, source_call}
+use Rattle.minisign.specs.DeviceCalls.{FailsAtPart, PromptCall, RandomCall, SinkCall, SourceCall, Takes}
+use Rattle.minisign.specs.DeviceCalls.{TakesPart, prompt_call, random_call, source_call}
 use Rattle.minisign.specs.Fault.{Fault, Named}
 use Rattle.minisign.specs.NamedFaults.{WritingFailed}
 use Rattle.minisign.specs.Records.{SecretKeyRecord, SignatureBoxRecord}
@@ -39,15 +39,16 @@ signing_call sk_file data_reader random reader writer old new = record {
 }
 
 -- the key's text gave a key, with a password that was asked for where it is sealed; all the data was read,
--- and this is the text of the box that the key signs it with, the comments being the default ones; where the key is
--- genuine, the text is read back as a box that vouches for the data
+-- and this is the text of the box that the key signs it with, the comments being the default ones; where the
+-- key is genuine, the text is read back as a box that vouches for the data
 pub record SignsText {S K R Z A B : Type 0} (s : SchemeOf S) (scheme : S) (d : SigningCall K R Z A B)
     (sk_text : List ℕ) (moment : ℕ) (text : List ℕ) : Type 0 where
   pub key : SecretKeyRecord
   pub message : List ℕ
   pub given : GivesKey d.prompt None sk_text (Ok key)
   pub read : ReadsWhole d.data_reader.source d.data_reader.old d.data_reader.new message
-  pub signed : IsSignedText (s.signature_of scheme) key message (given_comments None None moment) d.random text
+  pub signed : IsSignedText (s.signature_of scheme) key message (given_comments None None moment) d.random
+      text
   pub vouched : ReadsBackWhereGenuine (s.accepts scheme) (s.public_of scheme) key message text
 
 -- the key's file was read whole, and this is the text that signing with its text gives
@@ -78,14 +79,17 @@ pub record WriteFails {G : Type 0} (g : SinkCall G) (text : List ℕ) (e : Fault
 -- data with it
 abbrev pub HasWrittenVouched : {K R Z A B G : Type 0} → Verifier → (List ℕ → List ℕ) → SigningCall K R Z A B
     → SinkCall G → Type 0
-HasWrittenVouched accepts public_of d g = (text : List ℕ) × MakesVouched accepts public_of d text × Takes g text
+HasWrittenVouched accepts public_of d g = (text : List ℕ) × MakesVouched accepts public_of d text
+    × Takes g text
 
 -- the text of the box that the definition of signing makes was written, and nothing failed
-abbrev pub HasWrittenSigned : {S K R Z A B G : Type 0} → SchemeOf S → S → SigningCall K R Z A B → SinkCall G → ℕ
+abbrev pub HasWrittenSigned : {S K R Z A B G : Type 0} → SchemeOf S → S → SigningCall K R Z A B → SinkCall G
+    → ℕ
     → Type 0
 HasWrittenSigned s scheme d g moment = (text : List ℕ) × MakesSigned s scheme d moment text × TakesPart g text
 
--- nothing was written: the key's file gave no text, with nothing else touched, or signing with the text failed
+-- nothing was written: the key's file gave no text, with nothing else touched, or signing with the text
+-- failed
 abbrev pub NoSignature : {K R Z A B : Type 0} → SigningCall K R Z A B → Fault → Type 0
 NoSignature d e =
     (IsTextFault d.sk_file.source d.sk_file.old d.sk_file.new e
@@ -95,7 +99,9 @@ NoSignature d e =
 
 -- signing a file fails: there is no signature, and nothing was written, or one was made, and its text was not
 -- written whole
-abbrev pub FileSigningFails : {S K R Z A B G : Type 0} → SchemeOf S → S → SigningCall K R Z A B → SinkCall G → ℕ
+abbrev pub FileSigningFails : {S K R Z A B G : Type 0} → SchemeOf S → S → SigningCall K R Z A B → SinkCall G
+    → ℕ
     → Fault → Type 0
 FileSigningFails s scheme d g moment e =
-    (NoSignature d e × (g.new ≡ g.old)) ⊎ ((text : List ℕ) × MakesSigned s scheme d moment text × WriteFails g text e)
+    (NoSignature d e × (g.new ≡ g.old))
+    ⊎ ((text : List ℕ) × MakesSigned s scheme d moment text × WriteFails g text e)

@@ -2,7 +2,8 @@
 use Rattle.std.specs.Prelude.{◌≡◌, ℕ, ◌⊎◌, true, false, List, Ok}
 use Rattle.minisign.specs.Fault.{Fault}
 use Rattle.minisign.specs.Members.{SourceOf}
-use Rattle.minisign.specs.DeviceCalls.{RereaderCall, SinkCall, SourceCall, TakesFront, rereader_call, source_call, unused}
+use Rattle.minisign.specs.DeviceCalls.{RereaderCall, SinkCall, SourceCall, TakesFront, rereader_call}
+use Rattle.minisign.specs.DeviceCalls.{source_call, unused}
 use Rattle.minisign.specs.Records.{PublicKeyRecord, SignatureBoxRecord}
 use Rattle.minisign.specs.declared.options.VerifyOptions.{VerifyOptions}
 use Rattle.minisign.specs.Acceptance.{Verifier, options_of, status_lines}
@@ -54,10 +55,12 @@ pub record FilesVouch {P Q R : Type 0} (accepts : Verifier) (d : VerifyingCall P
   pub said : Said (status_lines vouched.box)
 
 -- and the data was copied, as a copy for which what both files held vouches
-pub record FilesVouchForCopy {P Q R O : Type 0} (accepts : Verifier) (d : VerifyingCall P Q R) (out : SinkCall O)
+pub record FilesVouchForCopy {P Q R O : Type 0} (accepts : Verifier) (d : VerifyingCall P Q R)
+    (out : SinkCall O)
     (Said : List ℕ → Type 0) : Type 0 where
   pub verified : FilesVouch accepts d Said
-  pub copied : HasCopy accepts verified.vouched.key verified.vouched.box false d.data_reader out verified.message
+  pub copied : HasCopy accepts verified.vouched.key verified.vouched.box false d.data_reader out
+      verified.message
   pub copy : CopyIsVouchedFor accepts verified.pk_text verified.sig_text false out
 
 -- a file gave no text, with no data read, or verifying with the texts failed
@@ -69,7 +72,8 @@ FilesFail accepts d status e =
     × SaysFront status pk_text sig_text)
 
 -- a file gave no text, with no data read or copied, or verifying with the texts and copying failed
-abbrev pub FilesFailToCopy : {P Q R O W : Type 0} → Verifier → VerifyingCall P Q R → SinkCall O → SinkCall W → Fault
+abbrev pub FilesFailToCopy : {P Q R O W : Type 0} → Verifier → VerifyingCall P Q R → SinkCall O → SinkCall W
+    → Fault
     → Type 0
 FilesFailToCopy accepts d out status e =
     (EitherFails d.pk_file d.sig_file e × (d.data_reader.new ≡ d.data_reader.old) × (out.new ≡ out.old)

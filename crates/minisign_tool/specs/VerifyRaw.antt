@@ -3,7 +3,8 @@ use Rattle.std.specs.Prelude.{◌≡◌, ℕ, ◌<◌, ◌≤◌, ◌⊎◌, fal
 use Rattle.minisign.specs.Fault.{Fault, Named}
 use Rattle.minisign.specs.NamedFaults.{RecordTooShort, UnsupportedSignatureAlgorithm}
 use Rattle.minisign.specs.DeviceCalls.{RereaderCall, SinkCall, SourceCall, TakesFront, unused}
-use Rattle.minisign.specs.Records.{PublicKeyRecord, SignatureRecord, SignatureBoxRecord, ReadsPublicKey, ReadsSignature, IsKnownAlgorithm}
+use Rattle.minisign.specs.Records.{PublicKeyRecord, SignatureRecord, SignatureBoxRecord, ReadsPublicKey}
+use Rattle.minisign.specs.Records.{ReadsSignature, IsKnownAlgorithm}
 use Rattle.minisign.specs.Acceptance.{Verifier, Vouches, verified_text}
 use Rattle.minisign.specs.Texts.{line}
 use Rattle.minisign.specs.Reading.{IsReadFault, ReadsWhole}
@@ -22,7 +23,8 @@ pub record HoldsRaw (key_file signature_file : List ℕ) (key : PublicKeyRecord)
 abbrev pub IsFileFault : List ℕ → List ℕ → Fault → Type 0
 IsFileFault key_file signature_file e =
     ((e ≡ Named RecordTooShort) × (length key_file < 42))
-    ⊎ ((key : PublicKeyRecord) × ReadsPublicKey key_file key × (((e ≡ Named RecordTooShort) × (length signature_file < 74))
+    ⊎ ((key : PublicKeyRecord) × ReadsPublicKey key_file key
+    × (((e ≡ Named RecordTooShort) × (length signature_file < 74))
     ⊎ ((e ≡ Named UnsupportedSignatureAlgorithm) × (74 ≤ length signature_file)
     × ¬ (IsKnownAlgorithm (take 2 signature_file)))))
 
@@ -37,12 +39,14 @@ pub record VouchesRaw (accepts : Verifier) (key_file signature_file message : Li
   pub held : HoldsRaw key_file signature_file key signature
   pub accepted : Vouches accepts key (bare_box signature) message false
 
--- verifying with the bytes of a key and a signature fails: they hold none, with nothing read or said, or it failed at
--- one of its stages with the key and the bare signature that they hold; nothing is to be copied
-abbrev pub VerifyRawFails : {R W : Type 0} → Verifier → List ℕ → List ℕ → RereaderCall R → SinkCall W → Fault → Type 0
+-- verifying with the bytes of a key and a signature fails: they hold none, with nothing read or said, or it
+-- failed at one of its stages with the key and the bare signature that they hold; nothing is to be copied
+abbrev pub VerifyRawFails : {R W : Type 0} → Verifier → List ℕ → List ℕ → RereaderCall R → SinkCall W → Fault
+    → Type 0
 VerifyRawFails accepts key_file signature_file reader status e =
     (IsFileFault key_file signature_file e × (reader.new ≡ reader.old) × (status.new ≡ status.old))
-    ⊎ ((key : PublicKeyRecord) × (signature : SignatureRecord) × HoldsRaw key_file signature_file key signature
+    ⊎ ((key : PublicKeyRecord) × (signature : SignatureRecord)
+    × HoldsRaw key_file signature_file key signature
     × VerifyingFails accepts key (bare_box signature) says_only reader status unused e)
 
 -- nothing was said, or a prefix of the status line
@@ -57,7 +61,8 @@ EitherIsUnread first second e =
     × IsReadFault second.source second.old second.new e)
 
 -- what both files held vouches for all of the data, and the status line was said as Said says
-pub record RawFilesVouch {P Q R : Type 0} (accepts : Verifier) (pk_file : SourceCall P) (sig_file : SourceCall Q)
+pub record RawFilesVouch {P Q R : Type 0} (accepts : Verifier) (pk_file : SourceCall P)
+    (sig_file : SourceCall Q)
     (reader : RereaderCall R) (Said : List ℕ → Type 0) : Type 0 where
   pub key_file : List ℕ
   pub signature_file : List ℕ
@@ -68,7 +73,8 @@ pub record RawFilesVouch {P Q R : Type 0} (accepts : Verifier) (pk_file : Source
   pub said : Said (line verified_text)
 
 -- a file was not read whole, with no data read, or verifying with the bytes of both failed
-abbrev pub RawFilesFail : {P Q R W : Type 0} → Verifier → SourceCall P → SourceCall Q → RereaderCall R → SinkCall W
+abbrev pub RawFilesFail : {P Q R W : Type 0} → Verifier → SourceCall P → SourceCall Q → RereaderCall R
+    → SinkCall W
     → Fault → Type 0
 RawFilesFail accepts pk_file sig_file reader status e =
     (EitherIsUnread pk_file sig_file e × (reader.new ≡ reader.old) × (status.new ≡ status.old))

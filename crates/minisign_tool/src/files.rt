@@ -6,7 +6,8 @@ ghost use Rattle.std.specs.Prelude.{◌≡◌, ◌≤◌, ◌⊎◌, ℕ, List, 
 ghost use Rattle.minisign.specs.Fault.{Fault, Named};
 ghost use Rattle.minisign.specs.NamedFaults.{ClockIncorrect, ReadingFailed};
 ghost use Rattle.minisign_tool.specs.Copying.{input_is_output};
-ghost use Rattle.minisign_tool.specs.Endings.{SaysOnlyFaults, SaysRawVerdict, SaysVerdict, SomeBytesVouch, SomeTextsVouch};
+ghost use Rattle.minisign_tool.specs.Endings.{SaysOnlyFaults, SaysRawVerdict, SaysVerdict, SomeBytesVouch};
+ghost use Rattle.minisign_tool.specs.Endings.{SomeTextsVouch};
 ghost use Rattle.minisign_tool.specs.Replacing.{HoldsContents, for_all, for_the_owner};
 ghost use Rattle.minisign_tool.specs.Report.{ShowsFault};
 
@@ -142,7 +143,8 @@ pub fn sign_files<S: Scheme, W: Sink>(
 // What the file of a signature is to hold: all that was written as its text. A new one is for all.
 fn contents_of_signature<'a>(sig: &'a str, text: &'a VecSink) -> Contents<'a>
     // The file of a signature is new for all, and gets the text that was made.
-    ensures { (bytes : List ℕ) → ⟦<VecSink as Sink>⟧.taken text.now ≡ Some bytes → HoldsContents result sig.now for_all bytes }
+    ensures { (bytes : List ℕ) → ⟦<VecSink as Sink>⟧.taken text.now ≡ Some bytes
+        → HoldsContents result sig.now for_all bytes }
 {
     Contents {
         path: sig,
@@ -262,7 +264,8 @@ pub fn cat_files<S: Scheme, W: Sink>(
 fn end_replacing<W: Sink>(errors: &mut W, replaced: Result<()>) -> u8
     ensures status { result ≤ 1 }
     ensures silent { result ≡ 0 → IsOk replaced × (errors.new ≡ errors.old) }
-    ensures shown { result ≡ 1 → (e : Fault) × (replaced ≡ Err e) × ShowsFault W.Sink errors.old errors.new e }
+    ensures shown { result ≡ 1 → (e : Fault) × (replaced ≡ Err e)
+        × ShowsFault W.Sink errors.old errors.new e }
 {
     match replaced {
         Ok(()) => 0,

@@ -89,7 +89,8 @@ fn run_arguments<S: Scheme, W: Sink>(
     // vouch, and one of `verify-raw` only where the bytes of a key, of a bare signature and data
     // are; the usage exits with status 2. What is said is what the command says that ends so, or the usage
     // after the warning.
-    ensures ended { IfOk result (λ s. (command : Command) × AsksFor (map (λ a. string_bytes a) (drop 1 arguments.now)) command
+    ensures ended { IfOk result
+        (λ s. (command : Command) × AsksFor (map (λ a. string_bytes a) (drop 1 arguments.now)) command
         × ShowsCommand (S.accepts scheme.now) command s
         × SaysCommand W.Sink command errors.old errors.new s) }
 {

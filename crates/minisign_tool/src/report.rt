@@ -72,10 +72,12 @@ pub fn end<W: Sink>(errors: &mut W, answer: Result<u8>) -> u8
 // Puts the line of an error with this text: in one call of `write_all` where the text takes at most
 // 504 bytes, as that of every named error does, and otherwise in three.
 fn put_fault<W: Sink>(errors: &mut W, text: &[u8]) -> std::result::Result<(), DeviceFault>
-    ensures bytes { OnOk result (Appends (W.taken errors.old) (W.taken errors.new) (codes "error: " ++ line text.now)) }
+    ensures bytes { OnOk result
+        (Appends (W.taken errors.old) (W.taken errors.new) (codes "error: " ++ line text.now)) }
     ensures no_new_fault { OnOk result (W.sink_faults errors.new ≡ W.sink_faults errors.old) }
     ensures refused { OnErr result (Rose (W.sink_faults errors.old) (W.sink_faults errors.new)) }
-    ensures front { OnErr result (AppendsFront (W.taken errors.old) (W.taken errors.new) (codes "error: " ++ line text.now)) }
+    ensures front { OnErr result
+        (AppendsFront (W.taken errors.old) (W.taken errors.new) (codes "error: " ++ line text.now)) }
 {
     let mut room = [0; 512];
     if text.len() <= 504 {

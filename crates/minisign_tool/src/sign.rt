@@ -5,7 +5,8 @@ ghost use Rattle.std.specs.Prelude.{◌≡◌, ◌≤◌, string_bytes, IfOk, If
 ghost use Rattle.minisign.specs.Devices.{HasGiven};
 ghost use Rattle.minisign.specs.DeviceCalls.{TakesPart, sink_call};
 ghost use Rattle.minisign_tool.specs.Report.{ShowsOnlyFault, TakesOrFails, warning_line};
-ghost use Rattle.minisign_tool.specs.Sign.{FileSigningFails, HasWrittenSigned, HasWrittenVouched, MakesSigned, MakesVouched, NoSignature, WriteFails, signing_call};
+ghost use Rattle.minisign_tool.specs.Sign.{FileSigningFails, HasWrittenSigned, HasWrittenVouched};
+ghost use Rattle.minisign_tool.specs.Sign.{MakesSigned, MakesVouched, NoSignature, WriteFails, signing_call};
 
 use crate::report::{report, warn};
 use minisign::base::NamedFault;
@@ -122,9 +123,11 @@ fn make_text<S: Scheme, K: Source, R: Source, Z: RandomSource, A: Source, B: Sin
     moment: u64,
 ) -> Result<String>
     ensures headline { IfOk result (λ t. MakesVouched (S.accepts scheme.now) (S.public_of scheme.now)
-        (signing_call K.Source R.Source Z.RandomSource A.Source B.Sink devices.old devices.new) (string_bytes t)) }
+        (signing_call K.Source R.Source Z.RandomSource A.Source B.Sink devices.old devices.new)
+        (string_bytes t)) }
     ensures signed { IfOk result (λ t. MakesSigned S.Scheme scheme.now
-        (signing_call K.Source R.Source Z.RandomSource A.Source B.Sink devices.old devices.new) moment (string_bytes t)) }
+        (signing_call K.Source R.Source Z.RandomSource A.Source B.Sink devices.old devices.new) moment
+        (string_bytes t)) }
     ensures refused { IfErr result (NoSignature
         (signing_call K.Source R.Source Z.RandomSource A.Source B.Sink devices.old devices.new)) }
     ensures given { HasGiven (R.ahead devices.old.data_reader) (R.ahead devices.new.data_reader) }

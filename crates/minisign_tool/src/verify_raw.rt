@@ -9,7 +9,8 @@ ghost use Rattle.minisign.specs.Acceptance.{verified_text};
 ghost use Rattle.minisign.specs.Texts.{line};
 ghost use Rattle.minisign.specs.Reading.{ReadsWhole};
 ghost use Rattle.minisign_tool.specs.Report.{EndsWithFault, SaysAfterWarning};
-ghost use Rattle.minisign_tool.specs.VerifyRaw.{RawFilesFail, RawFilesVouch, SaysLineFront, VerifyRawFails, VouchesRaw};
+ghost use Rattle.minisign_tool.specs.VerifyRaw.{RawFilesFail, RawFilesVouch, SaysLineFront, VerifyRawFails};
+ghost use Rattle.minisign_tool.specs.VerifyRaw.{VouchesRaw};
 
 use crate::report::{report, warn};
 use minisign::base::devices::sinks::{Sink, VecSink};

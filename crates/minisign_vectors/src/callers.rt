@@ -70,8 +70,8 @@ fn the_comment_of_bytes_is_returned(rt: HostRuntime) {
     }
 }
 
-// Whether this comes of verifying the bytes with two texts without allocating, in a buffer as long as the text of the
-// signature.
+// Whether this comes of verifying the bytes with two texts without allocating, in a buffer as long as the
+// text of the signature.
 fn is_told_in_place(
     alloc: Global,
     (pk_text, sig_text): (&str, &str),

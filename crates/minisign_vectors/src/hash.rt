@@ -1,5 +1,6 @@
-//! The names of `minisign_hash` through the library: a state that is stored, sizes, numbers in little endian bytes, copying, and
-//! writers of numbers. `tests/rows/hashing.py` has the digests, and how bytes are compared.
+//! The names of `minisign_hash` through the library: a state that is stored, sizes, numbers in little endian
+//! bytes, copying, and writers of numbers. `tests/rows/hashing.py` has the digests, and how bytes are
+//! compared.
 
 use minisign::minisign_hash::{
     BLAKE2B_BLOCKBYTES, BLAKE2B_KEYBYTES, BLAKE2B_OUTBYTES, BLAKE2B_PERSONALBYTES,

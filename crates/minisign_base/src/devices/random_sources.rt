@@ -1,6 +1,7 @@
 //! What random bytes are drawn from.
 
-ghost use Rattle.std.specs.Prelude.{Option, ◌≡◌, ℕ, ◌≤◌, ◌↔◌, List, length, Some, IsSomeAnd, IsOk, OnOk, OnErr, ◌⊎◌};
+ghost use Rattle.std.specs.Prelude.{Option, ◌≡◌, ℕ, ◌≤◌, ◌↔◌, List, length, Some, IsSomeAnd, IsOk, OnOk};
+ghost use Rattle.std.specs.Prelude.{OnErr, ◌⊎◌};
 ghost use Rattle.std.specs.Io.KnownBytes.{IsAtEnd};
 ghost use Rattle.minisign_base.specs.Devices.{Rose, HasFilled};
 
@@ -50,9 +51,13 @@ impl<'a> RandomSource for FixedRandom<'a> {
 
     // An error exactly where fewer bytes than `buf` has are left. None is then given.
     fn fill(&mut self, buf: &mut [u8]) -> Result<(), DeviceFault>
-        ensures enough { IsOk result ↔ IsSomeAnd (⟦<FixedRandom<'a> as RandomSource>⟧.random_ahead self.old) (λ xs. length buf.old ≤ length xs) }
-        ensures fill { HasFilled ⟦<FixedRandom<'a> as RandomSource>⟧.random_ahead ⟦<FixedRandom<'a> as RandomSource>⟧.random_faults self.old self.new buf.new result }
-        ensures kept { OnErr result (⟦<FixedRandom<'a> as RandomSource>⟧.random_ahead self.new ≡ ⟦<FixedRandom<'a> as RandomSource>⟧.random_ahead self.old) }
+        ensures enough { IsOk result ↔ IsSomeAnd (⟦<FixedRandom<'a> as RandomSource>⟧.random_ahead self.old)
+            (λ xs. length buf.old ≤ length xs) }
+        ensures fill { HasFilled ⟦<FixedRandom<'a> as RandomSource>⟧.random_ahead
+            ⟦<FixedRandom<'a> as RandomSource>⟧.random_faults self.old self.new buf.new result }
+        ensures kept { OnErr result
+            (⟦<FixedRandom<'a> as RandomSource>⟧.random_ahead self.new
+            ≡ ⟦<FixedRandom<'a> as RandomSource>⟧.random_ahead self.old) }
     {
         if self.rest.len() < buf.len() {
             return Err(self.faults.raise());
@@ -93,7 +98,8 @@ impl<S: Source> RandomSource for SourceRandom<S> {
 
     // An error only where the source failed or ended; otherwise the source counts none.
     fn fill(&mut self, buf: &mut [u8]) -> Result<(), DeviceFault>
-        ensures fill { HasFilled ⟦<SourceRandom<S> as RandomSource>⟧.random_ahead ⟦<SourceRandom<S> as RandomSource>⟧.random_faults self.old self.new buf.new result }
+        ensures fill { HasFilled ⟦<SourceRandom<S> as RandomSource>⟧.random_ahead
+            ⟦<SourceRandom<S> as RandomSource>⟧.random_faults self.old self.new buf.new result }
         ensures source_no_new_fault { OnOk result (S.faults self.new.source ≡ S.faults self.old.source) }
         ensures refused { OnErr result (Rose (S.faults self.old.source) (S.faults self.new.source)
             ⊎ IsAtEnd (S.ahead self.new.source)) }

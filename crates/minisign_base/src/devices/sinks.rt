@@ -1,6 +1,7 @@
 //! What bytes are written to.
 
-ghost use Rattle.std.specs.Prelude.{Option, ◌≡◌, ◌⊎◌, ℕ, ◌<◌, List, [], ◌∷◌, ◌++◌, length, None, Some, IsOk, IfOk, IfErr, OnOk, OnErr};
+ghost use Rattle.std.specs.Prelude.{Option, ◌≡◌, ◌⊎◌, ℕ, ◌<◌, List, [], ◌∷◌, ◌++◌, length, None, Some, IsOk};
+ghost use Rattle.std.specs.Prelude.{IfOk, IfErr, OnOk, OnErr};
 ghost use Rattle.std.specs.Io.KnownBytes.{Appends};
 ghost use Rattle.minisign_base.specs.Devices.{Rose, AppendsFront, HasWritten, HasFlushed, SameWhereKnown};
 ghost use Rattle.minisign_base.specs.Fault.{Named};
@@ -84,8 +85,10 @@ impl Sink for VecSink {
     // All of the bytes, or an error where that allocation fails.
     fn write(&mut self, bytes: &[u8]) -> Result<usize, DeviceFault>
         ensures takes { IfOk result (λ n. n ≡ length bytes.now) }
-        ensures bytes { OnOk result (Appends (⟦<VecSink as Sink>⟧.taken self.old) (⟦<VecSink as Sink>⟧.taken self.new) bytes.now) }
-        ensures write { HasWritten ⟦<VecSink as Sink>⟧.taken ⟦<VecSink as Sink>⟧.flushed ⟦<VecSink as Sink>⟧.sink_faults self.old self.new bytes.now result }
+        ensures bytes { OnOk result
+            (Appends (⟦<VecSink as Sink>⟧.taken self.old) (⟦<VecSink as Sink>⟧.taken self.new) bytes.now) }
+        ensures write { HasWritten ⟦<VecSink as Sink>⟧.taken ⟦<VecSink as Sink>⟧.flushed
+            ⟦<VecSink as Sink>⟧.sink_faults self.old self.new bytes.now result }
     {
         match self.bytes.extend_from_slice(bytes) {
             Ok(()) => Ok(bytes.len()),
@@ -175,11 +178,13 @@ pub fn put_line<S: Sink>(
 ) -> errors::Result<()>
     // The whole of a line is written, put together first; or an allocation fails for it, with the sink
     // as it was; or the sink fails, and took a prefix.
-    ensures bytes { OnOk result (Appends (S.taken sink.old) (S.taken sink.new) (label.now ++ text.now ++ 10 ∷ [])) }
+    ensures bytes { OnOk result
+        (Appends (S.taken sink.old) (S.taken sink.new) (label.now ++ text.now ++ 10 ∷ [])) }
     ensures no_new_fault { OnOk result (S.sink_faults sink.new ≡ S.sink_faults sink.old) }
     ensures refused { IfErr result (λ e. ((e ≡ Named OutOfMemory) × (sink.new ≡ sink.old))
         ⊎ ((e ≡ Named WritingFailed) × Rose (S.sink_faults sink.old) (S.sink_faults sink.new))) }
-    ensures front { OnErr result (AppendsFront (S.taken sink.old) (S.taken sink.new) (label.now ++ text.now ++ 10 ∷ [])) }
+    ensures front { OnErr result
+        (AppendsFront (S.taken sink.old) (S.taken sink.new) (label.now ++ text.now ++ 10 ∷ [])) }
 
     // Nothing is flushed.
     ensures unflushed { S.flushed sink.new ≡ S.flushed sink.old }

@@ -1,6 +1,8 @@
 //! What bytes are read from.
 
-ghost use Rattle.std.specs.Prelude.{Bool, true, false, IsTrue, Option, ◌≡◌, ◌==◌, ℕ, ◌+◌, ◌-◌, ◌<◌, ◌≤◌, ◌^◌, ◌↔◌, min, List, [], length, take, drop, Some, None, IsOk, IsErr, IsOkAnd, IsNone, OnOk, OnErr, if◌then◌else◌, ⊤, ◌⊎◌};
+ghost use Rattle.std.specs.Prelude.{Bool, true, false, IsTrue, Option, ◌≡◌, ◌==◌, ℕ, ◌+◌, ◌-◌, ◌<◌, ◌≤◌, ◌^◌};
+ghost use Rattle.std.specs.Prelude.{◌↔◌, min, List, [], length, take, drop, Some, None, IsOk, IsErr, IsOkAnd};
+ghost use Rattle.std.specs.Prelude.{IsNone, OnOk, OnErr, if◌then◌else◌, ⊤, ◌⊎◌};
 ghost use Rattle.std.specs.Option.{is_some};
 ghost use Rattle.std.specs.Io.KnownBytes.{Consumes, IsAtEnd};
 ghost use Rattle.minisign_base.specs.Devices.{Rose, HasGiven, HasRead, HasMarked, HasGoneBack};
@@ -58,7 +60,8 @@ pub trait Rereader: Source {
         //
         // The place is then marked, and after an error none is (`marked`, `unmarked`); no byte was
         // given since (`since`).
-        ensures { HasMarked steady Self.ahead Self.behind Self.since Self.is_marked Self.faults self.old self.new result };
+        ensures { HasMarked steady Self.ahead Self.behind Self.since Self.is_marked Self.faults self.old
+            self.new result };
 
     /// Returns to the place that was marked last, which stays marked. Without a mark it is an
     /// error. After an error no place is marked.
@@ -68,7 +71,8 @@ pub trait Rereader: Source {
         //
         // Going back without a mark is an error of every source. The place is then marked, and after
         // an error none is (`needs_mark`, `marked`, `unmarked`); no byte was given since (`since`).
-        ensures { HasGoneBack Self.ahead Self.behind Self.since Self.is_marked Self.faults self.old self.new result };
+        ensures { HasGoneBack Self.ahead Self.behind Self.since Self.is_marked Self.faults self.old self.new
+            result };
 }
 
 /// The bytes of a slice. It fails only in `back` without a mark.
@@ -117,8 +121,11 @@ impl<'a> Source for SliceSource<'a> {
     // As many bytes as there is room for, or are left, and never an error.
     #[tactic(auto, using(crate::proofs::GivenParts::rest_given, crate::proofs::GivenParts::front_given))]
     fn read(&mut self, buf: &mut [u8]) -> Result<usize, DeviceFault>
-        ensures gives { IsOkAnd result (λ n. n ≡ min (length buf.new) (⟦<SliceSource<'a> as Source>⟧.left self.old)) }
-        ensures read { HasRead ⟦<SliceSource<'a> as Source>⟧.ahead ⟦<SliceSource<'a> as Source>⟧.behind ⟦<SliceSource<'a> as Source>⟧.since ⟦<SliceSource<'a> as Source>⟧.is_marked ⟦<SliceSource<'a> as Source>⟧.left ⟦<SliceSource<'a> as Source>⟧.faults
+        ensures gives { IsOkAnd result
+            (λ n. n ≡ min (length buf.new) (⟦<SliceSource<'a> as Source>⟧.left self.old)) }
+        ensures read { HasRead ⟦<SliceSource<'a> as Source>⟧.ahead ⟦<SliceSource<'a> as Source>⟧.behind
+            ⟦<SliceSource<'a> as Source>⟧.since ⟦<SliceSource<'a> as Source>⟧.is_marked
+            ⟦<SliceSource<'a> as Source>⟧.left ⟦<SliceSource<'a> as Source>⟧.faults
             self.old self.new buf.new result }
     {
         let (_, rest) = self.bytes.split_at(self.given);
@@ -136,7 +143,9 @@ impl<'a> Rereader for SliceSource<'a> {
     // Never an error.
     fn mark(&mut self) -> Result<(), DeviceFault>
         ensures succeeds { IsOk result }
-        ensures mark { HasMarked ⟦<SliceSource<'a> as Rereader>⟧.steady ⟦<SliceSource<'a> as Source>⟧.ahead ⟦<SliceSource<'a> as Source>⟧.behind ⟦<SliceSource<'a> as Source>⟧.since ⟦<SliceSource<'a> as Source>⟧.is_marked ⟦<SliceSource<'a> as Source>⟧.faults
+        ensures mark { HasMarked ⟦<SliceSource<'a> as Rereader>⟧.steady ⟦<SliceSource<'a> as Source>⟧.ahead
+            ⟦<SliceSource<'a> as Source>⟧.behind ⟦<SliceSource<'a> as Source>⟧.since
+            ⟦<SliceSource<'a> as Source>⟧.is_marked ⟦<SliceSource<'a> as Source>⟧.faults
             self.old self.new result }
     {
         let (_, rest) = self.bytes.split_at(self.given);
@@ -149,9 +158,13 @@ impl<'a> Rereader for SliceSource<'a> {
     // An error exactly where nothing was marked. The bytes ahead then stay.
     fn back(&mut self) -> Result<(), DeviceFault>
         ensures succeeds { IsOk result ↔ IsTrue (⟦<SliceSource<'a> as Source>⟧.is_marked self.old) }
-        ensures back { HasGoneBack ⟦<SliceSource<'a> as Source>⟧.ahead ⟦<SliceSource<'a> as Source>⟧.behind ⟦<SliceSource<'a> as Source>⟧.since ⟦<SliceSource<'a> as Source>⟧.is_marked ⟦<SliceSource<'a> as Source>⟧.faults self.old self.new result }
-        ensures stays_marked { ⟦<SliceSource<'a> as Source>⟧.behind self.new ≡ ⟦<SliceSource<'a> as Source>⟧.behind self.old }
-        ensures kept { OnErr result (⟦<SliceSource<'a> as Source>⟧.ahead self.new ≡ ⟦<SliceSource<'a> as Source>⟧.ahead self.old) }
+        ensures back { HasGoneBack ⟦<SliceSource<'a> as Source>⟧.ahead ⟦<SliceSource<'a> as Source>⟧.behind
+            ⟦<SliceSource<'a> as Source>⟧.since ⟦<SliceSource<'a> as Source>⟧.is_marked
+            ⟦<SliceSource<'a> as Source>⟧.faults self.old self.new result }
+        ensures stays_marked { ⟦<SliceSource<'a> as Source>⟧.behind self.new
+            ≡ ⟦<SliceSource<'a> as Source>⟧.behind self.old }
+        ensures kept { OnErr result
+            (⟦<SliceSource<'a> as Source>⟧.ahead self.new ≡ ⟦<SliceSource<'a> as Source>⟧.ahead self.old) }
     {
         if !self.is_marked {
             return Err(self.faults.raise());
@@ -232,7 +245,8 @@ impl<R: Read> Rereader for ReaderSource<R> {
     // Always an error. No byte is known after it.
     fn mark(&mut self) -> Result<(), DeviceFault>
         ensures fails { IsErr result }
-        ensures refused { Rose (⟦<ReaderSource<R> as Source>⟧.faults self.old) (⟦<ReaderSource<R> as Source>⟧.faults self.new) }
+        ensures refused { Rose (⟦<ReaderSource<R> as Source>⟧.faults self.old)
+            (⟦<ReaderSource<R> as Source>⟧.faults self.new) }
         ensures hides { IsNone (⟦<ReaderSource<R> as Source>⟧.ahead self.new) }
     {
         let no_way_back = self.faults.raise();
@@ -242,7 +256,8 @@ impl<R: Read> Rereader for ReaderSource<R> {
     // Always an error. No byte is known after it.
     fn back(&mut self) -> Result<(), DeviceFault>
         ensures fails { IsErr result }
-        ensures refused { Rose (⟦<ReaderSource<R> as Source>⟧.faults self.old) (⟦<ReaderSource<R> as Source>⟧.faults self.new) }
+        ensures refused { Rose (⟦<ReaderSource<R> as Source>⟧.faults self.old)
+            (⟦<ReaderSource<R> as Source>⟧.faults self.new) }
         ensures hides { IsNone (⟦<ReaderSource<R> as Source>⟧.ahead self.new) }
     {
         self.mark()

@@ -1,5 +1,5 @@
-//! Errors as they are shown, and what errors of others become. `tests/rows/named_errors.py` has every named error with its
-//! number, its kind and its text.
+//! Errors as they are shown, and what errors of others become. `tests/rows/named_errors.py` has every named
+//! error with its number, its kind and its text.
 
 use base64::{DecodeAllocError, DecodeError};
 use minisign_base::errors::ErrorKind::Io;
@@ -21,7 +21,8 @@ use std::{fmt, io};
 const ENCRYPTED: &str =
     "Cannot sign with an encrypted secret key. The key must be decrypted first. Options include: SecretKeyBox::into_secret_key(password), SecretKey::from_box(box, password), SecretKey::from_file(path, password), or use KeyPair::generate_unencrypted_keypair() for passwordless keys.";
 
-// Errors of each form, and their texts: one that is fixed, the longest, and those with one and with two key IDs.
+// Errors of each form, and their texts: one that is fixed, the longest, and those with one and with two key
+// IDs.
 const SHOWN: [(NamedFault, &str); 4] = [
     (OutOfMemory, "out of memory"),
     (EncryptedKeyRefused, ENCRYPTED),

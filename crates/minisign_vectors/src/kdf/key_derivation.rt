@@ -1,5 +1,6 @@
-//! Published vectors of HMAC (RFC 4231, sections 4.2 to 4.8) and PBKDF2 (RFC 7914, section 11, the vector with one
-//! iteration), and which parameters scrypt takes. The key of 100 bytes is of Python's hashlib (OpenSSL).
+//! Published vectors of HMAC (RFC 4231, sections 4.2 to 4.8) and PBKDF2 (RFC 7914, section 11, the vector
+//! with one iteration), and which parameters scrypt takes. The key of 100 bytes is of Python's hashlib
+//! (OpenSSL).
 
 use crate::shown::shows;
 use minisign_fixtures::outcomes::front;

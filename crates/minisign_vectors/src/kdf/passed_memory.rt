@@ -1,4 +1,5 @@
-//! scrypt in memory that is passed in: published vectors over memory that holds anything, and what it is left with.
+//! scrypt in memory that is passed in: published vectors over memory that holds anything, and what it is left
+//! with.
 //!
 //! Keys: RFC 7914, section 12.
 

@@ -1,4 +1,5 @@
-//! Signing with the text of a secret key: what is rejected before anything is read, and what the prompt is told.
+//! Signing with the text of a secret key: what is rejected before anything is read, and what the prompt is
+//! told.
 
 use crate::signatures::calls::signed_text;
 use minisign::Result;

@@ -1,5 +1,5 @@
-//! Two texts verified over data that cannot be read again, and over outputs that have a buffer; and what a rejected text leaves
-//! of the data.
+//! Two texts verified over data that cannot be read again, and over outputs that have a buffer; and what a
+//! rejected text leaves of the data.
 
 use crate::signatures::calls::{COPYING, Wanted, ample, texts_come_out, verified_texts};
 use minisign::reading::read_to_end;
@@ -24,8 +24,8 @@ const RENAMED_KEY_TEXT: &str =
 const UPSTREAM_KEY_TEXT: &str =
     "untrusted comment: minisign public key: E7620F1842B4E81F\nRWQf6LRCGA9i53mlYecO4IzT51TGPpvWucNSCh1CBM0QTaLn73Y7GFO3\n";
 
-// A legacy signature over `test` that the upstream crate publishes, and of what it is made: the bytes of the key, the
-// signature, the trusted comment, and the signature of both.
+// A legacy signature over `test` that the upstream crate publishes, and of what it is made: the bytes of the
+// key, the signature, the trusted comment, and the signature of both.
 const UPSTREAM_LEGACY_TEXT: &str =
     "untrusted comment: signature from minisign secret key\nRWQf6LRCGA9i59SLOFxz6NxvASXDJeRtuZykwQepbDEGt87ig1BNpWaVWuNrm73YiIiJbq71Wi+dP9eKL8OC351vwIasSSbXxwA=\ntrusted comment: timestamp:1555779966\tfile:test\nQtKMXWyYcwdpZAlPF7tE2ENJkRd1ujvKjlj1m9RtHTBnZPa5WKU5uWRs5GoP5M/VqE81QFuMKI5k/SfNQUaOAA==";
 
@@ -157,8 +157,8 @@ fn a_refused_text_leaves_the_data(rt: HostRuntime) {
     }
 }
 
-// Whether verifying what a reader of std gives with the published legacy signature comes out so, under a table of the two
-// signatures of that text.
+// Whether verifying what a reader of std gives with the published legacy signature comes out so, under a
+// table of the two signatures of that text.
 fn is_read_under_a_table(
     alloc: Global,
     message: &[u8],
@@ -197,7 +197,8 @@ fn is_read_under_a_table(
     )
 }
 
-// A legacy signature over what a reader of std gives: the data is kept, and so is copied although it cannot be read again.
+// A legacy signature over what a reader of std gives: the data is kept, and so is copied although it cannot
+// be read again.
 #[test]
 fn a_published_legacy_signature(rt: HostRuntime) {
     let alloc = rt.alloc();

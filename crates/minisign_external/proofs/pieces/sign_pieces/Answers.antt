@@ -1,4 +1,4 @@
-use Rattle.std.proofs.Common.{Result, IfOk, Ok, Err, length, arith}
+use Rattle.std.proofs.Common.{Result, IfOk, Ok, Err, arith}
 use Rattle.std.specs.List.{flat_map}
 use Rattle.minisign_external.proofs.OwnTexts.{own_verdict}
 use Rattle.minisign_external.proofs.pieces.sign_pieces.Goals as goal

@@ -1,5 +1,4 @@
 use Rattle.std.proofs.Common.{◌≡◌, ◌∙◌, inl}
-use Rattle.minisign.specs.Records.{SecretKeyRecord}
 use Rattle.minisign_external.specs.SecretKeys.{open_within, unopened_record}
 use Rattle.minisign_external.proofs.Utf8.{no_text}
 use Rattle.minisign_external.proofs.WithinRows.{opens_or_none}

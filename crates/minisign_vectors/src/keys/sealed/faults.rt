@@ -1,5 +1,5 @@
-//! Each error of a prompt, by each of the calls that open a box: with ample memory none of them is reported as being out of
-//! memory. `tests/rows/sealed_keys.py` has those of texts.
+//! Each error of a prompt, by each of the calls that open a box: with ample memory none of them is reported
+//! as being out of memory. `tests/rows/sealed_keys.py` has those of texts.
 
 use crate::keys::sealed::calls::{Way, opened};
 use minisign::SecretKeyBox;

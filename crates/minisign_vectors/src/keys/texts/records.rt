@@ -1,5 +1,5 @@
-//! The signature of zeros, and how keys with an identifier are compared. What else is said of records is asked by
-//! `tests/rows/records.py`.
+//! The signature of zeros, and how keys with an identifier are compared. What else is said of records is
+//! asked by `tests/rows/records.py`.
 
 use minisign::keynum::{KeynumPK, KeynumSK};
 use minisign::{Signature, SignatureBones};

@@ -1,0 +1,69 @@
+//! Where in the text of a signature its trusted comment stands, for callers that keep the place and not the
+//! comment.
+
+ghost use Rattle.std.specs.Prelude.{◌≡◌, ◌+◌, ◌≤◌, ◌++◌, List, ℕ, Ok, length};
+ghost use Rattle.std.specs.Str.{trim};
+ghost use Rattle.std.specs.Str.Lines.{lines};
+ghost use Rattle.minisign.specs.CommentPlace.{StandsAt, behind_line, comment_offset, comment_start, first_of};
+ghost use Rattle.minisign.specs.SignatureText.{SignatureTextRecord, read_signature, trusted_comment_label};
+
+use crate::signature_box::trusted_comment_in;
+use crate::texts::next_line;
+use std::mem::forget;
+
+/// Where in the text of a signature its trusted comment stands: how many bytes come before it, and how many
+/// it has. It stands in the third line, between the label and white space on either side. Of a text that does
+/// not read as a signature nothing is said. Does not allocate.
+pub fn trusted_comment_place(text: &str) -> (usize, usize)
+    // Of a text that reads as a signature the place is a function of the text, and the trusted comment stands
+    // there.
+    ensures { (t : SignatureTextRecord) → read_signature text.now ≡ Ok t
+        → (result.0 ≡ comment_offset text.now) × (result.1 ≡ length t.comments.trusted)
+        × StandsAt t.comments.trusted text.now result.0 }
+{
+    let third = behind_line(behind_line(text));
+    let (start, len) = comment_in_line(first_line(third));
+    (text.len() - third.len() + start, len)
+}
+
+// What stands behind the first line feed.
+fn behind_line(text: &str) -> &str
+    ensures same { result.now ≡ behind_line text.now }
+    ensures size { length result.now ≤ length text.now }
+{
+    match text.split_once('\n') {
+        Some((_, rest)) => rest,
+        None => "",
+    }
+}
+
+// The first line, without what ends it.
+fn first_line(text: &str) -> &str
+    ensures same { result.now ≡ first_of (lines text.now) }
+    ensures size { length result.now ≤ length text.now }
+{
+    let mut lines = text.lines();
+    match next_line(&mut lines) {
+        Some(line) => line,
+        None => "",
+    }
+}
+
+// Where in a line with a label the comment stands: how many bytes come before it, and how many it has.
+fn comment_in_line(line: &str) -> (usize, usize)
+    ensures within { result.0 ≤ length line.now }
+    ensures place { (comment : List ℕ) → line.now ≡ trusted_comment_label ++ comment
+        → (result.0 ≡ comment_start line.now) × (result.1 ≡ length (trim comment))
+        × StandsAt (trim comment) line.now result.0 }
+{
+    let comment = match trusted_comment_in(line) {
+        Ok(comment) => comment,
+        Err(fault) => {
+            // (a page has nothing that gives memory back)
+            forget(fault);
+            return (line.len(), 0);
+        }
+    };
+    let rest = comment.trim_start();
+    (line.len() - rest.len(), rest.trim_end().len())
+}
