@@ -1,17 +1,13 @@
 #!/usr/bin/env python3
-"""Runs the built program `minisign_updater` on real files: updates that are good, bad and older, over what cannot be used, while
-it is killed at each of its calls of the system and with each of them failing or interrupted, four at once with a reader beside
-them, while stage, place and lock file are changed by others, by root over files of others, on links, on files with access
-control lists, in a directory that may not be written, on a full disk, and on a disk that crashes. What stands at the place is
-always the old or a new update, whole. `real_installing.py` runs `minisign-install` through these cases, and through more: each
-option, words that ask for nothing, a bound on the data, data from a pipe that stands still, an allocation that fails.
+"""The cases of `minisign-install` on real files: updates that are good, bad and older, each option, words that ask for nothing, over
+what cannot be used, while it is killed at each of its calls of the system and with each of them failing or interrupted, four at
+once with a reader beside them, while stage, place and lock file are changed by others, by root over files of others, on links, on
+files with access control lists, in a directory that may not be written, on a full disk, and on a disk that crashes; data from a
+pipe that stands still, an allocation that fails. What stands at the place is always the old or a new update, whole, and after each
+run that was cut off the next one ends with the update there. `real_installing.py` runs them, and tests/bindings the package for
+Python through most of them.
 
-    tests/installer/installing.py [PROGRAM ..]
-
-Without arguments it runs the program that `rt ci` or `rt run` left in the directory `out` of `crates/minisign_updater`. It
-prints a line for each case that failed or was skipped; the last line is `N passed, M failed`.
-
-Needs Python 3.9 or later, a C compiler and setfacl, which it installs where it may. The disk that crashes is a file system
+Needs Python 3.9 or later, a C compiler, minisign and setfacl, which it installs where it may. The disk that crashes is a file system
 in a file, which root mounts: where that is not allowed, those cases are skipped.
 """
 
@@ -20,6 +16,7 @@ import errno
 import fcntl
 import os
 import pty
+import re
 import shutil
 import signal
 import stat
@@ -33,15 +30,15 @@ import time
 HERE = os.path.dirname(os.path.realpath(__file__))
 sys.path += [os.path.join(HERE, "..", it) for it in ("shared", "tool")]
 
-from real_runs import count_over
 from crashing import Disk, check_image, crash, make_image
-from installers import EXPIRED, FAILED, IN_USE, LOCK, MISUSED, NOT_ON_DISK, OLDER, PLACE, RECORD, REJECTED, SAME, THERE, UNRECORDED, Updater
+from cut_off import cut_off_cases
+from disturbing import disturbing_cases
+from installers import EXPIRED, FAILED, IN_USE, LATER, LOCK, MISUSED, NEW, NOT_ON_DISK, OLD, OLDER, PLACE, RECORD, REJECTED, SAME, THERE, UNRECORDED
 from owners import owner_cases
 from permissions import permission_cases
-from running import NOBODY, SECONDS, Failure, Skip, build_preload, set_list
+from running import NOBODY, SECONDS, Failure, Skip, build_preload
 from surviving import MEMORY, MAX_CALLS, SmallDisk, content
 
-PROGRAM = os.path.join(HERE, "..", "..", "crates", "minisign_updater", "out", "minisign_updater")
 STAGE = ".place.stage-"
 # A key that has signed nothing here.
 OTHER_KEY = "RWQf6LRCGA9i53mlYecO4IzT51TGPpvWucNSCh1CBM0QTaLn73Y7GFO3"
@@ -49,9 +46,7 @@ OTHER_KEY = "RWQf6LRCGA9i53mlYecO4IzT51TGPpvWucNSCh1CBM0QTaLn73Y7GFO3"
 SOON, PAST = "\texpires:99999999999", "\texpires:1700000000"
 USAGE = b"usage: minisign-install [OPTION ..] PK DATA SIG TARGET (--help shows the options)\n"
 PK = "key.pub"
-OLD, NEW = b"old" * 1000, b"new" * 50000
-LATER = b"later" * 40000
-OTHER_DATA = b"error: place: an update of this number was installed, and other data stands at the place (`--again` installs all the same)\n"
+OTHER_DATA = b"error: place: an update of this number was installed, and other data stands at the place\n--again installs all the same\n"
 
 
 def wait_until_read(pipe):
@@ -114,9 +109,12 @@ class Directory:
         return [*options, PK, name, name + ".sig", PLACE]
 
     def holds(self, name=PLACE):
-        """What the file holds; of a record whose number is a timestamp the number alone."""
+        """What the file holds; of a record with a digest whose number is a timestamp the number alone, and of another record all."""
         found = content(self.path, name)
-        return found.removeprefix(b"timestamp:") if found and name.endswith(".number") else found
+        if found and name.endswith(".number") and found.count(b"\n") == 2:
+            number, key, digest = found.split(b"\n")
+            return number.removeprefix(b"timestamp:") if (len(key), len(digest)) == (64, 128) else found
+        return found
 
     def stages(self):
         return [name for name in os.listdir(self.path) if name.startswith(STAGE)]
@@ -158,7 +156,7 @@ class Installing:
     def run(self, directory, arguments, environment=None, passed=(), **how):
         ran = subprocess.run([self.program, *arguments], cwd=directory.path, env=environment or {}, stdin=subprocess.DEVNULL,
                              stdout=subprocess.DEVNULL, stderr=subprocess.PIPE, pass_fds=passed, umask=0o022, timeout=SECONDS, **how)
-        return self.kind.ending(ran.returncode), ran.stderr
+        return ran.returncode, ran.stderr
 
     def check(self, directory, name, status, *options, said=None):
         ended, text = self.run(directory, directory.arguments(name, *options))
@@ -174,17 +172,18 @@ class Installing:
             directory.offer("new", NEW, 6)
             self.check(directory, "new", 0)
             directory.expect(NEW, b"6")
-            if directory.mode() != self.kind.kept_mode:
+            if directory.mode() != 0o751:
                 raise Failure(f"the place has the mode {directory.mode():o}")
 
     # == Whether it is there already ==
 
-    def finds_it_there(self, record=b"timestamp:6", options=()):
-        """What stands there already is not written again, whatever DATA holds: no call makes, writes, renames or removes anything."""
+    def finds_it_there(self, record=None, options=()):
+        """What stands there already is not written again, whatever DATA holds: it is synced, and so is the directory, but no call makes,
+        writes, renames or removes anything."""
         with self.directory() as path:
             directory = self.installed(path)
             self.check(directory, "new", 0)
-            directory.put(RECORD, record)
+            directory.put(RECORD, record or self.kind.record(NEW, 6))
             directory.put("new", LATER)
             directory.put(STAGE + "0" * 32, b"left")
             before = self.all_of(path)
@@ -197,31 +196,100 @@ class Installing:
                 calls = pipe.read().splitlines()
             if ended != THERE or text:
                 raise Failure(f"it ended with status {ended}, and said {text}")
-            if self.all_of(path) != before or not calls or {call.split(" ")[0] for call in calls} - {"open", "lock", "read-back"}:
+            at = ["open .", f"open {LOCK}", f"lock {LOCK}", f"open {RECORD}", f"open {PLACE}", f"sync {PLACE}", "sync ."]
+            if self.all_of(path) != before or [call for call in calls if call in at] != at or {call.split(" ")[0] for call in calls} - {"open", "lock", "sync"}:
                 raise Failure(f"its calls were {calls}")
 
-    def finds_other_data(self, options=(), change=lambda data: data[:-1] + b"x"):
-        """Other data of the kept number is rejected, and replaced where that is asked for. Then it is there."""
+    def heals(self, options=(), change=lambda data: data[:-1] + b"x"):
+        """Where the record is this update's, it is put over other data, and a check says so before and after that."""
         with self.directory() as path:
             directory = self.installed(path)
             self.check(directory, "new", 0, *options)
             directory.put(PLACE, change(NEW))
-            self.check(directory, "new", SAME, *options, said=OTHER_DATA)
-            directory.expect(change(NEW), b"6")
-            self.check(directory, "new", 0, *options, "--again")
+            self.check_words(directory, ["--check", *options, PK, "new.sig", PLACE], 0)
+            self.check(directory, "new", 0, *options, said=b"")
             directory.expect(NEW, b"6")
+            self.check_words(directory, ["--check", *options, PK, "new.sig", PLACE], THERE)
             self.check(directory, "new", THERE, *options, "--again", said=b"")
 
+    def finds_other_data(self, record, options=()):
+        """Where the record does not say of which data its number is, other data of that number is rejected, and replaced where that is
+        asked for. Then the record says it."""
+        with self.directory() as path:
+            directory = self.installed(path)
+            directory.put(RECORD, record)
+            for _ in range(2):
+                self.check_words(directory, ["--check", *options, PK, "new.sig", PLACE], SAME, OTHER_DATA)
+                self.check(directory, "new", SAME, *options, said=OTHER_DATA)
+            if (content(path, PLACE), content(path, RECORD)) != (OLD, record):
+                raise Failure(f"the record holds {content(path, RECORD)}")
+            self.check(directory, "new", 0, *options, "--again")
+            directory.expect(NEW, b"6")
+            directory.put(PLACE, OLD)
+            self.check(directory, "new", 0, *options)
+            directory.expect(NEW, b"6")
+
     def finds_other_update(self):
-        """Two updates have one number: the second is installed only where that is asked for."""
+        """Two updates have one number: the second is installed only where that is asked for, whatever stands at the place."""
         with self.directory() as path:
             directory = self.installed(path)
             self.check(directory, "new", 0)
             directory.offer("later", LATER, 6)
-            self.check(directory, "later", SAME, said=OTHER_DATA)
-            directory.expect(NEW, b"6")
+            for data in (NEW, OLD):
+                directory.put(PLACE, data)
+                self.check_words(directory, ["--check", PK, "later.sig", PLACE], SAME, OTHER_DATA)
+                self.check(directory, "later", SAME, said=OTHER_DATA)
+                directory.expect(data, b"6")
             self.check(directory, "later", 0, "--again")
             directory.expect(LATER, b"6")
+            self.check(directory, "later", THERE)
+            self.check(directory, "new", SAME, said=OTHER_DATA)
+            # (what stands there is there, whosever the record is)
+            directory.put(PLACE, NEW)
+            self.check(directory, "new", THERE)
+
+    def is_signed_anew(self):
+        """A release that was signed anew, with a later end, is the same data: it heals, and it is there."""
+        with self.directory() as path:
+            directory = self.installed(path)
+            self.check(directory, "new", 0)
+            directory.offer("anew", NEW, 6, more=SOON)
+            self.check(directory, "anew", THERE)
+            directory.put(PLACE, OLD)
+            self.check(directory, "anew", 0)
+            directory.expect(NEW, b"6")
+
+    def keeps_record(self):
+        """The record has the field and the number, the key that vouched, and the digest of the data."""
+        for label, words in (("timestamp", ()), ("version", ("--numbering", "version"))):
+            with self.directory() as path:
+                directory = Directory(path, self.kind, is_installed=False)
+                directory.offer("new", NEW, 6, label=label)
+                self.check(directory, "new", 0, "--first", *words)
+                if content(path, RECORD) != self.kind.record(NEW, 6, label):
+                    raise Failure(f"the record holds {content(path, RECORD)}")
+
+    def has_no_digest(self):
+        """A record whose digest does not read counts as one of a number alone."""
+        with self.directory() as path:
+            directory = self.installed(path)
+            directory.put(RECORD, self.kind.record(NEW, 6)[:-1] + b"g")
+            self.check(directory, "new", SAME, said=OTHER_DATA)
+            directory.offer("old", NEW, 5)
+            self.check(directory, "old", OLDER)
+            directory.put(PLACE, NEW)
+            self.check(directory, "new", THERE)
+
+    def damages_record(self, change):
+        """A record whose key or digest is none is damaged: no number is kept by it."""
+        damaged = b"error: place: what is kept beside the place is no number\n./.place.number is damaged: --first installs all the same\n"
+        with self.directory() as path:
+            directory = self.installed(path)
+            directory.put(RECORD, change(self.kind.record(OLD, 5)))
+            self.check(directory, "new", UNRECORDED, said=damaged)
+            self.check_words(directory, ["--check", PK, "new.sig", PLACE], UNRECORDED, damaged)
+            self.check(directory, "new", 0, "--first")
+            directory.expect(NEW, b"6")
 
     def puts_it_back(self):
         """A file that was removed is installed again."""
@@ -264,7 +332,8 @@ class Installing:
             self.check(directory, "new", FAILED, said=b"error: place: " + said + b"\n")
 
     def after_kill_between_renames(self):
-        """The record has the new number, and the place the older data: that is rejected, and healed where it is asked for."""
+        """The record is the newer update's, and the place has the older data: the next run of that update puts it there, and another
+        update of its number is rejected."""
         with self.directory() as path:
             directory = self.installed(path)
             environment = {"LD_PRELOAD": self.preload, "BREAK_CALLS": self.kind.called["rename"], "BREAK_AT": "2",
@@ -272,10 +341,12 @@ class Installing:
             status, said = self.run(directory, directory.arguments("new"), environment)
             if status != -signal.SIGKILL or (directory.holds(), directory.holds(RECORD)) != (OLD, b"6"):
                 raise Failure(f"it ended with status {status}, and the record holds {directory.holds(RECORD)}")
-            self.check(directory, "new", SAME, said=OTHER_DATA)
-            self.check(directory, "new", 0, "--again")
+            directory.offer("other", LATER, 6)
+            self.check(directory, "other", SAME, said=OTHER_DATA)
+            self.check_words(directory, ["--check", PK, "new.sig", PLACE], 0)
+            self.check(directory, "new", 0)
             directory.expect(NEW, b"6")
-            self.check(directory, "new", THERE, "--again")
+            self.check(directory, "new", THERE)
 
     def fails_to_look(self):
         """The file at the place cannot be read: that is said, and nothing is installed."""
@@ -283,7 +354,7 @@ class Installing:
             directory = self.installed(path)
             self.check(directory, "new", 0)
             before = self.all_of(path)
-            ended, text = self.run(directory, directory.arguments("new"), {"LD_PRELOAD": self.preload, "BREAK_CALLS": self.kind.looking,
+            ended, text = self.run(directory, directory.arguments("new"), {"LD_PRELOAD": self.preload, "BREAK_CALLS": "read",
                                                                      "BREAK_AT": str(self.kind.looked_at), "BREAK_ERRNO": str(errno.EIO)})
             if ended != FAILED or not self.kind.is_said(text, b"error: place: Input/output error (os error 5)\n") or self.all_of(path) != before:
                 raise Failure(f"it ended with status {ended}, and said {text}")
@@ -306,6 +377,7 @@ class Installing:
             if ran.returncode != THERE or ran.stderr or self.all_of(path) != before:
                 raise Failure(f"it ended with status {ran.returncode}, and said {ran.stderr}")
             directory.put(PLACE, OLD)
+            directory.put(RECORD, b"6")
             for words, status in (([], SAME), (["--again"], 0)):
                 ran = subprocess.run([self.program, *words, PK, "/dev/stdin", "new.sig", PLACE], cwd=path, env={}, input=NEW,
                                      stdout=subprocess.DEVNULL, stderr=subprocess.PIPE, timeout=SECONDS)
@@ -341,24 +413,24 @@ class Installing:
             directory = Directory(path, self.kind)
             directory.offer("version", NEW, 2 ** 64 - 1, label="version")
             self.check(directory, "version", 0, *version)
-            self.is_kept(directory, NEW, b"version:18446744073709551615")
+            self.is_kept(directory, NEW, self.kind.record(NEW, 2 ** 64 - 1, "version"))
             directory.offer("time", OLD, 1700000000)
             self.check(directory, "time", UNRECORDED,
-                       said=b"error: place: the number that is kept beside the place is a version, and no timestamp\n")
-            self.is_kept(directory, NEW, b"version:18446744073709551615")
+                       said=b"error: place: the number that is kept beside the place is a version, and no timestamp\nit was installed by version: add --numbering version\n")
+            self.is_kept(directory, NEW, self.kind.record(NEW, 2 ** 64 - 1, "version"))
             self.check(directory, "time", 0, "--first")
-            self.is_kept(directory, OLD, b"timestamp:1700000000")
+            self.is_kept(directory, OLD, self.kind.record(OLD, 1700000000))
             directory.offer("version", NEW, 2, label="version")
             self.check(directory, "version", UNRECORDED, *version,
-                       said=b"error: place: the number that is kept beside the place is a timestamp, and no version\n")
-            self.is_kept(directory, OLD, b"timestamp:1700000000")
+                       said=b"error: place: the number that is kept beside the place is a timestamp, and no version\nit was installed by timestamp: add --numbering timestamp\n")
+            self.is_kept(directory, OLD, self.kind.record(OLD, 1700000000))
             self.check(directory, "version", 0, "--first", *version)
-            self.is_kept(directory, NEW, b"version:2")
+            self.is_kept(directory, NEW, self.kind.record(NEW, 2, "version"))
             directory.offer("version", LATER, 1, label="version")
             self.check(directory, "version", OLDER, "--first", *version)
             directory.offer("version", LATER, 3, label="version")
             self.check(directory, "version", 0, *version)
-            self.is_kept(directory, LATER, b"version:3")
+            self.is_kept(directory, LATER, self.kind.record(LATER, 3, "version"))
 
     @staticmethod
     def is_kept(directory, data, record):
@@ -369,14 +441,14 @@ class Installing:
         with self.directory() as path:
             directory = Directory(path, self.kind, is_installed=False)
             directory.offer("new", NEW, 6)
-            self.check(directory, "new", UNRECORDED, said=b"error: place: no number is kept beside the place (`--first` installs all the same)\n")
+            self.check(directory, "new", UNRECORDED, said=b"error: place: no number is kept beside the place\n./.place.number is missing: --first installs all the same\n")
             directory.expect(None, None)
             self.check(directory, "new", 0, "--first")
             directory.expect(NEW, b"6")
-            if directory.mode() != self.kind.first_mode:
+            if directory.mode() != 0o600:
                 raise Failure(f"the place has the mode {directory.mode():o}")
             directory.put(RECORD, b"six")
-            self.check(directory, "new", UNRECORDED, said=b"error: place: what is kept beside the place is no number (`--first` installs all the same)\n")
+            self.check(directory, "new", UNRECORDED, said=b"error: place: what is kept beside the place is no number\n./.place.number is damaged: --first installs all the same\n")
             directory.expect(NEW, b"six")
             self.check(directory, "new", 0, "--first")
             directory.offer("old", OLD, 4)
@@ -384,10 +456,13 @@ class Installing:
             directory.expect(NEW, b"6")
 
     def rejects(self, said, data=NEW, number=6, status=REJECTED, words=(), **how):
+        """What is rejected, where the data is the one that was signed by the signed comment alone, before a stage is made."""
         with self.directory() as path:
             directory = Directory(path, self.kind)
             directory.offer("bad", data, number, **how)
-            self.check(directory, "bad", status, *words, said=said)
+            made, (ended, text) = self.made_by_run(directory, "bad", *words)
+            if ended != status or not self.kind.is_said(text, said) or bool(made) != ("signed" in how):
+                raise Failure(f"it ended with status {ended} in place of {status}, made {made}, and said {text}")
             directory.expect(OLD, b"5")
 
     def rejects_changed_comment(self):
@@ -403,21 +478,38 @@ class Installing:
                 self.check(directory, "bad", REJECTED, said=b"error: bad.sig: Comment signature verification failed\n")
                 directory.expect(OLD, b"5")
 
+    def made_by_run(self, directory, name, *words):
+        """The names of the stages that a run has made; and its status, and what it said."""
+        told, says = os.pipe()
+        try:
+            ending = self.run(directory, directory.arguments(name, *words), {"LD_PRELOAD": self.trace, "TRACE_TO": str(says)}, [says])
+        finally:
+            os.close(says)
+        with os.fdopen(told) as pipe:
+            return {line.split(" ")[1] for line in pipe if line.startswith(f"make {STAGE}")}, ending
+
     def draws_names(self):
         """The stages of two runs over the same files have four names."""
         names = set()
         for _ in range(2):
             with self.directory() as path:
-                directory = self.installed(path)
-                told, says = os.pipe()
-                try:
-                    self.run(directory, directory.arguments("new"), {"LD_PRELOAD": self.trace, "TRACE_TO": str(says)}, [says])
-                finally:
-                    os.close(says)
-                with os.fdopen(told) as pipe:
-                    names.update(line.split(" ")[1] for line in pipe if line.startswith(f"make {STAGE}"))
+                names |= self.made_by_run(self.installed(path), "new")[0]
         if len(names) != 4:
             raise Failure(f"the names are {sorted(names)}")
+
+    def rejects_unread(self):
+        """A signature that does not read is rejected after a record that is, and before a stage is made."""
+        no_number = b"error: place: what is kept beside the place is no number\n./.place.number is damaged: --first installs all the same\n"
+        for record, status, said in ((b"5", REJECTED, b"error: bad.sig: Missing trusted comment\n"), (b"five", UNRECORDED, no_number)):
+            with self.directory() as path:
+                directory = Directory(path, self.kind)
+                directory.offer("bad", NEW, 6)
+                directory.put("bad.sig", b"".join(directory.holds("bad.sig").splitlines(True)[:2]))
+                directory.put(RECORD, record)
+                made, (ended, text) = self.made_by_run(directory, "bad")
+                if made or ended != status or not self.kind.is_said(text, said):
+                    raise Failure(f"it made {sorted(made)}, ended with status {ended}, and said {text}")
+                directory.expect(OLD, record)
 
     def rejects_legacy(self):
         with self.directory() as path:
@@ -442,13 +534,14 @@ class Installing:
 
     # == Whether there is a newer one ==
 
-    def checks(self, status, *options, said=b"", record=b"timestamp:5", number=6, words=(PK, "new.sig", PLACE), **how):
-        """By the signature alone: nothing is written, and the lock may be held by another."""
+    def checks(self, status, *options, said=b"", record=b"timestamp:5", number=6, words=(PK, "new.sig", PLACE), place=OLD, **how):
+        """By the signature, the record and what stands there: nothing is written, and the lock may be held by another."""
         with self.directory() as path:
             directory = Directory(path, self.kind)
-            os.remove(os.path.join(path, RECORD))
-            if record is not None:
-                directory.put(RECORD, record)
+            for name, data in ((RECORD, record), (PLACE, place)):
+                os.remove(os.path.join(path, name))
+                if data is not None:
+                    directory.put(name, data)
             directory.offer("new", NEW, number, **how)
             os.remove(os.path.join(path, "new"))
             before = self.all_of(path)
@@ -462,6 +555,37 @@ class Installing:
     def all_of(path):
         """What a directory has, and when each file was changed."""
         return {it.name: (content(path, it.name), it.stat().st_mtime_ns, it.stat().st_ino) for it in os.scandir(path)}, os.stat(path).st_mtime_ns
+
+    def shows_checked(self):
+        """A check shows the number and the signed comment, a line each, and no control character as it is: where the key has signed it."""
+        line = b"timestamp:6\tfile:place\tnote:\\u{1b}[31m\\u{9b}\tprehashed\n"
+        with self.directory() as path:
+            directory = Directory(path, self.kind)
+            directory.offer("new", NEW, 6, more="\tnote:\x1b[31m\x9b")
+            directory.put("bad.sig", directory.holds("new.sig").replace(b"timestamp:6", b"timestamp:7"))
+            for before, name, status, shown in ((OLD, "new", 0, b"6\n" + line), (OLD, "bad", REJECTED, b""), (NEW, "new", THERE, b"6\n" + line)):
+                directory.put(PLACE, before)
+                directory.put(RECORD, b"5" if before == OLD else b"6")
+                ran = subprocess.run([self.program, "--check", PK, name + ".sig", PLACE], cwd=path, env={}, stdin=subprocess.DEVNULL,
+                                     stdout=subprocess.PIPE, stderr=subprocess.PIPE, timeout=SECONDS)
+                if (ran.returncode, ran.stdout, bool(ran.stderr)) != (status, shown, status == REJECTED):
+                    raise Failure(f"it ended with status {ran.returncode}, showed {ran.stdout}, and said {ran.stderr}")
+            with open("/dev/full", "wb") as full:
+                ran = subprocess.run([self.program, "--check", PK, "new.sig", PLACE], cwd=path, env={}, stdin=subprocess.DEVNULL, stdout=full,
+                                     stderr=subprocess.DEVNULL, timeout=SECONDS)
+            if ran.returncode != FAILED:
+                raise Failure(f"it ended with status {ran.returncode} where nothing could be shown")
+
+    def tells_of_mode(self):
+        """What is there already keeps its permissions, and where others were asked for this is said."""
+        with self.directory() as path:
+            directory = self.installed(path)
+            self.check(directory, "new", 0, "--mode", "640")
+            self.check_words(directory, ["--mode", "640", *directory.arguments("new")], THERE)
+            self.check_words(directory, ["--mode", "755", *directory.arguments("new")], THERE,
+                             b"place stands there already and keeps its permissions: chmod gives it others\n")
+            if directory.mode() != 0o640:
+                raise Failure(f"the place has the mode {directory.mode():o}")
 
     def checks_changed_comment(self):
         """A greater number in the comment of an older update is no newer one."""
@@ -516,6 +640,36 @@ class Installing:
                 is_over.set()
                 renaming.join()
 
+    def runs_script(self):
+        """The script of the document, over a directory in place of what curl fetches: it ends well where there is nothing newer and where
+        there is, and with the status of what was rejected otherwise."""
+        document = os.path.join(HERE, "..", "..", "docs", "INSTALLING.md")
+        with open(document, encoding="utf-8") as file:
+            lines = re.search(r"^    #!/bin/sh\n(?:    .*\n)+", file.read(), re.M)[0].splitlines()
+        with self.directory() as path:
+            directory, label = self.installed(path, is_installed=False), {"label": "version", "names": "app"}
+            for name in ("there", "url", "bin"):
+                os.mkdir(os.path.join(path, name))
+            directory.put("release.pub", self.kind.public_text())
+            directory.put("update", "".join(line[4:] + "\n" for line in lines).encode())
+            directory.put("bin/curl", b'#!/bin/sh\nexec cp "$6" "$5"\n')
+            shutil.copy(self.program, os.path.join(path, "bin", "minisign-install"))
+            os.chmod(os.path.join(path, "bin", "curl"), 0o755)
+
+            def offer(data, number, signed=None):
+                directory.offer("offered", data, number, signed, **label)
+                os.replace(os.path.join(path, "offered"), os.path.join(path, "url", "app"))
+                os.replace(os.path.join(path, "offered.sig"), os.path.join(path, "url", "app.minisig"))
+
+            offer(OLD, 1)
+            self.check_words(directory, ["--first", "--numbering", "version", "release.pub", "url/app", "url/app.minisig", "there/app"], 0)
+            for data, number, signed, status in ((OLD, 1, None, 0), (NEW, 2, None, 0), (NEW, 2, None, 0), (OLD, 1, None, OLDER), (LATER, 3, OLD, REJECTED)):
+                offer(data, number, signed)
+                ran = subprocess.run(["sh", "update", "url"], cwd=path, env={"PATH": f"{path}/bin:{os.environ['PATH']}"}, stdin=subprocess.DEVNULL,
+                                     stdout=subprocess.PIPE, stderr=subprocess.PIPE, timeout=SECONDS)
+                if ran.returncode != status or ran.stdout or content(path, "there/app") != (OLD if (number, status) == (1, 0) else NEW):
+                    raise Failure(f"of version {number} it ended with status {ran.returncode}, showed {ran.stdout}, and said {ran.stderr}")
+
     # == Keys that are named themselves ==
 
     def names_keys(self):
@@ -530,7 +684,7 @@ class Installing:
                 self.check_words(directory, [*words, "--check", "new.sig", PLACE], 0)
                 self.check_words(directory, [*words, "new", "new.sig", PLACE], 0)
                 directory.expect(NEW, b"6")
-                self.check_words(directory, [*words, "--check", "new.sig", PLACE], SAME)
+                self.check_words(directory, [*words, "--check", "new.sig", PLACE], THERE)
 
     def rejects_key(self, key, said):
         with self.directory() as path:
@@ -568,7 +722,7 @@ class Installing:
             self.is_kept(directory, OLD, record)
             directory.offer("new", NEW, 6)
             self.check(directory, "new", 0)
-            self.is_kept(directory, NEW, b"timestamp:6")
+            self.is_kept(directory, NEW, self.kind.record(NEW, 6))
 
     def rejects_beside(self, name, make, said):
         """A record or a lock file that is a link, or no regular file, is rejected, left alone, and not waited for."""
@@ -591,40 +745,48 @@ class Installing:
 
     # == Meanwhile ==
 
-    def while_staged(self, directory, meanwhile, where=".", name="new"):
-        """A run over the place in a directory of that directory: once it has staged all of its data it stops, something is done, and
-        then it goes on. Its status, and what it said."""
-        environment = {"LD_PRELOAD": self.preload, "BREAK_CALLS": self.kind.called["read-back"], "BREAK_AT": "1",
-                       "BREAK_SIGNAL": str(int(signal.SIGSTOP)), "BREAK_GOES_ON": "1"}
-        process = subprocess.Popen([self.program, PK, name, name + ".sig", os.path.join(where, PLACE)], cwd=directory.path,
+    def while_stopped(self, directory, calls, number, meanwhile, where="."):
+        """A run over the place in a directory of that directory: before its call of this number among these it stops, something is
+        done, and then it goes on. Whether it made so many; its status, and what it said."""
+        environment = {"LD_PRELOAD": self.preload, "BREAK_CALLS": calls, "BREAK_AT": str(number), "BREAK_SIGNAL": str(int(signal.SIGSTOP)),
+                       "BREAK_GOES_ON": "1"}
+        process = subprocess.Popen([self.program, PK, "new", "new.sig", os.path.join(where, PLACE)], cwd=directory.path,
                                    env=environment, stdin=subprocess.DEVNULL, stdout=subprocess.DEVNULL, stderr=subprocess.PIPE)
+        _, how = os.waitpid(process.pid, os.WUNTRACED)
         try:
-            _, how = os.waitpid(process.pid, os.WUNTRACED)
-            if not os.WIFSTOPPED(how):
+            if os.WIFSTOPPED(how):
+                meanwhile(Directory.there(os.path.join(directory.path, where), self.kind))
+            else:
                 process.returncode = os.waitstatus_to_exitcode(how)
-                raise Failure(f"it staged nothing, and said {process.stderr.read()}")
-            meanwhile(Directory.there(os.path.join(directory.path, where), self.kind))
         finally:
             if process.returncode is None:
                 process.send_signal(signal.SIGCONT)
             said = process.communicate(timeout=SECONDS)[1]
-        return self.kind.ending(process.returncode), said
+        return os.WIFSTOPPED(how), process.returncode, said
+
+    def while_staged(self, directory, meanwhile, where="."):
+        """The same once it has staged all of its data."""
+        is_stopped, status, said = self.while_stopped(directory, self.kind.called["read-back"], 1, meanwhile, where)
+        if not is_stopped:
+            raise Failure(f"it staged nothing, and said {said}")
+        return status, said
 
     def stalled_pipe(self):
-        """A run whose data comes through a pipe that stands still holds up no other run, and leaves nothing where it is killed."""
-        with self.directory() as path:
-            directory = self.installed(path)
-            directory.offer("later", LATER, 7)
-            os.remove(os.path.join(path, "new"))
-            os.mkfifo(os.path.join(path, "new"))
-            for is_killed in (True, False):
+        """A run whose data comes through a pipe that stands still holds up no other run, and leaves nothing where it is killed. What it
+        has received is judged again: another run may have installed a later update meanwhile."""
+        for is_killed in (True, False):
+            with self.directory() as path:
+                directory = self.installed(path)
+                directory.offer("later", LATER, 7)
+                os.remove(os.path.join(path, "new"))
+                os.mkfifo(os.path.join(path, "new"))
                 process = subprocess.Popen([self.program, *directory.arguments("new")], cwd=path, env={}, stdin=subprocess.DEVNULL,
                                            stdout=subprocess.DEVNULL, stderr=subprocess.PIPE)
                 # (also for reading, so that it is open at once)
                 with open(os.path.join(path, "new"), "r+b", buffering=0) as pipe:
                     pipe.write(NEW[:1000])
                     wait_until_read(pipe)
-                    self.check(directory, "later", 0 if is_killed else THERE)
+                    self.check(directory, "later", 0)
                     directory.expect(LATER, b"7")
                     if is_killed:
                         process.kill()
@@ -634,6 +796,24 @@ class Installing:
                 if process.returncode != (-signal.SIGKILL if is_killed else OLDER):
                     raise Failure(f"it ended with status {process.returncode}, and said {said}")
                 directory.expect(LATER, b"7")
+
+    def rejects_unfed(self, status, said, **how):
+        """What the signed comment or the record rejects is told at once, and no data is waited for."""
+        with self.directory() as path:
+            directory = Directory(path, self.kind)
+            directory.offer("new", NEW, **{"number": 6, **how})
+            says, told = os.pipe()
+            try:
+                ran = subprocess.run([self.program, PK, "/dev/stdin", "new.sig", PLACE], cwd=path, env={}, stdin=says,
+                                     stdout=subprocess.DEVNULL, stderr=subprocess.PIPE, timeout=SECONDS)
+            except subprocess.TimeoutExpired as why:
+                raise Failure("it waits for data that it does not need") from why
+            finally:
+                os.close(says)
+                os.close(told)
+            if ran.returncode != status or not self.kind.is_said(ran.stderr, said):
+                raise Failure(f"it ended with status {ran.returncode}, and said {ran.stderr}")
+            directory.expect(OLD, b"5")
 
     def through_pipe(self):
         """Data through a pipe is installed, and rejected where it is longer than it may be or is not what was signed."""
@@ -843,20 +1023,12 @@ class Installing:
             raise Failure(f"the kills left {len(seen)} states alone")
 
     def finish(self, directory, state):
-        """The next run finishes what a run has left that was cut off: with the older data under the new number where that is
-        asked for."""
-        self.check(directory, "new", {(OLD, b"5"): 0, (OLD, b"6"): SAME, (NEW, b"6"): THERE}[state])
-        if state == (OLD, b"6"):
-            self.check(directory, "new", 0, "--again")
-        # (what stands there already, no run removes anything beside)
-        self.finish_leftovers(directory, state)
+        """The next run of the same update finishes what one has left that was cut off."""
+        self.check(directory, "new", THERE if state == (NEW, b"6") else 0)
+        # (beside what stands there already no run removes anything)
+        for name in directory.stages() if state == (NEW, b"6") else ():
+            os.remove(os.path.join(directory.path, name))
         directory.expect(NEW, b"6")
-
-    def finish_leftovers(self, directory, state):
-        if state == (NEW, b"6"):
-            directory.offer("next", NEW, 7)
-            self.check(directory, "next", 0)
-            directory.put(RECORD, b"6")
 
     def is_spared(self, calls):
         """Whether the call that failed is none that a run needs: a file that is closed is done with, and libsodium, which is the
@@ -1019,7 +1191,7 @@ class Installing:
             status, said = self.run(directory, words)
             if status or said:
                 raise Failure(f"it ended with status {status}, and said {said}")
-            if directory.holds(name) != NEW or directory.holds(f".{name}.number") != number or directory.mode(name) != (mode or self.kind.kept_mode):
+            if directory.holds(name) != NEW or directory.holds(f".{name}.number") != number or directory.mode(name) != (mode or 0o751):
                 raise Failure(f"the place holds {str(directory.holds(name))[:40]}, with the mode {directory.mode(name):o}")
 
     def first_mode(self):
@@ -1087,22 +1259,6 @@ class Installing:
                 if ran.returncode != status:
                     raise Failure(f"it ended with status {ran.returncode}")
             directory.expect(NEW, b"6")
-
-    # == Permissions ==
-
-    def keeps_permissions(self, before, after, entries=None):
-        """An update over a file of this mode, with these entries of an access control list."""
-        with self.directory() as path:
-            directory = Directory(path, self.kind)
-            at = os.path.join(path, PLACE)
-            os.chmod(at, before)
-            if entries:
-                set_list(at, entries)
-            directory.offer("new", NEW, 6)
-            self.check(directory, "new", 0)
-            directory.expect(NEW, b"6")
-            if directory.mode() != after:
-                raise Failure(f"the place has the mode {directory.mode():o} in place of {after:o}")
 
     # == In order ==
 
@@ -1279,7 +1435,7 @@ class Installing:
                     for name, process in started.items():
                         said = process.communicate(timeout=SECONDS)[1]
                         allowed = {"bad": (REJECTED, IN_USE), "older": (OLDER, IN_USE), "one": (0, OLDER, IN_USE), "two": (0, IN_USE)}
-                        if self.kind.ending(process.returncode) not in allowed[name]:
+                        if process.returncode not in allowed[name]:
                             raise Failure(f"{name} ended with status {process.returncode}, and said {said}")
                     kept = int(directory.holds(RECORD))
                     if directory.holds() == two and kept != 2 * number + 7 or directory.stages():
@@ -1290,6 +1446,35 @@ class Installing:
             if wrong:
                 found, kept, before = wrong[0]
                 raise Failure(f"a reader found {str(found)[:40]}, and then {kept} in the record, behind {before}")
+
+    def waits(self):
+        """Where another holds the lock it is waited for as long as is asked for; for a pipe once its data was received."""
+        with self.directory() as path:
+            directory = self.installed(path)
+            with open(os.path.join(path, LOCK), "wb") as lock:
+                fcntl.flock(lock, fcntl.LOCK_EX)
+                began = time.monotonic()
+                self.check(directory, "new", IN_USE, "--wait", "1")
+                if time.monotonic() - began < 1:
+                    raise Failure("it did not wait")
+                for words, feed in ((directory.arguments("new"), subprocess.DEVNULL), ([PK, "/dev/stdin", "new.sig", PLACE], subprocess.PIPE)):
+                    directory.put(PLACE, OLD)
+                    directory.put(RECORD, b"5")
+                    process = subprocess.Popen([self.program, "--wait", "20", *words], cwd=path, env={}, stdin=feed, stdout=subprocess.DEVNULL,
+                                               stderr=subprocess.PIPE)
+                    if process.stdin:
+                        process.stdin.write(NEW)
+                        process.stdin.close()
+                        process.stdin = None
+                    time.sleep(0.5)
+                    if process.poll() is not None or directory.holds() != OLD:
+                        raise Failure(f"it did not wait, and said {process.communicate()[1]}")
+                    fcntl.flock(lock, fcntl.LOCK_UN)
+                    said = process.communicate(timeout=SECONDS)[1]
+                    if process.returncode or said:
+                        raise Failure(f"it ended with status {process.returncode}, and said {said}")
+                    directory.expect(NEW, b"6")
+                    fcntl.flock(lock, fcntl.LOCK_EX)
 
     def while_locked(self):
         with self.directory() as path:
@@ -1327,8 +1512,8 @@ def cases(it):
     yield "other data", lambda: it.rejects(b"error: bad: Signature verification failed\n", signed=LATER)
     yield "no data", lambda: it.rejects(b"error: bad: Signature verification failed\n", data=b"", signed=LATER)
     yield "an older update", lambda: it.rejects(b"error: bad: the update is older than what was installed\n", number=4, status=OLDER)
-    yield "another file", lambda: it.rejects(b"error: bad.sig: the signed comment does not name this file (place is wanted, by the target or `--name`)\n", names="other")
-    no_number = b"error: bad.sig: the signed comment has no such number (timestamp: is the field that is wanted, by `--numbering` or without it)\n"
+    yield "another file", lambda: it.rejects(b"error: bad.sig: the signed comment does not name this file\nplace is wanted: --name wants another name than that of the target\n", names="other")
+    no_number = b"error: bad.sig: the signed comment has no such number\nits timestamp is wanted: --numbering version has it numbered by its version\n"
     yield "no number", lambda: it.rejects(no_number, label="version")
     yield "a number too great", lambda: it.rejects(no_number, number=2 ** 64)
     yield "a word for a number", lambda: it.rejects(no_number, number="six")
@@ -1342,9 +1527,10 @@ def cases(it):
     yield "a directory with a name that is not UTF-8", lambda: it.passes_over(os.mkdir, b"caf\xe9")
     yield "a file with a name that is not UTF-8", lambda: it.passes_over(lambda at: open(at, "wb").close(), b".place.stage-\xe9")
     yield "a directory with a stage's name", lambda: it.passes_over(os.mkdir, os.fsencode(STAGE + "0" * 32))
-    too_long = b"error: ./.place.number: it is too long for a number\n"
-    no_text = b"error: place: what is kept beside the place is no number (`--first` installs all the same)\n"
-    yield "a record that is too long", lambda: it.rejects_record(b"0" * 64 + b"99", FAILED, too_long)
+    too_long = b"error: ./.place.number: it is too long for a record\n"
+    no_text = b"error: place: what is kept beside the place is no number\n./.place.number is damaged: --first installs all the same\n"
+    yield "a record that is too long", lambda: it.rejects_record(b"5".rjust(259, b"0"), FAILED, too_long)
+    yield "a record of too many digits", lambda: it.rejects_record(b"5".rjust(258, b"0"), UNRECORDED, no_text)
     yield "a record of two lines", lambda: it.rejects_record(b"5\n5\n", UNRECORDED, no_text)
     yield "a record with a line feed", lambda: it.takes_record(b"5\n")
     yield "a record of 64 digits", lambda: it.takes_record(b"5".rjust(64, b"0"))
@@ -1353,7 +1539,7 @@ def cases(it):
     for record in (b"", b"\n", b"+5", b"timestamp:", b"timestamp:+5", b"timestamp: 5", b"Timestamp:5", b"time:5", b"5timestamp:",
                    b"timestamp:version:5", b"timestamp:5\tversion:5", b"timestamp:18446744073709551616", b"version:", b"version:x"):
         yield f"a record of {record}", lambda record=record: it.rejects_record(record, UNRECORDED, no_text)
-    kept_by_version = b"error: place: the number that is kept beside the place is a version, and no timestamp\n"
+    kept_by_version = b"error: place: the number that is kept beside the place is a version, and no timestamp\nit was installed by version: add --numbering version\n"
     yield "a record of the other field", lambda: it.rejects_record(b"version:5\n", UNRECORDED, kept_by_version)
     others = [("pipe", os.mkfifo, "what stands there is no regular file"),
               ("link", lambda at: os.symlink("behind", at), "a link stands there, which is not followed"),
@@ -1364,12 +1550,6 @@ def cases(it):
             yield f"a {what} that is a {kind}", lambda name=name, make=make, said=said: it.rejects_beside(name, make, said)
         yield f"a {kind} at the place", lambda make=make, said=said.encode(): it.on_other(make, said)
     yield from permission_cases(ReplacingByUpdates(it), it.kind.permissions)
-    if not it.kind.is_in_c:
-        yield "permissions of a group alone", lambda: it.keeps_permissions(0o770, 0o700)
-        yield "a list with a user who may write", lambda: it.keeps_permissions(0o600, 0o600, "g::---,u:65534:rw")
-        yield "a list in a file that all may read", lambda: it.keeps_permissions(0o644, 0o644, "g::---,u:65534:rw")
-        yield "a list with a group that may write", lambda: it.keeps_permissions(0o600, 0o600, "g:65534:rwx")
-        yield "a list that keeps a group from what all others may", lambda: it.keeps_permissions(0o604, 0o644, "g::---,g:65534:rwx")
     yield from owner_cases(it)
     yield "a lock file that is removed", it.loses_lock
     yield "a stage that is changed", it.changed_stage
@@ -1396,24 +1576,36 @@ def cases(it):
     yield "four at once", it.at_once
     yield "four slow ones at once", lambda: it.at_once(rounds=8, slow=20000)
     yield "while another holds the lock", it.while_locked
+    yield "waiting for another that holds the lock", it.waits
     yield from expiry_cases(it)
-    if it.kind.is_in_c:
-        yield from program_cases(it)
-        yield from word_cases(it)
-    if it.kind.has_checks:
-        yield from check_cases(it)
+    yield from cut_off_cases(it)
+    yield from disturbing_cases(it)
+    yield from program_cases(it)
+    yield from word_cases(it)
+    yield from check_cases(it)
 
 
 def there_cases(it):
     """The number is the kept one: the update stands there already, or other data does."""
     yield "there already", it.finds_it_there
     yield "there already, by a number alone", lambda: it.finds_it_there(b"6\n")
+    yield "there already, by a field and a number", lambda: it.finds_it_there(b"timestamp:6")
     yield "there already, at a first installation", lambda: it.finds_it_there(options=("--first",))
     yield "there already, though it is asked for again", lambda: it.finds_it_there(options=("--again",))
-    yield "other data of the kept number", it.finds_other_data
-    yield "shorter data of the kept number", lambda: it.finds_other_data(change=lambda data: data[:-1])
-    yield "no data of the kept number", lambda: it.finds_other_data(change=lambda data: b"")
-    yield "other data at a first installation", lambda: it.finds_other_data(("--first",))
+    yield "a changed file", it.heals
+    yield "a file that was cut short", lambda: it.heals(change=lambda data: data[:-1])
+    yield "a file that was emptied", lambda: it.heals(change=lambda data: b"")
+    yield "a changed file at a first installation", lambda: it.heals(("--first",))
+    yield "other data of the kept number", lambda: it.finds_other_data(b"timestamp:6")
+    yield "other data of a number alone", lambda: it.finds_other_data(b"6")
+    yield "other data at a first installation", lambda: it.finds_other_data(b"timestamp:6\n", ("--first",))
+    yield "a release that was signed anew", it.is_signed_anew
+    yield "the record", it.keeps_record
+    for what, change in (("a digit less", lambda record: record[:-1]), ("a digit more", lambda record: record + b"0"), ("a line feed at its end", lambda record: record + b"\n"),
+                         ("a key alone", lambda record: record.rpartition(b"\n")[0]),
+                         ("a blank", lambda record: record.replace(b"\n", b" \n"))):
+        yield f"a record with {what}", lambda change=change: it.damages_record(change)
+    yield "a record whose digest is none", it.has_no_digest
     yield "another update of the kept number", it.finds_other_update
     yield "a file that was removed", it.puts_it_back
     yield "there already, while another holds the lock", it.asks_with_the_lock
@@ -1422,25 +1614,30 @@ def there_cases(it):
     yield "there already, and older", lambda: it.rejects_of_kept_number(b"error: bad: the update is older than what was installed\n", 5, OLDER)
     yield "there already, and expired", lambda: it.rejects_of_kept_number(b"error: bad.sig: the update has expired\n", 6, EXPIRED, more=PAST)
     yield "there already, for another file", lambda: it.rejects_of_kept_number(
-        b"error: bad.sig: the signed comment does not name this file (place is wanted, by the target or `--name`)\n", names="other")
+        b"error: bad.sig: the signed comment does not name this file\nplace is wanted: --name wants another name than that of the target\n", names="other")
     yield "there already, with a legacy signature", lambda: it.rejects_of_kept_number(b"error: bad.sig: Legacy signatures are not accepted\n", legacy=True)
     yield "a link to it at the place", lambda: it.looks_at_no_other(lambda at: os.symlink("behind", at), b"a link stands there, which is not followed")
     yield "a pipe at the place, of the kept number", lambda: it.looks_at_no_other(os.mkfifo, b"what stands there is no regular file")
 
 
 def program_cases(it):
-    """What the example has not: each option, and more than paths of files that stand still."""
+    """Each option, and more than paths of files that stand still."""
     yield "the field that a place is kept by", it.keeps_field
-    no_version = b"error: bad.sig: the signed comment has no such number (version: is the field that is wanted, by `--numbering` or without it)\n"
+    no_version = b"error: bad.sig: the signed comment has no such number\nits version is wanted: without --numbering version its timestamp is\n"
     yield "a version with a plus", lambda: it.rejects(no_version, number="+6", label="version", words=("--numbering", "version"))
     yield "a first installation with a mode", it.first_mode
     yield "a bound on the data", it.bounded
+    yield "a signature that does not read", it.rejects_unread
     yield "progress at a terminal", it.at_terminal
     yield "a closed error stream", it.without_errors
     yield "an allocation that fails", it.refused_memory
     yield "a directory that is moved", it.moved_directory
     yield "a pipe that stands still", it.stalled_pipe
     yield "data through a pipe", it.through_pipe
+    yield "a pipe that nobody feeds, of an older update", lambda: it.rejects_unfed(OLDER, b": the update is older than what was installed\n", number=4)
+    yield "a pipe that nobody feeds, of one that has expired", lambda: it.rejects_unfed(EXPIRED, b": the update has expired\n", more=PAST)
+    yield "a pipe that nobody feeds, of another file", lambda: it.rejects_unfed(
+        REJECTED, b"place is wanted: --name wants another name than that of the target\n", names="other")
     yield "a pipe and no directory", it.misses_directory_for_pipe
     yield "there already, and a pipe that nobody feeds", it.finds_it_there_unfed
     yield "a pipe, and another run that is faster", it.is_overtaken
@@ -1464,20 +1661,24 @@ def check_cases(it):
     soon, past = SOON, PAST
     checks = [
         ("a newer one", 0, (), {}),
-        ("the same", SAME, (), {"number": 5}),
+        ("the same", SAME, (), {"number": 5, "said": OTHER_DATA}),
+        ("the same, which is there", THERE, (), {"number": 5, "place": NEW}),
+        ("the same, and nothing there", 0, (), {"number": 5, "place": None}),
+        ("the same, that is asked for again", MISUSED, ("--again",), {"number": 5, "said": None}),
         ("an older one", OLDER, (), {"number": 4}),
         ("a newer one of a number alone", 0, (), {"record": b"5"}),
         ("a newer version", 0, version, {"record": b"version:5\n", "label": "version"}),
         ("a first one", 0, ("--first",), {"record": None}),
         ("a first one of another field", 0, ("--first", *version), {"label": "version"}),
-        ("the same at a first installation", SAME, ("--first",), {"number": 5}),
+        ("the same at a first installation", SAME, ("--first",), {"number": 5, "said": OTHER_DATA}),
+        ("a first one that has expired", EXPIRED, ("--first",), {"record": None, "more": past, "said": b"error: new.sig: the update has expired\n"}),
         ("another name that is asked for", 0, ("--name", "app"), {"names": "app"}),
         ("a newer one that expires later", 0, (), {"more": soon}),
-        ("no record", UNRECORDED, (), {"record": None, "said": b"error: place: no number is kept beside the place (`--first` installs all the same)\n"}),
+        ("no record", UNRECORDED, (), {"record": None, "said": b"error: place: no number is kept beside the place\n./.place.number is missing: --first installs all the same\n"}),
         ("a record of the other field", UNRECORDED, version,
-         {"label": "version", "said": b"error: place: the number that is kept beside the place is a timestamp, and no version\n"}),
-        ("another file", REJECTED, (), {"names": "app", "said": b"error: new.sig: the signed comment does not name this file (place is wanted, by the target or `--name`)\n"}),
-        ("no number of the field", REJECTED, version, {"record": b"version:5", "said": b"error: new.sig: the signed comment has no such number (version: is the field that is wanted, by `--numbering` or without it)\n"}),
+         {"label": "version", "said": b"error: place: the number that is kept beside the place is a timestamp, and no version\nit was installed by timestamp: add --numbering timestamp\n"}),
+        ("another file", REJECTED, (), {"names": "app", "said": b"error: new.sig: the signed comment does not name this file\nplace is wanted: --name wants another name than that of the target\n"}),
+        ("no number of the field", REJECTED, version, {"record": b"version:5", "said": b"error: new.sig: the signed comment has no such number\nits version is wanted: without --numbering version its timestamp is\n"}),
         ("one that has expired", EXPIRED, (), {"more": past, "said": b"error: new.sig: the update has expired\n"}),
         ("an older one that has expired", EXPIRED, (), {"number": 4, "more": past, "said": b"error: new.sig: the update has expired\n"}),
         ("one that expires twice", REJECTED, (), {"more": soon + soon, "said": b"error: new.sig: the signed comment does not say once, in a number, when it expires\n"}),
@@ -1488,6 +1689,9 @@ def check_cases(it):
     for what, status, options, how in checks:
         yield f"a check: {what}", lambda status=status, options=options, how=how: it.checks(status, *options, **how)
     yield "a check: a changed comment", it.checks_changed_comment
+    yield "what a check shows", it.shows_checked
+    yield "the script of the document", it.runs_script
+    yield "a mode that is asked for, of what is there already", it.tells_of_mode
     yield "a check: no directory", lambda: it.checks_where("none/place", FAILED, b"error: none: there is no such directory\n")
     yield "a check: a record that is a directory", lambda: it.checks_where(PLACE, FAILED, b"error: ./.place.number: a directory stands there\n")
     yield "a check: while the place is locked", it.checks_unlocked
@@ -1501,6 +1705,7 @@ def check_cases(it):
         ("a check of two paths", ["--check", *paths[1:]], b"error: there are fewer than three paths\n"),
         ("a check twice", ["--check", *paths, "--check"], b"error: --check: it came before\n"),
         ("a check with a mode", ["--check", "--mode", "755", *paths], b"error: --mode: it does not go with `--check`\n"),
+        ("a check that waits", ["--wait", "1", "--check", *paths], b"error: --wait: it does not go with `--check`\n"),
         ("a check with a bound", ["--most", "1M", "--check", *paths], b"error: --most: it does not go with `--check`\n"),
         ("three keys", [*["--key", OTHER_KEY] * 3, "new", "new.sig", PLACE], b"error: --key: it came twice before\n"),
         ("a key and a file of one", ["--key", OTHER_KEY, PK, "new", "new.sig", PLACE], b"error: place: there are three paths, and this is a fourth\n"),
@@ -1530,23 +1735,28 @@ def word_cases(it):
         ("an option twice", ["--first", *paths, "--first"], b"error: --first: it came before\n" + usage),
         ("a name twice", ["--name", "a", *paths, "--name", "a"], b"error: --name: it came before\n" + usage),
         ("an option without its value", [*paths, "--mode"], b"error: a value has to follow the last word\n" + usage),
-        ("a field that there is not", ["--numbering", "versions", *paths], b"error: versions: the option before it has no such value\n"),
-        ("a mode of two digits", ["--mode", "75", *paths], b"error: 75: the option before it has no such value\n"),
-        ("a mode of five digits", ["--mode", "00755", *paths], b"error: 00755: the option before it has no such value\n"),
-        ("a mode beyond permissions", ["--mode", "4755", *paths], b"error: 4755: the option before it has no such value\n"),
-        ("a mode that is not octal", ["--mode", "758", *paths], b"error: 758: the option before it has no such value\n"),
-        ("a bound with another unit", ["--most", "5m", *paths], b"error: 5m: the option before it has no such value\n"),
-        ("a bound with a longer unit", ["--most", "5MB", *paths], b"error: 5MB: the option before it has no such value\n"),
-        ("a bound that is a unit alone", ["--most", "K", *paths], b"error: K: the option before it has no such value\n"),
-        ("a bound too great by its unit", ["--most", "16777216T", *paths], b"error: 16777216T: the option before it has no such value\n"),
-        ("a bound below nothing", ["--most", "-1K", *paths], b"error: -1K: the option before it has no such value\n"),
-        ("a bound with a plus", ["--most", "+1000000", *paths], b"error: +1000000: the option before it has no such value\n"),
-        ("a bound with a blank", ["--most", " 1000000", *paths], b"error:  1000000: the option before it has no such value\n"),
-        ("a bound too great", ["--most", str(2 ** 64), *paths], b": the option before it has no such value\n"),
+        ("a field that there is not", ["--numbering", "versions", *paths], it.kind.bad_value("--numbering", "versions")),
+        ("a mode of two digits", ["--mode", "75", *paths], it.kind.bad_value("--mode", "75")),
+        ("a mode of five digits", ["--mode", "00755", *paths], it.kind.bad_value("--mode", "00755")),
+        ("a mode beyond permissions", ["--mode", "4755", *paths], it.kind.bad_value("--mode", "4755")),
+        ("a mode that is not octal", ["--mode", "758", *paths], it.kind.bad_value("--mode", "758")),
+        ("a bound with another unit", ["--most", "5m", *paths], it.kind.bad_value("--most", "5m")),
+        ("a bound with a longer unit", ["--most", "5MB", *paths], it.kind.bad_value("--most", "5MB")),
+        ("a bound that is a unit alone", ["--most", "K", *paths], it.kind.bad_value("--most", "K")),
+        ("a bound too great by its unit", ["--most", "16777216T", *paths], it.kind.bad_value("--most", "16777216T")),
+        ("a bound too great by a smaller unit", ["--most", "17179869184G", *paths], it.kind.bad_value("--most", "17179869184G")),
+        ("a bound below nothing", ["--most", "-1K", *paths], it.kind.bad_value("--most", "-1K")),
+        ("a bound with a plus", ["--most", "+1000000", *paths], it.kind.bad_value("--most", "+1000000")),
+        ("a bound with a blank", ["--most", " 1000000", *paths], it.kind.bad_value("--most", " 1000000")),
+        ("seconds with a point", ["--wait", "1.5", *paths], it.kind.bad_value("--wait", "1.5")),
+        ("more seconds than a day has", ["--wait", "86401", *paths], it.kind.bad_value("--wait", "86401")),
+        ("no seconds", ["--wait", "", *paths], it.kind.bad_value("--wait", "")),
+        ("a bound too great", ["--most", str(2 ** 64), *paths], it.kind.bad_value("--most", str(2 ** 64))),
         ("help beside other words", ["--help", *paths], b"error: --help: there is no such option\n" + usage),
         ("an option after the end of options", ["--", "--first", *paths], b"error: place: there are four paths, and this is a fifth\n"),
         ("a directory as place", [*paths[:3], "place/"], b"error: place/: it does not end with the name of a file\n"),
         ("the directory itself as place", [*paths[:3], "."], b"error: .: it does not end with the name of a file\n"),
+        ("the directory above as place", [*paths[:3], ".."], b"error: ..: it does not end with the name of a file\n"),
         ("bytes that are not UTF-8", [*paths[:3], b"pl\xe4ce"], b"error: an argument is not UTF-8\n" + usage),
     ]
     for what, words, said in misuses:
@@ -1557,6 +1767,8 @@ def word_cases(it):
         ("no data", [PK, "none", *paths[2:]], FAILED, b"error: none: No such file or directory (os error 2)\n"),
         ("no signature", [PK, "new", "none.sig", PLACE], FAILED, b"error: none.sig: No such file or directory (os error 2)\n"),
         ("no directory", [*paths[:3], "none/place"], FAILED, b"error: none: there is no such directory\n"),
+        ("a place in the root directory", ["--name", PLACE, "--check", PK, "new.sig", "/no-such-place"], UNRECORDED,
+         b"error: /no-such-place: no number is kept beside the place\n//.no-such-place.number is missing: --first installs all the same\n"),
         ("a directory as key", [".", *paths[1:]], FAILED, b"error: .: Is a directory (os error 21)\n"),
         ("a key that is no text", ["new.sig", *paths[1:]], REJECTED, b"error: new.sig: "),
         ("a signature that is none", [PK, "new", PK, PLACE], REJECTED, b"error: key.pub: "),
@@ -1575,9 +1787,13 @@ def word_cases(it):
         ("the end of options first", ["--", *paths], None),
         ("the end of options between", [PK, "--first", "new", "--", "new.sig", PLACE], None),
     ]
-    if it.kind.is_in_c:
-        orders.append(("a bound by its other name", ["--max-size", str(len(NEW)), *paths], None))
-        yield "a bound by both names", lambda: it.says(["--most", "1M", "--max-size", "1M", *paths], MISUSED, b"error: --max-size: it came before\n" + usage)
+    orders.append(("a bound by its other name", ["--max-size", str(len(NEW)), *paths], None))
+    yield "a bound with no unit there is", lambda: it.says(["--max-size", "10X", *paths], MISUSED, b"error: --max-size: bad size 10X\n" + usage)
+    for what, words, said in (("key", [PK, "new", PK, PLACE], b"key.pub: this is a public key, not a signature"),
+                              ("signature", ["new.sig", *paths[1:]], b"new.sig: this is a signature, not a public key")):
+        yield (f"a {what} in the other's place", lambda words=words, said=said: it.says(
+            words, REJECTED, b"\n" + said + b"\nPK DATA SIG TARGET is the order\n"))
+    yield "a bound by both names", lambda: it.says(["--most", "1M", "--max-size", "1M", *paths], MISUSED, b"error: --max-size: it came before\n" + usage)
     for what, words, mode in orders:
         yield what, lambda words=words, mode=mode: it.takes(words, mode=mode)
     yield "a name that begins with a dash", lambda: it.takes(["--", *paths[:3], "--first"], name="--first", names="--first")
@@ -1599,6 +1815,3 @@ def run_all(program, kind):
                 failed += 1
     return passed, failed
 
-
-if __name__ == "__main__":
-    sys.exit(count_over(sys.argv[1:] or [PROGRAM], lambda program: run_all(program, Updater())))

@@ -1,1 +1,3 @@
 pub mod ToldKeys
+pub mod Positive
+pub mod Refusals

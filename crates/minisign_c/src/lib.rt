@@ -9,36 +9,39 @@ ghost use Rattle.std.specs.Str.{IsUtf8};
 ghost use Rattle.minisign_hash.specs.Blake2b.{blake2b_digest};
 ghost use Rattle.minisign.specs.PublicKeyText.{read_bare_public_key, read_public_key};
 ghost use Rattle.minisign.specs.SecretKeyText.{read_secret_key};
-ghost use Rattle.minisign.specs.SignatureText.{SignatureTextRecord, read_signature};
+ghost use Rattle.minisign.specs.SignatureText.{SignatureTextRecord};
 ghost use Rattle.minisign.specs.Acceptance.{Verifier};
-ghost use Rattle.minisign_external.specs.Questions.{AnswersComment, HoldsMessage, IsKeyText, comment_verdict_under, read_under, verdict_under};
+ghost use Rattle.minisign_external.specs.Questions.{AnswersComment, IsKeyText, comment_verdict_under, read_under, verdict_under};
 ghost use Rattle.minisign_base.specs.Fault.{Named};
 ghost use Rattle.minisign_base.specs.declared.faults.NamedFault.TheVariants.{OutOfMemory};
 ghost use Rattle.minisign_external.specs.Numbers.{IsAnswer, WritesCut, answer_yes, misuse_number};
 ghost use Rattle.minisign_external.specs.PublicKeys.{read_utf8, told_key_number};
 ghost use Rattle.minisign_external.specs.Making.{HoldsPublicKey, HoldsSecretKey, IsMakingNumber, IsPublicKeyNumber};
 ghost use Rattle.minisign_external.specs.SecretKeys.{DerivesWithin, OpensAs, is_opened, opened_in_place, opened_sealed, opened_unsealed, passed_in, public_value_of, read_value, reading_number, unopened_record, taken_key, told_opened, told_public_key, value_memory};
+ghost use Rattle.minisign_external.specs.Signatures.{IsReadFrom, read_signature_value, told_signature_value};
 ghost use Rattle.minisign_external.specs.Signing.{AreReadByMinisign, HoldsText, IsWritingNumber, comments_of};
 ghost use Rattle.minisign_external.specs.declared.public_keys.PublicKeyValue.{PublicKeyValue};
 ghost use Rattle.minisign_external.specs.declared.state.Refusal.TheVariants.{Refused};
 ghost use Rattle.minisign_external.specs.declared.state.Misuse.TheVariants.{BadAnswer, BadFirstFlag, BadNumbering, BadPasswordFlag, NoRoom, NotDue};
-ghost use Rattle.minisign_install.specs.Checking.{HasChecked, IsCheckNumber};
 ghost use Rattle.minisign_install.specs.Comments.{Says};
 ghost use Rattle.minisign_install.specs.Faults.{install_number};
-ghost use Rattle.minisign_install.specs.Hosted.{CannotBeFed, GivesUpdate, HasGone, HasReadRecord, HasReadBack, IsAnswerRefusal, IsAskRefusal, IsAsking, IsBegun, IsDue, IsHostMeaning, IsNumberOf, IsUnused, IsWorth, ReadsTexts, WasDone, due_number, due_of, failure, may_go, numbering_number, numbering_of, wanted_by};
+ghost use Rattle.minisign_install.specs.Hosted.{CannotBeFed, GivesUpdate, HasAskedAbout, HasGone, HasReadBack, HasReadRecord, HasWaited, IsAnswerRefusal, IsAskRefusal, IsAsking, IsBegun, IsDue, IsHostMeaning, IsNumberOf, IsUnused, IsWorth, JudgesComment, JudgesTarget, KeepsRecord, ReadsTexts, WasDone, choices_of, due_number, due_of, failure, going_on, may_go, numbering_number, numbering_of, wanted_by};
 ghost use Rattle.minisign_install.specs.Installing.{Terms};
 ghost use Rattle.minisign_install.specs.RecordTexts.{record_of};
 ghost use Rattle.minisign_install.specs.declared.faults.InstallFault.{InstallFault};
-ghost use Rattle.minisign_install.specs.declared.order.Due.TheVariants.{Answer, ReadRecord, TakePermissions, WriteRecord};
+ghost use Rattle.minisign_install.specs.declared.order.Due.TheVariants.{Answer, Judge, JudgeTarget, Look, ReadRecord, WriteRecord};
 ghost use Rattle.minisign_install.specs.declared.order.Due.TheVariants as ended;
 ghost use Rattle.minisign_install.specs.declared.order.Outcome.TheVariants.{Done, Failed, More};
-ghost use Rattle.minisign_external.specs.States.{AnswersTextsBy, AreQuestions, GivesNumber, HasAsked, HasToldDigest, IsAnswered, IsBlank, IsFedState, IsMarkedFed, IsMarkedTold, KeepsAsked, asking_number, comment_number, feeding_misuse, is_asked, is_begun, questions_of, told_verdict_number, verdict_number};
+ghost use Rattle.minisign_external.specs.States.{AnswersTextsBy, AreAsked, AreQuestions, GivesNumber, HasAsked, HasToldDigest, IsAnswered, IsBlank, IsFedState, IsMarkedFed, IsMarkedTold, KeepsAsked, asking_number, asking_under, comment_number, feeding_misuse, is_begun, result_number, told_verdict_number, verdict_number};
+
+pub mod in_a_row;
 
 use minisign::Sealing;
 use minisign_external::making::{write_public_key, write_secret_key};
 use minisign_external::numbers::{ANSWER_YES, Numbered, is_answer};
 use minisign_external::public_keys::{PublicKeyValue, tell_bare_public_key, tell_public_key};
 use minisign_external::secrets::SecretKeyValue;
+use minisign_external::signatures::SignatureValue;
 use minisign_external::signed_texts::{write_comment_message, write_signed_text};
 use minisign_external::state::{Misuse, Questions, Refusal, State};
 use minisign_external::unopened_keys::{
@@ -46,8 +49,7 @@ use minisign_external::unopened_keys::{
     read_unopened_key,
 };
 use minisign_install::Numbering;
-use minisign_install::checking::check_comment_offer;
-use minisign_install::hosted::{Installation, write_error_text};
+use minisign_install::hosted::{Choices, Installation, write_error_text};
 use minisign_install::hosted_judging::judge_comment;
 use std::alloc::Global;
 
@@ -132,43 +134,66 @@ pub extern "C" fn minisign_read_bare_public_key(base64: &[u8], key: &mut PublicK
     }
 }
 
-/// Asks what Ed25519 has to answer before it is known whether the key and the text of the signature vouch for the data.
+/// Reads the signature of a text. Does not allocate.
+#[unsafe(no_mangle)]
+pub extern "C" fn minisign_read_signature(sig_text: &[u8], signature: &mut SignatureValue) -> u32
+    // The signature is told of what the text reads as, a function of the bytes, which have to be UTF-8; otherwise the
+    // number is that of the first case that fails, and nothing is written. The trusted comment stands in the text where
+    // the signature says.
+    ensures number { (result, signature.new) ≡ told_signature_value (read_signature_value sig_text.now) signature.old }
+    ensures read { result ≡ 0 → (t : SignatureTextRecord) × IsReadFrom signature.new sig_text.now t }
+{
+    match SignatureValue::read(sig_text) {
+        Ok(read) => {
+            *signature = read;
+            0
+        }
+        Err(fault) => Refusal::Refused(fault).number(),
+    }
+}
+
+/// Asks what Ed25519 has to answer before it is known whether the key and the signature vouch for the data.
 /// Does not allocate.
 #[unsafe(no_mangle)]
 pub extern "C" fn minisign_ask(
     state: &mut State,
     key: &PublicKeyValue,
+    signature: &SignatureValue,
     sig_text: &[u8],
     allow_legacy: u32,
     questions: &mut Questions,
     message: &mut [u8],
 ) -> u32
-    // What is answered is one number, a function of the state, the key, the text, the flag and the room: first an
-    // `allow_legacy` above 1 is rejected, and then comes what `State::ask` rejects, in its order.
-    ensures number { result ≡ asking_number state.old key.now sig_text.now allow_legacy (length message.old) }
+    // What is answered is one number, a function of the state, the key, the signature, the text, the flag and the room:
+    // first an `allow_legacy` above 1 is rejected, and then comes what `State::ask` rejects, in its order.
+    ensures number { result ≡ asking_number state.old key.now signature.now sig_text.now allow_legacy (length message.old) }
 
-    // The questions are those of the key and of what the text reads as, with zeros for the digest, and the message of
-    // the second stands at the start of the buffer. They are then asked, and what was fed stays.
-    ensures asked { result ≡ 0 → (t : SignatureTextRecord) × (read_under key.now (allow_legacy == 1) sig_text.now ≡ Ok t)
-        × (questions.new ≡ questions_of key.now t) × HoldsMessage t.signature t.comments.trusted message.new questions.new.message_len }
-    ensures asking { result ≡ 0 → HasAsked state.new key.now sig_text.now (allow_legacy == 1) }
+    // Of a signature that was read from this text, the number is that of what the text is rejected for under the key.
+    ensures text { (t : SignatureTextRecord) → IsReadFrom signature.now sig_text.now t → allow_legacy < 2
+        → result ≡ result_number (asking_under state.old key.now sig_text.now (allow_legacy == 1) (length message.old)) }
+
+    // The questions are then those of the key and of what the text reads as, with zeros for the digest, and the message
+    // of the second stands at the start of the buffer. They are asked, and what was fed stays.
+    ensures asked { result ≡ 0 → (t : SignatureTextRecord) → IsReadFrom signature.now sig_text.now t
+        → (read_under key.now (allow_legacy == 1) sig_text.now ≡ Ok t) × AreAsked questions.new message.new key.now t
+        × HasAsked state.new key.now sig_text.now (allow_legacy == 1) }
     ensures fed { (m : List ℕ) → IsFedState state.old m → IsFedState state.new m }
 
-    // What stands behind the message stays. After a rejection state and message buffer are as they were; with an
-    // `allow_legacy` of 0 or 1, of a state that may be asked and a text that reads, both key IDs are told.
+    // What stands behind the message stays. After a rejection everything is as it was.
     ensures rest { result ≡ 0 → drop questions.new.message_len message.new ≡ drop questions.new.message_len message.old }
-    ensures kept { 0 < result → (state.new ≡ state.old) × (message.new ≡ message.old) }
-    ensures key_ids { allow_legacy < 2 → IsMarkedFed state.old → is_asked state.old ≡ false
-        → (t : SignatureTextRecord) → read_utf8 read_signature sig_text.now ≡ Ok t
-        → (questions.new.public_key_id ≡ key.now.key_id) × (questions.new.signature_key_id ≡ t.signature.keynum) }
-
-    // After a rejected flag, and of a state that may not be asked, the questions stay.
-    ensures unasked { (questions.new ≡ questions.old) ⊎ ((allow_legacy < 2) × IsMarkedFed state.old × (is_asked state.old ≡ false)) }
+    ensures kept { 0 < result → (state.new ≡ state.old) × (questions.new ≡ questions.old) × (message.new ≡ message.old) }
 {
     if allow_legacy > 1 {
         return Misuse::BadLegacyFlag.number();
     }
-    match state.ask(key, sig_text, allow_legacy == 1, questions, message) {
+    match state.ask(
+        key,
+        signature,
+        sig_text,
+        allow_legacy == 1,
+        questions,
+        message,
+    ) {
         Ok(()) => 0,
         Err(refusal) => refusal.number(),
     }
@@ -504,17 +529,23 @@ pub extern "C" fn minisign_signed_text(
     }
 }
 
-/// Begins an installation: the lock is due.
+/// Begins an installation: the lock is due, or of a check the record.
 #[unsafe(no_mangle)]
 pub extern "C" fn minisign_install_init(
     installation: &mut Installation,
+    key: &PublicKeyValue,
+    other: &PublicKeyValue,
     is_first: u32,
+    again: u32,
+    is_check: u32,
+    is_waiting: u32,
     numbering: u32,
 ) -> u32
-    // The lock is due, nothing was read back, and whether this is the first installation and which field has the number
-    // are kept. Of each a number that is neither 0 nor 1 is rejected, that of the former first, and nothing is written.
+    // The lock is due, or of a check the record; nothing was read, and the keys and the choices are kept. A flag for the
+    // first installation and a numbering that are neither 0 nor 1 are rejected, the former first, and nothing is written; of
+    // the others any number but 0 is yes.
     ensures begun { result ≡ 0 → (is_first < 2) × (field : Numbering) × (numbering ≡ numbering_number field)
-        × IsBegun (is_first == 1) field installation.new }
+        × IsBegun key.now other.now (choices_of is_first again is_check is_waiting field) installation.new }
     ensures unused { result ≡ 0 → IsUnused installation.new }
     ensures refused { 0 < result → (((result ≡ misuse_number BadFirstFlag) × (1 < is_first))
         ⊎ ((result ≡ misuse_number BadNumbering) × (is_first < 2) × (1 < numbering))) × (installation.new ≡ installation.old) }
@@ -522,10 +553,17 @@ pub extern "C" fn minisign_install_init(
     if is_first > 1 {
         return Misuse::BadFirstFlag.number();
     }
-    let Some(field) = Numbering::of_number(numbering) else {
+    let Some(numbering) = Numbering::of_number(numbering) else {
         return Misuse::BadNumbering.number();
     };
-    *installation = Installation::new(is_first == 1, field);
+    let choices = Choices {
+        is_first: is_first == 1,
+        again: again != 0,
+        is_check: is_check != 0,
+        is_waiting: is_waiting != 0,
+        numbering,
+    };
+    *installation = Installation::new(key, other, choices);
     0
 }
 
@@ -568,9 +606,10 @@ pub extern "C" fn minisign_install_more(installation: &mut Installation) -> u32
 /// The call that was due failed for the error of this number.
 #[unsafe(no_mangle)]
 pub extern "C" fn minisign_install_failed(installation: &mut Installation, why: u32) -> u32
-    // What is due next is what the table says, where the call that was due can fail so. Otherwise it is not due, and
-    // nothing changes.
-    ensures failed { result ≡ 0 → (rejected : ℕ) × HasGone (λ due. failure due why ≡ Some rejected) (Failed rejected) installation.old installation.new }
+    // What is due next is what the table says, where the call that was due can fail so; or data that may stand still is
+    // received first, where the lock was due. Otherwise it is not due, and nothing changes.
+    ensures failed { result ≡ 0 → ((rejected : ℕ) × HasGone (λ due. failure due why ≡ Some rejected) (Failed rejected) installation.old installation.new)
+        ⊎ HasWaited installation.old installation.new }
     ensures refused { 0 < result → (result ≡ misuse_number NotDue) × (installation.new ≡ installation.old) × IfSome (due_of installation.old) (λ due. failure due why ≡ None) }
 {
     match installation.failed(why) {
@@ -620,45 +659,47 @@ pub extern "C" fn minisign_install_piece(installation: &mut Installation, piece:
     }
 }
 
-/// Asks what Ed25519 has to answer before it is known whether the key and the text vouch for what was read
-/// back, and judges the signed comment.
+/// No file stands at the target.
+#[unsafe(no_mangle)]
+pub extern "C" fn minisign_install_no_target(installation: &mut Installation) -> u32
+    // The run goes on, and what is read next is fed to a state that was fed nothing. Where the file at the target is not to
+    // be read, nothing changes.
+    ensures gone { result ≡ 0 → (kept : ℕ) × IsDue installation.old (Look kept) × IsDue installation.new (going_on installation.old kept)
+        × KeepsRecord installation.old installation.new × IsFedState installation.new.state [] }
+    ensures refused { 0 < result → (result ≡ misuse_number NotDue) × (installation.new ≡ installation.old) × ((kept : ℕ) → ¬ (IsDue installation.old (Look kept))) }
+{
+    match installation.no_target() {
+        Ok(()) => 0,
+        Err(not_due) => not_due.number(),
+    }
+}
+
+/// Reads the text of the signature, asks what Ed25519 has to answer before it is known whether one of the keys and the
+/// text vouch, and judges the signed comment.
 #[unsafe(no_mangle)]
 pub extern "C" fn minisign_install_ask(
     installation: &mut Installation,
-    key: &PublicKeyValue,
     sig_text: &[u8],
     file: &[u8],
     moment: u64,
     questions: &mut Questions,
     message: &mut [u8],
 ) -> u32
-    // The questions are those of the key and of what the text reads as, as `Installation::ask` says; they are then
-    // asked, and the comment that was asked about is judged, against the number that was kept.
-    ensures asked { result ≡ 0 → (t : SignatureTextRecord) × (read_under key.now false sig_text.now ≡ Ok t)
-        × AreQuestions questions.new message.new key.now t }
-    ensures digest { result ≡ 0 → (m : List ℕ) → IsFedState installation.old.state m → questions.new.digest ≡ blake2b_digest 64 m }
-    ensures asking { result ≡ 0 → (kept : ℕ) × IsDue installation.old (Answer kept)
-        × ((pk_text : List ℕ) → IsKeyText pk_text key.now
-        → IsAsking installation.new (wanted_by pk_text sig_text.now file.now (numbering_of installation.old) moment) kept) }
+    // The questions are those of the key that has to have signed and of what the text reads as, as `Installation::ask`
+    // says; they are then asked, and the comment that was asked about is judged, against the number that was kept.
+    ensures asked { result ≡ 0 → HasAskedAbout sig_text.now file.now moment questions.new message.new installation.old installation.new }
 
     // What the host has chosen stays.
     ensures chosen { installation.new.chosen ≡ installation.old.chosen }
 
     // The number is that of the first reason of `Installation::ask`: a usage error changes nothing, and for any other
-    // reason the stage is to be removed. The message buffer is as it was; what stands behind a message that is written
-    // stays.
-    ensures refused { 0 < result → IsNumberOf (λ r. IfErr r (IsAskRefusal installation.old installation.new key.now sig_text.now file.now (length message.old))) result }
-    ensures kept { 0 < result → message.new ≡ message.old }
+    // reason the run is rejected. Questions and message buffer are as they were; what stands behind a message that is
+    // written stays.
+    ensures refused { 0 < result → IsNumberOf (λ r. IfErr r (IsAskRefusal installation.old installation.new sig_text.now file.now (length message.old))) result }
+    ensures kept { 0 < result → (questions.new ≡ questions.old) × (message.new ≡ message.old) }
     ensures rest { result ≡ 0 → drop questions.new.message_len message.new ≡ drop questions.new.message_len message.old }
-
-    // Where the answers are due and the name is UTF-8, both key IDs are told of a text that reads, also after a rejection.
-    // Where the answers are not due the questions stay.
-    ensures key_ids { (kept : ℕ) → IsDue installation.old (Answer kept) → (m : List ℕ) → IsFedState installation.old.state m → IsUtf8 file.now
-        → (t : SignatureTextRecord) → read_utf8 read_signature sig_text.now ≡ Ok t
-        → (questions.new.public_key_id ≡ key.now.key_id) × (questions.new.signature_key_id ≡ t.signature.keynum) }
-    ensures unasked { (questions.new ≡ questions.old) ⊎ ((kept : ℕ) × IsDue installation.old (Answer kept)) }
 {
-    match installation.ask(key, sig_text, file, moment, questions, message) {
+    match installation.ask(sig_text, file, moment, questions, message) {
         Ok(()) => 0,
         Err(refusal) => refusal.number(),
     }
@@ -671,25 +712,30 @@ pub extern "C" fn minisign_install_answer(
     first: u32,
     second: u32,
 ) -> u32
-    // **For every relation that answers the two questions so, and every message: 0, and the permissions are due, for
-    // the number n, exactly where the texts vouch for the message, not by a signature over the data itself, and the
-    // comment that was signed with it names the file, has not expired at the moment of asking, and has the number n,
-    // which is not below the kept one. Otherwise the stage is to be removed, for the first reason, whose number is
-    // answered.**
-    ensures answer { (terms : Terms) (kept : ℕ) (message : List ℕ) (accepts : Verifier)
-        → IsAsking installation.old terms kept → AnswersTextsBy accepts terms.pk_text terms.sig_text message first second
+    // **For every scheme that answers so: what `Installation::answer` says of the comment, of what the file at the target
+    // holds, and of what was read back of the stage, for every message. 0 is success, and any other number that of the first
+    // reason.**
+    ensures comment { (terms : Terms) (kept : ℕ) (accepts : Verifier) → IsDue installation.old (Judge kept) → (asking : IsAsking installation.old terms kept)
+        → IsAnswer first × IsAnswer second × AnswersComment accepts asking.key terms.sig_text (second == answer_yes)
+        → IsNumberOf (JudgesComment accepts asking.key terms kept (first == answer_yes) installation.old installation.new) result }
+    ensures target { (terms : Terms) (kept : ℕ) (message : List ℕ) (accepts : Verifier) → IsDue installation.old (JudgeTarget kept) → IsAsking installation.old terms kept
+        → AnswersTextsBy accepts terms.pk_text terms.sig_text message first second
+        → IsNumberOf (JudgesTarget accepts terms kept message installation.old installation.new) result }
+    ensures stage { (terms : Terms) (kept : ℕ) (message : List ℕ) (accepts : Verifier) → IsDue installation.old (Answer kept) → IsAsking installation.old terms kept
+        → AnswersTextsBy accepts terms.pk_text terms.sig_text message first second
         → IsNumberOf (GivesUpdate accepts terms kept message installation.new) result }
 
-    // An answer is 7955827 for yes or 28271 for no, and no other number is taken; the permissions are due only where
-    // the answers were, and the state that was asked is ended then, as its verdict says. A usage error has its number and
-    // changes nothing.
-    ensures due { result ≡ 0 → ((kept : ℕ) × IsDue installation.old (Answer kept)) × ((n : ℕ) × IsDue installation.new (TakePermissions n))
-        × ((0, installation.new.state) ≡ told_verdict_number installation.old.state first second) }
+    // What is read next is fed to a state that was fed nothing, where the run goes on or the target is looked at.
+    ensures fed { (kept : ℕ) → IsDue installation.old (Judge kept) → result ≡ 0 → IsFedState installation.new.state [] }
+    ensures again { (kept : ℕ) → IsDue installation.old (JudgeTarget kept) → result ≡ 0 → IsDue installation.new (going_on installation.old kept) → IsFedState installation.new.state [] }
+
+    // An answer is 7955827 for yes or 28271 for no, and no other number is taken. A usage error has its number and changes
+    // nothing.
     ensures refused { 0 < result → ((result ≡ misuse_number BadAnswer) × (¬ (IsAnswer first) ⊎ ¬ (IsAnswer second)) × (installation.new ≡ installation.old))
         ⊎ (IsAnswer first × IsAnswer second × IsNumberOf (λ r. IfErr r (IsAnswerRefusal installation.old installation.new)) result) }
 
-    // What the host has chosen stays.
-    ensures chosen { installation.new.chosen ≡ installation.old.chosen }
+    // What the host has chosen stays, and what was asked about.
+    ensures chosen { (installation.new.chosen ≡ installation.old.chosen) × (installation.new.asked ≡ installation.old.asked) }
 {
     if !(is_answer(first) && is_answer(second)) {
         return Misuse::BadAnswer.number();
@@ -700,22 +746,31 @@ pub extern "C" fn minisign_install_answer(
     }
 }
 
-/// Writes the number as it is to be written into the record, after the label of its field, and returns how long
-/// that is.
+/// The number of the update, once its comment was vouched for.
 #[unsafe(no_mangle)]
-pub extern "C" fn minisign_install_number_text(
+pub extern "C" fn minisign_install_number(installation: &Installation) -> u64
+    // It is the number of a comment that was judged, and 0 before that was vouched for.
+    ensures told { 0 < result → (installation.now.judged.verdict ≡ 1) × (result ≡ installation.now.judged.number) }
+    ensures unjudged { (kept : ℕ) → IsDue installation.now (Judge kept) → result ≡ 0 }
+{
+    installation.number()
+}
+
+/// Writes the record as it is to be written, and returns how long that is.
+#[unsafe(no_mangle)]
+pub extern "C" fn minisign_install_record_text(
     installation: &Installation,
     text: &mut [u8],
 ) -> usize
-    // The label of the field and the digits of the number stand at the start of the buffer where they are to be written
-    // and have room, and otherwise nothing is written; the rest of the buffer stays.
+    // The record of the update stands at the start of the buffer where it is to be written and has room, and otherwise
+    // nothing is written; the rest of the buffer stays.
     ensures written { 0 < result → (n : ℕ) × IsDue installation.now (WriteRecord n) × (result ≤ length text.new)
-        × (take result text.new ≡ record_of (numbering_of installation.now) n) }
+        × (take result text.new ≡ record_of (numbering_of installation.now) n installation.now.asked.key installation.now.asked.digest) }
     ensures rest { drop result text.new ≡ drop result text.old }
     ensures unwritten { result ≡ 0 → (text.new ≡ text.old)
-        × ((n : ℕ) → IsDue installation.now (WriteRecord n) → length text.old < length (record_of (numbering_of installation.now) n)) }
+        × ((n : ℕ) → IsDue installation.now (WriteRecord n) → length text.old < length (record_of (numbering_of installation.now) n installation.now.asked.key installation.now.asked.digest)) }
 {
-    installation.write_number(text)
+    installation.write_record(text)
 }
 
 /// The number of the error that the run was rejected for.
@@ -754,91 +809,6 @@ pub extern "C" fn minisign_judge_comment(
     match judge_comment(comment, file, numbering, moment, kept) {
         Ok(told) => {
             *number = told;
-            0
-        }
-        Err(fault) => fault.number(),
-    }
-}
-
-/// What an update is beside the kept number, by its signed comment and by the bytes of the record.
-#[unsafe(no_mangle)]
-pub extern "C" fn minisign_check_comment(
-    comment: &[u8],
-    file: &[u8],
-    numbering: u32,
-    moment: u64,
-    is_first: u32,
-    record: &[u8],
-    offer: &mut u32,
-    number: &mut u64,
-) -> u32
-    // What the update is beside the kept number, and its own number, are told exactly where the comment and the name
-    // are UTF-8, the record has a number of the field, or this is the first installation, and the comment names the
-    // file, has a number of the field, and has not expired.
-    ensures checked { result ≡ 0 → HasChecked comment.now file.now numbering moment is_first (Some record.now) offer.new number.new }
-
-    // Otherwise the number is that of the first reason, and nothing is written.
-    ensures refused { 0 < result → IsCheckNumber comment.now file.now numbering moment is_first (Some record.now) result }
-    ensures kept { 0 < result → (offer.new ≡ offer.old) × (number.new ≡ number.old) }
-{
-    check(
-        comment,
-        file,
-        numbering,
-        moment,
-        is_first,
-        Some(record),
-        offer,
-        number,
-    )
-}
-
-/// The same where there is no record.
-#[unsafe(no_mangle)]
-pub extern "C" fn minisign_check_first_comment(
-    comment: &[u8],
-    file: &[u8],
-    numbering: u32,
-    moment: u64,
-    is_first: u32,
-    offer: &mut u32,
-    number: &mut u64,
-) -> u32
-    // What the update is, and its number, are told as by `minisign_check_comment`, for a place without a record.
-    ensures checked { result ≡ 0 → HasChecked comment.now file.now numbering moment is_first None offer.new number.new }
-    ensures refused { 0 < result → IsCheckNumber comment.now file.now numbering moment is_first None result }
-    ensures kept { 0 < result → (offer.new ≡ offer.old) × (number.new ≡ number.old) }
-{
-    check(
-        comment, file, numbering, moment, is_first, None, offer, number,
-    )
-}
-
-// What an update is beside what was found of the record.
-fn check(
-    comment: &[u8],
-    file: &[u8],
-    numbering: u32,
-    moment: u64,
-    is_first: u32,
-    found: Option<&[u8]>,
-    offer: &mut u32,
-    number: &mut u64,
-) -> u32
-    ensures checked { result ≡ 0 → HasChecked comment.now file.now numbering moment is_first (option_map (λ b. b.now) found.entry) offer.new number.new }
-    ensures refused { 0 < result → IsCheckNumber comment.now file.now numbering moment is_first (option_map (λ b. b.now) found.entry) result }
-    ensures kept { 0 < result → (offer.new ≡ offer.old) × (number.new ≡ number.old) }
-{
-    if is_first > 1 {
-        return Misuse::BadFirstFlag.number();
-    }
-    let Some(numbering) = Numbering::of_number(numbering) else {
-        return Misuse::BadNumbering.number();
-    };
-    match check_comment_offer(comment, file, numbering, moment, is_first == 1, found) {
-        Ok((told, told_number)) => {
-            *offer = told.number();
-            *number = told_number;
             0
         }
         Err(fault) => fault.number(),

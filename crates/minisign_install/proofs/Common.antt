@@ -1,6 +1,6 @@
 -- The names of definitions, and of std's lemmas, that the proofs of this crate use.
 pub use Rattle.minisign.proofs.Laws.{refused_unvouched}
-pub use Rattle.minisign_install.specs.Words.{Answer, AnswersTexts, AreNamed, AreQuestions, Blames, Calls, CallsNothing, CallsOwning, CanBeInstalled, CannotBeInstalled, Clear, ClearsAll, Copy, Counts, Create, CreateRecord, DeviceFails, Done, Due, Explains, Failed, Fault, FileStays, Finds, GivesUpdate, HasBegun, HasCalled, HasCleared, HasCounted, HasCreated, HasFailed, HasGone, HasInstalled, HasKept, HasLocked, HasMade, HasNoNumber, HasObeyed, HasOnDisk, HasPublishedUpdate, HasReached, HasRenamed, HasRun, HasStepped, Host, InstallFault, Installation, InstallsExactly, InstallsLocked, InstallsOnlyUpdates, IsAhead, IsAnswered, IsApart, IsAsking, IsBusy, IsCallFault, IsCause, IsDataRefusal, IsDataRefused, IsDue, IsExpiryRefused, IsFedState, IsFound, IsJudged, IsKeptNumber, IsKeyText, IsLibraryFault, IsLockedRefusal, IsNamed, IsNumberFor, IsNumberFrom, IsNumberText, IsPublished, IsRecordRefused, IsRefusal, IsStill, IsUnexpired, IsUpdate, IsVouched, Known, Knows, Library, Lock, Makes, MakesDue, MayBeInstalled, MayBePublished, MayBeRecorded, MayCall, MayFind, MayLead, Moment, More, Name, Named, NotUtf8, Number, Numbering, Obeys, OnlyLocked, OutOfMemory, Outcome, OwnsNoMore, OwnsTheSame, Perhaps, Place, PublicKeyRecord, PublicKeyValue, Publishes, PublishesInOrder, PublishesNothing, PublishesOnly, Questions, RandomSourceFailed, ReadBack, ReadRecord, ReadingFailed, Record, RecordHolds, RecordHoldsAt, RecordUnchanged, RecordsFirst, Refusal, Remove, RemoveRecord, Removes, Rename, RenameRecord, Renames, Rose, Run, RunStep, Same, SameNumber, Says, Sets, Setting, SignatureBoxRecord, SignatureTextRecord, Spoils, Stage, Sync, SyncName, SyncRecord, SyncRecordName, SyncsDirectory, TakePermissions, TellsAnswers, TellsRecord, Terms, TextsVouchWith, Timestamp, TouchesOnly, TouchesStages, Verifier, Version, WantsNoMemory, Work, WriteRecord, Writes, WritesInPart, WritingFailed, WrongUse, accepts_comments, and_then, blake2b_digest, box_of, calls_left, counts, drawn_bytes, due_number, has_ended, host, install_number, judge_key, made_or, next, number_label, numbering_of, outcome_by, piece_outcome, read_public_key, read_signature, read_signature_box, read_under, record_of, record_text, setting, signed_comment, strip, terms_of, values_of}
+pub use Rattle.minisign_install.specs.Words.{Already, Answer, AnswersComment, AnswersTexts, AreQuestions, Calls, CallsNothing, CallsOwning, Choices, Clear, ClearsAll, Consumes, Copy, Counts, Create, CreateRecord, DeviceFails, Done, Due, Explains, Failed, Fault, FileStays, Finds, FindsFile, GivesUpdate, GoesByComment, GoesOn, HasAsked, HasAskedAbout, HasCleared, HasCreated, HasGone, HasInstalled, HasKept, HasLocked, HasNoNumber, HasOnDisk, HasPublishedUpdate, HasReached, HasRenamed, HasRun, HasStepped, HasUnlocked, HasWaited, Host, InstallFault, Installation, InstallsLocked, InstallsOnlyUpdates, IsAboutRefusal, IsAhead, IsAnswerRefusal, IsApart, IsAskDue, IsAskFedRefusal, IsAsking, IsBegun, IsBusy, IsCallFault, IsCheckRefused, IsDataRefusal, IsDataRefused, IsDue, IsExpiryRefused, IsFedState, IsFound, IsJudged, IsKeptNumber, IsKeptOf, IsKeptOrNone, IsKeyText, IsLibraryFault, IsLockedRefusal, IsMarkedTold, IsNumberFor, IsNumberFrom, IsNumberText, IsPublished, IsReadFrom, IsReading, IsRecordOf, IsRecordRefused, IsRefusal, IsRejectedFor, IsRejection, IsStanding, IsStill, IsTargetRefused, IsTextRefusal, IsTextRefused, IsUnexpired, IsUpdate, IsUtf8, IsWorth, Judge, JudgeTarget, JudgesComment, JudgesTarget, KeepsRecord, Kept, Known, Leads, Library, Lock, LocksAt, Look, Makes, Mark, MayBeInstalled, MayBePublished, MayBeRecorded, MayFind, MayLead, MaySyncFile, Moment, More, Name, Named, NotSynced, NotUtf8, Number, Numbering, OutOfMemory, Outcome, OwnsNoMore, OwnsTheSame, Perhaps, Place, PublicKeyRecord, PublicKeyValue, Publishes, PublishesInOrder, PublishesNothing, PublishesOnly, Questions, RandomSourceFailed, ReadBack, ReadRecord, ReadingFailed, Receive, Record, RecordHolds, RecordHoldsAt, RecordUnchanged, RecordsFirst, Refusal, RejectsFor, Remove, RemoveRecord, Removes, Rename, RenameRecord, Renames, Replaces, Rests, Rose, Run, RunStep, SameNumber, Says, Sets, Setting, SignatureBoxRecord, SignatureTextRecord, SignatureValue, Spoils, StandsBy, Stays, Sync, SyncName, SyncRecord, SyncRecordName, SyncTarget, SyncTargetName, SyncsDirectory, SyncsFile, TakePermissions, Terms, TextsVouchWith, Timestamp, TouchesOnly, TouchesStages, Unlock, Verifier, Version, WouldInstall, WriteRecord, Writes, WritesInPart, WritingFailed, WrongUse, accepts_comments, after_comment, and_then, asked_digest, blake2b_digest, box_of, comment_verdict_under, concat, counts, due_number, first_due, going_on, has_ended, install_number, is_marked, is_same, judge_key, key_by, key_for, mark_text, marked_line, may_replace, may_wait, next, number_label, numbering_of, of_installing, piece_outcome, read_public_key, read_signature, read_signature_box, read_under, read_utf8, record_digest, record_of, record_text, signed_comment, standing, strip, values_of, verdict, wanted_by}
 pub use Rattle.minisign.specs.Records.{is_prehashed}
 pub use Rattle.minisign.specs.Texts.{require}
 pub use Rattle.minisign_base.specs.declared.faults.NamedFault.{NamedFault}
@@ -9,9 +9,9 @@ pub use Rattle.minisign_install.specs.Order.{Installed}
 pub use Rattle.std.proofs.Common.{Bool, Bor, Err, IsNone, IsSomeAnd, List, MatchResult, None, Ok, Option, Result, Some, [], ap, append-nil, append_assoc, arith, cond, drop, false, get_or, inl, inr, length, length-append, length-drop, lit<, nat_le, option_map, refl, rules, subst, suc, sym, take, take-add, take-append-drop, true, zero, ℕ, ⊎_elim, ◌++◌, ◌+◌, ◌-◌, ◌<◌, ◌==◌, ◌^◌, ◌||◌, ◌∙◌, ◌∷◌, ◌≡◌, ◌≢◌, ◌≤◌, ◌⊎◌}
 pub use Rattle.std.proofs.KnownBytes.{Consumes-nil, Consumes-trans, Consumes-whole}
 pub use Rattle.std.proofs.Math.Seq.{get_or-append_right}
-pub use Rattle.std.proofs.lemmas.Bool.{cases_Bool, eq-eqb, eqb-true, le-leb, ne_eqb, true≢false}
+pub use Rattle.std.proofs.lemmas.Bool.{cases_Bool, eq-eqb, eqb-true, le-leb, lt-leb, ne_eqb, true≢false}
 pub use Rattle.std.proofs.lemmas.Fmt.{IsAscii-decimal, decimal_is_IsNumeral, decimal_nonempty, length-decimal-le}
-pub use Rattle.std.proofs.lemmas.List.{drop-drop, take_at, take_rest}
+pub use Rattle.std.proofs.lemmas.List.{drop-drop, drop_at, take_at, take_rest}
 pub use Rattle.std.proofs.lemmas.List.Elements.{All-append, All-cons, All-from_get_or, All-nil}
 pub use Rattle.std.proofs.lemmas.List.Splits.{slice_split_first, slice_split_none}
 pub use Rattle.std.proofs.lemmas.Str.{IsUtf8-append, IsUtf8-from_ascii}
@@ -21,7 +21,7 @@ pub use Rattle.std.specs.Fmt.{decimal}
 pub use Rattle.std.specs.Io.BufRead.{strip_last}
 pub use Rattle.std.specs.Io.KnownBytes.{Consumes}
 pub use Rattle.std.specs.List.{concat, cons_option}
-pub use Rattle.std.specs.Prelude.{MatchOption, codes, filter_map, ⊤}
+pub use Rattle.std.specs.Prelude.{MatchOption, codes, filter_map, slice_index, ⊤, ◌*◌, ◌&&◌, bytes_eq}
 pub use Rattle.std.specs.Str.{IsUtf8, is_utf8}
 pub use Rattle.std.specs.Str.Pattern.{FindsTextPrefix, StripsPrefix}
 pub use Rattle.std.proofs.lemmas.Grind.{common_steps}

@@ -1,8 +1,12 @@
 -- What the parts of an installation come to.
-use Rattle.minisign_install.proofs.Common.{◌≡◌, ◌≤◌, inl, inr, ⊎_elim, ℕ, Bool, List, Option, Some, None, sym, ◌∙◌, true, arith, Verifier, HasKept, InstallsLocked, MayBePublished, IsKeptNumber, MayBeInstalled, MayBeRecorded, IsUpdate, RecordsFirst, PublishesInOrder, Terms, Numbering, ClearsAll, HasStepped, IsFound, Moment, Finds, Run, Name, Place, Record, record_of, PublishesNothing, PublishesOnly, RecordHolds, MayLead}
+use Rattle.minisign_install.proofs.Common.{Bool, Finds, HasKept, HasStepped, InstallsLocked, IsFound, IsKeptNumber, IsNumberFor, IsRecordOf, IsUpdate, List, MayBeInstalled, MayBePublished, MayBeRecorded, MayLead, Moment, Name, None, Numbering, Option, Place, PublishesInOrder, PublishesNothing, PublishesOnly, Record, RecordHolds, RecordsFirst, Run, Some, Terms, Verifier, arith, blake2b_digest, inl, inr, sym, true, ℕ, ⊎_elim, ◌<◌, ◌^◌, ◌∙◌, ◌≡◌, ◌≤◌}
 use Rattle.minisign_install.proofs.Works.{HasRecorded, IsOnly, publishes_nothing, publishes_trans, publishes_weaken}
 use Rattle.minisign_install.proofs.RecordTexts.{record_reads, same_number}
 use Rattle.std.proofs.lemmas.Option.{none-some, same_Some}
+
+-- the record of an update has its number
+record_numbers : (terms : Terms) (n : ℕ) (update bytes : List ℕ) → IsRecordOf terms n update bytes → n < 2 ^ 64 → IsNumberFor terms.numbering bytes n
+record_numbers terms n update bytes written bound = rw written.is (record_reads terms.numbering n bound written.key.key (blake2b_digest 64 update) written.key_whole written.digest_whole)
 
 module _ (accepts : Verifier) (terms : Terms) (kept : ℕ) where
   abbrev P : Name → List ℕ → Type 0
@@ -31,11 +35,11 @@ module _ (accepts : Verifier) (terms : Terms) (kept : ℕ) where
   }
 
   -- the number was kept, and then the update was published
-  pub places_update : (n : ℕ) (bytes : List ℕ) (old mid new : Run) → mid.locked ≡ true → PublishesOnly (MayBeRecorded accepts terms kept) old mid → HasRecorded (record_of terms.numbering n) mid
-      → IsUpdate accepts terms kept bytes n → PublishesOnly (IsOnly Place bytes) mid new → RecordsFirst accepts terms kept old new
-  places_update n bytes old mid new locked to_record recorded is publishes =
+  pub places_update : (n : ℕ) (bytes record_bytes : List ℕ) (old mid new : Run) → mid.locked ≡ true → PublishesOnly (MayBeRecorded accepts terms kept) old mid → HasRecorded record_bytes mid
+      → IsRecordOf terms n bytes record_bytes → IsUpdate accepts terms kept bytes n → PublishesOnly (IsOnly Place bytes) mid new → RecordsFirst accepts terms kept old new
+  places_update n bytes record_bytes old mid new locked to_record recorded written is publishes =
       places_behind n old mid new to_record locked
-      (recorded.lasts terms.numbering n (n, record_reads terms.numbering n is.says.number.bound, omega arith))
+      (recorded.lasts terms.numbering n (n, record_numbers terms n bytes record_bytes written is.says.number.bound, omega arith))
       (publishes_weaken (IsOnly Place bytes) (MayBeInstalled accepts terms kept n) mid new (λ name b only. (only.0, rw only.1 is)) publishes)
 
   pub places_more : (old mid new : Run) → PublishesNothing mid new → PublishesInOrder accepts terms kept old mid → PublishesInOrder accepts terms kept old new
@@ -52,12 +56,10 @@ found_back m m' (Some bytes) leads holds (f, led, are) =
     let there : m.leads Record ≡ Some f = sym leads ∙ led in
     (f, there, sym (holds f (inl there)) ∙ are)
 
-pub found_first : (found : Option (List ℕ)) (old cleared read : Run) → old.locked ≡ true → HasStepped old cleared ClearsAll → HasStepped cleared read (Finds Record found) → IsFound old.now Record found
-found_first found old cleared read locked clear s =
-    let first = clear.others.record_left locked in
-    let then = s.others.record_left (clear.locked locked) in
-    found_back old.now clear.before found first.leads first.holds (found_back clear.before cleared.now found (clear.this.only.leads Record) (λ f led. (clear.this.only.files f (λ no. no)).holds)
-    (found_back cleared.now s.before found then.leads then.holds s.this.seen))
+pub found_read : (found : Option (List ℕ)) (old read : Run) → old.locked ≡ true → HasStepped old read (Finds Record found) → IsFound old.now Record found
+found_read found old read locked s =
+    let left = s.others.record_left locked in
+    found_back old.now s.before found left.leads left.holds s.this.seen
 
 -- a number that was in the record is not above the one that was found there
 kept_least : (numbering : Numbering) (first : Bool) (found : Option (List ℕ)) (kept k : ℕ) (m : Moment) → IsFound m Record found → IsKeptNumber numbering first found kept → RecordHolds numbering k m → k ≤ kept
@@ -81,6 +83,6 @@ installs accepts terms first old new locked kept places = record {
       let least : k ≤ kept.number = kept_least terms.numbering first kept.found kept.number k old.now kept.there kept.held keeps in
       let brings = ordered accepts terms kept.number places in
       let (each, last) = brings.numbers locked terms.numbering k
-      (λ bytes (n, update, is, same). rw same (n, record_reads terms.numbering n is.says.number.bound, omega (arith, least, is.newer))) keeps in
+      (λ bytes (n, update, is, written). (n, record_numbers terms n update bytes written is.says.number.bound, omega (arith, least, is.newer))) keeps in
       (brings.since, brings.noted, each, last);
 }

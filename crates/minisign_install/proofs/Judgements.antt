@@ -1,11 +1,15 @@
 -- What the texts of a key and of a signature decide of data, of its digest, and of the comment alone.
-use Rattle.minisign_install.proofs.Common.{◌≡◌, ◌||◌, ◌∙◌, ℕ, Bool, true, false, List, Option, Some, None, take, ap, sym, refl, cond, MatchResult, Result, Ok, Err, blake2b_digest, Fault, NamedFault, Verifier, TextsVouchWith, Terms, read_public_key, PublicKeyRecord, is_prehashed, SignatureTextRecord, box_of, read_signature, AnswersTexts, IsKeyText, read_under, AreQuestions, PublicKeyValue, Questions, accepts_comments, and_then, require, signed_comment, ⊤, subst, is_utf8, NotUtf8, SignatureBoxRecord, read_signature_box, read_utf8, judge_key}
-use Rattle.minisign.specs.Acceptance.{judge, judge_answers}
-use Rattle.minisign.specs.Headline.{verdict}
+use Rattle.minisign_install.proofs.Common.{IsAskFedRefusal, RejectsFor, SignatureValue, ⊤, IsAnswerRefusal, ◌==◌, Already, AnswersComment, Clear, SyncTarget, Unlock, WouldInstall, cases_Bool, cond, going_on, may_wait, standing, InstallFault, IsAboutRefusal, IsTextRefusal, IsUtf8, Kept, WrongUse, accepts_comments, asked_digest, key_of, of_installing, verdict, ◌≡◌, ◌||◌, ◌∙◌, inl, inr, Bool, true, false, List, ℕ, take, ap, sym, refl, Result, Ok, Err, blake2b_digest, Fault, NamedFault, Verifier, TextsVouchWith, Terms, read_public_key, is_prehashed, SignatureTextRecord, box_of, read_signature, AnswersTexts, Answer, Due, Installation, IsAskDue, IsAsking, IsDue, Judge, JudgeTarget, ◌⊎◌, IsJudged, IsKeyText, IsReadFrom, read_under, AreQuestions, PublicKeyValue, Questions, and_then, require, signed_comment, subst, is_utf8, NotUtf8, SignatureBoxRecord, read_signature_box, read_utf8, judge_key, key_by, key_for, Some, Refusal}
+use Rattle.std.specs.Prelude.{OnOk}
+use Rattle.minisign.specs.Headline.{TextsVouchFor}
 use Rattle.minisign.specs.Texts.{map_ok}
-use Rattle.minisign.proofs.Laws.{vouched, vouched_verdict}
 use Rattle.minisign_external.specs.PublicKeys.{value_of}
-use Rattle.minisign_install.specs.Checking.{digest_verdict, judge_digest}
+use Rattle.minisign_base.specs.declared.faults.NamedFault.TheVariants.{CommentSignatureRefused}
+use Rattle.minisign_external.specs.States.{comment_result, decision, given_verdict, verdict_misuse}
+use Rattle.minisign_external.specs.declared.state.State.{State}
+use Rattle.minisign_external.specs.declared.state.Misuse.{Misuse}
+use Rattle.minisign_install.specs.Hosted.{key_under}
+use Rattle.minisign_external.specs.declared.state.Refusal.TheVariants.{Refused}
 
 -- == What the text of a signature reads as ==
 
@@ -17,12 +21,12 @@ boxed (Err e) x h = cc h
 pub read_whole : (text : List ℕ) (x : SignatureBoxRecord) → read_signature_box text ≡ Ok x → (t : SignatureTextRecord) × (read_signature text ≡ Ok t) × (x.comments ≡ Some t.comments)
 read_whole text x read = boxed (read_signature text) x read
 
-required : {V : Type 0} (b : Bool) (f : NamedFault) (r : Result V Fault) (v : V) → require b f r ≡ Ok v → (b ≡ true) × (r ≡ Ok v)
+pub required : {V : Type 0} (b : Bool) (f : NamedFault) (r : Result V Fault) (v : V) → require b f r ≡ Ok v → (b ≡ true) × (r ≡ Ok v)
 required true f r v h = (refl, h)
 required false f r v h = cc h
 
 -- what comes of two steps comes of the first
-then_ok : {V W : Type 0} (r : Result V Fault) (next : V → Result W Fault) (w : W) → and_then r next ≡ Ok w → (v : V) × (r ≡ Ok v) × (next v ≡ Ok w)
+pub then_ok : {V W : Type 0} (r : Result V Fault) (next : V → Result W Fault) (w : W) → and_then r next ≡ Ok w → (v : V) × (r ≡ Ok v) × (next v ≡ Ok w)
 then_ok (Ok v) next w h = (v, refl, h)
 then_ok (Err e) next w h = cc h
 
@@ -45,10 +49,10 @@ opened v sig_text t h =
 
 -- == What the scheme answers ==
 
-same_text : (sig_text : List ℕ) (t s : SignatureTextRecord) → read_signature sig_text ≡ Ok t → read_signature sig_text ≡ Ok s → t ≡ s
+pub same_text : (sig_text : List ℕ) (t s : SignatureTextRecord) → read_signature sig_text ≡ Ok t → read_signature sig_text ≡ Ok s → t ≡ s
 same_text sig_text t s one other = let both = sym one ∙ other in cc both
 
-one_value : (pk_text : List ℕ) (v w : PublicKeyValue) → IsKeyText pk_text v → IsKeyText pk_text w → v ≡ w
+pub one_value : (pk_text : List ℕ) (v w : PublicKeyValue) → IsKeyText pk_text v → IsKeyText pk_text w → v ≡ w
 one_value pk_text v w one other =
     let keys = sym one.read ∙ other.read in
     let same : one.key ≡ other.key = cc keys in
@@ -67,45 +71,94 @@ answers_texts accepts v pk_text sig_text m t q bytes keyed opens are digest = λ
           rw (same, are.message.message, are.questions, rw same at whole);
     })
 
--- == The verdict on data is the one on its digest ==
+-- == What is asked, and answered ==
 
--- what a signature is over matters only where the tests before it hold
-judged_alike : (same over : Bool) (other unallowed : NamedFault) (accepts : List ℕ → Bool) (digest m : List ℕ) (second : Bool)
-    → and_then {V = ⊤} (require same other (require (over || false) unallowed (Ok tt))) (λ _. judge_answers (accepts digest) second)
-    ≡ and_then {V = ⊤} (require same other (require (over || false) unallowed (Ok tt))) (λ _. judge_answers (accepts (cond over digest m)) second)
-judged_alike true true other unallowed accepts digest m second = refl
-judged_alike true false other unallowed accepts digest m second = refl
-judged_alike false over other unallowed accepts digest m second = refl
+-- the key that has to have signed is that of what the text reads as
+pub key_found : (i : Installation) (s : SignatureValue) (text : List ℕ) (t : SignatureTextRecord) → IsReadFrom s text t → key_by i s.key_id ≡ key_for i text
+key_found i s text t from =
+    let read = (required _ _ _ t from.read).1 in
+    ap (λ (x : SignatureValue). key_by i x.key_id) from.value ∙ ap (λ r. key_under i r) (sym read)
 
-module _ (accepts : Verifier) (terms : Terms) where
-  by_texts : (m : List ℕ) (k : Result PublicKeyRecord Fault) (s : Result SignatureTextRecord Fault)
-      → and_then k (λ key. and_then s (λ t. and_then (judge_digest accepts (Some (blake2b_digest 64 m)) key t) (λ _. Ok t.comments.trusted)))
-      ≡ and_then k (λ key. and_then s (λ t. and_then (judge accepts key (box_of t) m false) (λ _. Ok t.comments.trusted)))
-  by_texts m (Ok key) (Ok t) =
-      ap (λ r. and_then r (λ _. Ok t.comments.trusted))
-      (judged_alike _ (is_prehashed t.signature) _ _ (λ b. accepts b key.key t.signature.signature) (blake2b_digest 64 m) m (accepts_comments accepts key (box_of t)))
-  by_texts m (Ok key) (Err e) = refl
-  by_texts m (Err e) s = refl
+-- a verdict tells of a comment, or of the first case that fails
+pub given_ok : (r : Result (List ℕ) Fault) → Ok tt ≡ given_verdict r → (comment : List ℕ) × (r ≡ Ok comment)
+given_ok (Ok comment) h = (comment, refl)
+given_ok (Err e) h = cc h
 
-  by_digest : (m : List ℕ) → digest_verdict accepts terms (Some (blake2b_digest 64 m)) ≡ verdict accepts terms.pk_text terms.sig_text m false
-  unfolding verdict
-  by_digest m = by_texts m (read_public_key terms.pk_text) (read_signature terms.sig_text)
+pub given_refused : (r : Result (List ℕ) Fault) (x : Refusal Fault) → Err x ≡ given_verdict r → (e : Fault) × (x ≡ Refused e) × (r ≡ Err e)
+given_refused (Ok comment) x h = cc h
+given_refused (Err f) x h = (f, cc h, refl)
 
-  -- what is decided of the digest is of the data
-  pub vouched_or_not : {T : Type 0} (bytes : T → List ℕ) (digest m : List ℕ) (r : Result T Fault) → digest ≡ blake2b_digest 64 m → map_ok bytes r ≡ digest_verdict accepts terms (Some digest)
-      → MatchResult r (λ c. TextsVouchWith accepts terms.pk_text terms.sig_text m false (bytes c)) (λ f. verdict accepts terms.pk_text terms.sig_text m false ≡ Err f)
-  vouched_or_not bytes digest m (Ok c) is h = vouched accepts terms.pk_text terms.sig_text m false (bytes c) (sym (h ∙ ap (λ d. digest_verdict accepts terms (Some d)) is ∙ by_digest m))
-  vouched_or_not bytes digest m (Err e) is h = sym (h ∙ ap (λ d. digest_verdict accepts terms (Some d)) is ∙ by_digest m)
+-- the comment that the key has signed is the one of the text
+pub signed_text : (accepts : Verifier) (v : PublicKeyValue) (sig_text comment : List ℕ) → signed_comment accepts v sig_text ≡ Ok comment → (t : SignatureTextRecord) × (read_signature sig_text ≡ Ok t) × (t.comments.trusted ≡ comment)
+signed_text accepts v sig_text comment h =
+    let says = λ (t : SignatureTextRecord). require (accepts_comments accepts (key_of v) (box_of t)) CommentSignatureRefused (Ok t.comments.trusted) in
+    let (t, opens, more) = then_ok (read_under v false sig_text) says comment h in
+    let same : Ok t.comments.trusted ≡ Ok comment = (required (accepts_comments accepts (key_of v) (box_of t)) CommentSignatureRefused (Ok t.comments.trusted) comment more).1 in
+    (t, (opened v sig_text t opens).0, cc same)
 
-  -- == One comment stands in the text of a signature ==
+-- texts that vouch for what was read back do so with the comment that was judged
+pub judged_with : (accepts : Verifier) (terms : Terms) (kept : ℕ) (message : List ℕ) (i : Installation) → IsAsking i terms kept
+    → TextsVouchFor accepts terms.pk_text terms.sig_text message false
+    → (comment : List ℕ) × TextsVouchWith accepts terms.pk_text terms.sig_text message false comment × IsJudged i.judged terms kept comment
+judged_with accepts terms kept message i asking v =
+    let (t, reads, both) = read_whole terms.sig_text v.box v.box_read in
+    (t.comments.trusted, record { vouched = v; comments = t.comments; both = both; trusted = refl }, asking.judged t reads)
 
-  in_text : (digest : Option (List ℕ)) (comment : List ℕ) → digest_verdict accepts terms digest ≡ Ok comment → map_ok (λ t. t.comments.trusted) (read_signature terms.sig_text) ≡ Ok comment
-  in_text digest comment h =
-      let (key, keyed, more) = then_ok (read_public_key terms.pk_text) _ comment h in
-      let (t, read, judged) = then_ok (read_signature terms.sig_text) _ comment more in
-      ap (map_ok (λ t. t.comments.trusted)) read ∙ (then_ok (judge_digest accepts digest key t) _ comment judged).2
+-- the questions with another digest
+pub redigested : (q : Questions) (bytes : List ℕ) (v : PublicKeyValue) (t : SignatureTextRecord) (d : List ℕ) → AreQuestions q bytes v t → AreQuestions (record q { digest = d }) bytes v t
+redigested q bytes v t d are = record { questions = ap (λ (x : Questions). record x { digest = d }) are.questions; message = are.message }
 
-  -- the comment that the key has signed is the one that was signed with the data
-  pub signed_is : (m c signed : List ℕ) → TextsVouchWith accepts terms.pk_text terms.sig_text m false c → signed_comment accepts terms ≡ Ok signed → signed ≡ c
-  signed_is m c signed v is =
-      cc (in_text None signed is, in_text (Some (blake2b_digest 64 m)) c (by_digest m ∙ vouched_verdict accepts terms.pk_text terms.sig_text m false c v))
+pub ask_due : (i : Installation) (due : Due ℕ) (kept : ℕ) → IsDue i due → (due ≡ Judge kept) ⊎ ((due ≡ JudgeTarget kept) ⊎ (due ≡ Answer kept)) → IsAskDue i kept
+ask_due i due kept is (inl e) = inl (is ∙ ap (λ d. Some d) e)
+ask_due i due kept is (inr (inl e)) = inr (inl (is ∙ ap (λ d. Some d) e))
+ask_due i due kept is (inr (inr e)) = inr (inr (is ∙ ap (λ d. Some d) e))
+
+-- == What a rejection comes to ==
+
+-- what the texts are rejected for, whatever the data is; or a wrong use
+pub about_texts : (i : Installation) (signature : SignatureValue) (t : SignatureTextRecord) (sig_text file : List ℕ) (room : ℕ) (x : Refusal Fault) → IsReadFrom signature sig_text t → IsUtf8 file
+    → IsAskFedRefusal i.state (key_for i sig_text) signature sig_text false room x → IsTextRefusal (key_for i sig_text) sig_text false x → IsAboutRefusal i sig_text file room (of_installing x)
+about_texts i signature t sig_text file room (WrongUse m) from utf8 refused texts = (utf8, (signature, t, from, refused))
+about_texts i signature t sig_text file room (Refused e) from utf8 refused texts = (e, refl, inr (utf8, texts))
+
+wrong_only : (b : Bool) (r : Result ⊤ Fault) (n : Misuse) (x : Refusal Fault) → Err x ≡ cond b (decision r) (Err (WrongUse n)) → (m : Misuse) → x ≡ WrongUse m → m ≡ n
+wrong_only true (Ok t) n x h m is = cc h
+wrong_only true (Err e) n x h m is = cc (h, is)
+wrong_only false r n x h m is = cc (h, is)
+
+-- the only wrong use of what was asked about the comment
+pub comment_misuse : (s : State) (second : Bool) (x : Refusal Fault) → Err x ≡ comment_result s second → (m : Misuse) → x ≡ WrongUse m → m ≡ verdict_misuse s
+comment_misuse s second x h = wrong_only _ _ _ x h
+
+pub answered_refusal : (due : Due ℕ) (x : Refusal Fault) (old new : Installation) → IsDue old due → RejectsFor due x old new → ((m : Misuse) → x ≡ WrongUse m → m ≡ verdict_misuse old.state) → IsAnswerRefusal old new (of_installing x)
+answered_refusal due (WrongUse m) old new is same misuse = (same, inr (misuse m refl))
+answered_refusal due (Refused e) old new is (failed, rest) misuse = (rw is failed, (rest.chosen, rest.kept))
+
+pub asked_same : (i j : Installation) → j.kept ≡ i.kept → (due : Due ℕ) (read : List ℕ) → asked_digest j due read ≡ asked_digest i due read
+asked_same i j same (Judge kept) read = ap (λ (k : Kept). k.digest) same
+asked_same i j same due read = refl
+
+-- what stands at the target is synced, or that is the end; a run that goes on does neither
+not_both : {P : Type 0} (i : Installation) (kept : ℕ) → standing i ≡ going_on i kept → P
+not_both i kept h = elim (cases_Bool (i.chosen.is_check == 1)) [
+  | inl checks ↦
+      let both = sym (ap (λ b. cond b Already SyncTarget) checks) ∙ h ∙ ap (λ b. cond b WouldInstall (cond (may_wait i) Unlock (Clear kept))) checks in
+      cc both
+  | inr other ↦
+      let both : SyncTarget ≡ cond (may_wait i) Unlock (Clear kept) = sym (ap (λ b. cond b Already SyncTarget) other) ∙ h ∙ ap (λ b. cond b WouldInstall (cond (may_wait i) Unlock (Clear kept))) other in
+      elim (cases_Bool (may_wait i)) [
+        | inl waits ↦ let one = both ∙ ap (λ b. cond b Unlock (Clear kept)) waits in cc one
+        | inr at_hand ↦ let one = both ∙ ap (λ b. cond b Unlock (Clear kept)) at_hand in cc one
+      ]
+]
+
+pub stands_only : {T E : Type 0} (P : Type 0) (r : Result T E) (i new : Installation) (kept : ℕ) → OnOk r (IsDue new (standing i)) → OnOk r (IsDue new (going_on i kept) → P)
+stands_only P (Ok done) i new kept due = λ on. let both = sym due ∙ on in not_both i kept (cc both)
+stands_only P (Err e) i new kept due = tt
+
+-- what a scheme answers to the second question that was asked, it answers to that of the text
+pub answers_comment : (accepts : Verifier) (v : PublicKeyValue) (sig_text : List ℕ) (t : SignatureTextRecord) (q : Questions) (bytes : List ℕ) → read_under v false sig_text ≡ Ok t → AreQuestions q bytes v t
+    → AnswersComment accepts v sig_text (accepts (take q.message_len bytes) q.public_key q.comment_signature)
+answers_comment accepts v sig_text t q bytes opens are = λ s read whole.
+    let same = same_text sig_text s t read (opened v sig_text t opens).0 in
+    rw (same, are.message.message, are.questions, rw same at whole)

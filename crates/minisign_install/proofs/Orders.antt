@@ -1,9 +1,10 @@
 -- Whatever outcomes come, a run that makes each call as it is due installs only updates: what stands fast at each call
 -- that is due, and that each outcome leads from there to what stands fast at the next one.
-use Rattle.minisign_install.proofs.Common.{◌≡◌, FileStays, ◌≢◌, ◌⊎◌, inl, inr, ⊎_elim, ℕ, List, [], ◌∷◌, ◌++◌, true, false, true≢false, ap, sym, subst, ◌∙◌, refl, append_assoc, append-nil, Consumes-nil, Consumes-trans, Consumes-whole, Consumes, concat, IsAhead, HasInstalled, HasKept, MayBePublished, MayBeRecorded, IsUpdate, PublishesInOrder, ClearsAll, HasLocked, HasRenamed, HasStepped, IsStill, Perhaps, Moment, Removes, Renames, Run, Name, Place, Record, Calls, CallsNothing, CallsOwning, TouchesStages, Spoils, HasRun, Host, Makes, Setting, Writes, WritesInPart, next, Due, Lock, Clear, ReadRecord, Create, Copy, ReadBack, Answer, TakePermissions, Sync, CreateRecord, WriteRecord, SyncRecord, RenameRecord, SyncRecordName, Rename, SyncName, RemoveRecord, Remove, Installed, Outcome, Done, More, Number, Failed, record_of, PublishesNothing, PublishesOnly, HasCleared, HasReached, OwnsNoMore, ⊤, InstallsOnlyUpdates}
+use Rattle.minisign_install.proofs.Common.{Already, Answer, Calls, CallsNothing, CallsOwning, Clear, ClearsAll, Consumes, Consumes-nil, Consumes-trans, Consumes-whole, Copy, Create, CreateRecord, Done, Due, Failed, FileStays, GoesOn, HasCleared, HasInstalled, HasKept, HasLocked, HasReached, HasRenamed, HasRun, HasStepped, Host, Installed, InstallsOnlyUpdates, IsAhead, IsRecordOf, IsStanding, IsStill, IsUpdate, Judge, JudgeTarget, Leads, List, Lock, LocksAt, Look, Makes, MayBePublished, MayBeRecorded, Moment, More, Name, Number, Outcome, OwnsNoMore, Perhaps, Place, PublishesInOrder, PublishesNothing, PublishesOnly, ReadBack, ReadRecord, Receive, Record, Remove, RemoveRecord, Removes, Rename, RenameRecord, Renames, Rests, Run, Setting, Some, Spoils, Sync, SyncName, SyncRecord, SyncRecordName, SyncTarget, SyncTargetName, TakePermissions, TouchesStages, Unlock, WouldInstall, WriteRecord, Writes, WritesInPart, [], ap, append-nil, append_assoc, blake2b_digest, cases_Bool, concat, cond, false, first_due, has_ended, inl, inr, length, next, record_of, refl, subst, sym, true, true≢false, ℕ, ⊎_elim, ⊤, ◌++◌, ◌∙◌, ◌∷◌, ◌≡◌, ◌≢◌, ◌⊎◌}
 use Rattle.minisign_install.specs.Order.{Refused}
-use Rattle.minisign_install.proofs.Installs.{found_first, installs, nothing_locked, ordered, places_more, places_update}
-use Rattle.minisign_install.proofs.Works.{call_with, HasRecorded, HasStage, IsQuiet, WorksOn, publishes_none, publishes_nothing, publishes_trans, publishes_weaken, step, created_publishes, created_keeps, created_stage, kept_no_more, lasting, less_no_more, file_before, no_more_trans, quiet_trans, working, perhaps, published, quiet, renamed_publishes, renamed_keeps, resting_publishes, spoiling, works_none, works_trans}
+use Rattle.std.proofs.lemmas.Option.{same_Some}
+use Rattle.minisign_install.proofs.Installs.{found_read, installs, nothing_locked, ordered, places_more, places_update}
+use Rattle.minisign_install.proofs.Works.{call_with, HasRecorded, HasStage, IsQuiet, WorksOn, publishes_none, publishes_nothing, publishes_trans, publishes_weaken, step, created_publishes, created_keeps, created_stage, kept_no_more, lasting, less_no_more, file_before, no_more_trans, quiet_trans, working, perhaps, published, quiet, renamed_publishes, renamed_keeps, resting_publishes, spoiling, works_none, works_trans, file_synced, rests_none, rests_step, rests_unlock}
 
 -- == Calls together ==
 
@@ -23,10 +24,6 @@ reached_more {old = old} r more = record {
   noted = more.noted ∙ ap (λ l. more.since ++ l) r.noted ∙ sym (append_assoc more.since r.later (r.call ∷ (r.earlier ++ old.steps)));
   this = r.this;
 }
-
--- the directory was cleared, and then nothing more was published
-pub cleared_since : {old mid new : Run} → Calls ClearsAll old mid → PublishesNothing mid new → HasCleared old new
-cleared_since {old = old} (clear, own) more = reached_more (reached (publishes_none (Nothing 0) old) clear clear.this.clear) more
 
 module _ {old new : Run} where
   pub calm : {C : Moment → Moment → Type 0} → (call : Calls C old new) → TouchesStages call.0.before new.now → IsQuiet old new
@@ -76,7 +73,7 @@ NoneOf (name ∷ more) q = (q ≢ name) × NoneOf more q
 -- published, in order. A stage whose name is none of these is the run's own only if it was so before.
 pub record SoFar (s : Setting) (a : Host) (P : ℕ → Name → List ℕ → Type 0) (names : List (List ℕ)) (now : Run) : Type 0 where
   pub locked : Run
-  pub lock : HasLocked a.run locked
+  pub lock : LocksAt a.run locked
   pub kept : HasKept s.terms s.first locked.now
   pub cleared : HasCleared locked now
   pub publishes : PublishesOnly (P kept.number) locked now
@@ -88,6 +85,7 @@ pub record Judged (s : Setting) (a : Host) (now : Run) (kept n : ℕ) : Type 0 w
   pub stage : HasStage now s.name s.file
   pub given : IsAhead a.ahead (now.now.holds s.file)
   pub update : IsUpdate s.accepts s.terms kept (now.now.holds s.file) n
+  pub digest : s.digest ≡ blake2b_digest 64 (now.now.holds s.file)
 
 -- it is on the disk, and has its permissions
 pub record Staged (s : Setting) (a : Host) (now : Run) (kept n : ℕ) : Type 0 where
@@ -106,6 +104,39 @@ pub record RecordStage (s : Setting) (now : Run) (bytes : List ℕ) : Type 0 whe
 abbrev pub Ended : Setting → Host → Run → Type 0
 Ended s a now = InstallsOnlyUpdates s.accepts s.terms s.first a.run now × OwnsNoMore a.run now
 
+-- the place was found to lead to this file, which held these bytes
+abbrev pub Fact : ℕ → List ℕ → Moment → Type 0
+Fact file bytes m = (m.leads Place ≡ Some file) × (m.holds file ≡ bytes)
+
+-- Since the lock was got nothing was published, and the record was found to have this number.
+pub record Kept (s : Setting) (a : Host) (kept : ℕ) (now : Run) : Type 0 where
+  pub locked : Run
+  pub lock : LocksAt a.run locked
+  pub mine : OwnsNoMore a.run locked
+  pub has : HasKept s.terms s.first locked.now
+  pub is : has.number ≡ kept
+  pub quiet : IsQuiet locked now
+
+-- So far nothing was changed; of a check that is all.
+pub record Early (s : Setting) (a : Host) (kept : ℕ) (now : Run) : Type 0 where
+  pub rests : Rests a.run now
+  pub kept_so : (s.check ≡ true) ⊎ ((s.check ≡ false) × Kept s a kept now)
+
+-- what was read is what the place was found to hold
+pub record Found (s : Setting) (a : Host) (kept : ℕ) (h : Host) : Type 0 where
+  pub file : ℕ
+  pub fact : Fact file h.read h.run.now
+  pub since : (s.check ≡ true) ⊎ ((s.check ≡ false) × ((k : Kept s a kept h.run) × HasReached (Fact file h.read) k.locked h.run))
+
+-- the place was found to hold an update
+pub record Stands (s : Setting) (a : Host) (now : Run) : Type 0 where
+  pub kept : ℕ
+  pub since : Kept s a kept now
+  pub bytes : List ℕ
+  pub n : ℕ
+  pub update : IsUpdate s.accepts s.terms since.has.number bytes n
+  pub found : HasReached (Fact s.target bytes) since.locked now
+
 module _ (s : Setting) (a : Host) where
   abbrev pub Q : ℕ → Name → List ℕ → Type 0
   Q = MayBeRecorded s.accepts s.terms
@@ -121,9 +152,17 @@ module _ (s : Setting) (a : Host) where
   Two = s.record_name ∷ s.name ∷ []
 
   abbrev pub Holds : {E : Type 0} → Due E → Host → Type 0
-  Holds Lock h = (h.run ≡ a.run) × (h.ahead ≡ a.ahead)
-  Holds Clear h = HasLocked a.run h.run × OwnsNoMore a.run h.run × (h.ahead ≡ a.ahead)
-  Holds ReadRecord h = (l : Run) × HasLocked a.run l × OwnsNoMore a.run l × Calls ClearsAll l h.run × (h.ahead ≡ a.ahead)
+  Holds Lock h = Rests a.run h.run × (s.check ≡ false) × (h.ahead ≡ a.ahead)
+  Holds ReadRecord h =
+      Rests a.run h.run × ((s.check ≡ true) ⊎ ((s.check ≡ false) × LocksAt a.run h.run)) × (h.ahead ≡ a.ahead)
+  Holds (Judge kept) h = Early s a kept h.run × (h.ahead ≡ a.ahead)
+  Holds (Look kept) h = Early s a kept h.run × (h.ahead ≡ a.ahead)
+  Holds (JudgeTarget kept) h = Early s a kept h.run × (h.ahead ≡ a.ahead) × Found s a kept h
+  Holds SyncTarget h = Stands s a h.run × ⊤
+  Holds SyncTargetName h = (x : Stands s a h.run) × HasReached (λ m. m.on_disk s.target ≡ true) x.since.locked h.run
+  Holds Unlock h = Rests a.run h.run × (s.check ≡ false) × (h.ahead ≡ a.ahead)
+  Holds Receive h = Rests a.run h.run × (s.check ≡ false) × (h.ahead ≡ a.ahead)
+  Holds (Clear kept) h = Kept s a kept h.run × (h.ahead ≡ a.ahead)
   Holds (Create kept) h = (x : SoFar s a Nothing [] h.run) × (x.kept.number ≡ kept) × (h.ahead ≡ a.ahead)
   Holds (Copy kept) h = (x : SoFar s a Nothing One h.run) × (x.kept.number ≡ kept) × HasStage h.run s.name s.file × Consumes a.ahead h.ahead (h.run.now.holds s.file)
   Holds (ReadBack kept) h = (x : SoFar s a Nothing One h.run) × (x.kept.number ≡ kept) × HasStage h.run s.name s.file × IsAhead a.ahead (h.run.now.holds s.file)
@@ -133,18 +172,21 @@ module _ (s : Setting) (a : Host) where
   Holds (Sync n) h = (x : SoFar s a Q One h.run) × Judged s a h.run x.kept.number n × (h.run.now.permissions s.file ≡ true)
   Holds (CreateRecord n) h = (x : SoFar s a Q One h.run) × Staged s a h.run x.kept.number n
   Holds (WriteRecord n) h = (x : SoFar s a Q Two h.run) × Staged s a h.run x.kept.number n × RecordStage s h.run []
-  Holds (SyncRecord n) h = (x : SoFar s a Q Two h.run) × Staged s a h.run x.kept.number n × RecordStage s h.run (record_of s.terms.numbering n)
-  Holds (RenameRecord n) h = (x : SoFar s a Q Two h.run) × Staged s a h.run x.kept.number n × RecordStage s h.run (record_of s.terms.numbering n) × (h.run.now.on_disk s.record_file ≡ true)
+  Holds (SyncRecord n) h = (x : SoFar s a Q Two h.run) × Staged s a h.run x.kept.number n × RecordStage s h.run (record_of s.terms.numbering n s.key.key s.digest)
+  Holds (RenameRecord n) h = (x : SoFar s a Q Two h.run) × Staged s a h.run x.kept.number n × RecordStage s h.run (record_of s.terms.numbering n s.key.key s.digest) × (h.run.now.on_disk s.record_file ≡ true)
   Holds (SyncRecordName n) h =
       (x : SoFar s a Q Two h.run) × Staged s a h.run x.kept.number n
-      × ((before : Run) × RecordStage s before (record_of s.terms.numbering n) × (before.now.on_disk s.record_file ≡ true) × HasRenamed s.record_name Record before h.run)
-  Holds (Rename n) h = (x : SoFar s a Q One h.run) × Staged s a h.run x.kept.number n × HasRecorded (record_of s.terms.numbering n) h.run
+      × ((before : Run) × RecordStage s before (record_of s.terms.numbering n s.key.key s.digest) × (before.now.on_disk s.record_file ≡ true) × HasRenamed s.record_name Record before h.run)
+  Holds (Rename n) h = (x : SoFar s a Q One h.run) × Staged s a h.run x.kept.number n × HasRecorded (record_of s.terms.numbering n s.key.key s.digest) h.run
   Holds (SyncName n) h =
       (x : SoFar s a All One h.run) × ((before : Run) × PublishesOnly (Q x.kept.number) x.locked before
-      × Staged s a before x.kept.number n × HasRecorded (record_of s.terms.numbering n) before × HasRenamed s.name Place before h.run)
+      × Staged s a before x.kept.number n × HasRecorded (record_of s.terms.numbering n s.key.key s.digest) before × HasRenamed s.name Place before h.run)
   Holds (RemoveRecord e) h = SoFar s a All Two h.run × ⊤
   Holds (Remove e) h = SoFar s a All One h.run × ⊤
-  Holds Installed h = (locked : Run) × HasLocked a.run locked × HasInstalled s.accepts s.terms s.first a.ahead locked h.run × Ended s a h.run
+  Holds Installed h = (locked : Run) × LocksAt a.run locked × HasInstalled s.accepts s.terms s.first a.ahead locked h.run × Ended s a h.run
+  Holds Already h =
+      (((s.check ≡ true) × Rests a.run h.run) ⊎ ((locked : Run) × LocksAt a.run locked × IsStanding s.accepts s.terms s.first locked h.run)) × Ended s a h.run
+  Holds WouldInstall h = Rests a.run h.run × Ended s a h.run
   Holds (Refused e) h = Ended s a h.run × ⊤
 
   -- == From one moment to the next ==
@@ -174,52 +216,98 @@ module _ (s : Setting) (a : Host) where
   abbrev pub at_most_record : {names : List (List ℕ)} {now : Run} → SoFar s a Nothing names now → SoFar s a Q names now
   at_most_record {now = now} x = record { locked = x.locked; lock = x.lock; kept = x.kept; cleared = x.cleared; publishes = publishes_nothing (Q x.kept.number) x.locked now x.publishes; places = x.places; own = x.own }
 
+  -- what is written is the record of the update
+  pub written : {now : Run} {kept n : ℕ} (bytes : List ℕ) → (j : Judged s a now kept n) → bytes ≡ record_of s.terms.numbering n s.key.key s.digest → IsRecordOf s.terms n (now.now.holds s.file) bytes
+  written {now = now} {n = n} bytes j is = record {
+    key = s.key;
+    keyed = s.keyed;
+    key_whole = s.key_whole;
+    digest_whole = ap length (sym j.digest) ∙ s.digest_whole;
+    is = is ∙ ap (λ d. record_of s.terms.numbering n s.key.key d) j.digest;
+  }
+
   -- the stage of the record gets the record's name
-  abbrev pub numbered : {now then : Run} {n : ℕ} → (x : SoFar s a Q Two now) → Staged s a now x.kept.number n → RecordStage s now (record_of s.terms.numbering n) → now.now.on_disk s.record_file ≡ true
+  abbrev pub numbered : {now then : Run} {n : ℕ} → (x : SoFar s a Q Two now) → Staged s a now x.kept.number n → RecordStage s now (record_of s.terms.numbering n s.key.key s.digest) → now.now.on_disk s.record_file ≡ true
       → HasStepped now then (Renames s.record_name Record) → OwnsNoMore now then → SoFar s a Q Two then
   numbered {now = now} {then = then} {n = n} x staged stage on_disk renamed own =
-      let brought = publishes_weaken _ (Q x.kept.number) now then (λ name b only. (only.0, (n, now.now.holds s.file, staged.judged.update, only.1 ∙ stage.holds)))
+      let brought = publishes_weaken _ (Q x.kept.number) now then (λ name b only. (only.0, (n, now.now.holds s.file, staged.judged.update, written b staged.judged (only.1 ∙ stage.holds))))
       (renamed_publishes s.record_name Record s.record_file now then stage.stage on_disk renamed) in
       let all = publishes_trans (Q x.kept.number) x.locked now then x.publishes brought in
       extend x brought all (inl all) (λ q e of. (of, own.only q e))
 
   -- the stage gets the place's name
-  abbrev pub placed : {now then : Run} {n : ℕ} → (x : SoFar s a Q One now) → Staged s a now x.kept.number n → HasRecorded (record_of s.terms.numbering n) now → HasStepped now then (Renames s.name Place) → OwnsNoMore now then → SoFar s a All One then
+  abbrev pub placed : {now then : Run} {n : ℕ} → (x : SoFar s a Q One now) → Staged s a now x.kept.number n → HasRecorded (record_of s.terms.numbering n s.key.key s.digest) now → HasStepped now then (Renames s.name Place) → OwnsNoMore now then → SoFar s a All One then
   placed {now = now} {then = then} {n = n} x staged recorded renamed own =
       let stage = staged.judged.stage in
       let brought = renamed_publishes s.name Place s.file now then stage staged.on_disk renamed in
-      let places = inr (places_update s.accepts s.terms x.kept.number n (now.now.holds s.file) x.locked now then (x.publishes.locked x.lock.held) x.publishes recorded staged.judged.update brought) in
+      let places = inr (places_update s.accepts s.terms x.kept.number n (now.now.holds s.file) (record_of s.terms.numbering n s.key.key s.digest) x.locked now then (x.publishes.locked x.lock.2.held) x.publishes recorded (written _ staged.judged refl) staged.judged.update brought) in
       extend x brought (ordered s.accepts s.terms x.kept.number places) places (λ q e of. (of, own.only q e))
 
   judged_more : {now then : Run} {kept n : ℕ} → Judged s a now kept n → HasStage then s.name s.file → then.now.holds s.file ≡ now.now.holds s.file → Judged s a then kept n
-  judged_more x stage holds = record { stage = stage; given = rw holds x.given; update = rw holds x.update }
+  judged_more x stage holds = record { stage = stage; given = rw holds x.given; update = rw holds x.update; digest = rw holds x.digest }
 
   staged_more : {now then : Run} {kept n : ℕ} → Staged s a now kept n → HasStage then s.name s.file → FileStays s.file now.now then.now → Staged s a then kept n
   staged_more x stage same = record { judged = judged_more x.judged stage same.holds; permissions = same.permissions ∙ x.permissions; on_disk = same.on_disk ∙ x.on_disk }
 
   only_updates : {P : ℕ → Name → List ℕ → Type 0} {names : List (List ℕ)} {now : Run} → SoFar s a P names now → InstallsOnlyUpdates s.accepts s.terms s.first a.run now
-  only_updates {now = now} x = inr (x.locked, x.lock, installs s.accepts s.terms s.first x.locked now x.lock.held x.kept x.places)
+  only_updates {now = now} x = inr (x.locked, x.lock, installs s.accepts s.terms s.first x.locked now x.lock.2.held x.kept x.places)
 
   stopped : {P : ℕ → Name → List ℕ → Type 0} {now : Run} → SoFar s a P [] now → Ended s a now
   stopped x = (only_updates x, record { only = λ q e. x.own q e tt })
 
   -- nothing was published since the lock was got
-  unread : {l now : Run} → HasLocked a.run l → OwnsNoMore a.run l → IsQuiet l now → Ended s a now
-  unread {l = l} {now = now} lock mine (none, own) = (inr (l, lock, nothing_locked s.accepts s.terms s.first l now lock.held none), no_more_trans a.run l now mine own)
+  unread : {kept : ℕ} {now : Run} → Kept s a kept now → Ended s a now
+  unread {now = now} k = (inr (k.locked, k.lock, nothing_locked s.accepts s.terms s.first k.locked now k.lock.2.held k.quiet.0), no_more_trans a.run k.locked now k.mine k.quiet.1)
+
+  -- nothing was changed
+  unchanged : {now : Run} → Rests a.run now → Ended s a now
+  unchanged r = (inl r, record { only = r.own })
+
+  abbrev pub kept_more : {kept : ℕ} {now then : Run} → Kept s a kept now → IsQuiet now then → Kept s a kept then
+  kept_more k more = record { locked = k.locked; lock = k.lock; mine = k.mine; has = k.has; is = k.is; quiet = quiet_trans k.quiet more }
+
+  abbrev pub stands_more : {now then : Run} → Stands s a now → IsQuiet now then → Stands s a then
+  stands_more x more = record { kept = x.kept; since = kept_more x.since more; bytes = x.bytes; n = x.n; update = x.update; found = reached_more x.found more.0 }
+
+  kept_of : {kept : ℕ} {now : Run} → Early s a kept now → s.check ≡ false → Kept s a kept now
+  kept_of x installs = ⊎_elim (λ checks. absurd (true≢false (sym checks ∙ installs))) (λ both. both.1) x.kept_so
+
+  -- a call that changed nothing
+  pub early_still : {kept : ℕ} {now then : Run} → Early s a kept now → Calls IsStill now then → Early s a kept then
+  early_still {now = now} {then = then} x (still, own) = record {
+    rests = rests_step x.rests still still.this (kept_no_more now then own);
+    kept_so = ⊎_elim (λ checks. inl checks) (λ (other, k). inr (other, kept_more k (quiet_still (still, own)))) x.kept_so;
+  }
 
   -- == From each call that is due to the next one ==
 
   module _ (h h' : Host) where
     -- A call that fails publishes nothing; or it may have given a stage its lasting name.
     abbrev pub Fails : {E : Type 0} → Due E → Type 0
+    Fails Lock = ⊤
+    Fails ReadRecord = ⊤
+    Fails (Judge kept) = ⊤
+    Fails (Look kept) = ⊤
+    Fails (JudgeTarget kept) = ⊤
+    Fails SyncTarget = ⊤
+    Fails SyncTargetName = ⊤
+    Fails Unlock = ⊤
+    Fails Receive = ⊤
     Fails (RenameRecord n) = SoFar s a Q Two h'.run
     Fails (Rename n) = SoFar s a All One h'.run
     Fails due = IsQuiet h.run h'.run
 
     pub fails : {E : Type 0} (due : Due E) (e : E) → Holds due h → Makes s due (Failed e) h h' → Fails due
-    fails Lock e x (still, ahead', read') = quiet_still still
-    fails Clear e x (clear, ahead', read') = calm clear clear.0.this
-    fails ReadRecord e x (still, ahead', read') = quiet_still still
+    fails Lock e x made = tt
+    fails ReadRecord e x made = tt
+    fails (Judge kept) e x made = tt
+    fails (Look kept) e x made = tt
+    fails (JudgeTarget kept) e x made = tt
+    fails SyncTarget e x made = tt
+    fails SyncTargetName e x made = tt
+    fails Unlock e x made = tt
+    fails Receive e x made = tt
+    fails (Clear kept) e x (clear, ahead', read') = calm clear clear.0.this
     fails (Create kept) e x (none, ahead', read') = quiet_none none
     fails (Copy kept) e (x, is, stage, more) part = quiet_part stage part
     fails (ReadBack kept) e x same = quiet_none (inl same)
@@ -239,27 +327,115 @@ module _ (s : Setting) (a : Host) where
     fails (Remove f) e x (removal, ahead', read') = perhaps_removed removal
     fails due e x never = absurd never
 
+    -- a run that finds nothing in its way
+    goes : {E : Type 0} (kept : ℕ) (due : Due E) → Early s a kept h'.run → h'.ahead ≡ a.ahead → GoesOn s kept due → Holds due h'
+    goes kept due x ahead (inl (check, is)) = rw is (x.rests, unchanged x.rests)
+    goes kept due x ahead (inr (check, (inl is))) = rw is (x.rests, check, ahead)
+    goes kept due x ahead (inr (check, (inr is))) = rw is (kept_of x check, ahead)
+
+    -- what stands at the place is the update
+    stands : {E : Type 0} (kept : ℕ) (due : Due E) → Early s a kept h.run → Found s a kept h → h'.run ≡ h.run → due ≡ cond s.check Already SyncTarget
+        → (n : ℕ) × IsUpdate s.accepts s.terms kept h.read n → h.run.now.leads Place ≡ Some s.target → Holds due h'
+    stands kept due x found run is (n, update) leads = elim found.since [
+      | inl check ↦
+          let same : due ≡ Already = is ∙ ap (λ b. cond b Already SyncTarget) check in
+          rw (same, run) (inl (check, x.rests), unchanged x.rests)
+      | inr (check, (k, reached)) ↦
+          let same : due ≡ SyncTarget = is ∙ ap (λ b. cond b Already SyncTarget) check in
+          let file : found.file ≡ s.target = same_Some found.file s.target (sym found.fact.0 ∙ leads) in
+          rw (same, run) (record { kept = kept; since = k; bytes = h.read; n = n; update = rw k.is update; found = rw file at reached }, tt)
+    ]
+
     pub from : {E : Type 0} (due : Due E) (o : Outcome E) → Holds due h → Makes s due o h h' → Holds (next due o) h'
-    from Lock Done (run, ahead) ((lock, own), ahead', read') = (rw run at lock, rw run at (kept_no_more h.run h'.run own), ahead' ∙ ahead)
-    from Lock (Failed e) (run, ahead) ((still, own), ahead', read') = ((inl (rw run at still), rw run at (kept_no_more h.run h'.run own)), tt)
-    from Clear Done (lock, mine, ahead) (clear, ahead', read') = (h.run, lock, mine, clear, ahead' ∙ ahead)
-    from Clear (Failed e) (lock, mine, ahead) made = (unread lock mine (fails Clear e (lock, mine, ahead) made), tt)
-    from ReadRecord (Number n) (l, lock, mine, clear, ahead) ((found, (reads, own), number), ahead', read') =
-        let still = quiet_still (call_with reads reads.this.still, own) in
-        let (none, more) = quiet_trans (calm clear clear.0.this.only) still in (
+    from Lock Done (rests, check, ahead) ((lock, own), ahead', read') =
+        (rests_step rests lock.stepped lock.stepped.this.still (kept_no_more h.run h'.run own), inr (check, (h.run, rests, lock)), ahead' ∙ ahead)
+    from Lock (Leads due) (rests, check, ahead) (is, ((still, own), ahead', read')) = rw is (rests_step rests still still.this (kept_no_more h.run h'.run own), check, ahead' ∙ ahead)
+    from Lock (Failed e) (rests, check, ahead) ((still, own), ahead', read') = (unchanged (rests_step rests still still.this (kept_no_more h.run h'.run own)), tt)
+    from ReadRecord (Number n) (rests, which, ahead) ((found, (reads, own), number), ahead', read') =
+        let quiet = quiet_still (call_with reads reads.this.still, own) in (
           record {
-            locked = l;
-            lock = lock;
-            kept = record { found = found; there = found_first found l h.run h'.run lock.held clear.0 reads; number = n; held = number };
-            cleared = cleared_since clear still.0;
-            publishes = none;
-            places = inl (publishes_nothing (Q n) l h'.run none);
-            own = λ q e any. mine.only q (more.only q e);
+            rests = rests_step rests reads reads.this.still (kept_no_more h.run h'.run own);
+            kept_so = ⊎_elim (λ checks. inl checks) (λ (other, lock). inr (
+              other,
+              record {
+                locked = h.run;
+                lock = lock;
+                mine = record { only = rests.own };
+                has = record { found = found; there = found_read found h.run h'.run lock.2.held reads; number = n; held = number };
+                is = refl;
+                quiet = quiet;
+              },
+            )) which;
           },
-          refl,
           ahead' ∙ ahead,
         )
-    from ReadRecord (Failed e) (l, lock, mine, clear, ahead) made = (unread lock mine (quiet_trans (calm clear clear.0.this.only) (fails ReadRecord e (l, lock, mine, clear, ahead) made)), tt)
+    from ReadRecord (Failed e) (rests, which, ahead) ((still, own), ahead', read') = (unchanged (rests_step rests still still.this (kept_no_more h.run h'.run own)), tt)
+    from (Judge kept) (Leads due) (x, ahead) ((run, ahead'), (inl is)) = rw is (rw run x, ahead' ∙ ahead)
+    from (Judge kept) (Leads due) (x, ahead) ((run, ahead'), (inr on)) = goes kept due (rw run x) (ahead' ∙ ahead) on
+    from (Judge kept) (Failed e) (x, ahead) (run, ahead') = (rw run (unchanged x.rests), tt)
+    from (Look kept) More (x, ahead) (run, ahead') = (rw run x, ahead' ∙ ahead)
+    from (Look kept) Done (x, ahead) (file, ((finds, own), ahead', read')) =
+        let still : Calls IsStill h.run h'.run = (call_with finds finds.this.still, own) in
+        let quiet = quiet_still still in
+        let fact : Fact file h'.read h'.run.now = rw (finds.this.still, read') finds.this.seen in (
+          early_still x still,
+          ahead' ∙ ahead,
+          record {
+            file = file;
+            fact = fact;
+            since = ⊎_elim (λ checks. inl checks) (λ (other, k). inr (other, (kept_more k quiet, reached k.quiet.0 finds fact))) x.kept_so;
+          },
+        )
+    from (Look kept) (Leads due) (x, ahead) ((finds, own), ahead', on) = goes kept due (early_still x (call_with finds finds.this.still, own)) (ahead' ∙ ahead) on
+    from (Look kept) (Failed e) (x, ahead) ((inl same), ahead') = (rw same (unchanged x.rests), tt)
+    from (Look kept) (Failed e) (x, ahead) ((inr still), ahead') = (unchanged (early_still x still).rests, tt)
+    from (JudgeTarget kept) (Leads due) (x, ahead, found) ((run, ahead'), (inl (is, update, leads))) = stands kept due x found run is update leads
+    from (JudgeTarget kept) (Leads due) (x, ahead, found) ((run, ahead'), (inr on)) = goes kept due (rw run x) (ahead' ∙ ahead) on
+    from (JudgeTarget kept) (Failed e) (x, ahead, found) (run, ahead') = (rw run (unchanged x.rests), tt)
+    from SyncTarget Done (x, done) ((sync, own), ahead', read') =
+        let quiet : IsQuiet h.run h'.run = (file_synced sync sync.this.same, kept_no_more h.run h'.run own) in (stands_more x quiet, reached x.since.quiet.0 sync sync.this.synced)
+    from SyncTarget (Failed e) (x, done) ((sync, own), ahead', read') = (unread (kept_more x.since (file_synced sync sync.this, kept_no_more h.run h'.run own)), tt)
+    from SyncTargetName Done (x, synced) ((sync, own), ahead', read') =
+        let quiet = calm (sync, own) sync.this.same.only in
+        let y = stands_more x quiet in (
+          inr (
+            y.since.locked,
+            y.since.lock,
+            record {
+              kept = y.since.has;
+              nothing = y.since.quiet.0;
+              bytes = y.bytes;
+              n = y.n;
+              update = y.update;
+              file = s.target;
+              found = y.found;
+              synced = reached_more synced quiet.0;
+              named = (step sync.before h'.run.now, h.run.steps, sync.noted, sync.this);
+            },
+          ),
+          unread y.since,
+        )
+    from SyncTargetName (Failed e) (x, synced) ((sync, own), ahead', read') = (unread (kept_more x.since (calm (sync, own) sync.this.only)), tt)
+    from Unlock Done (rests, check, ahead) (unlock, ahead', read') = (rests_unlock rests unlock, check, ahead' ∙ ahead)
+    from Unlock (Failed e) (rests, check, ahead) (unlock, ahead', read') = (unchanged (rests_unlock rests unlock), tt)
+    from Receive Done (rests, check, ahead) (run, ahead') = (rw run rests, check, ahead' ∙ ahead)
+    from Receive More (rests, check, ahead) (run, ahead') = (rw run rests, check, ahead' ∙ ahead)
+    from Receive (Failed e) (rests, check, ahead) (run, ahead') = (rw run (unchanged rests), tt)
+    from (Clear kept) Done (k, ahead) ((clear, own), ahead', read') =
+        let (none, more) = quiet_trans k.quiet (calm (clear, own) clear.this.only) in (
+          record {
+            locked = k.locked;
+            lock = k.lock;
+            kept = k.has;
+            cleared = reached k.quiet.0 clear clear.this.clear;
+            publishes = none;
+            places = inl (publishes_nothing (Q k.has.number) k.locked h'.run none);
+            own = λ q e any. k.mine.only q (more.only q e);
+          },
+          k.is,
+          ahead' ∙ ahead,
+        )
+    from (Clear kept) (Failed e) (k, ahead) made = (unread (kept_more k (fails (Clear kept) e (k, ahead) made)), tt)
     from (Create kept) Done (x, is, ahead) (made, ahead', read') = (
       go_on x (created_publishes s.name s.file h.run h'.run made) (λ q e (differs, none). (none, sym (made.own.others q differs) ∙ e)),
       is,
@@ -276,8 +452,8 @@ module _ (s : Setting) (a : Host) where
         (stay x works.quiet, is, works.stages s.name s.file stage, Consumes-whole a.ahead h'.ahead _ (λ xs. xs ≡ h'.run.now.holds s.file) all end refl)
     from (ReadBack kept) More x (run, read) = rw run x
     from (ReadBack kept) Done (x, is, stage, given) (run, all) = rw run (x, is, stage, given, all)
-    from (Answer kept) (Number n) (x, is, stage, given, all) (run, update) =
-        rw run (at_most_record x, record { stage = stage; given = given; update = rw (is, all) update })
+    from (Answer kept) (Number n) (x, is, stage, given, all) (run, update, digest) =
+        rw run (at_most_record x, record { stage = stage; given = given; update = rw (is, all) update; digest = rw all digest })
     from (TakePermissions n) Done (x, judged) ((step, own), ahead', read') =
         let works = spoiling judged.stage (step, own) step.this.spoils in
         (stay x works.quiet, judged_more judged (works.stages s.name s.file judged.stage) (step.this.same ∙ (file_before step judged.stage).holds), step.this.given)
@@ -315,7 +491,7 @@ module _ (s : Setting) (a : Host) where
           rw (← stage.holds) (record {
             earlier = before.steps;
             published = (published s.record_name Record before h.run h'.run renamed.stepped step s.record_file stage.stage on_disk).0;
-            lasts = lasting s.record_name before h.run h'.run renamed.stepped step s.record_file stage.stage on_disk (x.publishes.locked x.lock.held);
+            lasts = lasting s.record_name before h.run h'.run renamed.stepped step s.record_file stage.stage on_disk (x.publishes.locked x.lock.2.held);
           }),
         )
     from (Rename n) Done (x, staged, recorded) (renamed, ahead', read') = (placed x staged recorded renamed.stepped (less_no_more renamed.own), (h.run, x.publishes, staged, recorded, renamed))
@@ -333,6 +509,8 @@ module _ (s : Setting) (a : Host) where
             update = staged.judged.update;
             earlier = recorded.earlier;
             recorded = before.steps;
+            record_bytes = record_of s.terms.numbering n s.key.key s.digest;
+            is_record = written _ staged.judged refl;
             number_first = recorded.published;
             published = published_so;
             permissions = permissions ∙ staged.permissions;
@@ -346,23 +524,44 @@ module _ (s : Setting) (a : Host) where
     from (RenameRecord n) (Failed e) x made = (at_most (fails (RenameRecord n) e x made), tt)
     from (Rename n) (Failed e) x made = (fails (Rename n) e x made, tt)
     from Installed (Failed e) x never = absurd never
+    from Already (Failed e) x never = absurd never
+    from WouldInstall (Failed e) x never = absurd never
     from (Refused f) (Failed e) x never = absurd never
     from due (Failed e) x made = (at_most (stay x.0 (fails due e x made)), tt)
     from due o x never = absurd never
 
   -- == What that says of a run that is cut off there ==
 
-  pub safe : {E : Type 0} (due : Due E) (h : Host) → Holds due h → (h.run ≡ a.run) ⊎ InstallsOnlyUpdates s.accepts s.terms s.first a.run h.run
-  safe Lock h (run, ahead) = inl run
-  safe Clear h (lock, mine, ahead) = inr (unread lock mine (quiet_none (inl refl))).0
-  safe ReadRecord h (l, lock, mine, clear, ahead) = inr (unread lock mine (calm clear clear.0.this.only)).0
-  safe Installed h (locked, lock, has, ended) = inr ended.0
-  safe (Refused e) h x = inr x.0.0
-  safe due h x = inr (only_updates x.0)
+  pub safe : {E : Type 0} (due : Due E) (h : Host) → Holds due h → InstallsOnlyUpdates s.accepts s.terms s.first a.run h.run
+  safe Lock h (rests, check, ahead) = inl rests
+  safe ReadRecord h (rests, which, ahead) = inl rests
+  safe (Judge kept) h (x, ahead) = inl x.rests
+  safe (Look kept) h (x, ahead) = inl x.rests
+  safe (JudgeTarget kept) h (x, ahead, found) = inl x.rests
+  safe SyncTarget h (x, done) = (unread x.since).0
+  safe SyncTargetName h (x, synced) = (unread x.since).0
+  safe Unlock h (rests, check, ahead) = inl rests
+  safe Receive h (rests, check, ahead) = inl rests
+  safe (Clear kept) h (k, ahead) = (unread k).0
+  safe Installed h (locked, lock, has, ended) = ended.0
+  safe Already h x = x.1.0
+  safe WouldInstall h x = x.1.0
+  safe (Refused e) h x = x.0.0
+  safe due h x = only_updates x.0
 
-  pub ended_own : {E : Type 0} (due : Due E) (h : Host) → Holds due h → (due ≡ Installed) ⊎ ((e : E) × (due ≡ Refused e)) → OwnsNoMore a.run h.run
-  ended_own due h x (inl is) = let (locked, lock, has, ended) = subst (λ d. Holds d h) is x in ended.1
-  ended_own due h x (inr (e, is)) = (subst (λ d. Holds d h) is x).0.1
+  pub ended_own : {E : Type 0} (due : Due E) (h : Host) → Holds due h → has_ended due ≡ true → OwnsNoMore a.run h.run
+  ended_own Installed h (locked, lock, has, ended) is = ended.1
+  ended_own Already h x is = x.1.1
+  ended_own WouldInstall h x is = x.1.1
+  ended_own (Refused e) h x is = x.0.1
+  ended_own due h x is = cc is
+
+-- where a run begins
+pub begins : (E : Type 0) (s : Setting) (h : Host) → Holds s h {E = E} (first_due s.check) h
+begins E s h = elim (cases_Bool s.check) [
+  | inl checks ↦ subst (λ b. Holds s h {E = E} (first_due b) h) (sym checks) (rests_none h.run, inl checks, refl)
+  | inr other ↦ subst (λ b. Holds s h {E = E} (first_due b) h) (sym other) (rests_none h.run, other, refl)
+]
 
 -- what each call leads to, a run does
 pub runs : {E : Type 0} {call : Due E → Outcome E → Host → Host → Type 0} (P : Due E → Host → Type 0) → ((due : Due E) (o : Outcome E) (h h' : Host) → P due h → call due o h h' → P (next due o) h')

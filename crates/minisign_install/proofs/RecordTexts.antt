@@ -1,5 +1,7 @@
 -- A record reads as it was written, and holds one number at most for a field.
-use Rattle.minisign_install.proofs.Common.{◌≡◌, ◌≢◌, ◌≤◌, ◌<◌, ◌^◌, ◌-◌, ◌+◌, ◌++◌, ℕ, zero, suc, List, [], ap, sym, subst, ◌∙◌, refl, common_steps, cond, get_or, length, take, arith, length-append, append_assoc, get_or-append_right, le-leb, take_at, decimal_is_IsNumeral, decimal_nonempty, length-decimal-le, IsAscii-decimal, IsUtf8-append, IsUtf8-from_ascii, digit_at, decimal, strip_last, codes, IsUtf8, IsNumeral, IsNumberText, number_label, strip, unwrap_or, Numbering, Timestamp, Version, IsNumberFor, record_of, record_text}
+use Rattle.minisign_install.proofs.Common.{◌≡◌, ◌≤◌, ◌<◌, ◌^◌, ◌-◌, ◌+◌, ◌*◌, ◌++◌, ◌∷◌, ℕ, List, [], Some, true, false, ap, sym, subst, ◌∙◌, refl, get_or, length, take, drop, arith, length-append, append_assoc, get_or-append_right, le-leb, lt-leb, take_at, drop_at, decimal_is_IsNumeral, length-decimal-le, IsAscii-decimal, IsUtf8-append, IsUtf8-from_ascii, decimal, codes, IsUtf8, IsNumberText, number_label, strip, unwrap_or, Numbering, Timestamp, Version, IsNumberFor, is_marked, mark_text, record_digest, record_of, record_text, slice_index}
+use Rattle.hex.specs.Hex.{IsBytes, encode_lower, lower_digits}
+use Rattle.hex.proofs.HexLemmas.{decode_sized-encode_lower, length-encode_with}
 use Rattle.minisign_install.proofs.Fields.{strips}
 
 pub same_number : (numbering : Numbering) (bytes : List ℕ) (n m : ℕ) → IsNumberFor numbering bytes n → IsNumberFor numbering bytes m → n ≡ m
@@ -9,45 +11,59 @@ label_short : (numbering : Numbering) → length (number_label numbering) ≤ 10
 label_short Timestamp = omega arith
 label_short Version = omega arith
 
-record_short : (numbering : Numbering) (n : ℕ) → n < 2 ^ 64 → length (record_of numbering n) ≤ 30
-record_short numbering n bound =
+line_short : (numbering : Numbering) (n : ℕ) → n < 2 ^ 64 → length (number_label numbering ++ decimal n) ≤ 30
+line_short numbering n bound =
     omega (arith, length-append (number_label numbering) (decimal n), label_short numbering, length-decimal-le 20 n (omega arith) (omega arith) bound)
 
-strip_none : (xs : List ℕ) → 0 < length xs → get_or xs (length xs - 1) 0 ≢ 10 → strip_last 10 xs ≡ xs
-strip_none xs some other = grind (arith, common_steps)
+pub length-mark : (key digest : List ℕ) → length (mark_text key digest) ≡ 2 + 2 * length key + 2 * length digest
+length-mark key digest =
+    omega (arith, length-append (10 ∷ encode_lower key) (10 ∷ encode_lower digest), length-encode_with lower_digits key, length-encode_with lower_digits digest)
 
-last_digit : (label digits : List ℕ) → IsNumeral 10 digits → get_or (label ++ digits) (length (label ++ digits) - 1) 0 ≢ 10
-last_digit label digits (some, each) e =
-    let at = length (label ++ digits) - 1 in
-    let len = length-append label digits in
-    let same = get_or-append_right label digits at 0 (omega (arith, len, some)) in
-    omega (arith, sym same ∙ e, (digit_at digits (at - length label) each (omega (arith, len, some))).0)
+module _ (numbering : Numbering) (n : ℕ) (bound : n < 2 ^ 64) (key digest : List ℕ) (key_whole : length key ≡ 32) (digest_whole : length digest ≡ 64) where
+  abbrev line : List ℕ
+  line = number_label numbering ++ decimal n
 
-text_of : (numbering : Numbering) (n : ℕ) → n < 2 ^ 64 → record_text (record_of numbering n) ≡ record_of numbering n
-text_of numbering n bound =
-    let xs = record_of numbering n in
-    ap (λ t. cond t (strip_last 10 xs) []) (le-leb (length xs) 64 (omega (arith, record_short numbering n bound)))
-    ∙ strip_none xs (omega (arith, length-append (number_label numbering) (decimal n), decimal_nonempty n bound)) (last_digit (number_label numbering) (decimal n) (decimal_is_IsNumeral n bound).0)
+  len : length (line ++ mark_text key digest) ≡ length line + 194
+  len = omega (arith, length-append line (mark_text key digest), length-mark key digest, key_whole, digest_whole)
+
+  -- behind the first line stands a line feed
+  ends : slice_index (line ++ mark_text key digest) (length (line ++ mark_text key digest) - 194) ≡ 10
+  ends =
+      let at : length (line ++ mark_text key digest) - 194 - length line ≡ 0 = omega (arith, len) in
+      get_or-append_right line (mark_text key digest) (length (line ++ mark_text key digest) - 194) 0 (omega (arith, len)) ∙ ap (λ i. get_or (mark_text key digest) i 0) at
+
+  is_written : is_marked (record_of numbering n key digest) ≡ true
+  is_written =
+      rw (le-leb 194 (length (record_of numbering n key digest)) (omega (arith, len)), le-leb (length (record_of numbering n key digest)) 258 (omega (arith, len, line_short numbering n bound)), ends) refl
+
+  text_of : record_text (record_of numbering n key digest) ≡ line
+  text_of =
+      let xs = record_of numbering n key digest in
+      let at : length xs - 194 ≡ length line = omega (arith, len) in
+      rw (lt-leb (length xs) 64 (omega (arith, len)), is_written) (ap (λ i. take i xs) at ∙ take_at line (mark_text key digest) (length line) refl)
 
 label_utf8 : (numbering : Numbering) → IsUtf8 (number_label numbering)
 unfolding lib.Utf8.encode
 label_utf8 Timestamp = (codes "timestamp:", (refl, refl))
 label_utf8 Version = (codes "version:", (refl, refl))
 
-pub record_reads : (numbering : Numbering) (n : ℕ) → n < 2 ^ 64 → IsNumberFor numbering (record_of numbering n) n
-record_reads numbering n bound =
+pub record_reads : (numbering : Numbering) (n : ℕ) → n < 2 ^ 64 → (key digest : List ℕ) → length key ≡ 32 → length digest ≡ 64 → IsNumberFor numbering (record_of numbering n key digest) n
+record_reads numbering n bound key digest key_whole digest_whole =
     let (numeral, value) = decimal_is_IsNumeral n bound in
     let number : IsNumberText (decimal n) n = record { numeral = numeral; is = value; bound = bound } in
-    let same = sym (text_of numbering n bound) in record {
+    let same = sym (text_of numbering n bound key digest key_whole digest_whole) in record {
       utf8 = subst IsUtf8 same (IsUtf8-append (number_label numbering) (decimal n) (label_utf8 numbering) (IsUtf8-from_ascii (decimal n) (IsAscii-decimal n bound)));
-      number = subst (λ t. IsNumberText (unwrap_or (strip (number_label numbering) t) t) n) same (subst (λ v. IsNumberText (unwrap_or v (record_of numbering n)) n) (sym (strips (number_label numbering) (decimal n))) number);
+      number = subst (λ t. IsNumberText (unwrap_or (strip (number_label numbering) t) t) n) same (subst (λ v. IsNumberText (unwrap_or v (number_label numbering ++ decimal n)) n) (sym (strips (number_label numbering) (decimal n))) number);
     }
 
-pub take_two : (a b c : List ℕ) (n : ℕ) → n ≡ length a + length b → take n (a ++ (b ++ c)) ≡ a ++ b
-take_two a b c n is = rw (← append_assoc) (take_at (a ++ b) c n (length-append a b ∙ sym is))
-
-pub all_written : (numbering : Numbering) (n : ℕ) → n < 2 ^ 64 → (written : ℕ) (old new : List ℕ) → length old ≡ 30
-    → (0 < written → (written ≤ length new) × (take written new ≡ record_of numbering n))
-    → (written ≡ 0 → (new ≡ old) × (length old < length (record_of numbering n))) → take written new ≡ record_of numbering n
-all_written numbering n bound zero old new room some none = absurd (omega (arith, (none refl).1, room, record_short numbering n bound))
-all_written numbering n bound (suc m) old new room some none = (some (omega arith)).1
+-- the digest of the data is read as it was written
+pub digest_reads : (numbering : Numbering) (n : ℕ) → n < 2 ^ 64 → (key digest : List ℕ) → length key ≡ 32 → length digest ≡ 64 → IsBytes digest → record_digest (record_of numbering n key digest) ≡ Some digest
+digest_reads numbering n bound key digest key_whole digest_whole bytes =
+    let xs = record_of numbering n key digest in
+    let whole = len numbering n bound key digest key_whole digest_whole in
+    let front = (number_label numbering ++ decimal n) ++ ((10 ∷ encode_lower key) ++ (10 ∷ [])) in
+    let split : xs ≡ front ++ encode_lower digest = ap (λ t. (number_label numbering ++ decimal n) ++ t) (sym (append_assoc (10 ∷ encode_lower key) (10 ∷ []) (encode_lower digest))) ∙ sym (append_assoc (number_label numbering ++ decimal n) ((10 ∷ encode_lower key) ++ (10 ∷ [])) (encode_lower digest)) in
+    let digits = length-encode_with lower_digits digest in
+    let at : length xs - 128 ≡ length front = omega (arith, ap length split, length-append front (encode_lower digest), digits, digest_whole) in
+    let tail : drop (length xs - 128) xs ≡ encode_lower digest = ap (λ i. drop i xs) at ∙ ap (drop (length front)) split ∙ drop_at front (encode_lower digest) (length front) refl in
+    rw (is_written numbering n bound key digest key_whole digest_whole, tail, decode_sized-encode_lower digest 64 digest_whole bytes) refl

@@ -1,6 +1,6 @@
 -- The stages of a run, what one call publishes, and calls one after another.
 use Rattle.std.proofs.lemmas.Option.{none-some, same_Some}
-use Rattle.minisign_install.proofs.Common.{◌≡◌, ◌≢◌, ℕ, List, Some, true, false, IsApart, OwnsTheSame, Moment, Run, RunStep, HasOnDisk, Name, Record, PublishesNothing, PublishesOnly, IsPublished, ◌⊎◌, inl, inr, ⊎_elim, ap, sym, subst, ◌∙◌, refl, RecordUnchanged, MayLead, MayFind, Renames, TouchesOnly, TouchesStages, FileStays, Sets, Place, Numbering, Publishes, IsNumberFrom, RecordHolds, true≢false, [], ◌∷◌, ◌++◌, append_assoc, All-cons, All-nil, All-append, HasCreated, HasStepped, IsStill, Perhaps, SyncsDirectory, Spoils, RecordHoldsAt, OwnsNoMore, Calls}
+use Rattle.minisign_install.proofs.Common.{All-append, All-cons, All-nil, Calls, FileStays, HasCreated, HasOnDisk, HasStepped, HasUnlocked, IsApart, IsNumberFrom, IsPublished, IsStill, List, MayFind, MayLead, MaySyncFile, Moment, Name, Numbering, OwnsNoMore, OwnsTheSame, Perhaps, Place, Publishes, PublishesNothing, PublishesOnly, Record, RecordHolds, RecordHoldsAt, RecordUnchanged, Renames, Rests, Run, RunStep, Sets, Some, Spoils, SyncsDirectory, TouchesOnly, TouchesStages, [], ap, append_assoc, false, inl, inr, refl, subst, sym, true, true≢false, ℕ, ⊎_elim, ◌++◌, ◌∙◌, ◌∷◌, ◌≡◌, ◌≢◌, ◌⊎◌}
 
 -- the name of a stage is the run's own and leads to this file, and neither lasting name does or may after a crash
 pub record HasStage (r : Run) (name : List ℕ) (file : ℕ) : Type 0 where
@@ -149,6 +149,30 @@ quiet_trans (none, own) (more, then) = (publishes_trans _ _ _ _ none more, no_mo
 
 pub perhaps : (call : Moment → Moment → Type 0) (old new : Run) → HasStepped old new (Perhaps call) → HasStepped old new IsStill ⊎ HasStepped old new call
 perhaps call old new s = ⊎_elim (λ still. inl (call_with s still)) (λ done. inr (call_with s done)) s.this
+
+-- a file was synced that is no stage, or may have been
+pub file_synced : {C : Moment → Moment → Type 0} {old new : Run} → (s : HasStepped old new C) → MaySyncFile s.before new.now → PublishesNothing old new
+file_synced s same = publishes_one (λ _ _. ⊥) s (record {
+  finds = λ n bytes found. inl (found_before found (⊎_elim (λ e. inl (sym (same.leads n) ∙ e)) (same.left n found.file) found.lead) (same.on_disk found.file) (same.holds found.file));
+  stays = λ n f e. (f, same.leads n ∙ e);
+})
+
+-- == Calls that change nothing ==
+
+pub rests_none : (r : Run) → Rests r r
+rests_none r = record { since = []; noted = refl; still = All-nil (λ s. s.after ≡ s.before); known = refl; own = λ s e. e }
+
+pub rests_step : {C : Moment → Moment → Type 0} {old mid new : Run} → Rests old mid → (s : HasStepped mid new C) → new.now ≡ s.before → OwnsNoMore mid new → Rests old new
+rests_step {new = new} r s still own = record {
+  since = step s.before new.now ∷ r.since;
+  noted = s.noted ∙ ap (λ l. step s.before new.now ∷ l) r.noted;
+  still = All-cons (λ s. s.after ≡ s.before) (step s.before new.now) r.since still r.still;
+  known = s.known ∙ r.known;
+  own = λ t e. r.own t (own.only t e);
+}
+
+pub rests_unlock : {old mid new : Run} → Rests old mid → HasUnlocked mid new → Rests old new
+rests_unlock r u = record { since = r.since; noted = u.noted ∙ r.noted; still = r.still; known = u.known ∙ r.known; own = λ t e. r.own t (sym (ap (λ o. o t) u.owns) ∙ e) }
 
 -- == What one call leaves of a stage ==
 

@@ -1,11 +1,12 @@
 -- A directory that processes share, one layer below bytes: names that lead to files, what the files hold, and what a
 -- crash leaves of both. Files are numbered, and no number comes twice. The definitions say what one call of the
 -- system does from one moment to the next, and what other processes may do between two calls.
-use Rattle.std.specs.Prelude.{◌≡◌, ◌≢◌, ◌⊎◌, ℕ, Bool, true, false, List, [], ◌∷◌, ◌++◌, Option, Some, None, Result, MatchResult, OnOk, OnErr}
-use Rattle.minisign_install.specs.Common.{StageName}
-use Rattle.minisign_install.specs.Faults.{Rose}
-pub use Rattle.minisign_install.specs.declared.directories.Name.{Name}
-pub use Rattle.minisign_install.specs.declared.directories.Name.TheVariants.{Place, Record}
+use Rattle.std.specs.Prelude.{◌≡◌, ◌≢◌, ◌⊎◌, ℕ, Bool, true, false, List, [], ◌∷◌, ◌++◌, Option, Some, None}
+
+-- the names that outlive a run: the target, called the place, where updates are installed, and the record beside it
+pub data Name : Type 0 where
+  Place : Name
+  Record : Name
 
 -- what processes find in the directory at one moment
 pub record Moment : Type 0 where
@@ -25,10 +26,6 @@ pub record Moment : Type 0 where
   pub fixed : List ℕ → Bool
   -- whether another run holds the lock on the place
   pub busy : Bool
-
--- the bytes that were drawn for the name of a stage
-abbrev pub drawn_bytes : StageName → List ℕ
-drawn_bytes name = name.bytes
 
 -- one call of this run: the moments before and after it
 pub record RunStep : Type 0 where
@@ -154,6 +151,18 @@ pub record Syncs (file : ℕ) (old new : Moment) : Type 0 where
   pub on_disk : new.on_disk file ≡ true
   pub permissions : new.permissions file ≡ old.permissions file
 
+-- names and what files hold stay, and a file that held this after a crash too does so
+pub record MaySyncFile (old new : Moment) : Type 0 where
+  pub leads : (n : Name) → new.leads n ≡ old.leads n
+  pub left : (n : Name) (f : ℕ) → new.left n f ≡ true → MayLead old n f
+  pub holds : (f : ℕ) → new.holds f ≡ old.holds f
+  pub on_disk : (f : ℕ) → old.on_disk f ≡ true → new.on_disk f ≡ true
+
+-- a file is synced that is no stage
+pub record SyncsFile (file : ℕ) (old new : Moment) : Type 0 where
+  pub same : MaySyncFile old new
+  pub synced : new.on_disk file ≡ true
+
 -- The file of a stage's name, whichever it is at this moment, gets the lasting name, in one step. Until the directory
 -- is synced a crash may leave what the name led to before.
 pub record Renames (name : List ℕ) (to : Name) (old new : Moment) : Type 0 where
@@ -232,6 +241,12 @@ pub record HasLocked (old new : Run) : Type 0 where
   pub stepped : HasStepped old new (Sees (λ m. m.busy ≡ false))
   pub held : new.locked ≡ true
 
+-- the lock was let go of, with which no call is noted; others may have done something before
+pub record HasUnlocked (old new : Run) : Type 0 where
+  pub noted : new.steps ≡ old.steps
+  pub known : new.known ≡ old.known
+  pub owns : new.owns ≡ old.owns
+
 -- a stage was created, whose name and file are the run's own from now on
 abbrev pub HasCreated : List ℕ → ℕ → Run → Run → Type 0
 HasCreated name file = CallsOwning name true (Creates name file)
@@ -239,15 +254,6 @@ HasCreated name file = CallsOwning name true (Creates name file)
 -- a stage's file got a lasting name, and the stage is the run's own no longer
 abbrev pub HasRenamed : List ℕ → Name → Run → Run → Type 0
 HasRenamed name to = CallsOwning name false (Renames name to)
-
--- the call did this, or failed and did that
-abbrev pub HasTried : {A E : Type 0} → (A → Run → Run → Type 0) → (Run → Run → Type 0) → Run → Run → Result A E → Type 0
-HasTried done failed old new answer = MatchResult answer (λ a. done a old new) (λ _. failed old new)
-
--- the call left the count of the directory's errors, or failed, and it rose
-pub record HasCounted {A E : Type 0} (old new : ℕ) (answer : Result A E) : Type 0 where
-  pub no_new_fault : OnOk answer (new ≡ old)
-  pub fault : OnErr answer (Rose old new)
 
 -- what a name is found to lead to: no file, or one that holds these bytes
 abbrev pub IsFound : Moment → Name → Option (List ℕ) → Type 0
@@ -258,21 +264,6 @@ IsFound m name (Some bytes) = (f : ℕ) × (m.leads name ≡ Some f) × (m.holds
 abbrev pub Finds : Name → Option (List ℕ) → Moment → Moment → Type 0
 Finds name found = Sees (λ m. IsFound m name found)
 
--- the run of a directory of which nothing is known
-abbrev pub unknown : Run
-unknown = record {
-  known = false;
-  now = record {
-    leads = λ _. None;
-    stages = λ _. None;
-    holds = λ _. [];
-    on_disk = λ _. false;
-    left = λ _ _. false;
-    permissions = λ _. false;
-    fixed = λ _. false;
-    busy = false;
-  };
-  steps = [];
-  owns = λ _. false;
-  locked = false;
-}
+-- nothing changed, and the name was found to lead to this file, which holds these bytes
+abbrev pub FindsFile : Name → ℕ → List ℕ → Moment → Moment → Type 0
+FindsFile name file bytes = Sees (λ m. (m.leads name ≡ Some file) × (m.holds file ≡ bytes))

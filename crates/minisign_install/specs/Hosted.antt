@@ -1,13 +1,14 @@
 -- What an installation that a host in another language holds stands for, what its calls do, and the numbers by which
 -- the host knows errors and choices.
-use Rattle.std.specs.Prelude.{◌≡◌, ◌⊎◌, ◌==◌, ◌||◌, ◌<◌, ◌≤◌, ◌++◌, ℕ, Bool, true, false, if◌then◌else◌, List, [], ◌∷◌, map, get_or, length, Option, Some, None, IfSome, IsSomeAnd, Ok, Err, Result}
-use Rattle.minisign_install.specs.Common.{list_any, IsUtf8, fault_row, SignatureTextRecord, read_signature, IsMeaning, refusal_number, IsKeyText, HasAsked, IsAskFedRefusal, IsBlank, IsFedState, IsMarkedTold, IsNotFed, verdict_misuse, Offer, Newer, Same, Older, PublicKeyValue, Misuse, NotDue, Refusal, WrongUse, Installation, Judged}
-use Rattle.minisign_install.specs.Faults.{Named, NotUtf8, OutOfMemory, RandomSourceFailed, ReadingFailed, WritingFailed, InstallFault, DirectoryNotSynced, IsOwn, Library, PlaceInUse, install_number, install_row}
-use Rattle.minisign_install.specs.Installing.{Verifier, IsKeptNumber, IsUpdate, Terms}
+use Rattle.std.specs.Prelude.{◌≡◌, ◌⊎◌, ◌==◌, ◌||◌, ◌&&◌, not, ◌-◌, nat_lt, ◌<◌, ◌≤◌, ◌++◌, ⊤, ℕ, Bool, true, false, bytes_eq, is_some, if◌then◌else◌, List, [], ◌∷◌, map, get_or, length, replicate, Option, Some, None, IfSome, IsSomeAnd, Ok, Err, Result}
+use Rattle.minisign_install.specs.Common.{list_any, unwrap_or, IsUtf8, blake2b_digest, fault_row, Fault, SignatureTextRecord, read_signature, read_under, IsMeaning, refusal_number, IsKeyText, AreQuestions, Questions, HasAsked, IsAskFedRefusal, IsReadFrom, IsTextRefusal, SignatureValue, IsBlank, IsFedState, IsMarkedTold, IsNotFed, verdict_misuse, PublicKeyValue, Choices, Kept, Misuse, NotDue, Refusal, WrongUse, Installation, Judged}
+use Rattle.minisign_install.specs.Faults.{Named, NotUtf8, OutOfMemory, RandomSourceFailed, ReadingFailed, WritingFailed, InstallFault, DirectoryNotSynced, SameNumber, IsOwn, Library, PlaceInUse, install_number, install_row}
+use Rattle.minisign_install.specs.Installing.{Verifier, IsKeptOrNone, IsRejectedFor, IsUpdate, Terms, TextsVouchWith, signed_comment}
 use Rattle.minisign_external.specs.declared.state.Refusal.TheVariants.{Refused}
 use Rattle.minisign_install.specs.Comments.{Says, Numbering, Timestamp, Version}
 pub use Rattle.minisign_install.specs.Order.{due_number}
-use Rattle.minisign_install.specs.Order.{fits, next, Due, Lock, Clear, ReadRecord, Create, Copy, ReadBack, Answer, TakePermissions, Sync, CreateRecord, WriteRecord, SyncRecord, RenameRecord, SyncRecordName, Rename, SyncName, RemoveRecord, Remove, Outcome, Done, More}
+use Rattle.minisign_install.specs.Order.{fits, next, Due, Lock, ReadRecord, Judge, Look, JudgeTarget, SyncTarget, SyncTargetName, Unlock, Receive, Clear, Create, Copy, ReadBack, Answer, TakePermissions, Sync, CreateRecord, WriteRecord, SyncRecord, RenameRecord, SyncRecordName, Rename, SyncName, RemoveRecord, Remove, Already, WouldInstall, Outcome, Done, More, Failed}
+use Rattle.minisign_install.specs.RecordTexts.{record_digest}
 use Rattle.minisign_install.specs.Refusals.{IsCommentRefused, IsDataRefused, IsLibraryFault, IsRecordRefused}
 use Rattle.minisign_install.specs.declared.order.Due.TheVariants as ended
 
@@ -22,27 +23,32 @@ abbrev pub numbering_number : Numbering → ℕ
 numbering_number Timestamp = 0
 numbering_number Version = 1
 
--- the numbers of what an update is beside the kept number
-abbrev pub offer_number : Offer → ℕ
-offer_number Newer = 1
-offer_number Same = 2
-offer_number Older = 3
-
 -- == What is due, in stored form ==
 
 -- the mark of an installation that was begun: "minstall"
 abbrev pub begun_mark : ℕ
 begun_mark = 7812726606361684333
 
--- the calls by their numbers, from 1 on, with the number and the error that come with them
-abbrev pub calls : ℕ → ℕ → List (Due ℕ)
-calls n e =
-    Lock ∷ Clear ∷ ReadRecord ∷ Create n ∷ Copy n ∷ ReadBack n ∷ Answer n ∷ TakePermissions n ∷ Sync n ∷ CreateRecord n
-    ∷ WriteRecord n ∷ SyncRecord n ∷ RenameRecord n ∷ SyncRecordName n ∷ Rename n ∷ SyncName n ∷ RemoveRecord e
-    ∷ Remove e ∷ ended.Installed ∷ ended.Refused e ∷ []
+-- the calls by their numbers, from 1 on, with the number and the error that come with them: up to the answers about what
+-- was staged, and those behind them
+abbrev pub early_calls : ℕ → List (Due ℕ)
+early_calls n =
+    Lock ∷ ReadRecord ∷ Judge n ∷ Look n ∷ JudgeTarget n ∷ SyncTarget ∷ SyncTargetName ∷ Unlock ∷ Receive ∷ Clear n
+    ∷ Create n ∷ Copy n ∷ ReadBack n ∷ Answer n ∷ []
+
+abbrev pub late_calls : ℕ → ℕ → List (Due ℕ)
+late_calls n e =
+    TakePermissions n ∷ Sync n ∷ CreateRecord n ∷ WriteRecord n ∷ SyncRecord n ∷ RenameRecord n ∷ SyncRecordName n
+    ∷ Rename n ∷ SyncName n ∷ RemoveRecord e ∷ Remove e ∷ ended.Installed ∷ Already ∷ WouldInstall ∷ ended.Refused e ∷ []
+
+abbrev pub early_call : ℕ → ℕ → Option (Due ℕ)
+early_call call n = get_or (None ∷ map (λ due. Some due) (early_calls n)) call None
+
+abbrev pub late_call : ℕ → ℕ → ℕ → Option (Due ℕ)
+late_call call n e = get_or (map (λ due. Some due) (late_calls n e)) (call - 15) None
 
 abbrev pub call_of : ℕ → ℕ → ℕ → Option (Due ℕ)
-call_of call n e = get_or (None ∷ map (λ due. Some due) (calls n e)) call None
+call_of call n e = if nat_lt call 15 then early_call call n else late_call call n e
 
 -- what is due of an installation; nothing of one that was never begun
 abbrev pub due_of : Installation → Option (Due ℕ)
@@ -56,25 +62,67 @@ IsDue i due = due_of i ≡ Some due
 abbrev pub numbering_of : Installation → Numbering
 numbering_of i = if i.chosen.numbering == numbering_number Version then Version else Timestamp
 
--- the installation was begun by these choices: the lock is due, and nothing was read back
-pub record IsBegun (is_first : Bool) (numbering : Numbering) (i : Installation) : Type 0 where
-  pub due : IsDue i Lock
+-- the installation was begun with these keys and by these choices: that is due, and nothing was read
+pub record IsBegun (first_key second_key : PublicKeyValue) (choices : Choices) (i : Installation) : Type 0 where
+  pub due : IsDue i (if choices.is_check then ReadRecord else Lock)
   pub fed : IsFedState i.state []
-  pub first : (i.chosen.is_first == 1) ≡ is_first
-  pub field : numbering_of i ≡ numbering
+  pub key : i.chosen.key ≡ first_key
+  pub other : i.chosen.other ≡ second_key
+  pub first : (i.chosen.is_first == 1) ≡ choices.is_first
+  pub field : numbering_of i ≡ choices.numbering
+  pub again : (i.chosen.again == 1) ≡ choices.again
+  pub check : (i.chosen.is_check == 1) ≡ choices.is_check
+  pub waiting : (i.chosen.is_waiting == 1) ≡ choices.is_waiting
+  pub unreceived : i.received ≡ 0
 
--- what a new installation holds beside what is due: no number and no error, and nothing came of a signed comment
+-- no record was read yet
+abbrev pub no_record : Kept
+no_record = record { has_number = 0; has_digest = 0; is_own = 0; unused = 0; digest = replicate 64 0 }
+
+-- what a new installation holds beside what is due: no number and no error, and nothing came of a record or of a signed
+-- comment
 pub record IsUnused (i : Installation) : Type 0 where
   pub number : i.number ≡ 0
   pub error : i.error ≡ 0
+  pub kept : i.kept ≡ no_record
   pub judged : i.judged ≡ record { verdict = 0; unused = 0; number = 0 }
   pub state : IsBlank i.state
 
--- all but what is due stays: what was fed and asked, what the host has chosen, and what came of the signed comment
+-- all but what is due stays: what was fed and asked, what the host has chosen, what the record was found to hold, and
+-- what came of the signed comment
 pub record RestUnchanged (old new : Installation) : Type 0 where
   pub state : new.state ≡ old.state
   pub chosen : new.chosen ≡ old.chosen
+  pub kept : new.kept ≡ old.kept
+  pub asked : new.asked ≡ old.asked
   pub judged : new.judged ≡ old.judged
+
+-- == What comes next by what was found ==
+
+-- the data may stand still, and was not received yet
+abbrev pub may_wait : Installation → Bool
+may_wait i = (i.chosen.is_waiting == 1) && not (i.received == 1)
+
+-- the run goes on: of a check it would be installed; data that may stand still is received first; or what killed runs
+-- have left is removed
+abbrev pub going_on : Installation → ℕ → Due ℕ
+going_on i kept = if i.chosen.is_check == 1 then WouldInstall else if may_wait i then Unlock else Clear kept
+
+-- the update stands at the target: it is synced, and of a check that is the end
+abbrev pub standing : Installation → Due ℕ
+standing i = if i.chosen.is_check == 1 then Already else SyncTarget
+
+-- the number of the update is the one that is kept
+abbrev pub is_same : Installation → ℕ → ℕ → Bool
+is_same i kept n = (i.kept.has_number == 1) && (n == kept)
+
+-- a comment with this number was vouched for: the target is looked at, or the run goes on
+abbrev pub after_comment : Installation → ℕ → ℕ → Due ℕ
+after_comment i kept n = if is_same i kept n then Look kept else going_on i kept
+
+-- other data of the kept number is replaced: the record was written for this update, or it was asked for
+abbrev pub may_replace : Installation → Bool
+may_replace i = (i.kept.is_own == 1) || (i.chosen.again == 1)
 
 -- == Calls that go as they are told ==
 
@@ -83,14 +131,17 @@ abbrev pub HasGone : (Due ℕ → Type 0) → Outcome ℕ → Installation → I
 HasGone P outcome old new =
     IsSomeAnd (due_of old) (λ due. P due × IsDue new (next due outcome)) × RestUnchanged old new
 
--- the call that is due can be told to have gone so: not reading back, which is told piece by piece
+-- the call that is due can be told to have gone so, with nothing found
 abbrev pub may_go : Due ℕ → Outcome ℕ → Bool
-may_go (ReadBack kept) outcome = false
 may_go due outcome = fits due outcome
 
 -- the call that was due went so, and the next one is due
 abbrev pub WasDone : Outcome ℕ → Installation → Installation → Type 0
 WasDone outcome = HasGone (λ due. may_go due outcome ≡ true) outcome
+
+-- what the host has chosen stays, and what the record was found to hold
+abbrev pub KeepsRecord : Installation → Installation → Type 0
+KeepsRecord old new = (new.chosen ≡ old.chosen) × (new.kept ≡ old.kept)
 
 -- a wrong use of an installation, which stays as it was: nothing is due, or a call that is as P says
 abbrev pub IsNotDue : (Due ℕ → Type 0) → Installation → Installation → Misuse → Type 0
@@ -103,41 +154,68 @@ is_device_error e =
     (OutOfMemory ∷ ReadingFailed ∷ WritingFailed ∷ RandomSourceFailed ∷ [])
 
 -- What a run is rejected for where a call failed for the error of this number, if it can fail so: a device failed or
--- an allocation did; and the lock may be held by another. Where the target's name could not be synced, it is that.
+-- an allocation did; and the lock may be held by another. Where the target or its name could not be synced, it is that.
 abbrev pub failure : Due ℕ → ℕ → Option ℕ
 failure ended.Installed e = None
+failure Already e = None
+failure WouldInstall e = None
 failure (ended.Refused first) e = None
 failure Lock e = if is_device_error e || (e == install_number PlaceInUse) then Some e else None
+failure SyncTarget e = if is_device_error e then Some (install_number DirectoryNotSynced) else None
+failure SyncTargetName e = if is_device_error e then Some (install_number DirectoryNotSynced) else None
 failure (SyncName n) e = if is_device_error e then Some (install_number DirectoryNotSynced) else None
 failure due e = if is_device_error e then Some e else None
 
+-- the lock was due, and data that may stand still is received first
+abbrev pub HasWaited : Installation → Installation → Type 0
+HasWaited old new = IsDue old Lock × IsDue new Receive × (may_wait old ≡ true) × RestUnchanged old new
+
 -- == What is read ==
 
--- by what the record was found to hold, its number is kept, or the run is rejected
+-- the digest of the data that the record says it was written for
+abbrev pub digest_in : Option (List ℕ) → Option (List ℕ)
+digest_in (Some bytes) = record_digest bytes
+digest_in None = None
+
+-- the same as it is kept
+abbrev pub kept_digest : Kept → Option (List ℕ)
+kept_digest kept = if kept.has_digest == 1 then Some kept.digest else None
+
+-- this is kept of what the record was found to hold, with a number for the field or without one
+pub record IsKeptOf (has_number : Bool) (found : Option (List ℕ)) (kept : Kept) : Type 0 where
+  pub number : (kept.has_number == 1) ≡ has_number
+  pub digest : kept_digest kept ≡ digest_in found
+  pub unjudged : kept.is_own ≡ 0
+
+-- by what the record was found to hold, its number is kept and the digest of its data, and the comment is to be judged; or
+-- the run is rejected
 abbrev pub HasReadRecord : Option (List ℕ) → Installation → Installation → Type 0
 HasReadRecord found old new =
-    IsDue old ReadRecord × RestUnchanged old new
-    × (((kept : ℕ) × IsDue new (Create kept) × IsKeptNumber (numbering_of old) (old.chosen.is_first == 1) found kept)
+    IsDue old ReadRecord × (new.state ≡ old.state) × (new.chosen ≡ old.chosen)
+    × (((kept : Option ℕ) × IsDue new (Judge (unwrap_or kept 0))
+    × IsKeptOrNone (numbering_of old) (old.chosen.is_first == 1) found kept × IsKeptOf (is_some kept) found new.kept)
     ⊎ ((e : InstallFault) × IsDue new (ended.Refused (install_number e))
     × IsRecordRefused (numbering_of old) (old.chosen.is_first == 1) found e))
 
--- how reading back a piece went: where it has no bytes, the end was reached
+-- how reading a piece went: where it has no bytes, the end was reached
 abbrev pub piece_outcome : List ℕ → Outcome ℕ
 piece_outcome piece = if length piece == 0 then Done else More
 
--- the stage was to be read back, and the state was fed this piece; what the host has chosen stays
+-- pieces of this are read: of the file at the target, or of the stage
+abbrev pub IsReading : Due ℕ → Type 0
+IsReading (Look kept) = ⊤
+IsReading (ReadBack kept) = ⊤
+IsReading due = ⊥
+
+-- pieces were to be read, and the state was fed this one; what the host has chosen stays, and what the record holds
 pub record HasReadBack (piece : List ℕ) (old new : Installation) : Type 0 where
   pub fed : (m : List ℕ) → IsFedState old.state m → IsFedState new.state (m ++ piece)
-  pub chosen : new.chosen ≡ old.chosen
-  pub due : (kept : ℕ) × IsDue old (ReadBack kept) × IsDue new (next (ReadBack kept) (piece_outcome piece))
+  pub kept : KeepsRecord old new
+  pub due : IsSomeAnd (due_of old) (λ due. IsReading due × IsDue new (next due (piece_outcome piece)))
 
--- the wrong use is that this call is not due
-abbrev pub IsUndue : (ℕ → Due ℕ) → Installation → Misuse → Type 0
-IsUndue call i m = (m ≡ NotDue) × ((kept : ℕ) → ¬ (IsDue i (call kept)))
-
--- no stage is read back, or the state was never begun
+-- no piece is to be read, or the state was never begun
 abbrev pub CannotBeFed : Installation → Misuse → Type 0
-CannotBeFed i m = IsUndue ReadBack i m ⊎ IsNotFed i.state m
+CannotBeFed i m = ((m ≡ NotDue) × IfSome (due_of i) (λ due. ¬ (IsReading due))) ⊎ IsNotFed i.state m
 
 -- == Judging ==
 
@@ -157,10 +235,25 @@ IsJudged judged terms kept comment =
     ((judged.verdict ≡ 1) × IsWorth terms kept comment (Ok judged.number))
     ⊎ ((e : InstallFault) × (judged.verdict ≡ install_number e) × IsWorth terms kept comment (Err e))
 
+-- the scheme is to be asked where this number is kept: about the comment, the file at the target, or the stage
+abbrev pub IsAskDue : Installation → ℕ → Type 0
+IsAskDue i kept = IsDue i (Judge kept) ⊎ IsDue i (JudgeTarget kept) ⊎ IsDue i (Answer kept)
+
+-- the key that has to have made the signature: of two the one that has its key ID
+abbrev pub key_by : Installation → List ℕ → PublicKeyValue
+key_by i key_id = if bytes_eq key_id i.chosen.key.key_id then i.chosen.key else i.chosen.other
+
+abbrev pub key_under : Installation → Result SignatureTextRecord Fault → PublicKeyValue
+key_under i (Ok t) = key_by i t.signature.keynum
+key_under i (Err e) = i.chosen.other
+
+abbrev pub key_for : Installation → List ℕ → PublicKeyValue
+key_for i sig_text = key_under i (read_signature sig_text)
+
 -- The questions of the two texts were asked and the digest was told, where this number was kept, and the trusted
 -- comment of the second one was judged.
 pub record IsAsking (i : Installation) (terms : Terms) (kept : ℕ) : Type 0 where
-  pub due : IsDue i (Answer kept)
+  pub due : IsAskDue i kept
   pub key : PublicKeyValue
   pub keyed : IsKeyText terms.pk_text key
   pub asked : HasAsked i.state key terms.sig_text false
@@ -168,16 +261,60 @@ pub record IsAsking (i : Installation) (terms : Terms) (kept : ℕ) : Type 0 whe
   pub judged : (t : SignatureTextRecord) → read_signature terms.sig_text ≡ Ok t
       → IsJudged i.judged terms kept t.comments.trusted
 
--- asking was refused: it is not due, or the state is used wrongly or has no room for the message, and nothing changes;
--- or the name of the file or the text of the signature is not UTF-8, or it is refused under the key: then the stage is
--- to be removed, for that
-abbrev pub IsAskRefusal : Installation → Installation → PublicKeyValue → List ℕ → List ℕ → ℕ → Refusal InstallFault → Type 0
-IsAskRefusal old new key sig_text file room (WrongUse m) =
-    (new ≡ old) × (IsUndue Answer old m ⊎ IsAskFedRefusal old.state key sig_text false room (WrongUse m))
-IsAskRefusal old new key sig_text file room (Refused e) =
-    RestUnchanged old new × (kept : ℕ) × IsDue old (Answer kept) × IsDue new (Remove (install_number e))
-    × IsLibraryFault (λ f. ((f ≡ Named NotUtf8) × ¬ (IsUtf8 file))
-    ⊎ (IsUtf8 file × IsAskFedRefusal old.state key sig_text false room (Refused f))) e
+-- what was asked about: at first the data that the record was written for, and then what was read
+abbrev pub asked_digest : Installation → Due ℕ → List ℕ → List ℕ
+asked_digest i (Judge kept) read = i.kept.digest
+asked_digest i due read = read
+
+-- Questions were asked: those of the key that has to have signed and of what the text reads as. The digest of what was
+-- read is kept, with the key; all else stays but what came of the comment.
+pub record HasAskedAbout (sig_text file : List ℕ) (moment : ℕ) (questions : Questions) (message : List ℕ)
+    (old new : Installation) : Type 0 where
+  pub signed : SignatureTextRecord
+  pub opens : read_under (key_for old sig_text) false sig_text ≡ Ok signed
+  pub are : AreQuestions questions message (key_for old sig_text) signed
+  pub key : new.asked.key ≡ (key_for old sig_text).key
+  pub digest : (m : List ℕ) → IsFedState old.state m → new.asked.digest ≡ blake2b_digest 64 m
+  pub about : IfSome (due_of old) (λ due. questions.digest ≡ asked_digest old due new.asked.digest)
+  pub kept : KeepsRecord old new
+  pub asking : (kept : ℕ) × IsAskDue old kept × (due_of new ≡ due_of old)
+      × ((pk_text : List ℕ) → IsKeyText pk_text (key_for old sig_text)
+      → IsAsking new (wanted_by pk_text sig_text file (numbering_of old) moment) kept)
+
+-- what was due failed for this error
+abbrev pub HasFailedFor : InstallFault → Installation → Installation → Type 0
+HasFailedFor e = HasGone (λ due. ⊤) (Failed (install_number e))
+
+-- the scheme is asked where this is due
+abbrev pub AsksScheme : Due ℕ → Type 0
+AsksScheme (Judge kept) = ⊤
+AsksScheme (JudgeTarget kept) = ⊤
+AsksScheme (Answer kept) = ⊤
+AsksScheme due = ⊥
+
+-- a wrong use while the texts are asked about, which can be read: the state was never begun, or there is no room for the
+-- message
+abbrev pub IsAskMisuse : Installation → List ℕ → ℕ → Misuse → Type 0
+IsAskMisuse i sig_text room m =
+    (signature : SignatureValue) × (t : SignatureTextRecord) × IsReadFrom signature sig_text t
+    × IsAskFedRefusal i.state (key_for i sig_text) signature sig_text false room (WrongUse m)
+
+-- why asking about the texts was refused: for a wrong use; or the name of the file is not UTF-8; or the text of the
+-- signature does not read, or is refused under the key, whatever the data is
+abbrev pub IsAboutRefusal : Installation → List ℕ → List ℕ → ℕ → Refusal InstallFault → Type 0
+IsAboutRefusal old sig_text file room (WrongUse m) = IsUtf8 file × IsAskMisuse old sig_text room m
+IsAboutRefusal old sig_text file room (Refused e) =
+    IsLibraryFault (λ f. ((f ≡ Named NotUtf8) × ¬ (IsUtf8 file))
+    ⊎ (IsUtf8 file × IsTextRefusal (key_for old sig_text) sig_text false (Refused f))) e
+
+-- asking was refused: it is not due, or for another wrong use, and nothing changes; or the texts are refused so, and the
+-- run is rejected for that
+abbrev pub IsAskRefusal : Installation → Installation → List ℕ → List ℕ → ℕ → Refusal InstallFault → Type 0
+IsAskRefusal old new sig_text file room (WrongUse m) =
+    (new ≡ old) × (((m ≡ NotDue) × IfSome (due_of old) (λ due. ¬ (AsksScheme due)))
+    ⊎ (IsUtf8 file × IsAskMisuse old sig_text room m))
+IsAskRefusal old new sig_text file room (Refused e) =
+    HasFailedFor e old new × ((kept : ℕ) × IsAskDue old kept) × IsAboutRefusal old sig_text file room (Refused e)
 
 -- what is read back is an update of this number, and its permissions are due; or it is none, and the stage is to be
 -- removed, for the first reason
@@ -188,10 +325,73 @@ GivesUpdate accepts terms kept message new (Err (WrongUse m)) = ⊥
 GivesUpdate accepts terms kept message new (Err (Refused e)) =
     IsDue new (Remove (install_number e)) × IsDataRefused accepts terms kept message e
 
--- no success: the answers are not due, or no questions were asked, and nothing changes; or the stage is to be removed
+-- The comment is what is wanted: the target is looked at where its number is the kept one, and the run goes on otherwise;
+-- whether the record was written for this update is kept. Or the run is rejected, for the first reason.
+abbrev pub GoesByComment : {T : Type 0} → Terms → ℕ → List ℕ → Bool → Installation → Installation
+    → Result T (Refusal InstallFault) → Type 0
+GoesByComment terms kept comment first old new (Ok done) =
+    (n : ℕ) × IsWorth terms kept comment (Ok n) × IsDue new (after_comment old kept n)
+    × ((new.kept.is_own == 1) ≡ (first && (old.kept.has_digest == 1)))
+GoesByComment terms kept comment first old new (Err (WrongUse m)) = ⊥
+GoesByComment terms kept comment first old new (Err (Refused e)) =
+    IsDue new (ended.Refused (install_number e)) × IsWorth terms kept comment (Err e)
+
+-- the key has signed the comment, and it goes as that says; or it has not, and the run is rejected for the first reason
+abbrev pub JudgesComment : {T : Type 0} → Verifier → PublicKeyValue → Terms → ℕ → Bool → Installation → Installation
+    → Result T (Refusal InstallFault) → Type 0
+JudgesComment accepts key terms kept first old new r =
+    ((comment : List ℕ) × (signed_comment accepts key terms.sig_text ≡ Ok comment)
+    × GoesByComment terms kept comment first old new r)
+    ⊎ ((fault : Fault) × (signed_comment accepts key terms.sig_text ≡ Err fault) × (r ≡ Err (Refused (Library fault)))
+    × IsDue new (ended.Refused (install_number (Library fault))))
+
+-- what the texts vouch for at the target is the update; or the comment is not what is wanted any more
+abbrev pub StandsBy : {T : Type 0} → Terms → ℕ → List ℕ → Installation → Installation → Result T (Refusal InstallFault)
+    → Type 0
+StandsBy terms kept comment old new (Ok done) =
+    IsDue new (standing old) × ((n : ℕ) × IsWorth terms kept comment (Ok n))
+StandsBy terms kept comment old new (Err (WrongUse m)) = ⊥
+StandsBy terms kept comment old new (Err (Refused e)) =
+    IsDue new (ended.Refused (install_number e)) × IsWorth terms kept comment (Err e)
+
+-- other data at the target is replaced, where it may be; otherwise the run is rejected, as the number is the same
+abbrev pub Replaces : {T : Type 0} → ℕ → Installation → Installation → Result T (Refusal InstallFault) → Type 0
+Replaces kept old new (Ok done) = (may_replace old ≡ true) × IsDue new (going_on old kept)
+Replaces kept old new (Err (WrongUse m)) = ⊥
+Replaces kept old new (Err (Refused e)) =
+    (may_replace old ≡ false) × (e ≡ SameNumber) × IsDue new (ended.Refused (install_number SameNumber))
+
+-- a rejection of the library among those of installing
+abbrev pub of_installing : Refusal Fault → Refusal InstallFault
+of_installing (WrongUse m) = WrongUse m
+of_installing (Refused e) = Refused (Library e)
+
+-- what was due failed for this rejection; a wrong use changes nothing
+abbrev pub RejectsFor : Due ℕ → Refusal Fault → Installation → Installation → Type 0
+RejectsFor due (WrongUse m) old new = new ≡ old
+RejectsFor due (Refused e) old new =
+    IsDue new (next due (Failed (install_number (Library e)))) × RestUnchanged old new
+
+-- what stands at the target is judged: the texts vouch for it, and the comment is the one that was signed with it; or
+-- they are rejected for it
+abbrev pub JudgesTarget : {T : Type 0} → Verifier → Terms → ℕ → List ℕ → Installation → Installation
+    → Result T (Refusal InstallFault) → Type 0
+JudgesTarget accepts terms kept message old new r =
+    ((comment : List ℕ) × TextsVouchWith accepts terms.pk_text terms.sig_text message false comment
+    × StandsBy terms kept comment old new r)
+    ⊎ (IsRejectedFor accepts terms message × Replaces kept old new r)
+
+-- no success, and what was due failed for this error; what was asked may count no more
+abbrev pub IsRejection : Installation → Installation → Refusal InstallFault → Type 0
+IsRejection old new (WrongUse m) = ⊥
+IsRejection old new (Refused e) =
+    IsSomeAnd (due_of old) (λ due. IsDue new (next due (Failed (install_number e)))) × KeepsRecord old new
+
+-- no success: nothing was asked, or its answers are not due, and nothing changes; or what was due failed for this error
 abbrev pub IsAnswerRefusal : Installation → Installation → Refusal InstallFault → Type 0
-IsAnswerRefusal old new (WrongUse m) = (new ≡ old) × (IsUndue Answer old m ⊎ (m ≡ verdict_misuse old.state))
-IsAnswerRefusal old new (Refused e) = (kept : ℕ) × IsDue old (Answer kept) × IsDue new (Remove (install_number e))
+IsAnswerRefusal old new (WrongUse m) =
+    (new ≡ old) × (((m ≡ NotDue) × IfSome (due_of old) (λ due. ¬ (AsksScheme due))) ⊎ (m ≡ verdict_misuse old.state))
+IsAnswerRefusal old new (Refused e) = IsRejection old new (Refused e)
 
 -- of a signed comment and a name that are passed in as bytes: one is not UTF-8, or the answer is as P says
 abbrev pub ReadsTexts : {T : Type 0} → List ℕ → List ℕ → (Result T InstallFault → Type 0) → Result T InstallFault → Type 0
@@ -205,3 +405,14 @@ ReadsTexts comment file P r =
 abbrev pub IsNumberOf : (Result Unit (Refusal InstallFault) → Type 0) → ℕ → Type 0
 IsNumberOf P n =
     ((n ≡ 0) × P (Ok tt)) ⊎ ((0 < n) × (r : Refusal InstallFault) × (n ≡ refusal_number install_number r) × P (Err r))
+
+-- the choices of a host by numbers: that this is the first installation is said by 1, and the others by any but 0
+abbrev pub choices_of : ℕ → ℕ → ℕ → ℕ → Numbering → Choices
+choices_of first again check waiting numbering =
+    record {
+      is_first = first == 1;
+      again = not (again == 0);
+      is_check = not (check == 0);
+      is_waiting = not (waiting == 0);
+      numbering = numbering;
+    }

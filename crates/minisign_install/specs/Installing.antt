@@ -1,13 +1,13 @@
 -- What installing an update may bring to the place and to the record beside it.
-use Rattle.std.specs.Prelude.{◌≡◌, ◌⊎◌, ℕ, ◌≤◌, Bool, true, false, List, ◌++◌, All, Option, Some, None, IfSome}
-use Rattle.minisign_install.specs.Common.{Wanted}
+use Rattle.std.specs.Prelude.{◌≡◌, ◌⊎◌, ℕ, ◌≤◌, Bool, true, false, List, ◌∷◌, ◌++◌, All, Option, Some, None, IfSome, Result, Err, length}
+use Rattle.minisign_install.specs.Common.{Fault, IsKeyText, PublicKeyValue, blake2b_digest, comment_verdict_under, verdict}
 pub use Rattle.minisign.specs.Acceptance.{Verifier}
 pub use Rattle.minisign.specs.Calls.{TextsVouchWith}
 use Rattle.minisign_install.specs.Comments.{Says, Numbering}
 pub use Rattle.minisign.specs.Reading.{IsAhead}
-use Rattle.minisign_install.specs.Directories.{HasLocked, HasStepped, IsFound, IsStill, Moment, Run, RunStep, Name, Place, Record}
+use Rattle.minisign_install.specs.Directories.{IsFound, Moment, Run, RunStep, Name, Place, Record, SyncsDirectory}
 use Rattle.minisign_install.specs.RecordTexts.{HasNoNumber, IsNumberFor, record_of}
-use Rattle.minisign_install.specs.Runs.{PublishesNothing, PublishesOnly, HasCleared, IsPublished, RecordHolds, RecordHoldsAt}
+use Rattle.minisign_install.specs.Runs.{PublishesNothing, PublishesOnly, HasCleared, HasReached, IsPublished, LocksAt, RecordHolds, RecordHoldsAt, Rests}
 
 -- which updates are wanted: the two texts, the file's name, where the number stands, and at which moment they must not
 -- have expired, in seconds since the beginning of 1970
@@ -18,16 +18,6 @@ pub record Terms : Type 0 where
   pub numbering : Numbering
   pub moment : ℕ
 
-abbrev pub terms_of : Wanted → Terms
-terms_of w =
-    record {
-      pk_text = w.pk_text.now;
-      sig_text = w.sig_text.now;
-      file = w.file.now;
-      numbering = w.numbering;
-      moment = w.moment;
-    }
-
 -- The texts vouch for these bytes, not as a legacy signature would, and the comment that was signed with them names
 -- the file, has not expired, and has this number, which is not below the kept one.
 pub record IsUpdate (accepts : Verifier) (terms : Terms) (kept : ℕ) (bytes : List ℕ) (n : ℕ) : Type 0 where
@@ -36,11 +26,30 @@ pub record IsUpdate (accepts : Verifier) (terms : Terms) (kept : ℕ) (bytes : L
   pub says : Says comment terms.file terms.numbering terms.moment n
   pub newer : kept ≤ n
 
--- To the place an update is brought, and to the record the number of one, behind the label of its field.
+-- the texts are rejected for this data
+abbrev pub IsRejectedFor : Verifier → Terms → List ℕ → Type 0
+IsRejectedFor accepts terms message =
+    (fault : Fault) × (verdict accepts terms.pk_text terms.sig_text message false ≡ Err fault)
+
+-- The trusted comment of the signature's text, where this key has signed it together with the signature, which is not
+-- over the data itself; or the first case that fails. Nothing is said of any data.
+abbrev pub signed_comment : Verifier → PublicKeyValue → List ℕ → Result (List ℕ) Fault
+signed_comment accepts key sig_text = comment_verdict_under accepts key sig_text false
+
+-- the record of an update of this number: the number behind the label of its field, the key that has vouched, and the
+-- digest of this data
+pub record IsRecordOf (terms : Terms) (n : ℕ) (update bytes : List ℕ) : Type 0 where
+  pub key : PublicKeyValue
+  pub keyed : IsKeyText terms.pk_text key
+  pub key_whole : length key.key ≡ 32
+  pub digest_whole : length (blake2b_digest 64 update) ≡ 64
+  pub is : bytes ≡ record_of terms.numbering n key.key (blake2b_digest 64 update)
+
+-- To the place an update is brought, and to the record that of one.
 abbrev pub MayBePublished : Verifier → Terms → ℕ → Name → List ℕ → Type 0
 MayBePublished accepts terms kept Place bytes = (n : ℕ) × IsUpdate accepts terms kept bytes n
 MayBePublished accepts terms kept Record bytes =
-    (n : ℕ) × (update : List ℕ) × IsUpdate accepts terms kept update n × (bytes ≡ record_of terms.numbering n)
+    (n : ℕ) × (update : List ℕ) × IsUpdate accepts terms kept update n × IsRecordOf terms n update bytes
 
 -- to the record the number of an update, and nothing to the place
 abbrev pub MayBeRecorded : Verifier → Terms → ℕ → Name → List ℕ → Type 0
@@ -100,16 +109,14 @@ pub record InstallsLocked (accepts : Verifier) (terms : Terms) (first : Bool) (o
       ⊎ ((kept : HasKept terms first old.now) × PublishesInOrder accepts terms kept.number old new)
   pub never_falls : NeverFalls terms.numbering old new
 
--- The lock was asked for and not got, and that was all. Or it was got, and from then on only what is to be installed
--- was brought.
+-- Nothing was changed. Or the lock was got before that, and from then on only what is to be installed was brought.
 abbrev pub InstallsOnlyUpdates : Verifier → Terms → Bool → Run → Run → Type 0
 InstallsOnlyUpdates accepts terms first old new =
-    HasStepped old new IsStill ⊎ ((locked : Run) × HasLocked old locked × InstallsLocked accepts terms first locked new)
+    Rests old new ⊎ ((locked : Run) × LocksAt old locked × InstallsLocked accepts terms first locked new)
 
 -- An update stands at the place, through any crash: the data that was ahead, in a file that was given the permissions of
 -- the one before. It is not older than the number that the record held when this run got the lock, and what killed runs
--- had left was removed. Its number was published in the record, to stay there through any crash, before the update got its
--- name.
+-- had left was removed. Its record was published, to stay there through any crash, before the update got its name.
 pub record HasInstalled (accepts : Verifier) (terms : Terms) (first : Bool) (ahead : Option (List ℕ))
     (old new : Run) : Type 0 where
   pub kept : HasKept terms first old.now
@@ -120,10 +127,21 @@ pub record HasInstalled (accepts : Verifier) (terms : Terms) (first : Bool) (ahe
   pub update : IsUpdate accepts terms kept.number bytes n
   pub earlier : List RunStep
   pub recorded : List RunStep
-  pub number_first : IsPublished Record (record_of terms.numbering n) earlier recorded
+  pub record_bytes : List ℕ
+  pub is_record : IsRecordOf terms n bytes record_bytes
+  pub number_first : IsPublished Record record_bytes earlier recorded
   pub published : IsPublished Place bytes recorded new.steps
   pub permissions : published.renamed.after.permissions published.stands.file ≡ true
 
--- the texts vouch for some data as for an update, whichever number is kept
-abbrev pub IsVouched : Verifier → Terms → Type 0
-IsVouched accepts terms = (message : List ℕ) × (n : ℕ) × IsUpdate accepts terms 0 message n
+-- The update stands at the place already. Since the lock was got nothing was published; the place was found to lead to a
+-- file for which the texts vouch, of the kept number; that was synced, and then the directory was.
+pub record IsStanding (accepts : Verifier) (terms : Terms) (first : Bool) (old new : Run) : Type 0 where
+  pub kept : HasKept terms first old.now
+  pub nothing : PublishesNothing old new
+  pub bytes : List ℕ
+  pub n : ℕ
+  pub update : IsUpdate accepts terms kept.number bytes n
+  pub file : ℕ
+  pub found : HasReached (λ m. (m.leads Place ≡ Some file) × (m.holds file ≡ bytes)) old new
+  pub synced : HasReached (λ m. m.on_disk file ≡ true) old new
+  pub named : (s : RunStep) × (earlier : List RunStep) × (new.steps ≡ s ∷ earlier) × SyncsDirectory s.before s.after

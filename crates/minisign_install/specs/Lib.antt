@@ -1,8 +1,6 @@
-pub mod Checking
 pub mod Comments
 pub mod Common
 pub mod Directories
-pub mod Driving
 pub mod Faults
 pub mod Hosted
 pub mod Hosting
@@ -12,5 +10,4 @@ pub mod Order
 pub mod RecordTexts
 pub mod Refusals
 pub mod Runs
-pub mod There
 pub mod Words

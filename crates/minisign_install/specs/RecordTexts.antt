@@ -1,18 +1,41 @@
 -- What the record beside the place holds: the number of the newest update, behind the label of its field.
-use Rattle.std.specs.Prelude.{◌≡◌, ◌⊎◌, ℕ, List, [], ◌++◌, length, nat_le, if◌then◌else◌}
-use Rattle.minisign_install.specs.Common.{decimal, strip_last, unwrap_or, IsUtf8}
+use Rattle.std.specs.Prelude.{◌≡◌, ◌⊎◌, ℕ, Bool, List, [], ◌∷◌, ◌++◌, ◌-◌, ◌==◌, ◌&&◌, Option, Some, None, Result, Ok, Err, length, take, drop, slice_index, nat_le, if◌then◌else◌}
+use Rattle.minisign_install.specs.Common.{decimal, strip_last, unwrap_or, IsUtf8, decode_sized, encode_lower, FromHexError}
 use Rattle.minisign_install.specs.Comments.{IsNumberText, number_label, strip, Numbering, Timestamp, Version}
 use Rattle.minisign_install.specs.Faults.{InstallFault, DamagedRecord, KeptByTimestamp, KeptByVersion}
 
--- what is written into a record: the number of an update behind the label of the field that it stands in, as in the
--- signed comment
-abbrev pub record_of : Numbering → ℕ → List ℕ
-record_of numbering n = number_label numbering ++ decimal n
+-- what stands behind the number in a record: the key that has vouched and the digest of the data, in hexadecimal digits,
+-- each behind a line feed
+abbrev pub mark_text : List ℕ → List ℕ → List ℕ
+mark_text key digest = (10 ∷ encode_lower key) ++ (10 ∷ encode_lower digest)
 
--- what is read of a record of these bytes: a line feed at their end is left out, and of more than 64 bytes nothing is
--- read
+-- what is written into a record: the number of an update behind the label of the field that it stands in, as in the
+-- signed comment; and behind that, for which data, and by which key
+abbrev pub record_of : Numbering → ℕ → List ℕ → List ℕ → List ℕ
+record_of numbering n key digest = (number_label numbering ++ decimal n) ++ mark_text key digest
+
+-- the record has two more lines behind the first one, of 64 and of 128 bytes, and the first has no more than 64
+abbrev pub is_marked : List ℕ → Bool
+is_marked bytes =
+    nat_le 194 (length bytes) && nat_le (length bytes) 258 && (slice_index bytes (length bytes - 194) == 10)
+
+-- what is read of a record of these bytes as its number: the first line of such a one; or all of at most 64 bytes, where
+-- a line feed at their end is left out, as records were written before they said for which data
+abbrev pub marked_line : List ℕ → List ℕ
+marked_line bytes = if is_marked bytes then take (length bytes - 194) bytes else []
+
 abbrev pub record_text : List ℕ → List ℕ
-record_text bytes = if nat_le (length bytes) 64 then strip_last 10 bytes else []
+record_text bytes = if nat_le (length bytes) 64 then strip_last 10 bytes else marked_line bytes
+
+-- what hexadecimal digits decode to, if they do
+abbrev pub decoded : Result (List ℕ) FromHexError → Option (List ℕ)
+decoded (Ok bytes) = Some bytes
+decoded (Err e) = None
+
+-- the digest of the data that the record was written for, where it says so
+abbrev pub record_digest : List ℕ → Option (List ℕ)
+record_digest bytes =
+    if is_marked bytes then decoded (decode_sized (drop (length bytes - 128) bytes) 64) else None
 
 -- A record of these bytes holds this number for updates whose number stands in this field: behind its label; or alone,
 -- as records were written before they named a field, which counts for either.

@@ -1,13 +1,14 @@
 -- Why an installation is rejected, in the order of its steps, and what its run has published to the place and to the
 -- record by then.
-use Rattle.std.specs.Prelude.{◌≡◌, ◌≢◌, ◌⊎◌, ℕ, ◌<◌, Bool, false, List, Option, Some, None, Err, IfErr, IsErrAnd, MatchResult, Result}
-use Rattle.minisign_install.specs.Common.{verdict}
-use Rattle.minisign_install.specs.Faults.{Rose, Fault, Named, OutOfMemory, RandomSourceFailed, ReadingFailed, WritingFailed, InstallFault, Library, PlaceInUse, NoRecord, OtherFile, NoNumber, OlderUpdate, DirectoryNotSynced}
-use Rattle.minisign_install.specs.Installing.{Verifier, TextsVouchWith, IsAhead, HasKept, MayBePublished, IsKeptNumber, MayBeRecorded, IsUpdate, Terms}
+use Rattle.std.specs.Prelude.{◌≡◌, ◌≢◌, ◌⊎◌, ℕ, ◌<◌, Bool, true, false, List, Option, Some, None, Ok, Err}
+use Rattle.minisign_install.specs.Common.{IsTextRefusal, IsUtf8, PublicKeyValue, verdict}
+use Rattle.minisign_external.specs.declared.state.Refusal.TheVariants.{Refused}
+use Rattle.minisign_install.specs.Faults.{Rose, Fault, Named, NotUtf8, OutOfMemory, RandomSourceFailed, ReadingFailed, WritingFailed, InstallFault, Library, NoRecord, OtherFile, NoNumber, OlderUpdate, DirectoryNotSynced, PlaceInUse, SameNumber}
+use Rattle.minisign_install.specs.Installing.{Verifier, TextsVouchWith, HasKept, IsAhead, IsRejectedFor, MayBePublished, MayBeRecorded, IsUpdate, Terms, signed_comment}
 use Rattle.minisign_install.specs.Comments.{HasNumber, IsExpiryRefused, Says, file_label, value_of, Numbering}
-use Rattle.minisign_install.specs.Directories.{Finds, Known, HasLocked, HasStepped, IsBusy, IsFound, IsStill, Run, HasOnDisk, Place, Record}
+use Rattle.minisign_install.specs.Directories.{HasStepped, IsBusy, IsFound, Run, HasOnDisk, Place, Record}
 use Rattle.minisign_install.specs.RecordTexts.{HasNoNumber, IsUnfit}
-use Rattle.minisign_install.specs.Runs.{PublishesNothing, PublishesOnly, HasCleared, HasReached}
+use Rattle.minisign_install.specs.Runs.{PublishesNothing, PublishesOnly, HasCleared, HasReached, LocksAt, Rests}
 
 -- how many errors there were: of the random source, of the source of the data, and of the directory, whose removals of
 -- stages are not counted
@@ -19,11 +20,6 @@ pub record Counts : Type 0 where
 abbrev pub counts : ℕ → ℕ → ℕ → Counts
 counts random update directory = record { random = random; update = update; directory = directory }
 
--- a device failed: one of the counts rose
-abbrev pub HasFailed : Counts → Counts → Type 0
-HasFailed before after =
-    Rose before.random after.random ⊎ Rose before.update after.update ⊎ Rose before.directory after.directory
-
 -- why a call failed, or a run: an allocation failed, and no device; or the device did that the error speaks of
 abbrev pub IsCallFault : Counts → Counts → Fault → Type 0
 IsCallFault before after e =
@@ -31,11 +27,6 @@ IsCallFault before after e =
     ⊎ ((e ≡ Named ReadingFailed) × (Rose before.update after.update ⊎ Rose before.directory after.directory))
     ⊎ ((e ≡ Named WritingFailed) × Rose before.directory after.directory)
     ⊎ ((e ≡ Named RandomSourceFailed) × Rose before.random after.random)
-
--- the device failed that a stage is read from; or an allocation failed, and no device
-abbrev pub IsReadingFault : ℕ → ℕ → Fault → Type 0
-IsReadingFault before after e =
-    ((e ≡ Named OutOfMemory) × (after ≡ before)) ⊎ ((e ≡ Named ReadingFailed) × Rose before after)
 
 -- an error of the library that is as P says
 abbrev pub IsLibraryFault : (Fault → Type 0) → InstallFault → Type 0
@@ -85,71 +76,52 @@ IsDataRefusal accepts terms kept ahead before after old new e =
     × ((e ≡ Library (Named WritingFailed))
     ⊎ ((e ≡ DirectoryNotSynced) × HasPublishedUpdate accepts terms kept old new)))
 
+-- The texts are rejected before any data is judged: the name of the file is not UTF-8; or the text of the signature does not
+-- read, or is rejected under the key, whatever the data is; or the key has not signed the comment. Or it has, and the
+-- comment is not what is wanted.
+abbrev pub IsTextRefused : Verifier → PublicKeyValue → Terms → ℕ → InstallFault → Type 0
+IsTextRefused accepts key terms kept e =
+    IsLibraryFault (λ f. ((f ≡ Named NotUtf8) × ¬ (IsUtf8 terms.file)) ⊎ IsTextRefusal key terms.sig_text false (Refused f)
+    ⊎ (signed_comment accepts key terms.sig_text ≡ Err f)) e
+    ⊎ ((comment : List ℕ) × (signed_comment accepts key terms.sig_text ≡ Ok comment) × IsCommentRefused terms kept comment e)
+
+-- what stands at the place is rejected: it is other data of the kept number; or the comment is not what is wanted any more
+abbrev pub IsTargetRefused : Verifier → Terms → ℕ → List ℕ → InstallFault → Type 0
+IsTargetRefused accepts terms kept bytes e =
+    ((e ≡ SameNumber) × IsRejectedFor accepts terms bytes) ⊎ IsDataRefused accepts terms kept bytes e
+
 -- Why an installation is rejected where the lock is held, and what it publishes then. A device failed, or memory ran
--- out: nothing. Otherwise what killed runs had left was removed, and the record is rejected, as it was found when the
--- lock was got: nothing. Or it was found to hold a number, and the data is rejected.
-abbrev pub IsLockedRefusal : Verifier → Terms → Bool → Option (List ℕ) → Counts → Counts → Run → Run → InstallFault
-    → Type 0
-IsLockedRefusal accepts terms first ahead before after old new e =
+-- out: nothing. The record is rejected, as it was found when the lock was got: nothing. It was found to hold a number, and
+-- the texts are rejected: nothing. The place was found to hold other data of that number, or the update, and that could
+-- not be synced: nothing. Or what killed runs had left was removed, and the data is rejected.
+abbrev pub IsLockedRefusal : Verifier → PublicKeyValue → Terms → Bool → Option (List ℕ) → Counts → Counts → Run → Run
+    → InstallFault → Type 0
+IsLockedRefusal accepts key terms first ahead before after old new e =
     (PublishesNothing old new × IsLibraryFault (IsCallFault before after) e)
-    ⊎ (HasCleared old new × PublishesNothing old new
+    ⊎ (PublishesNothing old new
     × ((found : Option (List ℕ)) × IsFound old.now Record found × IsRecordRefused terms.numbering first found e))
+    ⊎ (PublishesNothing old new × ((kept : HasKept terms first old.now) × IsTextRefused accepts key terms kept.number e))
+    ⊎ (PublishesNothing old new × ((kept : HasKept terms first old.now) × (file : ℕ) × (bytes : List ℕ)
+    × HasReached (λ m. (m.leads Place ≡ Some file) × (m.holds file ≡ bytes)) old new
+    × (IsTargetRefused accepts terms kept.number bytes e
+    ⊎ ((e ≡ DirectoryNotSynced) × Rose before.directory after.directory
+    × ((n : ℕ) × IsUpdate accepts terms kept.number bytes n)))))
     ⊎ (HasCleared old new × ((kept : HasKept terms first old.now)
     × IsDataRefusal accepts terms kept.number ahead before after old new e))
 
--- Why an installation is rejected, and what it publishes then. Another run holds the lock, or it could not be asked
--- for: nothing, and this was the only call.
-abbrev pub IsRefusal : Verifier → Terms → Bool → Option (List ℕ) → Counts → Counts → Run → Run → InstallFault → Type 0
-IsRefusal accepts terms first ahead before after old new e =
-    (HasStepped old new IsBusy × (e ≡ PlaceInUse))
-    ⊎ (HasStepped old new IsStill × IsLibraryFault (IsCallFault before after) e)
-    ⊎ ((locked : Run) × HasLocked old locked × IsLockedRefusal accepts terms first ahead before after locked new e)
+-- why a check is rejected: for what some record was found to hold, for the texts, or for what some file at the place was
+abbrev pub IsCheckRefused : Verifier → PublicKeyValue → Terms → Bool → InstallFault → Type 0
+IsCheckRefused accepts key terms first e =
+    ((found : Option (List ℕ)) × IsRecordRefused terms.numbering first found e)
+    ⊎ ((kept : ℕ) × IsTextRefused accepts key terms kept e)
+    ⊎ ((kept : ℕ) × (bytes : List ℕ) × IsTargetRefused accepts terms kept bytes e)
 
--- the lock was got, and since then nothing was published
-abbrev pub OnlyLocked : Run → Run → Type 0
-OnlyLocked old new = (locked : Run) × HasLocked old locked × PublishesNothing locked new
-
--- == When an update is installed ==
-
--- the record has a number for the field, or this is the first installation, and the data is an update that is not older
-abbrev pub CanBeInstalled : Verifier → Terms → Bool → Option (List ℕ) → List ℕ → Type 0
-CanBeInstalled accepts terms first found message =
-    (kept : ℕ) × (n : ℕ) × IsKeptNumber terms.numbering first found kept × IsUpdate accepts terms kept message n
-
--- it cannot be installed, and this is the first reason: the record is rejected; otherwise the texts do not vouch for
--- the data; otherwise the signed comment is rejected
-pub record CannotBeInstalled (accepts : Verifier) (terms : Terms) (first : Bool) (found : Option (List ℕ))
-    (message : List ℕ) (e : InstallFault) : Type 0 where
-  pub reason : IsRecordRefused terms.numbering first found e
-      ⊎ ((kept : ℕ) × IsKeptNumber terms.numbering first found kept × IsDataRefused accepts terms kept message e)
-  pub not_so : ¬ (CanBeInstalled accepts terms first found message)
-
--- where memory is found and no device fails: if another run holds the lock, that is said; otherwise, by what the record
--- held when the lock was got and by the data ahead, the update is installed exactly where it can be, and the first
--- reason is said where it cannot
-abbrev pub InstallsExactly : {T : Type 0} → Verifier → Terms → Bool → Option (List ℕ) → Counts → Counts → Run → Run
-    → Result T InstallFault → Type 0
-InstallsExactly accepts terms first ahead before after old new answer =
-    IfErr answer (λ e. e ≢ Library (Named OutOfMemory)) → ¬ (HasFailed before after)
-    → (HasStepped old new IsBusy × IsErrAnd answer (λ e. e ≡ PlaceInUse))
-    ⊎ ((locked : Run) × HasLocked old locked × ((found : Option (List ℕ)) × IsFound locked.now Record found
-    × ((message : List ℕ) × IsAhead ahead message
-    × MatchResult answer (λ _. CanBeInstalled accepts terms first found message)
-    (CannotBeInstalled accepts terms first found message))))
-
--- == The causes alone, whether it is known what the directory holds or not ==
-
--- reading the record rejected it, for what it was found to hold
-abbrev pub IsReadRefusal : Numbering → Bool → Run → Run → InstallFault → Type 0
-IsReadRefusal numbering first old new e =
-    (found : Option (List ℕ)) × IsRecordRefused numbering first found e
-    × Known old (HasStepped old new (Finds Record found))
-
--- why an installation is rejected: the lock is held by another, or the record is rejected, or a device failed, or
--- an allocation did, or some data is rejected, or the directory could not be synced
-abbrev pub IsCause : Verifier → Terms → Bool → Counts → Counts → InstallFault → Type 0
-IsCause accepts terms first before after e =
-    (e ≡ PlaceInUse) ⊎ ((found : Option (List ℕ)) × IsRecordRefused terms.numbering first found e)
-    ⊎ IsLibraryFault (IsCallFault before after) e
-    ⊎ ((message : List ℕ) × (kept : ℕ) × IsDataRefused accepts terms kept message e)
-    ⊎ ((e ≡ DirectoryNotSynced) × Rose before.directory after.directory)
+-- Why a run is rejected, and what it publishes then. Another run holds the lock, or a device failed: nothing was changed.
+-- A check is rejected: nothing was changed. Or the lock was got.
+abbrev pub IsRefusal : Verifier → PublicKeyValue → Terms → Bool → Bool → Option (List ℕ) → Counts → Counts → Run → Run
+    → InstallFault → Type 0
+IsRefusal accepts key terms first check ahead before after old new e =
+    ((e ≡ PlaceInUse) × ((free : Run) × Rests old free × HasStepped free new IsBusy))
+    ⊎ (Rests old new × IsLibraryFault (IsCallFault before after) e)
+    ⊎ ((check ≡ true) × Rests old new × IsCheckRefused accepts key terms first e)
+    ⊎ ((locked : Run) × LocksAt old locked × IsLockedRefusal accepts key terms first ahead before after locked new e)

@@ -1,6 +1,6 @@
 -- What several calls of a run do together.
 use Rattle.std.specs.Prelude.{◌≡◌, ◌⊎◌, ℕ, ◌≤◌, true, List, ◌∷◌, ◌++◌, All, Some}
-use Rattle.minisign_install.specs.Directories.{IsClear, MayFind, Moment, Run, SyncsDirectory, HasOnDisk, RunStep, Name, Record}
+use Rattle.minisign_install.specs.Directories.{HasLocked, IsClear, MayFind, Moment, Run, SyncsDirectory, HasOnDisk, RunStep, Name, Record}
 use Rattle.minisign_install.specs.RecordTexts.{IsNumberFor}
 use Rattle.minisign_install.specs.Comments.{Numbering}
 
@@ -65,3 +65,15 @@ pub record IsPublished (to : Name) (bytes : List ℕ) (old : List RunStep) (new 
   pub calls : new ≡ synced ∷ renamed ∷ old
   pub stands : HasOnDisk renamed.after to bytes
   pub lasts : SyncsDirectory synced.before synced.after
+
+-- each call since then changed nothing, and no stage became the run's own
+pub record Rests (old new : Run) : Type 0 where
+  pub since : List RunStep
+  pub noted : new.steps ≡ since ++ old.steps
+  pub still : All (λ s. s.after ≡ s.before) since
+  pub known : new.known ≡ old.known
+  pub own : (s : List ℕ) → new.owns s ≡ true → old.owns s ≡ true
+
+-- the lock was got, and before that nothing was changed
+abbrev pub LocksAt : Run → Run → Type 0
+LocksAt old locked = (free : Run) × Rests old free × HasLocked free locked

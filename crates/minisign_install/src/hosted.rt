@@ -1,24 +1,25 @@
 //! An installation of fixed size that a host in another language holds: it is told which call is due, says how the call
-//! went, and hands over what it reads back; the numbers by which the host knows errors and choices; and the law that
+//! went, and hands over what it reads; the numbers by which the host knows errors and choices; and the law that
 //! such a host makes a run of the law on runs. None of it allocates.
 
-ghost use Rattle.std.specs.Prelude.{◌≡◌, ◌≢◌, false, None, ◌<◌, ◌≤◌, ℕ, List, Some, option_map, if◌then◌else◌, OnOk, IfErr, MatchOption, length, take, drop};
-ghost use Rattle.minisign_install.specs.Words.{CannotBeFed, HasGone, HasBegun, HasObeyed, HasReadBack, HasReadRecord, HasRun, Host, IsBegun, IsDue, IsHostMeaning, IsNotDue, IsUnused, RestUnchanged, WasDone, WritesCut, call_of, due_number, due_of, failure, is_device_error, may_go, numbering_number, numbering_of, offer_number, Due, Lock, Makes, ReadRecord, Setting, WriteRecord, Done, Failed, More, record_of};
+ghost use Rattle.std.specs.Prelude.{◌≡◌, ◌≢◌, ◌⊎◌, false, None, ◌<◌, ◌≤◌, ℕ, [], List, Some, option_map, if◌then◌else◌, OnOk, IfErr, MatchOption, length, take, drop};
+ghost use Rattle.minisign_install.specs.Words.{CannotBeFed, Done, Failed, HasBegun, HasGone, HasObeyed, HasRun, Host, Makes, Setting, first_due, HasReadBack, HasReadRecord, HasWaited, IsBegun, IsDue, IsFedState, IsHostMeaning, IsKeptOf, IsNotDue, IsUnused, KeepsRecord, Look, More, ReadRecord, RestUnchanged, WasDone, WriteRecord, WritesCut, call_of, early_call, late_call, due_number, due_of, failure, going_on, is_device_error, may_go, may_wait, no_record, numbering_number, numbering_of, record_of};
+ghost use Rattle.minisign_external.specs.declared.state.Misuse.TheVariants.{NotDue};
 ghost use Rattle.minisign_install.specs.declared.order.Due.TheVariants as ended;
 
-use crate::checking::Offer;
 use crate::comments::Numbering;
 use crate::faults::InstallFault;
 use crate::order::{Due, Outcome};
-use crate::recording::{kept_number, write_record};
+use crate::recording::{Mark, kept_in, record_digest, write_record};
 use minisign_base::NamedFault;
 use minisign_external::numbers::{self, Numbered};
+use minisign_external::public_keys::PublicKeyValue;
 use minisign_external::state::{Misuse, State};
 
 // An installation that was begun begins with the letters `minstall`.
 const BEGUN: u64 = 7812726606361684333;
 
-/// An installation, 640 bytes with the layout of C.
+/// An installation, 1024 bytes with the layout of C.
 #[repr(C)]
 #[derive(Clone, Copy)]
 pub struct Installation {
@@ -28,20 +29,51 @@ pub struct Installation {
     error: u32,
     number: u64,
     pub(crate) chosen: Chosen,
+    pub(crate) kept: Kept,
+    // The key that has to vouch, and the digest that it was asked about.
+    pub(crate) asked: Mark,
     pub(crate) judged: Judged,
     // What was read back, and asked of it.
     pub(crate) state: State,
-    reserved: [u64; 10],
+    // Whether the data that may stand still was received: 1 or 0.
+    received: u32,
+    unused: u32,
+    reserved: [u64; 23],
 }
 
 // What the host has chosen.
 #[repr(C)]
 #[derive(Clone, Copy)]
 pub(crate) struct Chosen {
+    // The keys of which one has to have signed.
+    pub(crate) key: PublicKeyValue,
+    pub(crate) other: PublicKeyValue,
     // Whether an update is taken also where no number is kept: 1 or 0.
     pub(crate) is_first: u32,
     // The number of the field that has the number of an update.
     pub(crate) numbering: u32,
+    // Whether other data of the kept number is replaced: 1 or 0.
+    pub(crate) again: u32,
+    // Whether it is only asked what a run would do: 1 or 0.
+    pub(crate) is_check: u32,
+    // Whether the data may stand still, and is received first: 1 or 0.
+    pub(crate) is_waiting: u32,
+    pub(crate) unused: u32,
+}
+
+// What the record was found to hold.
+#[repr(C)]
+#[derive(Clone, Copy)]
+pub(crate) struct Kept {
+    // Whether it has a number for the field: 1 or 0.
+    pub(crate) has_number: u32,
+    // Whether it says for which data it was written: 1 or 0.
+    pub(crate) has_digest: u32,
+    // Whether that is the data of this update: 1 or 0.
+    pub(crate) is_own: u32,
+    pub(crate) unused: u32,
+    // The digest of that data.
+    pub(crate) digest: [u8; 64],
 }
 
 // What came of the signed comment. It is written as a whole where the comment is judged; before that it is the default,
@@ -56,28 +88,55 @@ pub(crate) struct Judged {
     pub(crate) number: u64,
 }
 
+/// What a host chooses at the beginning.
+#[derive(Clone, Copy)]
+pub struct Choices {
+    /// Whether an update is taken also where no number of the field is kept.
+    pub is_first: bool,
+    /// Whether other data of the kept number is replaced.
+    pub again: bool,
+    /// Whether it is only asked what a run would do: then nothing is locked, synced or written.
+    pub is_check: bool,
+    /// Whether the data may stand still, as that of a pipe: then it is received while nothing is locked.
+    pub is_waiting: bool,
+    /// The field that has the number of an update.
+    pub numbering: Numbering,
+}
+
 impl Installation {
-    /// Begins: the lock is due, and nothing was read back. With `is_first` an update is taken also
-    /// where no number of the field is kept.
-    pub fn new(is_first: bool, numbering: Numbering) -> Installation
-        // The lock is due, the state was fed nothing, and whether this is the first installation and which field has the
-        // number are kept.
-        ensures begun { IsBegun is_first numbering result }
+    /// Begins: the lock is due, or of a check the record, and nothing was read. One of the two keys has to have signed:
+    /// the one that has the key ID of the signature, and otherwise the other one.
+    pub fn new(key: &PublicKeyValue, other: &PublicKeyValue, choices: Choices) -> Installation
+        // That is due, the state was fed nothing, and the keys and the choices are kept.
+        ensures begun { IsBegun key.now other.now choices result }
         // No number, no error and no signed comment is kept yet.
         ensures unused { IsUnused result }
     {
         Installation {
             mark: BEGUN,
-            call: 1,
+            call: if choices.is_check { 2 } else { 1 },
             error: 0,
             number: 0,
             chosen: Chosen {
-                is_first: u32::from(is_first),
-                numbering: numbering.number(),
+                key: *key,
+                other: *other,
+                is_first: u32::from(choices.is_first),
+                numbering: choices.numbering.number(),
+                again: u32::from(choices.again),
+                is_check: u32::from(choices.is_check),
+                is_waiting: u32::from(choices.is_waiting),
+                unused: 0,
+            },
+            kept: Kept::nothing(),
+            asked: Mark {
+                key: [0; 32],
+                digest: [0; 64],
             },
             judged: Judged::default(),
             state: State::new(),
-            reserved: [0; 10],
+            received: 0,
+            unused: 0,
+            reserved: [0; 23],
         }
     }
 
@@ -86,34 +145,14 @@ impl Installation {
         // What is due is what the stored form says.
         ensures { result ≡ due_of self.now }
     {
-        use Due::*;
         if self.mark != BEGUN {
             return None;
         }
-        let (number, error) = (self.number, self.error);
-        Some(match self.call {
-            1 => Lock,
-            2 => Clear,
-            3 => ReadRecord,
-            4 => Create(number),
-            5 => Copy(number),
-            6 => ReadBack(number),
-            7 => Answer(number),
-            8 => TakePermissions(number),
-            9 => Sync(number),
-            10 => CreateRecord(number),
-            11 => WriteRecord(number),
-            12 => SyncRecord(number),
-            13 => RenameRecord(number),
-            14 => SyncRecordName(number),
-            15 => Rename(number),
-            16 => SyncName(number),
-            17 => RemoveRecord(error),
-            18 => Remove(error),
-            19 => Installed,
-            20 => Refused(error),
-            _ => return None,
-        })
+        if self.call < 15 {
+            early_call(self.call, self.number)
+        } else {
+            late_call(self.call, self.number, self.error)
+        }
     }
 
     /// The number of the call that is due, in the order of `Due` from 1 on; 0 of an installation
@@ -125,8 +164,7 @@ impl Installation {
         self.due().map_or(0, |due| stored(&due).0)
     }
 
-    /// Why the run was rejected: the number of the error; 0 before its end, and where the update is
-    /// installed.
+    /// Why the run was rejected: the number of the error; 0 before its end, and where it has ended well.
     pub fn refused_for(&self) -> u32
         // The number is that of the error that the run was rejected for, and otherwise 0.
         ensures refused { (e : ℕ) → IsDue self.now (ended.Refused e) → result ≡ e }
@@ -138,87 +176,144 @@ impl Installation {
         }
     }
 
-    /// The call that is due was done; or with `more` a piece was copied, and there may be more. Not of one that reads
-    /// back, gives a number, or ends the run.
+    /// The call that is due was done; or with `more` a piece was copied or received, and there may be more. Not of one
+    /// that reads, that has the scheme answer, or that ends the run.
     pub fn done(&mut self, more: bool) -> Result<(), Misuse>
-        // What is due next is what the table says. Otherwise nothing changes, and no call was due that can go so and is
-        // not reading back.
+        // What is due next is what the table says. Otherwise nothing changes, and no call was due that can go so and has
+        // no call of its own.
         ensures gone { OnOk result (WasDone (if more then More else Done) self.old self.new) }
         ensures refused { IfErr result (IsNotDue (λ due. may_go due (if more then More else Done) ≡ false) self.old self.new) }
     {
         let outcome = if more { Outcome::More } else { Outcome::Done };
         let due = self.due().ok_or(Misuse::NotDue)?;
-        if matches!(due, Due::ReadBack(_)) || !due.fits(&outcome) {
+        if !due.fits(&outcome) {
             return Err(Misuse::NotDue);
+        }
+        if matches!(due, Due::Receive) {
+            self.received = 1;
         }
         self.set(due.next(outcome));
         Ok(())
     }
 
     /// The call that is due failed for this error: out of memory, reading, writing or the random
-    /// source, and of locking that another holds the lock. Where the target's name could not be
-    /// synced, that is the error.
+    /// source, and of locking that another holds the lock. Where the target or its name could not be
+    /// synced, that is the error. Data that may stand still is received first where another holds the lock.
     pub fn failed(&mut self, error: u32) -> Result<(), Misuse>
-        // What is due next is what the table says. Otherwise nothing changes, and no call was due that can fail so.
-        ensures failed { OnOk result ((why : ℕ) × HasGone (λ due. failure due error ≡ Some why) (Failed why) self.old self.new) }
+        // What is due next is what the table says; or the lock was due and held by another, and the data is received
+        // first. Otherwise nothing changes, and no call was due that can fail so.
+        ensures failed { OnOk result (((why : ℕ) × HasGone (λ due. failure due error ≡ Some why) (Failed why) self.old self.new) ⊎ HasWaited self.old self.new) }
         ensures refused { IfErr result (IsNotDue (λ due. failure due error ≡ None) self.old self.new) }
     {
         let due = self.due().ok_or(Misuse::NotDue)?;
         let why = failure(&due, error).ok_or(Misuse::NotDue)?;
+        if matches!(due, Due::Lock)
+            && error == InstallFault::PlaceInUse.number()
+            && self.may_wait()
+        {
+            self.set(Due::Receive);
+            return Ok(());
+        }
         self.set(due.next(Outcome::Failed(why)));
         Ok(())
     }
 
     /// The record was found to hold these bytes, or there is none: the number behind the label of its field, as
     /// `timestamp:5`, or alone, which counts for either field. A line feed at their end is left out, and more than 64
-    /// bytes are no number.
+    /// bytes are no number, but where two lines of their lengths follow on the first one.
     pub fn record(&mut self, found: Option<&[u8]>) -> Result<(), Misuse>
-        // The number that the record holds for the field is kept, or the run is rejected where it holds none, or there is
-        // none, and this is not the first installation. Otherwise nothing changes, and the record was not to be read.
+        // The number that the record holds for the field is kept, and for which data it was written, or the run is
+        // rejected where it holds none, or there is none, and this is not the first installation. Otherwise nothing
+        // changes, and the record was not to be read.
         ensures read { OnOk result (HasReadRecord (option_map (λ b. b.now) found.entry) self.old self.new) }
         ensures refused { IfErr result (IsNotDue (λ due. due ≢ ReadRecord) self.old self.new) }
     {
         let Some(Due::ReadRecord) = self.due() else {
             return Err(Misuse::NotDue);
         };
-        match kept_number(found, self.numbering(), self.chosen.is_first == 1) {
-            Ok(number) => self.set(Due::Create(number)),
+        match kept_in(found, self.numbering(), self.chosen.is_first == 1) {
+            Ok(number) => {
+                self.kept = Kept::found(number.is_some(), found);
+                self.set(Due::Judge(number.unwrap_or(0)));
+            }
             Err(fault) => self.set(Due::Refused(fault.number())),
         }
         Ok(())
     }
 
-    /// The next bytes of what the stage holds were read back; none at its end.
+    /// The next bytes of what the stage, or the file at the target, holds were read; none at its end.
     pub fn piece(&mut self, piece: &[u8]) -> Result<(), Misuse>
         // Each piece appends to what was read back, and is not told apart from what was fed. At the end the answers of the
-        // scheme are due. Otherwise nothing changes, and no stage was to be read back.
+        // scheme are due. Otherwise nothing changes, and nothing was to be read back.
         ensures read { OnOk result (HasReadBack piece.now self.old self.new) }
         ensures refused { IfErr result (λ m. (self.new ≡ self.old) × CannotBeFed self.old m) }
     {
-        let Some(Due::ReadBack(kept)) = self.due() else {
-            return Err(Misuse::NotDue);
+        let next = match self.due() {
+            Some(Due::Look(kept)) => Due::JudgeTarget(kept),
+            Some(Due::ReadBack(kept)) => Due::Answer(kept),
+            _ => return Err(Misuse::NotDue),
         };
         if piece.is_empty() {
-            self.set(Due::Answer(kept));
+            self.set(next);
             return Ok(());
         }
         self.state.update(piece)
     }
 
-    /// Writes the number as it is to be written into the record to the front of `to`: the label of its
-    /// field and decimal digits, at most 30 bytes, with no 0 behind them. Returns how many, and 0 where
-    /// no number is to be written or there is no room.
-    pub fn write_number(&self, to: &mut [u8]) -> usize
-        // The label of the field and the digits of the number of the update stand at the front of the buffer where they
-        // are to be written and have room, and otherwise nothing is written; the rest of the buffer stays.
-        ensures written { 0 < result → (n : ℕ) × IsDue self.now (WriteRecord n) × (result ≤ length to.new) × (take result to.new ≡ record_of (numbering_of self.now) n) }
+    /// No file stands at the target: the update is installed.
+    pub fn no_target(&mut self) -> Result<(), Misuse>
+        // The run goes on. Otherwise nothing changes, and the file at the target was not to be read.
+        ensures gone { OnOk result ((kept : ℕ) × IsDue self.old (Look kept) × IsDue self.new (going_on self.old kept) × KeepsRecord self.old self.new × IsFedState self.new.state []) }
+        ensures refused { IfErr result (λ m. (self.new ≡ self.old) × (m ≡ NotDue) × ((kept : ℕ) → ¬ (IsDue self.old (Look kept)))) }
+    {
+        let Some(Due::Look(kept)) = self.due() else {
+            return Err(Misuse::NotDue);
+        };
+        self.go_on(kept);
+        Ok(())
+    }
+
+    /// Writes the record as it is to be written to the front of `to`, at most 224 bytes, with no 0 behind them: the label
+    /// of its field and decimal digits; the key that has vouched, and the digest of the data, each in a line of its own
+    /// in hexadecimal digits. Returns how many bytes, and 0 where no record is to be written or there is no room.
+    pub fn write_record(&self, to: &mut [u8]) -> usize
+        // The record of the update stands at the front of the buffer where it is to be written and has room, and otherwise
+        // nothing is written; the rest of the buffer stays.
+        ensures written { 0 < result → (n : ℕ) × IsDue self.now (WriteRecord n) × (result ≤ length to.new) × (take result to.new ≡ record_of (numbering_of self.now) n self.now.asked.key self.now.asked.digest) }
         ensures rest { drop result to.new ≡ drop result to.old }
-        ensures unwritten { result ≡ 0 → (to.new ≡ to.old) × ((n : ℕ) → IsDue self.now (WriteRecord n) → length to.old < length (record_of (numbering_of self.now) n)) }
+        ensures unwritten { result ≡ 0 → (to.new ≡ to.old) × ((n : ℕ) → IsDue self.now (WriteRecord n) → length to.old < length (record_of (numbering_of self.now) n self.now.asked.key self.now.asked.digest)) }
     {
         match self.due() {
-            Some(Due::WriteRecord(number)) => write_record(self.numbering(), number, to),
+            Some(Due::WriteRecord(number)) => {
+                write_record(self.numbering(), number, &self.asked, to)
+            }
             _ => 0,
         }
+    }
+
+    // The run goes on: it would be installed, of a check; data that may stand still is received first; or what killed
+    // runs have left is removed. What was read counts no more.
+    pub(crate) fn go_on(&mut self, kept: u64)
+        ensures due { IsDue self.new (going_on self.old kept) }
+        ensures fed { IsFedState self.new.state [] }
+        ensures rest { (self.new.chosen ≡ self.old.chosen) × (self.new.asked ≡ self.old.asked) × (self.new.judged ≡ self.old.judged) × (self.new.kept ≡ self.old.kept) }
+    {
+        self.state = State::new();
+        let due = if self.chosen.is_check == 1 {
+            Due::WouldInstall
+        } else if self.may_wait() {
+            Due::Unlock
+        } else {
+            Due::Clear(kept)
+        };
+        self.set(due);
+    }
+
+    // Whether data may stand still and was not received yet.
+    fn may_wait(&self) -> bool
+        ensures { result ≡ may_wait self.now }
+    {
+        self.chosen.is_waiting == 1 && self.received != 1
     }
 
     // The field that has the number of an update.
@@ -242,6 +337,86 @@ impl Installation {
     }
 }
 
+impl Kept {
+    // No record was read yet.
+    fn nothing() -> Kept
+        ensures { result ≡ no_record }
+    {
+        Kept {
+            has_number: 0,
+            has_digest: 0,
+            is_own: 0,
+            unused: 0,
+            digest: [0; 64],
+        }
+    }
+
+    // What was found, with a number for the field or without one.
+    fn found(has_number: bool, found: Option<&[u8]>) -> Kept
+        ensures { IsKeptOf has_number (option_map (λ b. b.now) found.entry) result }
+    {
+        let mut kept = Kept::nothing();
+        kept.has_number = u32::from(has_number);
+        if let Some(bytes) = found {
+            if let Some(digest) = record_digest(bytes) {
+                kept.has_digest = 1;
+                kept.digest = digest;
+            }
+        }
+        kept
+    }
+}
+
+// The call of this number up to the answers about what was staged, with the number that comes with it.
+fn early_call(call: u32, number: u64) -> Option<Due<u32>>
+    ensures { result ≡ early_call call number }
+{
+    use Due::*;
+    Some(match call {
+        1 => Lock,
+        2 => ReadRecord,
+        3 => Judge(number),
+        4 => Look(number),
+        5 => JudgeTarget(number),
+        6 => SyncTarget,
+        7 => SyncTargetName,
+        8 => Unlock,
+        9 => Receive,
+        10 => Clear(number),
+        11 => Create(number),
+        12 => Copy(number),
+        13 => ReadBack(number),
+        14 => Answer(number),
+        _ => return None,
+    })
+}
+
+// The same of those behind them, and the error.
+fn late_call(call: u32, number: u64, error: u32) -> Option<Due<u32>>
+    requires { 15 ≤ call }
+    ensures { result ≡ late_call call number error }
+{
+    use Due::*;
+    Some(match call {
+        15 => TakePermissions(number),
+        16 => Sync(number),
+        17 => CreateRecord(number),
+        18 => WriteRecord(number),
+        19 => SyncRecord(number),
+        20 => RenameRecord(number),
+        21 => SyncRecordName(number),
+        22 => Rename(number),
+        23 => SyncName(number),
+        24 => RemoveRecord(error),
+        25 => Remove(error),
+        26 => Installed,
+        27 => Already,
+        28 => WouldInstall,
+        29 => Refused(error),
+        _ => return None,
+    })
+}
+
 // What is due in stored form: the number of the call, and the number and the error that come with it.
 fn stored(due: &Due<u32>) -> (u32, u64, u32)
     ensures number { result.0 ≡ due_number due.now }
@@ -250,25 +425,34 @@ fn stored(due: &Due<u32>) -> (u32, u64, u32)
     use Due::*;
     match due {
         Lock => (1, 0, 0),
-        Clear => (2, 0, 0),
-        ReadRecord => (3, 0, 0),
-        Create(kept) => (4, *kept, 0),
-        Copy(kept) => (5, *kept, 0),
-        ReadBack(kept) => (6, *kept, 0),
-        Answer(kept) => (7, *kept, 0),
-        TakePermissions(number) => (8, *number, 0),
-        Sync(number) => (9, *number, 0),
-        CreateRecord(number) => (10, *number, 0),
-        WriteRecord(number) => (11, *number, 0),
-        SyncRecord(number) => (12, *number, 0),
-        RenameRecord(number) => (13, *number, 0),
-        SyncRecordName(number) => (14, *number, 0),
-        Rename(number) => (15, *number, 0),
-        SyncName(number) => (16, *number, 0),
-        RemoveRecord(error) => (17, 0, *error),
-        Remove(error) => (18, 0, *error),
-        Installed => (19, 0, 0),
-        Refused(error) => (20, 0, *error),
+        ReadRecord => (2, 0, 0),
+        Judge(kept) => (3, *kept, 0),
+        Look(kept) => (4, *kept, 0),
+        JudgeTarget(kept) => (5, *kept, 0),
+        SyncTarget => (6, 0, 0),
+        SyncTargetName => (7, 0, 0),
+        Unlock => (8, 0, 0),
+        Receive => (9, 0, 0),
+        Clear(kept) => (10, *kept, 0),
+        Create(kept) => (11, *kept, 0),
+        Copy(kept) => (12, *kept, 0),
+        ReadBack(kept) => (13, *kept, 0),
+        Answer(kept) => (14, *kept, 0),
+        TakePermissions(number) => (15, *number, 0),
+        Sync(number) => (16, *number, 0),
+        CreateRecord(number) => (17, *number, 0),
+        WriteRecord(number) => (18, *number, 0),
+        SyncRecord(number) => (19, *number, 0),
+        RenameRecord(number) => (20, *number, 0),
+        SyncRecordName(number) => (21, *number, 0),
+        Rename(number) => (22, *number, 0),
+        SyncName(number) => (23, *number, 0),
+        RemoveRecord(error) => (24, 0, *error),
+        Remove(error) => (25, 0, *error),
+        Installed => (26, 0, 0),
+        Already => (27, 0, 0),
+        WouldInstall => (28, 0, 0),
+        Refused(error) => (29, 0, *error),
     }
 }
 
@@ -277,10 +461,12 @@ fn failure(due: &Due<u32>, error: u32) -> Option<u32>
     ensures { result ≡ failure due.now error }
 {
     match due {
-        Due::Installed | Due::Refused(_) => None,
+        Due::Installed | Due::Already | Due::WouldInstall | Due::Refused(_) => None,
         Due::Lock if error == InstallFault::PlaceInUse.number() => Some(error),
         _ if !is_device_error(error) => None,
-        Due::SyncName(_) => Some(InstallFault::DirectoryNotSynced.number()),
+        Due::SyncTarget | Due::SyncTargetName | Due::SyncName(_) => {
+            Some(InstallFault::DirectoryNotSynced.number())
+        }
         _ => Some(error),
     }
 }
@@ -347,16 +533,6 @@ impl Numbering {
     }
 }
 
-impl Offer {
-    /// The number of what an update is beside the kept number.
-    pub fn number(self) -> u32
-        // A newer update has the number 1, the kept one 2, and an older one 3.
-        ensures { result ≡ offer_number self }
-    {
-        self as u32 + 1
-    }
-}
-
 /// A law, for which nothing is done: a host of another language that makes each call as it is due,
 /// and tells how it went by the calls of the header, installs only updates, whatever comes of its
 /// calls.
@@ -364,7 +540,8 @@ impl Offer {
 pub fn any_host_installs_only_updates()
     // Such a host makes a run of `any_run_installs_only_updates`, in which the same call is due at the end: so `safe` of
     // that law holds of it wherever it is cut off, `installed` where the installation says that the update is installed,
-    // and `lets_go` however it has ended.
+    // `already` where it says that it stands there, `would` where it says that it would be installed, and `lets_go` however
+    // it has ended.
     ensures run { (s : Setting) (i i' : Installation) (h h' : Host) (told : List (Installation × Host))
-        → HasBegun s i h → HasObeyed s i h told i' h' → (events : List (Outcome ℕ × Host)) × (due : Due ℕ) × IsDue i' due × HasRun (Makes s) Lock h events due h' }
+        → HasBegun s i h → HasObeyed s i h told i' h' → (events : List (Outcome ℕ × Host)) × (due : Due ℕ) × IsDue i' due × HasRun (Makes s) (first_due s.check) h events due h' }
 {}

@@ -1,119 +1,426 @@
-//! Asking a signature scheme about what a host has read back, and judging the signed comment. None of it allocates.
+//! Asking a signature scheme about the signed comment, the record and what a host has read, and what follows from its
+//! answers. None of it allocates.
 
-ghost use Rattle.std.specs.Prelude.{◌≡◌, ◌⊎◌, ℕ, List, false, OnOk, OnErr, IfErr, [], Ok, length, drop};
-ghost use Rattle.minisign_install.specs.Words.{blake2b_digest, Verifier, Terms, SignatureTextRecord, AnswersTexts, IsKeyText, IsUtf8, read_utf8, read_signature, read_under, told_verdict, AreQuestions, IsFedState, install_number, GivesUpdate, IsAnswerRefusal, IsAskRefusal, IsAsking, IsWorth, ReadsTexts, IsJudged, RestUnchanged, IsDue, numbering_of, wanted_by, Answer, Remove, TakePermissions};
+ghost use Rattle.std.specs.Prelude.{◌≡◌, ◌⊎◌, ◌==◌, ◌&&◌, ◌<◌, false, ℕ, List, OnOk, OnErr, IfErr, [], Ok, Err, length, drop};
+ghost use Rattle.minisign_install.specs.Words.{AnswersComment, AnswersTexts, Answer, AreQuestions, Failed, GivesUpdate, GoesByComment, HasAsked, HasAskedAbout, IsAboutRefusal, IsAnswerRefusal, IsAskRefusal, IsAsking, IsDue, IsFedState, IsJudged, IsMarkedTold, IsRejection, IsWorth, Judge, JudgeTarget, JudgesComment, JudgesTarget, KeepsRecord, ReadsTexts, RejectsFor, Replaces, RestUnchanged, SignatureTextRecord, StandsBy, TakePermissions, Terms, Verifier, after_comment, asked_digest, blake2b_digest, due_of, going_on, install_number, key_by, key_for, next, numbering_of, of_installing, read_under, standing, wanted_by};
 ghost use Rattle.minisign_external.specs.declared.state.Refusal.TheVariants.{Refused};
 
 use crate::comments::{Numbering, check_comment};
 use crate::faults::InstallFault;
 use crate::hosted::{Installation, Judged};
-use crate::order::Due;
-use minisign_base::NamedFault;
+use crate::order::{Due, Outcome};
+use crate::recording::Mark;
+use minisign_base::{NamedFault, PError};
 use minisign_external::numbers::Numbered;
 use minisign_external::public_keys::PublicKeyValue;
-use minisign_external::state::{Misuse, Questions, Refusal};
+use minisign_external::signatures::SignatureValue;
+use minisign_external::state::{Misuse, Questions, Refusal, State};
 
 impl Installation {
-    /// Asks what the scheme has to answer before it is known whether the key and the text vouch for what was
-    /// read back, as `State::ask_fed` does, and judges the signed comment, which is told only behind the
-    /// verdict. Signatures over the data itself are never taken.
+    /// Reads the text of the signature, and asks what the scheme has to answer before it is known whether one of the
+    /// keys and the signature vouch: at first for the comment and for the data that the record was written for; then for
+    /// what the file at the target holds, or for what was read back of the stage. The signed comment is judged, which is
+    /// told only behind the answers. Signatures over the data itself are never taken.
+    ///
+    /// As much room for the message as the text of the signature has bytes will do.
     pub fn ask(
         &mut self,
-        key: &PublicKeyValue,
         sig_text: &[u8],
         file: &[u8],
         moment: u64,
         questions: &mut Questions,
         message: &mut [u8],
     ) -> Result<(), Refusal<InstallFault>>
-        // The questions are those of the key and of what the text reads as; the digest is that of everything that was read
-        // back.
-        ensures asked { OnOk result ((t : SignatureTextRecord) × (read_under key.now false sig_text.now ≡ Ok t)
-            × AreQuestions questions.new message.new key.now t) }
-        ensures digest { OnOk result ((m : List ℕ) → IsFedState self.old.state m → questions.new.digest ≡ blake2b_digest 64 m) }
+        // The questions are those of the key that has to have signed, by its key ID, and of what the text reads as. The digest
+        // is that of everything that was read; but at first it is that of the data that the record was written for. They
+        // are then asked, and the comment that was asked about is judged, against the number that was kept; the answers are
+        // due before and behind.
+        ensures asked { OnOk result (HasAskedAbout sig_text.now file.now moment questions.new message.new self.old self.new) }
 
-        // They are then asked, and the comment that was asked about is judged, against the number that was kept; the
-        // answers are due before and behind.
-        ensures asking { OnOk result ((kept : ℕ) × IsDue self.old (Answer kept)
-            × ((pk_text : List ℕ) → IsKeyText pk_text key.now
-            → IsAsking self.new (wanted_by pk_text sig_text.now file.now (numbering_of self.old) moment) kept)) }
-
-        // The reasons of a rejection come in one order: answers that are not due; a name that is not UTF-8; what
-        // `State::ask_fed` rejects, in its order. A wrong use and a buffer without room leave the installation as it was.
-        // For any other the stage is to be removed, and the run is rejected for that. The message buffer is as it was, and
-        // what stands behind a message that is written stays; where the answers are not due, the questions do too; and what
-        // the host has chosen stays in any case.
-        ensures refused { IfErr result (IsAskRefusal self.old self.new key.now sig_text.now file.now (length message.old)) }
-        ensures kept { OnErr result (message.new ≡ message.old) }
+        // The reasons of a rejection come in one order: answers that are not due; a name that is not UTF-8; a text of the
+        // signature that does not read; what `State::ask_fed` rejects, in its order. A wrong use leaves the installation as
+        // it was, as a buffer without room is. For any other reason the run is rejected, and a stage is to be removed before.
+        // Questions and message buffer are as they were; what stands behind a message that is written stays; and what the
+        // host has chosen stays in any case.
+        ensures refused { IfErr result (IsAskRefusal self.old self.new sig_text.now file.now (length message.old)) }
+        ensures kept { OnErr result ((questions.new ≡ questions.old) × (message.new ≡ message.old)) }
         ensures rest { OnOk result (drop questions.new.message_len message.new ≡ drop questions.new.message_len message.old) }
-        ensures unasked { (questions.new ≡ questions.old) ⊎ ((kept : ℕ) × IsDue self.old (Answer kept)) }
         ensures chosen { self.new.chosen ≡ self.old.chosen }
-
-        // Where the answers are due and the name is UTF-8, both key IDs are told of a text that reads, also after a
-        // rejection.
-        ensures key_ids { (kept : ℕ) → IsDue self.old (Answer kept) → (m : List ℕ) → IsFedState self.old.state m → IsUtf8 file.now
-            → (t : SignatureTextRecord) → read_utf8 read_signature sig_text.now ≡ Ok t
-            → (questions.new.public_key_id ≡ key.now.key_id) × (questions.new.signature_key_id ≡ t.signature.keynum) }
     {
-        let Some(Due::Answer(kept)) = self.due() else {
-            return Err(Refusal::WrongUse(Misuse::NotDue));
-        };
-        let Ok(file) = str::from_utf8(file) else {
-            return Err(self.remove_for(NamedFault::NotUtf8.into()));
-        };
-        match self.state.ask_fed(key, sig_text, false, questions, message) {
-            Ok(comment) => {
-                self.judged = Judged::of(comment, file, self.numbering(), moment, kept);
-                Ok(())
-            }
-            Err(Refusal::WrongUse(misuse)) => Err(Refusal::WrongUse(misuse)),
-            Err(Refusal::Refused(fault)) => Err(self.remove_for(fault.into())),
+        match self.due() {
+            Some(Due::Judge(kept)) => self.ask_due(
+                Due::Judge(kept),
+                kept,
+                sig_text,
+                file,
+                moment,
+                questions,
+                message,
+            ),
+            Some(Due::JudgeTarget(kept)) => self.ask_due(
+                Due::JudgeTarget(kept),
+                kept,
+                sig_text,
+                file,
+                moment,
+                questions,
+                message,
+            ),
+            Some(Due::Answer(kept)) => self.ask_due(
+                Due::Answer(kept),
+                kept,
+                sig_text,
+                file,
+                moment,
+                questions,
+                message,
+            ),
+            _ => Err(Refusal::WrongUse(Misuse::NotDue)),
         }
     }
 
-    /// The scheme answered so. What was read back is an update where the two texts vouch for it and
-    /// the signed comment names the file, has not expired, and has a number that is not below the kept
-    /// one; otherwise the stage is to be removed, for the first reason.
+    // Asks what is due.
+    fn ask_due(
+        &mut self,
+        due: Due<u32>,
+        kept: u64,
+        sig_text: &[u8],
+        file: &[u8],
+        moment: u64,
+        questions: &mut Questions,
+        message: &mut [u8],
+    ) -> Result<(), Refusal<InstallFault>>
+        requires due { IsDue self.old due }
+        requires asking { (due ≡ Judge kept) ⊎ ((due ≡ JudgeTarget kept) ⊎ (due ≡ Answer kept)) }
+        ensures asked { OnOk result (HasAskedAbout sig_text.now file.now moment questions.new message.new self.old self.new) }
+        ensures refused { IfErr result (IsAskRefusal self.old self.new sig_text.now file.now (length message.old)) }
+        ensures kept { OnErr result ((questions.new ≡ questions.old) × (message.new ≡ message.old)) }
+        ensures rest { OnOk result (drop questions.new.message_len message.new ≡ drop questions.new.message_len message.old) }
+        ensures chosen { self.new.chosen ≡ self.old.chosen }
+    {
+        match self.ask_about(kept, sig_text, file, moment, questions, message) {
+            Ok(()) => {
+                questions.digest = self.digest_for(&due);
+                Ok(())
+            }
+            Err(Refusal::WrongUse(misuse)) => Err(Refusal::WrongUse(misuse)),
+            Err(Refusal::Refused(fault)) => Err(self.reject(due, fault)),
+        }
+    }
+
+    // The digest that the first question is about: at first that of the data that the record was written for, and then that
+    // of what was read.
+    fn digest_for(&self, due: &Due<u32>) -> [u8; 64]
+        ensures { result ≡ asked_digest self.now due.now self.now.asked.digest }
+    {
+        match due {
+            Due::Judge(_) => self.kept.digest,
+            _ => self.asked.digest,
+        }
+    }
+
+    // Asks about what was read, whatever is due.
+    fn ask_about(
+        &mut self,
+        kept: u64,
+        sig_text: &[u8],
+        file: &[u8],
+        moment: u64,
+        questions: &mut Questions,
+        message: &mut [u8],
+    ) -> Result<(), Refusal<InstallFault>>
+        ensures asked { OnOk result ((t : SignatureTextRecord) × (read_under (key_for self.old sig_text.now) false sig_text.now ≡ Ok t)
+            × AreQuestions questions.new message.new (key_for self.old sig_text.now) t
+            × HasAsked self.new.state (key_for self.old sig_text.now) sig_text.now false × IsMarkedTold self.new.state
+            × ((pk_text : List ℕ) → IsJudged self.new.judged (wanted_by pk_text sig_text.now file.now (numbering_of self.old) moment) kept t.comments.trusted)) }
+        ensures mark { OnOk result ((self.new.asked.key ≡ (key_for self.old sig_text.now).key) × (self.new.asked.digest ≡ questions.new.digest)
+            × ((m : List ℕ) → IsFedState self.old.state m → questions.new.digest ≡ blake2b_digest 64 m)) }
+        ensures rest { (due_of self.new ≡ due_of self.old) × KeepsRecord self.old self.new }
+        ensures refused { IfErr result (IsAboutRefusal self.old sig_text.now file.now (length message.old)) }
+        ensures kept { OnErr result ((self.new ≡ self.old) × (questions.new ≡ questions.old) × (message.new ≡ message.old)) }
+        ensures behind { OnOk result (drop questions.new.message_len message.new ≡ drop questions.new.message_len message.old) }
+    {
+        let Ok(file) = str::from_utf8(file) else {
+            return Err(Refusal::Refused(NamedFault::NotUtf8.into()));
+        };
+        let signature = match SignatureValue::read(sig_text) {
+            Ok(signature) => signature,
+            Err(fault) => return Err(Refusal::Refused(fault.into())),
+        };
+        let key = self.key_for(&signature);
+        match self
+            .state
+            .ask_fed(&key, &signature, sig_text, false, questions, message)
+        {
+            Ok(comment) => {
+                self.judged = Judged::of(comment, file, self.numbering(), moment, kept);
+                self.asked = Mark {
+                    key: key.key,
+                    digest: questions.digest,
+                };
+                Ok(())
+            }
+            Err(refusal) => Err(of_installing(refusal)),
+        }
+    }
+
+    /// The scheme answered so.
     pub fn answer(&mut self, first: bool, second: bool) -> Result<(), Refusal<InstallFault>>
+        // **For every relation that answers the second question so: the target is to be looked at, or the run goes on,
+        // exactly where the key has signed the comment, and it names the file, has not expired at the moment of asking, and
+        // has a number that is not below the kept one; the former where it is the kept one. Otherwise the run is rejected for
+        // the first reason. Whether the record was written for this update is kept, as the first answer says.**
+        ensures comment { (terms : Terms) (kept : ℕ) (accepts : Verifier)
+            → IsDue self.old (Judge kept) → (asking : IsAsking self.old terms kept) → AnswersComment accepts asking.key terms.sig_text second
+            → JudgesComment accepts asking.key terms kept first self.old self.new result }
+
+        // **For every relation that answers the two questions so, and every message: the update stands at the target exactly
+        // where the texts vouch for the message and the comment is still what is wanted; then it is synced, or of a check
+        // that is the end. Where the texts are rejected, the run goes on if the record was written for this update, or
+        // other data is to be replaced; otherwise it is rejected, as the number is the same.**
+        ensures target { (terms : Terms) (kept : ℕ) (message : List ℕ) (accepts : Verifier)
+            → IsDue self.old (JudgeTarget kept) → IsAsking self.old terms kept
+            → AnswersTexts accepts terms.pk_text terms.sig_text message first second
+            → JudgesTarget accepts terms kept message self.old self.new result }
+
         // **For every relation that answers the two questions so, and every message: the permissions are due, for the
         // number n, exactly where the texts vouch for the message, not by a signature over the data itself, and the comment
         // that was signed with it names the file, has not expired at the moment of asking, and has the number n, which is
         // not below the kept one. Otherwise the stage is to be removed, and the run is rejected for the first reason.**
-        ensures answer { (terms : Terms) (kept : ℕ) (message : List ℕ) (accepts : Verifier)
-            → IsAsking self.old terms kept → AnswersTexts accepts terms.pk_text terms.sig_text message first second
+        ensures stage { (terms : Terms) (kept : ℕ) (message : List ℕ) (accepts : Verifier)
+            → IsDue self.old (Answer kept) → IsAsking self.old terms kept
+            → AnswersTexts accepts terms.pk_text terms.sig_text message first second
             → GivesUpdate accepts terms kept message self.new result }
 
-        // The permissions are due only where the answers were, and the state that was asked is ended then, as its verdict
-        // says. A wrong use changes nothing. What the host has chosen stays.
-        ensures due { OnOk result (((kept : ℕ) × IsDue self.old (Answer kept)) × ((n : ℕ) × IsDue self.new (TakePermissions n))
-            × ((Ok tt, self.new.state) ≡ told_verdict self.old.state first second)) }
+        // Where the run goes on or the target is looked at, what is read next is fed to a state that was fed nothing. What
+        // the host has chosen stays, and what was asked about; a wrong use changes nothing.
+        ensures fed { (kept : ℕ) → IsDue self.old (Judge kept) → OnOk result (IsFedState self.new.state []) }
+        ensures again { (kept : ℕ) → IsDue self.old (JudgeTarget kept) → OnOk result (IsDue self.new (going_on self.old kept) → IsFedState self.new.state []) }
+        ensures chosen { (self.new.chosen ≡ self.old.chosen) × (self.new.asked ≡ self.old.asked) }
         ensures refused { IfErr result (IsAnswerRefusal self.old self.new) }
-        ensures chosen { self.new.chosen ≡ self.old.chosen }
     {
-        let Some(Due::Answer(_)) = self.due() else {
-            return Err(Refusal::WrongUse(Misuse::NotDue));
-        };
+        match self.due() {
+            Some(Due::Judge(kept)) => self.answer_comment(kept, first, second),
+            Some(Due::JudgeTarget(kept)) => self.answer_target(kept, first, second),
+            Some(Due::Answer(kept)) => self.answer_stage(kept, first, second),
+            _ => Err(Refusal::WrongUse(Misuse::NotDue)),
+        }
+    }
+
+    // The answers about the comment and about the data that the record was written for. The comment is rejected, or the
+    // target is looked at, where its number is the kept one; otherwise the run goes on.
+    fn answer_comment(
+        &mut self,
+        kept: u64,
+        first: bool,
+        second: bool,
+    ) -> Result<(), Refusal<InstallFault>>
+        requires { IsDue self.old (Judge kept) }
+        ensures comment { (terms : Terms) (accepts : Verifier) (asking : IsAsking self.old terms kept)
+            → AnswersComment accepts asking.key terms.sig_text second
+            → JudgesComment accepts asking.key terms kept first self.old self.new result }
+        ensures fed { OnOk result (IsFedState self.new.state []) }
+        ensures chosen { (self.new.chosen ≡ self.old.chosen) × (self.new.asked ≡ self.old.asked) }
+        ensures refused { IfErr result (IsAnswerRefusal self.old self.new) }
+    {
+        match self.state.comment_verdict(second) {
+            Ok(()) => self.go_by_comment(kept, first),
+            Err(refusal) => Err(self.reject_for(Due::Judge(kept), refusal)),
+        }
+    }
+
+    // What comes of the comment, which the key has signed.
+    fn go_by_comment(&mut self, kept: u64, first: bool) -> Result<(), Refusal<InstallFault>>
+        requires { IsDue self.old (Judge kept) }
+        ensures goes { (terms : Terms) (comment : List ℕ) → IsJudged self.old.judged terms kept comment
+            → GoesByComment terms kept comment first self.old self.new result }
+        ensures fed { OnOk result (IsFedState self.new.state []) }
+        ensures chosen { (self.new.chosen ≡ self.old.chosen) × (self.new.asked ≡ self.old.asked) }
+        ensures refused { IfErr result (IsAnswerRefusal self.old self.new) }
+    {
+        match self.judged.update() {
+            Ok(number) => {
+                self.keep_own(first);
+                self.look_or_go_on(kept, number);
+                Ok(())
+            }
+            Err(fault) => Err(self.reject(Due::Judge(kept), fault)),
+        }
+    }
+
+    // Keeps whether the record was written for this update: the signature was accepted for the digest that it says.
+    fn keep_own(&mut self, first: bool)
+        ensures own { (self.new.kept.is_own == 1) ≡ (first && (self.old.kept.has_digest == 1)) }
+        ensures rest { self.new ≡ record self.old { kept = record self.old.kept { is_own = self.new.kept.is_own } } }
+    {
+        self.kept.is_own = u32::from(first && self.kept.has_digest == 1);
+    }
+
+    // The file at the target is to be looked at where the number is the kept one; otherwise the run goes on.
+    fn look_or_go_on(&mut self, kept: u64, number: u64)
+        ensures due { IsDue self.new (after_comment self.old kept number) }
+        ensures fed { IsFedState self.new.state [] }
+        ensures rest { (self.new.chosen ≡ self.old.chosen) × (self.new.asked ≡ self.old.asked) × (self.new.kept ≡ self.old.kept) }
+    {
+        if self.kept.has_number == 1 && number == kept {
+            self.state = State::new();
+            self.set(Due::Look(kept));
+        } else {
+            self.go_on(kept);
+        }
+    }
+
+    // The answers about what the file at the target holds. It is the update, or other data, which is rejected, but where
+    // the record was written for this update or it was asked for.
+    fn answer_target(
+        &mut self,
+        kept: u64,
+        first: bool,
+        second: bool,
+    ) -> Result<(), Refusal<InstallFault>>
+        requires { IsDue self.old (JudgeTarget kept) }
+        ensures target { (terms : Terms) (message : List ℕ) (accepts : Verifier)
+            → IsAsking self.old terms kept → AnswersTexts accepts terms.pk_text terms.sig_text message first second
+            → JudgesTarget accepts terms kept message self.old self.new result }
+        ensures again { OnOk result (IsDue self.new (going_on self.old kept) → IsFedState self.new.state []) }
+        ensures chosen { (self.new.chosen ≡ self.old.chosen) × (self.new.asked ≡ self.old.asked) }
+        ensures refused { IfErr result (IsAnswerRefusal self.old self.new) }
+    {
+        match self.state.verdict(first, second) {
+            Ok(()) => self.stand(kept),
+            Err(Refusal::WrongUse(misuse)) => Err(Refusal::WrongUse(misuse)),
+            Err(Refusal::Refused(fault)) => self.replace(kept, fault),
+        }
+    }
+
+    // The texts vouch for what stands at the target: it is the update, where the comment is still what is wanted.
+    fn stand(&mut self, kept: u64) -> Result<(), Refusal<InstallFault>>
+        requires { IsDue self.old (JudgeTarget kept) }
+        ensures stands { (terms : Terms) (comment : List ℕ) → IsJudged self.old.judged terms kept comment
+            → StandsBy terms kept comment self.old self.new result }
+        ensures due { OnOk result (IsDue self.new (standing self.old)) }
+        ensures chosen { (self.new.chosen ≡ self.old.chosen) × (self.new.asked ≡ self.old.asked) }
+        ensures refused { IfErr result (IsRejection self.old self.new) }
+    {
+        match self.judged.update() {
+            Ok(_) => {
+                self.set(self.standing());
+                Ok(())
+            }
+            Err(fault) => Err(self.reject(Due::JudgeTarget(kept), fault)),
+        }
+    }
+
+    // Other data stands at the target, for which the texts are rejected: it is replaced, or the run is rejected.
+    fn replace(&mut self, kept: u64, _why: PError) -> Result<(), Refusal<InstallFault>>
+        requires { IsDue self.old (JudgeTarget kept) }
+        ensures replaced { Replaces kept self.old self.new result }
+        ensures fed { OnOk result (IsFedState self.new.state []) }
+        ensures chosen { (self.new.chosen ≡ self.old.chosen) × (self.new.asked ≡ self.old.asked) }
+        ensures refused { IfErr result (IsRejection self.old self.new) }
+    {
+        if self.kept.is_own == 1 || self.chosen.again == 1 {
+            self.go_on(kept);
+            return Ok(());
+        }
+        Err(self.reject(Due::JudgeTarget(kept), InstallFault::SameNumber))
+    }
+
+    // What is due where the update stands at the target: it is synced, and of a check nothing is.
+    fn standing(&self) -> Due<u32>
+        ensures { result ≡ standing self.now }
+    {
+        if self.chosen.is_check == 1 {
+            Due::Already
+        } else {
+            Due::SyncTarget
+        }
+    }
+
+    // The answers about what was read back of the stage. It is an update where the two texts vouch for it and
+    // the signed comment names the file, has not expired, and has a number that is not below the kept
+    // one; otherwise the stage is to be removed, for the first reason.
+    fn answer_stage(
+        &mut self,
+        kept: u64,
+        first: bool,
+        second: bool,
+    ) -> Result<(), Refusal<InstallFault>>
+        requires { IsDue self.old (Answer kept) }
+        ensures stage { (terms : Terms) (message : List ℕ) (accepts : Verifier)
+            → IsAsking self.old terms kept
+            → AnswersTexts accepts terms.pk_text terms.sig_text message first second
+            → GivesUpdate accepts terms kept message self.new result }
+        ensures due { OnOk result ((n : ℕ) × IsDue self.new (TakePermissions n)) }
+        ensures chosen { (self.new.chosen ≡ self.old.chosen) × (self.new.asked ≡ self.old.asked) }
+        ensures refused { IfErr result (IsAnswerRefusal self.old self.new) }
+    {
         match self.state.verdict(first, second) {
             Ok(()) => match self.judged.update() {
                 Ok(number) => {
                     self.set(Due::TakePermissions(number));
                     Ok(())
                 }
-                Err(fault) => Err(self.remove_for(fault)),
+                Err(fault) => Err(self.reject(Due::Answer(kept), fault)),
             },
             Err(Refusal::WrongUse(misuse)) => Err(Refusal::WrongUse(misuse)),
-            Err(Refusal::Refused(fault)) => Err(self.remove_for(fault.into())),
+            Err(Refusal::Refused(fault)) => Err(self.reject(Due::Answer(kept), fault.into())),
         }
     }
 
-    // The stage is to be removed for this error, for which the run is rejected.
-    fn remove_for(&mut self, fault: InstallFault) -> Refusal<InstallFault>
-        ensures due { IsDue self.new (Remove (install_number fault)) }
+    /// The number of the update, once the key was found to have signed its comment; before that it is 0.
+    pub fn number(&self) -> u64
+        // It is the number of a comment that was judged, and 0 before it was vouched for.
+        ensures told { 0 < result → (self.now.judged.verdict ≡ 1) × (result ≡ self.now.judged.number) }
+        ensures unjudged { (kept : ℕ) → IsDue self.now (Judge kept) → result ≡ 0 }
+    {
+        match self.due() {
+            Some(Due::Lock | Due::ReadRecord | Due::Judge(_)) | None => 0,
+            Some(_) if self.judged.verdict == IS_UPDATE => self.judged.number,
+            Some(_) => 0,
+        }
+    }
+
+    // The key that has to have made the signature: of two the one that has its key ID.
+    fn key_for(&self, signature: &SignatureValue) -> PublicKeyValue
+        ensures { result ≡ key_by self.now signature.now.key_id }
+    {
+        if signature.key_id == self.chosen.key.key_id {
+            self.chosen.key
+        } else {
+            self.chosen.other
+        }
+    }
+
+    // What is due fails for this rejection, but for a wrong use.
+    fn reject_for(&mut self, due: Due<u32>, refusal: Refusal) -> Refusal<InstallFault>
+        ensures rejects { RejectsFor due refusal self.old self.new }
+        ensures refusal { result ≡ of_installing refusal }
+    {
+        match refusal {
+            Refusal::WrongUse(misuse) => Refusal::WrongUse(misuse),
+            Refusal::Refused(fault) => self.reject(due, fault.into()),
+        }
+    }
+
+    // What is due fails for this error.
+    fn reject(&mut self, due: Due<u32>, fault: InstallFault) -> Refusal<InstallFault>
+        ensures due { IsDue self.new (next due (Failed (install_number fault))) }
         ensures rest { RestUnchanged self.old self.new }
         ensures refusal { result ≡ Refused fault }
     {
-        self.set(Due::Remove(fault.number()));
+        self.set(due.next(Outcome::Failed(fault.number())));
         Refusal::Refused(fault)
+    }
+}
+
+// The same rejection among those of installing.
+fn of_installing(refusal: Refusal) -> Refusal<InstallFault>
+    ensures { result ≡ of_installing refusal }
+{
+    match refusal {
+        Refusal::WrongUse(misuse) => Refusal::WrongUse(misuse),
+        Refusal::Refused(fault) => Refusal::Refused(fault.into()),
     }
 }
 

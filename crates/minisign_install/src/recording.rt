@@ -1,53 +1,26 @@
-//! The number of the newest update is kept beside the place, behind the label of its field.
+//! The record beside the target: the number of the newest update, behind the label of its field, the key that has
+//! vouched for it, and the digest of the data that it was written for.
 
-ghost use Rattle.std.specs.Prelude.{option_map, ◌≡◌, ◌⊎◌, ◌<◌, ◌≤◌, ◌+◌, ◌++◌, ℕ, false, List, Option, Some, None, IfOk, IfErr, OnOk, OnErr, MatchOption, MatchResult, length, take, drop};
-ghost use Rattle.minisign_install.specs.Words.{Rose, Named, ReadingFailed, Library, IsNumberText, HasStepped, IsStill, Finds, Known, Calls, IsKeptNumber, IsKeptOrNone, HasNoNumber, IsNumberFor, IsUnfit, kept_by, record_of, record_text, IsReadRefusal, IsRecordRefused};
+ghost use Rattle.std.specs.Prelude.{option_map, ◌≡◌, ◌<◌, ◌≤◌, ◌+◌, ◌*◌, ◌++◌, ◌∷◌, ℕ, List, MatchOption, MatchResult, length, take, drop};
+ghost use Rattle.minisign_install.specs.Words.{HasNoNumber, IsKeptOrNone, IsNumberFor, IsRecordRefused, IsUnfit, encode_lower, is_marked, mark_text, marked_line, record_digest, record_of, record_text};
 
 use crate::comments::{Numbering, number_of, strip};
-use crate::directories::{Directory, Name};
 use crate::faults::InstallFault;
-use minisign_base::NamedFault;
-use std::alloc::Global;
 
-// A record of more bytes is damaged.
-const MAX_RECORD: usize = 64;
+// A line of more bytes is no number.
+const MAX_LINE: usize = 64;
 
-// The longest record that is written: the longer label, and the digits of the greatest number.
-pub(crate) const MAX_WRITTEN: usize = 30;
+// What stands behind the number: two lines of hexadecimal digits, each behind a line feed.
+const MARK_TEXT: usize = 194;
 
-// The number that the record holds for the field. Where it holds none and this is the first
-// installation, that is 0.
-pub(crate) fn read_number<F: Directory>(
-    alloc: Global,
-    directory: &mut F,
-    numbering: Numbering,
-    is_first: bool,
-) -> Result<u64, InstallFault>
-    ensures read { IfOk result (λ kept. Known (F.run directory.old) ((found : Option (List ℕ)) × Calls (Finds Name.Record found) (F.run directory.old) (F.run directory.new) × IsKeptNumber numbering is_first found kept)) }
-    ensures still { OnErr result (Known (F.run directory.old) (Calls IsStill (F.run directory.old) (F.run directory.new))) }
-    ensures refused { IfErr result (λ e. IsReadRefusal numbering is_first (F.run directory.old) (F.run directory.new) e
-        ⊎ ((e ≡ Library (Named ReadingFailed)) × Rose (F.directory_faults directory.old) (F.directory_faults directory.new))) }
-    ensures no_new_fault { OnOk result (F.directory_faults directory.new ≡ F.directory_faults directory.old) }
-{
-    match directory.read_record(alloc) {
-        Ok(found) => kept_number(found.as_deref(), numbering, is_first),
-        Err(_) => Err(NamedFault::ReadingFailed.into()),
-    }
-}
-
-// The same of what the record was found to hold.
-pub(crate) fn kept_number(
-    found: Option<&[u8]>,
-    numbering: Numbering,
-    is_first: bool,
-) -> Result<u64, InstallFault>
-    ensures number { MatchResult result (IsKeptNumber numbering is_first (option_map (λ b. b.now) found.entry)) (IsRecordRefused numbering is_first (option_map (λ b. b.now) found.entry)) }
-{
-    match kept_in(found, numbering, is_first) {
-        Ok(Some(number)) => Ok(number),
-        Ok(None) => Ok(0),
-        Err(fault) => Err(fault),
-    }
+/// What a record says beside a number, 96 bytes.
+#[repr(C)]
+#[derive(Clone, Copy)]
+pub(crate) struct Mark {
+    // The key that has vouched.
+    pub(crate) key: [u8; 32],
+    // The digest of the data.
+    pub(crate) digest: [u8; 64],
 }
 
 // The number that the record was found to hold for the field; where it holds none, there is none, if this is the first
@@ -98,12 +71,12 @@ fn number_for(bytes: &[u8], numbering: Numbering) -> Option<u64>
     }
 }
 
-// What is read of a record of these bytes.
+// What is read of a record of these bytes as its number.
 fn record_text(bytes: &[u8]) -> &[u8]
     ensures { result.now ≡ record_text bytes.now }
 {
-    if bytes.len() > MAX_RECORD {
-        return &[];
+    if bytes.len() > MAX_LINE {
+        return marked_line(bytes);
     }
     match bytes.split_last() {
         Some((last, line)) if *last == b'\n' => line,
@@ -111,22 +84,58 @@ fn record_text(bytes: &[u8]) -> &[u8]
     }
 }
 
-// Writes what is to be written into a record to the front of `to`, and returns how long that is; where it has no room,
-// nothing.
-pub(crate) fn write_record(numbering: Numbering, number: u64, to: &mut [u8]) -> usize
-    ensures written { 0 < result → (result ≤ length to.new) × (take result to.new ≡ record_of numbering number) }
+// The first line of a record that has two more, where it is no longer than a record of one line.
+fn marked_line(bytes: &[u8]) -> &[u8]
+    ensures { result.now ≡ marked_line bytes.now }
+{
+    if !is_marked(bytes) {
+        return &[];
+    }
+    let (line, _) = bytes.split_at(bytes.len() - MARK_TEXT);
+    line
+}
+
+// Whether a record of these bytes has two lines of their lengths behind the first one.
+fn is_marked(bytes: &[u8]) -> bool
+    ensures { result ≡ is_marked bytes.now }
+{
+    let len = bytes.len();
+    MARK_TEXT <= len && len <= MARK_TEXT + MAX_LINE && bytes[len - MARK_TEXT] == b'\n'
+}
+
+// The digest of the data that a record of these bytes was written for, where it says so.
+pub(crate) fn record_digest(bytes: &[u8]) -> Option<[u8; 64]>
+    ensures { result ≡ record_digest bytes.now }
+{
+    if !is_marked(bytes) {
+        return None;
+    }
+    let (_, digits) = bytes.split_at(bytes.len() - 128);
+    let mut digest = [0u8; 64];
+    match hex::decode_to_slice(digits, &mut digest) {
+        Ok(()) => Some(digest),
+        Err(_) => None,
+    }
+}
+
+// Writes a record to the front of `to`, and returns how long that is; where it has no room, nothing.
+pub(crate) fn write_record(numbering: Numbering, number: u64, mark: &Mark, to: &mut [u8]) -> usize
+    ensures written { 0 < result → (result ≤ length to.new) × (take result to.new ≡ record_of numbering number mark.now.key mark.now.digest) }
     ensures rest { drop result to.new ≡ drop result to.old }
-    ensures unwritten { result ≡ 0 → (to.new ≡ to.old) × (length to.old < length (record_of numbering number)) }
+    ensures unwritten { result ≡ 0 → (to.new ≡ to.old) × (length to.old < length (record_of numbering number mark.now.key mark.now.digest)) }
 {
     let mut buffer = itoa::Buffer::new();
     let digits = buffer.format(number).as_bytes();
     let label = numbering.label().as_bytes();
-    if to.len() < label.len() + digits.len() {
+    let line = label.len() + digits.len();
+    if to.len() < line + MARK_TEXT {
         return 0;
     }
-    let (whole, _) = to.split_at_mut(label.len() + digits.len());
-    fill(whole, label, digits);
-    label.len() + digits.len()
+    let (whole, _) = to.split_at_mut(line + MARK_TEXT);
+    let (first, others) = whole.split_at_mut(line);
+    fill(first, label, digits);
+    write_mark(mark, others);
+    line + MARK_TEXT
 }
 
 // Fills the buffer with both, one after the other.
@@ -137,4 +146,27 @@ fn fill(to: &mut [u8], label: &[u8], digits: &[u8])
     let (front, back) = to.split_at_mut(label.len());
     front.copy_from_slice(label);
     back.copy_from_slice(digits);
+}
+
+// Fills the buffer with the two lines behind the number, each behind a line feed.
+fn write_mark(mark: &Mark, to: &mut [u8])
+    requires { length to.old ≡ 194 }
+    ensures { to.new ≡ mark_text mark.now.key mark.now.digest }
+{
+    let (key, digest) = to.split_at_mut(65);
+    write_line(&mark.key, key);
+    write_line(&mark.digest, digest);
+}
+
+// Fills the buffer with a line feed and the hexadecimal digits of these bytes.
+fn write_line(bytes: &[u8], to: &mut [u8])
+    requires { length to.old ≡ 1 + 2 * length bytes.now }
+    ensures { to.new ≡ 10 ∷ encode_lower bytes.now }
+{
+    let (end, digits) = to.split_at_mut(1);
+    end.fill(b'\n');
+    match hex::encode_to_slice(bytes, digits) {
+        Ok(()) => {}
+        Err(_) => unreachable!(),
+    }
 }

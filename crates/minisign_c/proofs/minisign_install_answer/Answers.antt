@@ -1,45 +1,45 @@
-use Rattle.std.proofs.Common.{◌<◌, ℕ, Err, List, inl, inr, lit<, refl}
-use Rattle.minisign_base.specs.Fault.{Fault, Named, Worded}
-use Rattle.minisign_base.specs.Faults.{fault_row}
-use Rattle.minisign_base.specs.declared.faults.NamedFault.{NamedFault}
-use Rattle.minisign_base.specs.declared.faults.NamedFault.TheVariants.{OutOfMemory}
-use Rattle.minisign.specs.Acceptance.{Verifier}
-use Rattle.minisign_external.specs.Numbers.{fault_number, refusal_number}
+use Rattle.std.proofs.Common.{◌<◌, ℕ, inl, inr, lit<, refl}
+use Rattle.minisign_external.specs.Numbers.{misuse_number, refusal_number}
+use Rattle.minisign_external.specs.declared.state.Misuse.{Misuse}
+use Rattle.minisign_external.specs.declared.state.Misuse.TheVariants.{NotBegun}
 use Rattle.minisign_external.specs.declared.state.Refusal.{Refusal}
 use Rattle.minisign_external.specs.declared.state.Refusal.TheVariants.{Refused, WrongUse}
 use Rattle.minisign_install.specs.Faults.{install_number}
-use Rattle.minisign_install.specs.Hosted.{GivesUpdate}
-use Rattle.minisign_install.specs.Installing.{Terms}
 use Rattle.minisign_install.specs.declared.faults.InstallFault.{InstallFault}
 use Rattle.minisign_install.specs.declared.faults.InstallFault.TheVariants.{Library}
-use Rattle.minisign_install.specs.declared.hosted.Installation.{Installation}
+use Rattle.minisign_c.proofs.Positive as library
 use Rattle.minisign_c.proofs.minisign_install_answer.Goals as goal
 
 -- no error has the number of success
-named_positive : (f : NamedFault) → 0 < (fault_row f).number
-named_positive OutOfMemory = lit< tt
-named_positive _ = lit< tt
-
-library_positive : (e : Fault) → 0 < fault_number e
-library_positive (Named f) = named_positive f
-library_positive (Worded kind text) = lit< tt
-
 positive : (e : InstallFault) → 0 < install_number e
-positive (Library e) = library_positive e
+positive (Library e) = library.positive e
 positive _ = lit< tt
 
--- what is no update is rejected for an error
-refused_positive : (T : Type 0) (accepts : Verifier) (terms : Terms) (kept : ℕ) (message : List ℕ) (new : Installation) (r : Refusal InstallFault)
-    → GivesUpdate {T = T} accepts terms kept message new (Err r) → 0 < refusal_number install_number r
-refused_positive T accepts terms kept message new (WrongUse m) none = absurd none
-refused_positive T accepts terms kept message new (Refused e) refused = positive e
+misuse_positive : (m : Misuse) → 0 < misuse_number m
+misuse_positive NotBegun = lit< tt
+misuse_positive _ = lit< tt
 
-pub returns-in-Err-clause-answer : goal.returns-in-Err-clause-answer
-returns-in-Err-clause-answer c = λ terms kept message accepts asking (one, two, answers).
-    let refused = c.in-Err.ensures.answer terms kept message accepts asking answers in
-    let some = refused_positive Unit accepts terms kept message c.answer.new.self c.in-Err.refusal refused in
-    inr (rw c.number-in-Err.ensures some, c.in-Err.refusal, c.number-in-Err.ensures, refused)
+refused_positive : (r : Refusal InstallFault) → 0 < refusal_number install_number r
+refused_positive (WrongUse m) = misuse_positive m
+refused_positive (Refused e) = positive e
 
-pub returns-in-Ok-clause-answer : goal.returns-in-Ok-clause-answer
-returns-in-Ok-clause-answer c = λ terms kept message accepts asking (one, two, answers).
-    inl (refl, c.in-Ok.ensures.answer terms kept message accepts asking answers)
+pub returns-in-Ok-clause-comment : goal.returns-in-Ok-clause-comment
+returns-in-Ok-clause-comment c = λ terms kept accepts due asking (one, two, answers). inl (refl, c.in-Ok.ensures.comment terms kept accepts due asking answers)
+
+pub returns-in-Err-clause-comment : goal.returns-in-Err-clause-comment
+returns-in-Err-clause-comment c = λ terms kept accepts due asking (one, two, answers).
+    inr (rw c.number-in-Err.ensures (refused_positive c.in-Err.refusal), c.in-Err.refusal, c.number-in-Err.ensures, c.in-Err.ensures.comment terms kept accepts due asking answers)
+
+pub returns-in-Ok-clause-target : goal.returns-in-Ok-clause-target
+returns-in-Ok-clause-target c = λ terms kept message accepts due asking (one, two, answers). inl (refl, c.in-Ok.ensures.target terms kept message accepts due asking answers)
+
+pub returns-in-Err-clause-target : goal.returns-in-Err-clause-target
+returns-in-Err-clause-target c = λ terms kept message accepts due asking (one, two, answers).
+    inr (rw c.number-in-Err.ensures (refused_positive c.in-Err.refusal), c.in-Err.refusal, c.number-in-Err.ensures, c.in-Err.ensures.target terms kept message accepts due asking answers)
+
+pub returns-in-Ok-clause-stage : goal.returns-in-Ok-clause-stage
+returns-in-Ok-clause-stage c = λ terms kept message accepts due asking (one, two, answers). inl (refl, c.in-Ok.ensures.stage terms kept message accepts due asking answers)
+
+pub returns-in-Err-clause-stage : goal.returns-in-Err-clause-stage
+returns-in-Err-clause-stage c = λ terms kept message accepts due asking (one, two, answers).
+    inr (rw c.number-in-Err.ensures (refused_positive c.in-Err.refusal), c.in-Err.refusal, c.number-in-Err.ensures, c.in-Err.ensures.stage terms kept message accepts due asking answers)

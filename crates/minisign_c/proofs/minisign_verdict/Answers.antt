@@ -1,8 +1,5 @@
-use Rattle.std.proofs.Common.{◌≡◌, ◌∙◌, ◌<◌, ℕ, List, Bool, Result, Ok, Err, ap, inl, inr, lit<, refl, subst, sym}
-use Rattle.minisign_base.specs.Fault.{Fault, Named, Worded}
-use Rattle.minisign_base.specs.Faults.{fault_row}
-use Rattle.minisign_base.specs.declared.faults.NamedFault.{NamedFault}
-use Rattle.minisign_base.specs.declared.faults.NamedFault.TheVariants.{OutOfMemory}
+use Rattle.std.proofs.Common.{◌≡◌, ◌∙◌, ◌<◌, ℕ, List, Bool, Result, Ok, Err, ap, inl, inr, refl, subst, sym}
+use Rattle.minisign_base.specs.Fault.{Fault}
 use Rattle.minisign.specs.Acceptance.{Verifier}
 use Rattle.minisign.specs.Headline.{verdict}
 use Rattle.minisign_external.specs.Numbers.{fault_number, refusal_number}
@@ -10,16 +7,8 @@ use Rattle.minisign_external.specs.Questions.{verdict_under}
 use Rattle.minisign_external.specs.States.{GivesNumber, IsFaultOf, given_verdict, verdict_number}
 use Rattle.minisign_external.specs.declared.state.Refusal.{Refusal}
 use Rattle.minisign_external.specs.declared.state.Refusal.TheVariants.{Refused, WrongUse}
+use Rattle.minisign_c.proofs.Positive.{positive}
 use Rattle.minisign_c.proofs.minisign_verdict.Goals as goal
-
--- no error has the number of success
-named_positive : (f : NamedFault) → 0 < (fault_row f).number
-named_positive OutOfMemory = lit< tt
-named_positive _ = lit< tt
-
-positive : (e : Fault) → 0 < fault_number e
-positive (Named f) = named_positive f
-positive (Worded kind text) = lit< tt
 
 -- a verdict that is no success has the number of its error
 given_number : (accepts : Verifier) (pk_text sig_text message : List ℕ) (legacy : Bool) (r : Refusal Fault) (n : ℕ) → n ≡ refusal_number fault_number r

@@ -1,0 +1,15 @@
+-- No error has the number of success.
+use Rattle.std.proofs.Common.{◌<◌, lit<}
+use Rattle.minisign_base.specs.Fault.{Fault, Named, Worded}
+use Rattle.minisign_base.specs.Faults.{fault_row}
+use Rattle.minisign_base.specs.declared.faults.NamedFault.{NamedFault}
+use Rattle.minisign_base.specs.declared.faults.NamedFault.TheVariants.{OutOfMemory}
+use Rattle.minisign_external.specs.Numbers.{fault_number}
+
+named_positive : (f : NamedFault) → 0 < (fault_row f).number
+named_positive OutOfMemory = lit< tt
+named_positive _ = lit< tt
+
+pub positive : (e : Fault) → 0 < fault_number e
+positive (Named f) = named_positive f
+positive (Worded kind text) = lit< tt

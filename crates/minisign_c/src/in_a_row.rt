@@ -1,0 +1,389 @@
+//! What the calls of the header come to where a host makes them in its order, whatever the pieces of the data are. No
+//! program calls these functions: they are there for what their clauses say of the calls that they make.
+
+ghost use Rattle.std.specs.Prelude.{◌≡◌, ◌==◌, ◌⊎◌, ◌<◌, ◌≤◌, ◌+◌, ◌++◌, ℕ, List, [], None, Ok, false, true, drop, length, take};
+ghost use Rattle.std.specs.List.{flat_map};
+ghost use Rattle.std.specs.Option.{option_map};
+ghost use Rattle.minisign_hash.specs.Blake2b.{blake2b_digest};
+ghost use Rattle.minisign_base.specs.Fault.{Fault};
+ghost use Rattle.minisign.specs.PublicKeyText.{read_public_key};
+ghost use Rattle.minisign.specs.Records.{SecretKeyRecord};
+ghost use Rattle.minisign.specs.SignatureText.{SignatureTextRecord};
+ghost use Rattle.minisign.specs.Texts.{and_then};
+ghost use Rattle.minisign_external.specs.Numbers.{IsAnswer, answer_yes, fault_number, refusal_number};
+ghost use Rattle.minisign_external.specs.PublicKeys.{read_utf8, value_of};
+ghost use Rattle.minisign_external.specs.Questions.{read_under, verdict_under};
+ghost use Rattle.minisign_external.specs.SecretKeys.{IsOpeningRefusal, IsTextOpeningRefusal, is_opened, is_read, open_record, opened_text};
+ghost use Rattle.minisign_external.specs.SecretKeys.{public_value_of, taken_key, unopened_record};
+ghost use Rattle.minisign_external.specs.Signatures.{IsReadFrom};
+ghost use Rattle.minisign_external.specs.Signing.{HoldsText, IsPairOf, IsWritingNumber, IsWritingRefusal, comments_of, first_signature, second_signature};
+ghost use Rattle.minisign_external.specs.States.{AreAsked, HasAsked, IsFedState, KeepsAsked, verdict_number};
+ghost use Rattle.minisign_external.specs.declared.public_keys.PublicKeyValue.{PublicKeyValue};
+ghost use Rattle.minisign_external.specs.declared.state.Refusal.{Refusal};
+
+use crate::{
+    minisign_ask, minisign_comment_message, minisign_digest, minisign_init,
+    minisign_open_sealed_key, minisign_open_unsealed_key, minisign_read_public_key,
+    minisign_read_secret_key, minisign_read_signature, minisign_signed_text, minisign_update,
+    minisign_verdict,
+};
+use minisign::Scheme;
+use minisign_external::numbers::{ANSWER_NO, ANSWER_YES};
+use minisign_external::pieces::answers_decide;
+use minisign_external::public_keys::PublicKeyValue;
+use minisign_external::secrets::SecretKeyValue;
+use minisign_external::signatures::SignatureValue;
+use minisign_external::state::{Questions, State};
+use minisign_external::unopened_keys::{KeyText, UnopenedKeyValue};
+use std::alloc::Global;
+
+/// Verifies the joined pieces, with two texts: returns the first number that is not 0, or that of the verdict. `room` has
+/// as many bytes as the text of the signature at least.
+pub fn verify_in_a_row<S: Scheme>(
+    scheme: &S,
+    pk_text: &[u8],
+    sig_text: &[u8],
+    pieces: &[&[u8]],
+    room: &mut [u8],
+) -> u32
+    requires { length sig_text.now ≤ length room.old }
+
+    // **Of every scheme, texts and data, however it is cut: 0 exactly where the key that the one text reads as and the
+    // other text vouch for the joined pieces, otherwise the number of the first case that fails.**
+    ensures { result ≡ verdict_number (and_then (read_utf8 read_public_key pk_text.now) (λ k.
+        verdict_under (S.accepts scheme.now) (value_of k) sig_text.now (flat_map (λ piece. piece.now) pieces.now) false)) }
+{
+    let mut key = PublicKeyValue {
+        key: [0; 32],
+        key_id: [0; 8],
+    };
+    let number = minisign_read_public_key(pk_text, &mut key);
+    if number != 0 {
+        return number;
+    }
+    verify_under(scheme, &key, sig_text, pieces, room)
+}
+
+// The same with a key that was read.
+fn verify_under<S: Scheme>(
+    scheme: &S,
+    key: &PublicKeyValue,
+    sig_text: &[u8],
+    pieces: &[&[u8]],
+    room: &mut [u8],
+) -> u32
+    requires { length sig_text.now ≤ length room.old }
+    ensures { result ≡ verdict_number (verdict_under (S.accepts scheme.now) key.now sig_text.now (flat_map (λ piece. piece.now) pieces.now) false) }
+{
+    let mut signature = no_signature();
+    let number = minisign_read_signature(sig_text, &mut signature);
+    if number != 0 {
+        return number;
+    }
+    verify_read(scheme, key, &signature, sig_text, pieces, room)
+}
+
+// No signature yet.
+fn no_signature() -> SignatureValue {
+    SignatureValue {
+        mark: 0,
+        key_id: [0; 8],
+        signature: [0; 64],
+        comment_signature: [0; 64],
+        comment_offset: 0,
+        comment_len: 0,
+        text_digest: [0; 32],
+        algorithm: [0; 2],
+        legacy: 0,
+        whole: 0,
+        reserved: 0,
+    }
+}
+
+// The same with a signature that was read.
+fn verify_read<S: Scheme>(
+    scheme: &S,
+    key: &PublicKeyValue,
+    signature: &SignatureValue,
+    sig_text: &[u8],
+    pieces: &[&[u8]],
+    room: &mut [u8],
+) -> u32
+    requires room { length sig_text.now ≤ length room.old }
+    requires read { (t : SignatureTextRecord) × IsReadFrom signature.now sig_text.now t }
+    ensures { result ≡ verdict_number (verdict_under (S.accepts scheme.now) key.now sig_text.now (flat_map (λ piece. piece.now) pieces.now) false) }
+{
+    let mut state = State::new();
+    minisign_init(&mut state);
+    let mut questions = Questions::none();
+    let number = minisign_ask(
+        &mut state,
+        key,
+        signature,
+        sig_text,
+        0,
+        &mut questions,
+        room,
+    );
+    if number != 0 {
+        return number;
+    }
+    let number = feed(&mut state, pieces);
+    if number != 0 {
+        return number;
+    }
+    answer(scheme, &mut state, &questions, room)
+}
+
+// Feeds one piece after another.
+fn feed(state: &mut State, pieces: &[&[u8]]) -> u32
+    requires { IsFedState state.old [] }
+    ensures fed { (result ≡ 0) × IsFedState state.new (flat_map (λ piece. piece.now) pieces.now) }
+    ensures asked { KeepsAsked state.old state.new }
+{
+    'pieces: for piece in pieces {
+        let number = minisign_update(state, *piece);
+        if number != 0 {
+            return number;
+        }
+    }
+    0
+}
+
+// Tells the digest, has the scheme answer, and gives the verdict.
+fn answer<S: Scheme>(scheme: &S, state: &mut State, questions: &Questions, room: &[u8]) -> u32
+    requires { questions.now.message_len ≤ length room.now }
+    ensures { (v : PublicKeyValue) (text m : List ℕ) (t : SignatureTextRecord) → IsFedState state.old m
+        → HasAsked state.old v text false → read_under v false text ≡ Ok t → AreAsked questions.now room.now v t
+        → result ≡ verdict_number (verdict_under (S.accepts scheme.now) v text m false) }
+{
+    answers_decide();
+    let mut digest = [0u8; 64];
+    let number = minisign_digest(state, &mut digest);
+    if number != 0 {
+        return number;
+    }
+    let first = scheme.verify(&digest, &questions.public_key, &questions.signature);
+    let second = scheme.verify(
+        &room[..questions.message_len as usize],
+        &questions.public_key,
+        &questions.comment_signature,
+    );
+    minisign_verdict(state, answer_of(first), answer_of(second))
+}
+
+// The number of an answer.
+fn answer_of(is_accepted: bool) -> u32
+    ensures known { IsAnswer result }
+    ensures same { (result == answer_yes) ≡ is_accepted }
+{
+    if is_accepted { ANSWER_YES } else { ANSWER_NO }
+}
+
+/// Signs the joined pieces, with the text of a secret key, which is opened with its password where there is one, and
+/// writes the text of the signature: returns the first number that is not 0. `room` has 64 bytes more than the trusted
+/// comment at least.
+pub fn sign_in_a_row<S: Scheme>(
+    alloc: Global,
+    scheme: &S,
+    key_text: &KeyText<'_>,
+    pieces: &[&[u8]],
+    trusted: &[u8],
+    untrusted: &[u8],
+    room: &mut [u8],
+    text: &mut [u8],
+    text_len: &mut usize,
+) -> u32
+    requires { 64 + length trusted.now ≤ length room.old }
+
+    // **Of every scheme, text of a key, data, however it is cut, and comments: where the number is 0 the text opens to a
+    // key, and if that is one of a seed, the text of the signature verifies: the verdict on it and the joined pieces,
+    // under the public half of the key, is the trusted comment.**
+    ensures verifies { result ≡ 0 → (k : SecretKeyRecord)
+        × (opened_text key_text.now.text.now (option_map (λ p. p.now) key_text.now.password) key_text.now.most_rows ≡ Ok k)
+        × ((seed : List ℕ) → IsPairOf (S.public_of scheme.now) seed (taken_key k.keynum k.secret)
+        → verdict_under (S.accepts scheme.now) (record { key = drop 32 k.secret; key_id = k.keynum }) (take text_len.new text.new)
+        (flat_map (λ piece. piece.now) pieces.now) false ≡ Ok trusted.now) }
+
+    // That text is the one of the two signatures that the scheme makes with the key: of the digest of the joined pieces,
+    // and of that signature followed by the trusted comment. What stands behind it stays.
+    ensures text { result ≡ 0 → (k : SecretKeyRecord)
+        × (opened_text key_text.now.text.now (option_map (λ p. p.now) key_text.now.password) key_text.now.most_rows ≡ Ok k)
+        × HoldsText k.keynum (comments_of trusted.now untrusted.now)
+        (first_signature (S.signature_of scheme.now) k.secret (flat_map (λ piece. piece.now) pieces.now))
+        (second_signature (S.signature_of scheme.now) k.secret (flat_map (λ piece. piece.now) pieces.now) trusted.now)
+        text.new text_len.new }
+    ensures rest { result ≡ 0 → drop text_len.new text.new ≡ drop text_len.new text.old }
+
+    // Any other number says why the text of the key does not open, or else what `minisign_signed_text` rejects of that
+    // key, the comments, those signatures and the buffer. Nothing is then written.
+    ensures refused { 0 < result → (r : Refusal Fault) × (result ≡ refusal_number fault_number r)
+        × (IsTextOpeningRefusal key_text.now.text.now (option_map (λ p. p.now) key_text.now.password) key_text.now.most_rows r
+        ⊎ ((k : SecretKeyRecord)
+        × (opened_text key_text.now.text.now (option_map (λ p. p.now) key_text.now.password) key_text.now.most_rows ≡ Ok k)
+        × IsWritingRefusal (taken_key k.keynum k.secret) (comments_of trusted.now untrusted.now)
+        (first_signature (S.signature_of scheme.now) k.secret (flat_map (λ piece. piece.now) pieces.now))
+        (second_signature (S.signature_of scheme.now) k.secret (flat_map (λ piece. piece.now) pieces.now) trusted.now)
+        text.old r)) }
+    ensures kept { 0 < result → (text.new ≡ text.old) × (text_len.new ≡ text_len.old) }
+{
+    let mut key = no_secret_key();
+    let number = open(alloc, key_text, &mut key);
+    if number != 0 {
+        return number;
+    }
+    sign_with(
+        alloc, scheme, &key, pieces, trusted, untrusted, room, text, text_len,
+    )
+}
+
+// No key yet.
+fn no_secret_key() -> SecretKeyValue {
+    SecretKeyValue {
+        mark: 0,
+        key_id: [0; 8],
+        secret: [0; 64],
+    }
+}
+
+fn no_unopened_key() -> UnopenedKeyValue {
+    UnopenedKeyValue {
+        mark: 0,
+        bytes: [0; 158],
+        is_sealed: 0,
+        log2_rows: 0,
+        work: 0,
+        reserved: 0,
+    }
+}
+
+// Reads the text of the key and opens it.
+#[tactic(auto, using(crate::proofs::Refusals::reading_refusal))]
+fn open(alloc: Global, key_text: &KeyText<'_>, key: &mut SecretKeyValue) -> u32
+    ensures opened { result ≡ 0 → (k : SecretKeyRecord)
+        × (opened_text key_text.now.text.now (option_map (λ p. p.now) key_text.now.password) key_text.now.most_rows ≡ Ok k)
+        × (key.new ≡ taken_key k.keynum k.secret) }
+    ensures refused { 0 < result → (r : Refusal Fault) × (result ≡ refusal_number fault_number r)
+        × IsTextOpeningRefusal key_text.now.text.now (option_map (λ p. p.now) key_text.now.password) key_text.now.most_rows r }
+{
+    let mut unopened = no_unopened_key();
+    let number = minisign_read_secret_key(key_text.text, &mut unopened);
+    if number != 0 {
+        return number;
+    }
+    open_read(alloc, key_text, &unopened, key)
+}
+
+// Opens the key that was read.
+fn open_read(
+    alloc: Global,
+    key_text: &KeyText<'_>,
+    unopened: &UnopenedKeyValue,
+    key: &mut SecretKeyValue,
+) -> u32
+    requires { is_read unopened.now ≡ true }
+    ensures opened { result ≡ 0 → (k : SecretKeyRecord)
+        × (open_record (unopened_record unopened.now) (option_map (λ p. p.now) key_text.now.password) key_text.now.most_rows ≡ Ok k)
+        × (key.new ≡ taken_key k.keynum k.secret) }
+    ensures refused { 0 < result → (r : Refusal Fault) × (result ≡ refusal_number fault_number r)
+        × IsOpeningRefusal (unopened_record unopened.now) (option_map (λ p. p.now) key_text.now.password) key_text.now.most_rows r }
+{
+    match key_text.password {
+        Some(password) => minisign_open_sealed_key(
+            alloc,
+            unopened,
+            password,
+            key_text.keep_every,
+            key_text.most_rows,
+            key,
+        ),
+        None => minisign_open_unsealed_key(unopened, key),
+    }
+}
+
+// Signs with a key that was opened.
+fn sign_with<S: Scheme>(
+    alloc: Global,
+    scheme: &S,
+    key: &SecretKeyValue,
+    pieces: &[&[u8]],
+    trusted: &[u8],
+    untrusted: &[u8],
+    room: &mut [u8],
+    text: &mut [u8],
+    text_len: &mut usize,
+) -> u32
+    requires { 64 + length trusted.now ≤ length room.old }
+    ensures verifies { result ≡ 0 → (seed : List ℕ) (w : PublicKeyValue) → IsPairOf (S.public_of scheme.now) seed key.now → public_value_of key.now ≡ Ok w
+        → verdict_under (S.accepts scheme.now) w (take text_len.new text.new) (flat_map (λ piece. piece.now) pieces.now) false ≡ Ok trusted.now }
+    ensures text { result ≡ 0 → (is_opened key.now ≡ true) × HoldsText key.now.key_id (comments_of trusted.now untrusted.now)
+        (first_signature (S.signature_of scheme.now) key.now.secret (flat_map (λ piece. piece.now) pieces.now))
+        (second_signature (S.signature_of scheme.now) key.now.secret (flat_map (λ piece. piece.now) pieces.now) trusted.now)
+        text.new text_len.new }
+    ensures rest { result ≡ 0 → drop text_len.new text.new ≡ drop text_len.new text.old }
+    ensures refused { 0 < result → IsWritingNumber key.now (comments_of trusted.now untrusted.now)
+        (first_signature (S.signature_of scheme.now) key.now.secret (flat_map (λ piece. piece.now) pieces.now))
+        (second_signature (S.signature_of scheme.now) key.now.secret (flat_map (λ piece. piece.now) pieces.now) trusted.now)
+        text.old result }
+    ensures kept { 0 < result → (text.new ≡ text.old) × (text_len.new ≡ text_len.old) }
+{
+    answers_decide();
+    let mut digest = [0u8; 64];
+    let number = digest_of(pieces, &mut digest);
+    if number != 0 {
+        return number;
+    }
+    let first = sign_first(scheme, key, &digest);
+    let mut second = [0u8; 64];
+    let number = sign_second(scheme, key, &first, trusted, room, &mut second);
+    if number != 0 {
+        return number;
+    }
+    minisign_signed_text(
+        alloc, key, &first, &second, trusted, untrusted, text, text_len,
+    )
+}
+
+// The digest of the joined pieces.
+fn digest_of(pieces: &[&[u8]], digest: &mut [u8; 64]) -> u32
+    ensures { (result ≡ 0) × (digest.new ≡ blake2b_digest 64 (flat_map (λ piece. piece.now) pieces.now)) }
+{
+    let mut state = State::new();
+    minisign_init(&mut state);
+    let number = feed(&mut state, pieces);
+    if number != 0 {
+        return number;
+    }
+    minisign_digest(&mut state, digest)
+}
+
+// The signature of the digest.
+fn sign_first<S: Scheme>(scheme: &S, key: &SecretKeyValue, digest: &[u8; 64]) -> [u8; 64]
+    ensures made { result ≡ S.signature_of scheme.now digest.now key.now.secret None }
+    ensures accepted { (seed : List ℕ) → IsPairOf (S.public_of scheme.now) seed key.now
+        → S.accepts scheme.now digest.now (S.public_of scheme.now seed) result ≡ true }
+{
+    scheme.signature(digest, &key.secret, None)
+}
+
+// The signature of that signature followed by the trusted comment.
+fn sign_second<S: Scheme>(
+    scheme: &S,
+    key: &SecretKeyValue,
+    first: &[u8; 64],
+    trusted: &[u8],
+    room: &mut [u8],
+    second: &mut [u8; 64],
+) -> u32
+    requires { 64 + length trusted.now ≤ length room.old }
+    ensures made { (result ≡ 0) × (second.new ≡ S.signature_of scheme.now (first.now ++ trusted.now) key.now.secret None) }
+    ensures accepted { (seed : List ℕ) → IsPairOf (S.public_of scheme.now) seed key.now
+        → S.accepts scheme.now (first.now ++ trusted.now) (S.public_of scheme.now seed) second.new ≡ true }
+{
+    let number = minisign_comment_message(first, trusted, room);
+    if number != 0 {
+        return number;
+    }
+    *second = scheme.signature(&room[..64 + trusted.len()], &key.secret, None);
+    0
+}

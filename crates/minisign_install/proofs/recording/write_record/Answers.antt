@@ -1,0 +1,15 @@
+use Rattle.minisign_install.proofs.Common.{◌≡◌, ◌++◌, ◌∙◌, ap, arith, decimal, length, length-append, mark_text, number_label, refl}
+use Rattle.minisign_install.proofs.RecordTexts.{length-mark}
+use Rattle.minisign_install.proofs.recording.write_record.Goals as goal
+
+pub returns-then-to-line-clause-unwritten : goal.returns-then-to-line-clause-unwritten
+returns-then-to-line-clause-unwritten c = λ nothing.
+    let label = ap length (c.as_bytes-label.ensures.value ∙ c.label.ensures) in
+    let digits = ap length (c.as_bytes-digits.ensures.value ∙ c.format.ensures.text) in
+    let key : length c.args.mark.now.key ≡ 32 = omega arith in
+    let digest : length c.args.mark.now.digest ≡ 64 = omega arith in
+    let line = number_label c.args.numbering ++ decimal c.args.number in
+    let marked = mark_text c.args.mark.now.key c.args.mark.now.digest in (
+      refl,
+      omega (arith, c.if-to-line.true, label, digits, key, digest, length-mark c.args.mark.now.key c.args.mark.now.digest, length-append line marked, length-append (number_label c.args.numbering) (decimal c.args.number)),
+    )

@@ -1,3 +1,0 @@
-mod Bounds
-mod InMemory
-mod Pasts
