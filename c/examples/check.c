@@ -22,8 +22,8 @@ static int read_file(const char *name, uint8_t *to, size_t room, size_t *len)
 int main(int argc, char **argv)
 {
     minisign_public_key key;
-    const uint8_t *comment;
-    size_t comment_len, len, signature_len;
+    minisign_questions questions;
+    size_t len, signature_len;
 
     if (argc != 3 || sodium_init() < 0
         || minisign_read_bare_public_key((const uint8_t *) KEY, sizeof KEY - 1, &key) != MINISIGN_OK
@@ -31,8 +31,8 @@ int main(int argc, char **argv)
         || !read_file(argv[2], signature, sizeof signature, &signature_len)) {
         return 2;
     }
-    return minisign_verify_in_memory(&key, signature, signature_len, data, len, crypto_sign_verify_detached, message,
-                                     sizeof message, &comment, &comment_len)
+    return minisign_verify_in_memory(&key, signature, signature_len, data, len, crypto_sign_verify_detached, &questions,
+                                     message, sizeof message)
                    == MINISIGN_OK
                ? 0
                : 1;

@@ -59,6 +59,7 @@ static enum minisign_answer answer(const uint8_t *signature, const uint8_t *byte
 int main(int argc, char **argv)
 {
     minisign_public_key key;
+    minisign_signature signature;
     minisign_questions q;
     minisign_state state;
     FILE *data;
@@ -67,11 +68,13 @@ int main(int argc, char **argv)
     if (argc != 4 || sodium_init() < 0) {
         fail("usage: verify PUBLIC_KEY DATA SIGNATURE");
     }
-    // The key and the text of the signature come first: what is wrong with them is known before data is read.
+    // The key and the signature come first: what is wrong with them is known before data is read.
     expect(minisign_read_public_key(text, read_text(argv[1]), &key));
+    len = read_text(argv[3]);
+    expect(minisign_read_signature(text, len, &signature));
     minisign_init(&state);
     // 0: no legacy signatures, which are over the data itself. The message is never longer than the text.
-    expect(minisign_ask(&state, &key, text, read_text(argv[3]), 0, &q, message, sizeof message));
+    expect(minisign_ask(&state, &key, &signature, text, len, 0, &q, message, sizeof message));
     data = fopen(argv[2], "rb");
     while ((len = read_piece(data)) > 0) {
         expect(minisign_update(&state, text, len));
@@ -79,9 +82,9 @@ int main(int argc, char **argv)
     expect(minisign_digest(&state, q.digest));
     expect(minisign_verdict(&state, answer(q.signature, q.digest, sizeof q.digest, q.public_key),
                             answer(q.comment_signature, message, q.message_len, q.public_key)));
-    // The texts vouch for the data. The trusted comment is the message without the 64 bytes of the signature.
-    len = q.message_len - 64;
-    if (fwrite(message + 64, 1, len, stdout) != len || putchar('\n') == EOF || fflush(stdout) != 0) {
+    // The texts vouch for the data. The trusted comment is the one in the message that was verified.
+    len = q.comment_len;
+    if (fwrite(message + q.comment_offset, 1, len, stdout) != len || putchar('\n') == EOF || fflush(stdout) != 0) {
         fail("the comment cannot be written");
     }
     return 0;

@@ -3,7 +3,7 @@
 
     tests/c/aarch64.py
 
-The layout of the header's structs as it is asserted; `make check` over the kept corpus; the programs of tests/c that
+The layout of the header's structs as it is asserted; `make test` over the kept corpus; the programs of tests/c that
 need no tracing; a key that is made, sealed, opened and signed with, whose texts are those of the library for x86-64,
 and Minisign's own program verifies what it signed; an update that is installed, and an older one that is not. Where no archive
 is for what a compiler builds for, it rejects the library with a sentence that says what to do. It prints a line for each failure;
@@ -15,17 +15,15 @@ processor is fetched by apt-get, once (`emulated.py`).
 """
 
 import os
-import subprocess
 import sys
-import tempfile
 
 HERE = os.path.dirname(os.path.realpath(__file__))
 sys.path.append(os.path.join(HERE, "..", "shared"))
 
 import emulated
+import ending
 import needs
 import static_library
-from checks import Checks
 
 REJECTION = "the archives of dist/ are for x86-64 and AArch64, little-endian and with pointers of 64 bits: build with PORTABLE=1"
 # Flags under which the compilers build for what is rejected.
@@ -35,21 +33,15 @@ REJECTED = (("gcc", "-m32"), ("gcc", "-mx32"), ("aarch64-linux-gnu-gcc", "-mbig-
 def check_rejected(checks):
     for compiler, flag in REJECTED:
         status, said = emulated.run([compiler, flag, "-std=c11", "-I", emulated.INCLUDE, "-c", "-o", os.devnull,
-                                     os.path.join(static_library.DIRECTORY, "boundary.c")])
+                                     os.path.join(static_library.DIRECTORY, "library", "boundary.c")])
         checks.check(status != 0 and REJECTION in said, f"{compiler} {flag}: status {status}: {said[-300:]}")
 
 
-def main():
-    checks = Checks()
-    with tempfile.TemporaryDirectory(prefix="aarch64-") as room:
-        try:
-            needs.libsodium()
-            emulated.check_all(checks, emulated.Emulated(checks, room, emulated.AARCH64))
-            check_rejected(checks)
-        except (needs.Missing, static_library.NotBuilt, OSError, subprocess.SubprocessError) as why:
-            checks.check(False, str(why))
-    return checks.end()
+def run_all(checks, room):
+    needs.libsodium()
+    emulated.check_all(checks, emulated.Emulated(checks, room, emulated.AARCH64))
+    check_rejected(checks)
 
 
 if __name__ == "__main__":
-    sys.exit(main())
+    sys.exit(ending.check("aarch64", run_all))

@@ -1,5 +1,5 @@
 /*
- * The calls for memory of c/allocation.c, which the proved calls make: each block is whole and aligned, and cleared
+ * The calls for memory of c/library/allocation.c, which the proved calls make: each block is whole and aligned, and cleared
  * when it is given back, also where it was moved because it grew; what is refused leaves the older block; only large
  * blocks are brought in at once, and it does no harm where the system refuses that. Then the same of the library's own:
  * a key that is made, opened and signed with gives everything back, and cleared.
@@ -15,9 +15,19 @@
 #define LARGE_FRONT_BYTES sizeof(struct front)
 #define HINTS(len) 0
 #else
-#include "../../c/allocation.c"
+#include "../../c/library/allocation.c"
 
 #define HINTS(len) ((len) >= LARGE_BYTES ? 2 : 0)
+#endif
+
+/* The rows of a key that are such a block, and how many times as great the next alignment is that is asked for: with
+ * -DIS_EMULATED the smallest, and fewer of them. */
+#ifdef IS_EMULATED
+#define LARGE_ROWS LARGE_BYTES
+#define NEXT_ALIGNMENT 64
+#else
+#define LARGE_ROWS ((size_t) 16 << 20)
+#define NEXT_ALIGNMENT 4
 #endif
 
 #include <errno.h>
@@ -262,7 +272,7 @@ static void check_blocks(void)
     static const size_t lens[] = { 0, 1, 15, 16, 17, 1000, LARGE_BYTES - 1, LARGE_BYTES, LARGE_BYTES + 123457 };
 
     for (size_t one = 0; one < sizeof lens / sizeof *lens; one++) {
-        for (size_t alignment = 1; alignment <= 4096; alignment *= 4) {
+        for (size_t alignment = 1; alignment <= 4096; alignment *= NEXT_ALIGNMENT) {
             check_block(lens[one], alignment, lens[one] + 100);
             check_block(lens[one], alignment, lens[one] / 2);
         }
@@ -348,7 +358,7 @@ int main(void)
     check_blocks();
     check_lengths();
     check_library(1 << 20);
-    check_library(16 << 20);
+    check_library(LARGE_ROWS);
     printf("%u passed, %u failed\n", passed, failed);
     return failed != 0;
 }

@@ -38,11 +38,26 @@ static void add_questions(const minisign_questions *questions)
     add(questions->digest, sizeof questions->digest);
     add(questions->signature, sizeof questions->signature);
     add(questions->comment_signature, sizeof questions->comment_signature);
-    add(questions->public_key_id, sizeof questions->public_key_id);
-    add(questions->signature_key_id, sizeof questions->signature_key_id);
     add_number(questions->message_len);
+    add_number(questions->comment_offset);
+    add_number(questions->comment_len);
     add_number(questions->legacy);
     add_number(questions->reserved);
+}
+
+static void add_signature(const minisign_signature *signature)
+{
+    add_number(signature->mark);
+    add(signature->key_id, sizeof signature->key_id);
+    add(signature->signature, sizeof signature->signature);
+    add(signature->comment_signature, sizeof signature->comment_signature);
+    add_number(signature->comment_offset);
+    add_number(signature->comment_len);
+    add(signature->text_digest, sizeof signature->text_digest);
+    add(signature->algorithm, sizeof signature->algorithm);
+    add(&signature->legacy, sizeof signature->legacy);
+    add(&signature->whole, sizeof signature->whole);
+    add_number(signature->reserved);
 }
 
 static size_t length_in(FILE *file)
@@ -66,9 +81,9 @@ static void tell_error_texts(void)
     printf("%016llx\n", (unsigned long long) sum);
 }
 
-/* A text is asked about, and judged, with data that comes before and after it is asked. */
-static void tell_verdict(const minisign_public_key *key, const uint8_t *text, size_t text_len, const uint8_t *data, size_t len,
-                         uint32_t legacy, uint32_t answers, size_t room)
+/* A signature is asked about with a text, and judged, with data that comes before and after it is asked. */
+static void tell_verdict(const minisign_public_key *key, const minisign_signature *signature, const uint8_t *text,
+                         size_t text_len, const uint8_t *data, size_t len, uint32_t legacy, uint32_t answers, size_t room)
 {
     static uint8_t message[MOST];
     minisign_state state;
@@ -80,7 +95,7 @@ static void tell_verdict(const minisign_public_key *key, const uint8_t *text, si
     memset(message, 0, room);
     minisign_init(&state);
     printf("%d ", minisign_update(&state, data, len / 3));
-    error = minisign_ask(&state, key, text, text_len, legacy, &questions, message, room);
+    error = minisign_ask(&state, key, signature, text, text_len, legacy, &questions, message, room);
     printf("%d ", error);
     add_questions(&questions);
     add(message, room);
@@ -106,6 +121,7 @@ int main(int argc, char **argv)
     tell_error_texts();
     for (size_t number = 0, count = length_in(file); number < count; number++) {
         minisign_public_key key, bare;
+        minisign_signature signature;
         size_t lens[3];
 
         for (int i = 0; i < 3; i++) {
@@ -121,8 +137,14 @@ int main(int argc, char **argv)
         printf("%d ", minisign_read_bare_public_key(texts[0], lens[0], &bare));
         add(&key, sizeof key);
         add(&bare, sizeof bare);
+        memset(&signature, 11, sizeof signature);
+        printf("%d ", minisign_read_signature(texts[1], lens[1], &signature));
+        add_signature(&signature);
         for (uint32_t i = 0; i < 12; i++) {
-            tell_verdict(&key, texts[1], lens[1], texts[2], lens[2], i / 4, i % 4, number % 16 == 5 ? 70 : lens[1]);
+            /* (one in sixteen has too little room, one another text, and one another place in it) */
+            signature.comment_offset += number % 16 == 6 ? UINT64_C(1) << 5 * i : 0;
+            tell_verdict(&key, &signature, texts[1], lens[1] - (number % 16 == 7 && lens[1] > 0), texts[2], lens[2], i / 4, i % 4,
+                         number % 16 == 5 ? 70 : lens[1]);
         }
         printf("%016llx\n", (unsigned long long) sum);
     }

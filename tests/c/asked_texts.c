@@ -1,7 +1,7 @@
 /*
- * What asking about texts tells, of keys and signatures that Minisign 0.11 made of the bytes `hello` and a line feed,
- * and the number for each text that is rejected. The bytes were read from the texts by Python's base64; the digest is
- * that of its hashlib.
+ * What reading the texts of signatures and asking about them tells, of keys and signatures that Minisign 0.11 made of the
+ * bytes `hello` and a line feed, and the number for each text that is rejected. The bytes were read from the texts by
+ * Python's base64; the digests are those of its hashlib.
  *
  * Prints a line for each check that failed; the last line is `N passed, M failed`.
  */
@@ -15,11 +15,7 @@
 static const char HELLO_KEY[] =
     "untrusted comment: minisign public key 21E66B4C8EEFA0B8\n"
     "RWS4oO+OTGvmIXV1rhgpjypAJvWKm8TwdV4j02FufATCsUQLjhDbStyt\n";
-static const char PREHASHED[] =
-    "untrusted comment: signature from minisign secret key\n"
-    "RUS4oO+OTGvmIe/AFUZesFY/ONgyTgR9P0wlXFBD98cDX7Pao0WBeMSBQywks6PdOxlxIHanFJJYpkqO7tBvYfnm/DXVQmwFYQ0=\n"
-    "trusted comment: a trusted comment\n"
-    "VFXOnLXSP360tFPUt7eqzsSHMo0p1bPS9fRkoO0MOvNy8kHZu0k9okhkkORQyQv79DEl+OdNXurVl1Qt+AMEAQ==\n";
+#define PREHASHED OTHER_SIGNATURE
 static const char LEGACY[] =
     "untrusted comment: signature from minisign secret key\n"
     "RWS4oO+OTGvmIcHetHX599qG6/i09pVioeH0Umw8EEv2i9Ffh4iP+9DymMyoIzgOi2HvHMVwpgy7eZcTmBQ8kBFXYTby9app8AM=\n"
@@ -31,6 +27,15 @@ static const uint8_t DIGEST[64] = {
     0xf4, 0xca, 0x3a, 0x87, 0xd0, 0x66, 0xbf, 0x4b, 0x20, 0x5e, 0xff, 0xb5, 0x28, 0x19, 0x2a, 0x75,
     0xf1, 0x4f, 0x32, 0x71, 0xe2, 0xc1, 0xa9, 0x0e, 0x1d, 0xe5, 0x3f, 0x27, 0x5b, 0x4d, 0x47, 0x93,
     0xee, 0xf2, 0xf5, 0xe3, 0x1e, 0xa9, 0x0d, 0x2c, 0xe2, 0x9d, 0x2e, 0x48, 0x1c, 0x36, 0x43, 0x5f,
+};
+/* The Blake2b digests of 32 bytes of PREHASHED and of LEGACY. */
+static const uint8_t TEXT_DIGEST[32] = {
+    0x3d, 0x5e, 0x04, 0x55, 0x56, 0x97, 0x19, 0xfc, 0x7b, 0x08, 0xd2, 0x32, 0x8d, 0x47, 0x38, 0xeb,
+    0x12, 0xc3, 0xfa, 0x4e, 0xc4, 0xb6, 0xa0, 0x7c, 0xf5, 0x54, 0xac, 0x51, 0xbe, 0x49, 0x58, 0x55,
+};
+static const uint8_t LEGACY_TEXT_DIGEST[32] = {
+    0xad, 0xd9, 0x1b, 0x15, 0x25, 0x41, 0xff, 0xc3, 0xce, 0x0f, 0xd0, 0x91, 0xe4, 0x5f, 0x10, 0x29,
+    0x63, 0x5c, 0x40, 0x7b, 0x50, 0xcb, 0xf4, 0x87, 0xff, 0x39, 0x3c, 0xdd, 0xc5, 0x28, 0x42, 0x15,
 };
 static const uint8_t PUBLIC_KEY[32] = {
     0x75, 0x75, 0xae, 0x18, 0x29, 0x8f, 0x2a, 0x40, 0x26, 0xf5, 0x8a, 0x9b, 0xc4, 0xf0, 0x75, 0x5e,
@@ -98,8 +103,7 @@ static enum minisign_error ask(minisign_state *state, const char *key, const cha
     enum minisign_error error = minisign_read_public_key((const uint8_t *) key, strlen(key), &pk);
 
     return error != MINISIGN_OK ? error
-                                : minisign_ask(state, &pk, (const uint8_t *) signature, strlen(signature), allow_legacy, &questions,
-                                               message, sizeof message);
+                                : read_and_ask(state, &pk, signature, allow_legacy, &questions, message, sizeof message);
 }
 
 static enum minisign_error open_key(const char *key, const char *password)
@@ -110,6 +114,29 @@ static enum minisign_error open_key(const char *key, const char *password)
            : password == NULL   ? minisign_open_unsealed_key(&unopened, &signing)
                                 : minisign_open_sealed_key(&unopened, (const uint8_t *) password, strlen(password),
                                                            MINISIGN_KEEP_EVERY_ROW, MINISIGN_USUAL_ROWS, &signing);
+}
+
+/* A signature is what its text says, before anything is asked. */
+static void read_as(void)
+{
+    static const char cut[] = "untrusted comment: x\r\n"
+                              "RUS4oO+OTGvmIe/AFUZesFY/ONgyTgR9P0wlXFBD98cDX7Pao0WBeMSBQywks6PdOxlxIHanFJJYpkqO7tBvYfnm/DXVQmwFYQ0=\n"
+                              "trusted comment: \t \xc3\xa9 t \r\nAAAA";
+    static const uint8_t zeros[64];
+    minisign_signature prehashed = signature_of(PREHASHED), legacy = signature_of(LEGACY), short_one = signature_of(cut);
+
+    CHECK(memcmp(prehashed.key_id, KEY_ID, 8) == 0 && memcmp(prehashed.algorithm, "ED", 2) == 0);
+    CHECK(memcmp(prehashed.signature, SIGNATURE_BYTES, 64) == 0 && memcmp(prehashed.comment_signature, COMMENT_SIGNATURE, 64) == 0);
+    CHECK(prehashed.legacy == 0 && prehashed.whole == 1 && prehashed.reserved == 0);
+    CHECK(prehashed.comment_len == sizeof COMMENT - 1 && PREHASHED + prehashed.comment_offset == strstr(PREHASHED, COMMENT));
+    CHECK(memcmp(prehashed.text_digest, TEXT_DIGEST, 32) == 0 && prehashed.mark != 0);
+    CHECK(memcmp(legacy.key_id, KEY_ID, 8) == 0 && memcmp(legacy.algorithm, "Ed", 2) == 0);
+    CHECK(legacy.legacy == 1 && legacy.whole == 1 && legacy.reserved == 0 && legacy.mark == prehashed.mark);
+    CHECK(legacy.comment_len == strlen("legacy one") && LEGACY + legacy.comment_offset == strstr(LEGACY, "legacy one"));
+    CHECK(memcmp(legacy.text_digest, LEGACY_TEXT_DIGEST, 32) == 0);
+    /* White space at the ends of a comment is not part of it, and a comment signature may be too short. */
+    CHECK(memcmp(short_one.signature, SIGNATURE_BYTES, 64) == 0 && memcmp(short_one.comment_signature, zeros, 64) == 0);
+    CHECK(short_one.whole == 0 && short_one.comment_len == 4 && cut + short_one.comment_offset == strstr(cut, "\xc3\xa9 t"));
 }
 
 /* The questions are those of the texts, and both answers decide. */
@@ -123,8 +150,8 @@ static void told(void)
     CHECK(memcmp(questions.public_key, PUBLIC_KEY, 32) == 0 && memcmp(questions.digest, zeros, 64) == 0);
     CHECK(memcmp(questions.signature, SIGNATURE_BYTES, 64) == 0);
     CHECK(memcmp(questions.comment_signature, COMMENT_SIGNATURE, 64) == 0);
-    CHECK(memcmp(questions.public_key_id, KEY_ID, 8) == 0 && memcmp(questions.signature_key_id, KEY_ID, 8) == 0);
-    CHECK(questions.message_len == sizeof message && questions.legacy == 0);
+    CHECK(questions.message_len == sizeof message && questions.legacy == 0 && questions.reserved == 0);
+    CHECK(questions.comment_offset == 64 && questions.comment_len == sizeof COMMENT - 1);
     CHECK(memcmp(message, SIGNATURE_BYTES, 64) == 0 && memcmp(message + 64, COMMENT, sizeof COMMENT - 1) == 0);
     CHECK(minisign_comment_verdict(&state, MINISIGN_ANSWER_YES) == MINISIGN_OK);
     feed(&state);
@@ -228,6 +255,7 @@ static void written(void)
 
 int main(void)
 {
+    read_as();
     told();
     rejected();
     opened();

@@ -18,15 +18,14 @@ import re
 import shutil
 import subprocess
 import sys
-import tempfile
 import time
 
 HERE = os.path.dirname(os.path.realpath(__file__))
 sys.path.append(os.path.join(HERE, "..", "shared"))
 
+import ending
 import needs
 import static_library
-from checks import Checks
 
 TOP = os.path.realpath(os.path.join(HERE, "..", ".."))
 # What is in PATH: of Debian's base, of gcc, and of make and binutils.
@@ -42,16 +41,17 @@ VERIFIED = "Signature and comment signature verified\nTrusted comment: timestamp
 
 
 class Tree:
-    """A clean copy of the repository, and the few programs that are in PATH."""
+    """A clean copy of the repository, or what stands in this directory, and the few programs that are in PATH."""
 
-    def __init__(self, room):
-        self.top, self.bin = os.path.join(room, "tree"), os.path.join(room, "bin")
-        copy_tree(self.top)
+    def __init__(self, room, top=None):
+        self.top, self.bin = top or os.path.join(room, "tree"), os.path.join(room, "bin")
+        if top is None:
+            copy_tree(self.top)
         os.mkdir(self.bin)
         compiler = needs.libsodium()
         where = static_library.path_without_kit()
         for name in (*BASE, *TOOLS):
-            os.symlink(needs.need(lambda it=name: shutil.which(it, path=where), f"the program {name}", "make", "binutils"),
+            os.symlink(needs.need(lambda value=name: shutil.which(value, path=where), f"the program {name}", "make", "binutils"),
                        os.path.join(self.bin, name))
         for name in COMPILER:
             os.symlink(compiler, os.path.join(self.bin, name))
@@ -175,20 +175,11 @@ def check_kit(checks, tree):
     checks.check(status != 0 and len(lines) == 1 and "Rattle kit" in lines[0], f"prove without the kit: status {status}: {said}")
 
 
-def main():
-    checks = Checks()
-    with tempfile.TemporaryDirectory(prefix="at-hand-") as room:
-        try:
-            tree = Tree(room)
-            check_building(checks, tree)
-            check_older(checks, tree)
-            check_damaged(checks, tree)
-            check_without_sources(checks, tree)
-            check_kit(checks, tree)
-        except (needs.Missing, OSError) as why:
-            checks.check(False, str(why))
-    return checks.end()
+def run_all(checks, room):
+    tree = Tree(room)
+    for check in (check_building, check_older, check_damaged, check_without_sources, check_kit):
+        check(checks, tree)
 
 
 if __name__ == "__main__":
-    sys.exit(main())
+    sys.exit(ending.check("at-hand", run_all))

@@ -21,25 +21,24 @@ import re
 import shutil
 import subprocess
 import sys
-import tempfile
 
 HERE = os.path.dirname(os.path.realpath(__file__))
-sys.path += [os.path.join(HERE, "..", it) for it in ("shared", "bindings")]
+sys.path += [os.path.join(HERE, "..", name) for name in ("shared", "bindings")]
 
+import ending
 import installed
 import needs
 import static_library
 from at_hand import copy_tree
-from checks import Checks
 from python import python
 
 PLACE = os.path.join("a b", "c d")
 # The directories that have a Makefile, with what is built there in a directory of others, and what is tried with a wrong OUT.
-MAKEFILES = {"c": ("all", "release"), "bindings": ("rust", "go"), "examples/rust": ("LIBRARY=../../library/libminisign.a",)}
+MAKEFILES = {"c": ("all", "release"), "bindings": ("rust", "go"), "examples/rust": ()}
 GOALS = {"c": ("all", "install", "release", "uninstall", "clean"), "bindings": ("all", "rust", "javascript", "clean"),
          "examples/rust": ("out/minisign-verify", "clean")}
 # Where paths in the copy, and in its directories, lead that fall apart at their blanks.
-NEIGHBOURS = ("a", "a b/c", *(f"{PLACE}/{directory}/{it}" for directory in MAKEFILES for it in ("b/c", "d/bindings/out/rust", "d/c/out")))
+NEIGHBOURS = ("a", "a b/c", *(f"{PLACE}/{directory}/{name}" for directory in MAKEFILES for name in ("b/c", "d/bindings/out/rust", "d/c/out")))
 FILE = "a file of others"
 # What others may have where something is built or packed: by other names, and by ours.
 OTHERS = ("notes", "rust/notes", "go/notes", "python/notes", "javascript/notes", "library/notes", "minisign-in-rattle-0.2.0/notes")
@@ -106,8 +105,8 @@ def check_run(checks, what, ran, part=""):
 def check_building(checks, copy):
     """What is built verifies a download."""
     check_run(checks, "make -C c", copy.make("c"))
-    check_run(checks, "make -C c check", copy.make("c", "check"), " 0 failed")
-    check_run(checks, "make -C examples/rust", copy.make("examples/rust", f"RUSTC={copy.environment['RUSTC']}"))
+    check_run(checks, "make -C c test", copy.make("c", "test"), " 0 failed")
+    check_run(checks, "make -C examples/rust", copy.make("examples/rust", f"CARGO={copy.cargo}"))
     words = ("published.pub", "test", "published.minisig")
     check_run(checks, "the example", copy.run(copy.path("examples/rust/out/minisign-verify"), *words, at="tests/corpus"), "timestamp:1556193335")
     page = ("page/build.py", "--from", copy.path("dist/minisign.html"), "--key", KEY, "a page.html")
@@ -147,9 +146,9 @@ def check_packages(checks, copy):
     archives = files_below(copy.path("bindings/out"))
     checks.check(len(archives) == len(packages) + 1, f"packed are {sorted(archives)}")
     for what, directory in (("the crate", copy.unpack("bindings/out/*.crate", "a crate")), ("the crate in the repository", "bindings/rust")):
-        check_run(checks, what, copy.run(copy.cargo, "test", "--quiet", "--doc", at=directory), "test result: ok. 2 passed")
+        check_run(checks, what, copy.run(copy.cargo, "test", "--quiet", "--doc", at=directory), "test result: ok. 3 passed")
     check_run(checks, "the module", copy.run(copy.go, "test", at=copy.unpack("bindings/out/*go*.tar.gz", "a module")), "ok")
-    (archive,) = [it for it in archives if it.endswith(".tar.gz") and "go" not in it]
+    (archive,) = [archive for archive in archives if archive.endswith(".tar.gz") and "go" not in archive]
     check_run(checks, "the wheel", copy.run(copy.python, "-m", "pip", "wheel", "-q", "--no-index", "--no-build-isolation", "--no-deps",
                                             "-w", copy.path("a wheel"), copy.path("bindings/out", archive)))
     checks.check(len(os.listdir(copy.path("a wheel"))) == 1, "no wheel was built")
@@ -169,8 +168,8 @@ def check_cleaning(checks, copy):
         up = os.path.relpath("named", directory)
         check_run(checks, f"make -C {directory} OUT={up}", copy.make(directory, *words, f"OUT={up}", f"CARGO={copy.cargo}"))
         checks.check(len(files_below(copy.path("named"))) > len(OTHERS), f"make -C {directory} OUT={up} builds nothing there")
-        for it in ("named", "never"):
-            check_run(checks, f"make -C {directory} clean", copy.make(directory, "clean", f"OUT={os.path.relpath(it, directory)}"))
+        for each in ("named", "never"):
+            check_run(checks, f"make -C {directory} clean", copy.make(directory, "clean", f"OUT={os.path.relpath(each, directory)}"))
         checks.check(files_below(copy.path("named")) == {*OTHERS}, f"where {directory} has built is {files_below(copy.path('named'))}")
     checks.check(files_below(copy.path("never")) == {*OTHERS, *OURS}, f"where nothing was built is {files_below(copy.path('never'))}")
 
@@ -194,6 +193,9 @@ def check_rejected(checks, copy):
 
 
 def run_all(checks, room):
+    needs.libsodium()
+    for name, package in (("make", "make"), ("ld", "binutils")):
+        needs.program(name, package)
     copy = Copy(room)
     check_rejected(checks, copy)
     check_building(checks, copy)
@@ -203,22 +205,9 @@ def run_all(checks, room):
     check_cleaning(checks, copy)
     for name in NEIGHBOURS:
         checks.check(files_below(os.path.join(room, name)) >= {FILE}, f"what others had in {name} is not there any more")
-    beside = {*os.listdir(room)} | {f"a b/{it}" for it in os.listdir(os.path.join(room, "a b"))}
+    beside = {*os.listdir(room)} | {f"a b/{name}" for name in os.listdir(os.path.join(room, "a b"))}
     checks.check(beside == {"a", "a b", "a b/c", "a b/c d", "tem p"}, f"beside the copy stands {sorted(beside)}")
 
 
-def main():
-    checks = Checks()
-    with tempfile.TemporaryDirectory(prefix="blanks-") as room:
-        try:
-            needs.libsodium()
-            for name, package in (("make", "make"), ("ld", "binutils")):
-                needs.program(name, package)
-            run_all(checks, room)
-        except (needs.Missing, static_library.NotBuilt, OSError, ValueError, subprocess.SubprocessError) as why:
-            checks.check(False, f"it did not go on: {why!r}")
-    return checks.end()
-
-
 if __name__ == "__main__":
-    sys.exit(main())
+    sys.exit(ending.check("blanks", run_all, ValueError))

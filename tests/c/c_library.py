@@ -17,19 +17,18 @@ Needs Python 3.9 or later, a C compiler and a C++ compiler, and installs what is
 """
 
 import os
-import subprocess
 import sys
-import tempfile
 
 HERE = os.path.dirname(os.path.realpath(__file__))
 sys.path.append(os.path.join(HERE, "..", "shared"))
 
+import ending
 import exports
 import needs
 import static_library
+from process import run
 
 INCLUDE = os.path.join(HERE, "..", "..", "include")
-SECONDS = 300
 STRICT = ["-Wall", "-Wextra", "-Wpedantic", "-Werror"]
 SANITIZED = ["-fsanitize=address,undefined", "-fno-sanitize-recover=all"]
 WRAPPED = ["-Wl,--wrap=malloc", "-Wl,--wrap=realloc", "-Wl,--wrap=free"]
@@ -39,13 +38,6 @@ THREADS = "-Wl,--wrap=pthread_create"
 PROGRAMS = {"usage_errors": [], "asked_texts": [], "error_texts": [], "public_keys": WRAPPED, "out_of_memory": [*WRAPPED, THREADS],
             "allocations": [*WRAPPED, "-Wl,--wrap=madvise"], "installations": WRAPPED, "null": [], "guard_pages": [], "threads": ["-pthread"],
             "random_calls": []}
-
-
-def run(command):
-    """Runs a command: its status, and all that it said."""
-    ran = subprocess.run(command, stdin=subprocess.DEVNULL, stdout=subprocess.PIPE, stderr=subprocess.STDOUT,
-                         timeout=SECONDS)
-    return ran.returncode, ran.stdout.decode(errors="replace")
 
 
 def header_failures(compiler, cpp, room):
@@ -106,7 +98,7 @@ OTHERS = {"for x86-64-v2": f"V3={static_library.DIST}/calls-x86-64-v2.a",
 def threads_named(library):
     """The calls for threads that a library makes."""
     _, said = run([needs.program("nm", "binutils"), "--undefined-only", library])
-    return sorted({it.split()[-1] for it in said.splitlines() if "pthread" in it})
+    return sorted({line.split()[-1] for line in said.splitlines() if "pthread" in line})
 
 
 def run_other(kind, room):
@@ -120,26 +112,19 @@ def run_other(kind, room):
     flags = ["-DMINISIGN_NO_THREADS"] if kind == "without threads" else []
     for name in PROGRAMS:
         some, ran = program_failures(needs.c_compiler(), library, name, flags, room)
-        failures += [f"{kind}: {it}" for it in some]
+        failures += [f"{kind}: {failure}" for failure in some]
         count += ran
     return failures, count
 
 
-def main():
-    with tempfile.TemporaryDirectory(prefix="c-library-") as room:
-        try:
-            library = sys.argv[1] if len(sys.argv) > 1 else static_library.library(os.path.join(room, "c"))
-            failures, count = run_all(os.path.realpath(library), room)
-            for kind in OTHERS if len(sys.argv) <= 1 else ():
-                some, ran = run_other(kind, room)
-                failures, count = failures + some, count + ran
-        except (needs.Missing, static_library.NotBuilt) as why:
-            failures, count = [str(why)], 0
-    for failure in failures:
-        print(f"FAILED: {failure}")
-    print(f"{count} passed, {len(failures)} failed")
-    return 1 if failures else 0
+def main(room):
+    library = sys.argv[1] if len(sys.argv) > 1 else static_library.library(os.path.join(room, "c"))
+    failures, count = run_all(os.path.realpath(library), room)
+    for kind in OTHERS if len(sys.argv) <= 1 else ():
+        some, ran = run_other(kind, room)
+        failures, count = failures + some, count + ran
+    return failures, count + len(failures)
 
 
 if __name__ == "__main__":
-    sys.exit(main())
+    sys.exit(ending.main("c-library", main))

@@ -146,7 +146,7 @@ static enum minisign_error open_text(const uint8_t *of, size_t len, uint32_t wit
 }
 
 /* Memory that the caller lends: it is not the caller's own when it is searched, for the library has cleared it. */
-static uint32_t words[256 * (16384 + 3)];
+static uint32_t words[256 * (4096 + 3)];
 static uint8_t room_of_parts[1024];
 
 static enum minisign_error open_text_in_place(const uint8_t *of, size_t len)

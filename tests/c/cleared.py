@@ -30,24 +30,24 @@ HERE = os.path.dirname(os.path.realpath(__file__))
 SHARED = os.path.join(HERE, "..", "shared")
 sys.path += [SHARED, os.path.join(HERE, "..", "whole")]
 
+import ending
 import needles
 import needs
 import proved
 import static_library
-from checks import Checks
 from running import build_preload
 from whole_running import put_files, record_of, sealed
 
-SECONDS = 600
+SECONDS = 1800
 STRICT = ["-std=c11", "-Wall", "-Wextra", "-Wpedantic", "-Werror"]
-SEED, PUBLIC_HALF = (hashlib.sha256(it).digest() for it in (b"the seed", b"the public half"))
+SEED, PUBLIC_HALF = (hashlib.sha256(part).digest() for part in (b"the seed", b"the public half"))
 PASSWORD = b"correct horse battery staple 42"
 SALT = bytes(range(32))
-# The limits of a key, and what scrypt's N and p are then; the rows of the second take 16 MiB, which is a large block.
-LITTLE, LARGE = ((32768, 1048576, 1024, 1), (524288, 16777216, 16384, 1))
+# The limits of a key, and what scrypt's N and p are then; the rows of the second take 4 MiB, which is a large block.
+LITTLE, LARGE = ((32768, 1048576, 1024, 1), (131072, 4194304, 4096, 1))
 LEVELS = ("-O0", "-O2")
 # (of the calls as C their compiler decides what is left)
-COPIES = {"x86-64-v2": ["V3=../dist/calls-x86-64-v2.a"], "x86-64-v3": [], "C": ["PORTABLE=1"]}
+COPIES = {"x86-64-v2": ["V3=../dist/calls-x86-64-v2.a", "C_CALLS="], "x86-64-v3": ["C_CALLS="], "C": ["PORTABLE=1"]}
 LEFT = "what is left by intent"
 STEPS = 19
 # Which needles are the caller's own, after each step that has one: the search finds them where they belong.
@@ -102,6 +102,14 @@ class Run:
         return {key: counts[:3] for key, counts in self.found.items() if any(counts[:3]) and key[0] != LEFT}
 
 
+def run(command):
+    """Runs a command that has to succeed."""
+    ran = subprocess.run(command, env=dict(os.environ, PATH=static_library.path_without_kit()), stdin=subprocess.DEVNULL,
+                         stdout=subprocess.PIPE, stderr=subprocess.STDOUT, timeout=SECONDS)
+    if ran.returncode != 0:
+        raise static_library.NotBuilt(f"{' '.join(command)}: {ran.stdout.decode(errors='replace')[-800:]}")
+
+
 class Builder:
     """Builds the library and cleared.c, from a copy of the sources or from themselves."""
 
@@ -130,30 +138,29 @@ class Builder:
         """The path of the program."""
         self.count += 1
         out = os.path.join(self.room, f"out{self.count}")
-        command = ["make", "-s", "-C", os.path.join(top, "c"), f"CC={compiler}", f"CFLAGS={level}", "CPPFLAGS=", f"OUT={out}", *flags,
-                   f"{out}/libminisign.a"]
-        made = os.path.join(out, "cleared")
-        for it in (command, [compiler, *STRICT, level, "-I", os.path.join(top, "include"), "-I", self.room, "-I", SHARED, "-o", made,
-                             os.path.join(HERE, "cleared.c"), os.path.join(out, "libminisign.a"), *linking]):
-            ran = subprocess.run(it, env=dict(os.environ, PATH=static_library.path_without_kit()), stdin=subprocess.DEVNULL,
-                                 stdout=subprocess.PIPE, stderr=subprocess.STDOUT, timeout=SECONDS)
-            if ran.returncode != 0:
-                raise static_library.NotBuilt(f"{' '.join(it)}: {ran.stdout.decode(errors='replace')[-800:]}")
-        return made
+        run(["make", "-s", "-C", os.path.join(top, "c"), f"CC={compiler}", f"CFLAGS={level}", "CPPFLAGS=", f"OUT={out}", *flags,
+             f"{out}/libminisign.a"])
+        return self.linked(compiler, level, os.path.join(out, "libminisign.a"), top, linking)
 
+    def linked(self, compiler, level, library, top=proved.ROOT, linking=()):
+        """The path of the program, over a library that was built."""
+        made = os.path.join(os.path.dirname(library), "cleared")
+        run([*compiler.split(), *STRICT, level, "-I", os.path.join(top, "include"), "-I", self.room, "-I", SHARED, "-o", made,
+             os.path.join(HERE, "cleared.c"), library, *linking])
+        return made
 
     def minisign(self, level, top=proved.ROOT):
         """The path of the program minisign."""
         self.count += 1
         out = os.path.join(self.room, f"out{self.count}")
         static_library.run_make("-C", os.path.join(top, "c"), f"OUT={out}", f"CC={needs.libsodium()}", f"CFLAGS={level}", "CPPFLAGS=",
-                                f"{out}/minisign")
+                                "C_CALLS=", f"{out}/minisign")
         return f"{out}/minisign"
 
 
 def cleared_bytes():
     """How much of the stack is cleared."""
-    with open(os.path.join(static_library.DIRECTORY, "clearing.h"), encoding="utf-8") as file:
+    with open(os.path.join(static_library.DIRECTORY, "library/clearing.h"), encoding="utf-8") as file:
         return int(re.search(r"^#define CLEARED_BYTES (\d+)$", file.read(), re.M)[1])
 
 
@@ -248,7 +255,7 @@ def check_program(checks, builder):
         for arguments, typed in RUNS:
             searched.check(checks, arguments, typed)
     for old, new in ((r"sodium_malloc\(sizeof \*secrets\)", "malloc(sizeof *secrets)"), (r"clean_at_end\(clear_secrets\);", "")):
-        searched = Searched(builder.room, builder.minisign("-O2", builder.copy(("keys.c", old, new))), new)
+        searched = Searched(builder.room, builder.minisign("-O2", builder.copy(("minisign/keys.c", old, new))), new)
         wrong = [misplaced(searched.search(arguments, typed)[2]) for arguments, typed in RUNS]
         checks.check(all(wrong), f"minisign with {new!r} in place of {old!r}: {wrong}")
 
@@ -258,10 +265,10 @@ def check_program(checks, builder):
 # What is taken away, of which file, in whose place what stands, and what is found then.
 STACK, REGISTERS, ELSEWHERE = 1, 0, 2
 BUGS = {
-    "nothing is cleared after a call": ([("boundary.c", r"    minisign_clear_used\(\);\n", "")], STACK),
-    "too little of the stack is cleared": ([("clearing.h", r"CLEARED_BYTES 16384", "CLEARED_BYTES 256")], STACK),
-    "registers are not cleared": ([("clearing.c", r'"(?:pxor|vpxorq|vzeroall)[^"]*"', '""')], REGISTERS),
-    "what is given back is not cleared": ([("allocation.c", r"    clear\(block, front\.len\);\n", "    (void) clear;\n")], ELSEWHERE),
+    "nothing is cleared after a call": ([("library/boundary.c", r"    minisign_clear_used\(\);\n", "")], STACK),
+    "too little of the stack is cleared": ([("library/clearing.h", r"CLEARED_BYTES 16384", "CLEARED_BYTES 256")], STACK),
+    "registers are not cleared": ([("library/clearing.c", r'"(?:pxor|vpxorq|vzeroall)[^"]*"', '""')], REGISTERS),
+    "what is given back is not cleared": ([("library/allocation.c", r"    clear\(block, front\.len\);\n", "    (void) clear;\n")], ELSEWHERE),
 }
 
 
@@ -269,7 +276,7 @@ def check_bugs(checks, builder):
     """Where the clearing is taken away, something is found; how deep a call goes without it."""
     compiler = needs.c_compiler()
     for what, (changes, place) in BUGS.items():
-        run = Run([builder.program(compiler, "-O2", top=builder.copy(*changes))])
+        run = Run([builder.program(compiler, "-O2", "C_CALLS=", top=builder.copy(*changes))])
         left = run.left()
         checks.check(not run.wrong and any(counts[place] for counts in left.values()), f"where {what}: {run.wrong[:5]}, left: {left}")
         if place == STACK and "nothing" in what:
@@ -296,21 +303,14 @@ def run_all(checks, room):
                "libc6-dev-arm64-cross")
     emulator = [needs.program("qemu-aarch64-static", "qemu-user-static"), "-L", "/usr/aarch64-linux-gnu"]
     for level in LEVELS:
-        for copy, flags in {"its archive": [], "C": ["PORTABLE=1"]}.items():
-            check_run(checks, f"AArch64, {copy}, {level}", Run([*emulator, builder.program(compiler, level, *flags, linking=["-static"])]))
+        check_run(checks, f"AArch64, its archive, {level}", Run([*emulator, builder.program(compiler, level, linking=["-static"])]))
+    # (as make builds it: without -O2 it takes half a minute in the emulator, and is seen on x86-64)
+    for by in (compiler, f"{needs.program('clang', 'clang')} --target=aarch64-linux-gnu"):
+        program = builder.program(by, "-O2", "PORTABLE=1", linking=["-static"])
+        check_run(checks, f"AArch64, C by {os.path.basename(by)}", Run([*emulator, program]))
     check_program(checks, builder)
     check_bugs(checks, builder)
 
 
-def main():
-    checks = Checks()
-    with tempfile.TemporaryDirectory(prefix="cleared-") as room:
-        try:
-            run_all(checks, room)
-        except (needs.Missing, static_library.NotBuilt, OSError, subprocess.SubprocessError) as why:
-            checks.check(False, str(why))
-    return checks.end()
-
-
 if __name__ == "__main__":
-    sys.exit(main())
+    sys.exit(ending.check("cleared", run_all))

@@ -8,7 +8,7 @@ Each ends with the status that its document says, and leaves what that says. Aft
 clone, and no secret key lies outside of the directories that git ignores. Commands that need the kit are left out, and
 named. It prints a line for each failure; the last line is `N passed, M failed`.
 
-Needs Python 3.9 or later, git, make, binutils, a C compiler, rustc and libsodium with its header, and installs what is not
+Needs Python 3.9 or later, git, make, binutils, a C compiler, cargo, rustc and libsodium with its header, and installs what is not
 there where it may.
 """
 
@@ -19,27 +19,29 @@ import re
 import shutil
 import subprocess
 import sys
-import tempfile
 
 HERE = os.path.dirname(os.path.realpath(__file__))
-sys.path += [os.path.join(HERE, "..", it) for it in ("shared", "whole")]
+sys.path += [os.path.join(HERE, "..", name) for name in ("shared", "whole")]
 
+import ending
 import needs
 import static_library
 from at_hand import TOP, copy_tree
-from checks import Checks
 from whole_running import AtTerminal
 
 DOCUMENTS = ("README.md", "examples/README.md", "docs/INSTALLING.md")
-# What is left out, and why.
-LEFT_OUT = {"make -C c prove": "it needs the kit", "bash .ci/run": "it needs the kit"}
+# What is left out, by how it begins, and why.
+LEFT_OUT = {"make -C c prove": "it needs the kit", "bash .ci/run": "it needs the kit", "make -C c check": "it runs this",
+            "apt install ": "it changes the system"}
 # The commands that end with another status than 0, by how they begin.
-STATUSES = {"../c/out/minisign-install --check ": 8}
-# What each of these says is all that it says.
+STATUSES = {"../c/out/minisign-install --check ": 10, "../c/out/minisign-install --numbering version there/release.pub ": 10}
+# What each of these says: nothing; but a check the number, and the signed comment.
 SILENT = ("mkdir ", "cp ", "echo ", "cd ", "../c/out/minisign-install ")
+SAID = {"../c/out/minisign-install --check ": "2\r\nversion:2\tfile:app\r\n"}
 # What is there afterwards.
 LEFT = {"try-signing/copy": b"test", "try-signing/there/app": b"version 3\n", "try-signing/there/.app.number": b"version:3",
-        "try-installing/there/app": b"version 2\n", "try-installing/there/.app.number": b"version:2"}
+        "try-installing/there/app": b"version 2\n", "try-installing/there/.app.number": b"version:2",
+        "try-installing/there/.release.pub.number": b"version:1"}
 IGNORED = ("try-signing", "try-installing")
 # A command has ended, or asks for a password.
 ENDED = "--- ended with status "
@@ -110,7 +112,7 @@ class Clone:
     def secret_keys(self):
         """Where files with a secret key lie."""
         for at, directories, names in os.walk(self.top):
-            directories[:] = [it for it in directories if it != ".git"]
+            directories[:] = [directory for directory in directories if directory != ".git"]
             for name in names:
                 if has_secret_key(os.path.join(at, name)):
                     yield os.path.relpath(os.path.join(at, name), self.top)
@@ -133,45 +135,48 @@ def has_secret_key(path):
         return False
 
 
+def is_left_out(command):
+    """Whether a command begins as one that is left out."""
+    return command.startswith(tuple(LEFT_OUT))
+
+
 def check_commands(checks, clone, room):
     """Each command ends as its document says."""
-    commands = [it for name in DOCUMENTS for it in commands_of(name)]
+    commands = [command for name in DOCUMENTS for command in commands_of(name)]
     for command, why in LEFT_OUT.items():
         print(f"commands: left out, since {why}: {command}")
-        checks.check(command in commands, f"no document has the command {command}")
-    wanted = [it for it in commands if it not in LEFT_OUT]
+        checks.check(any(line.startswith(command) for line in commands), f"no document has the command {command}")
+    wanted = [command for command in commands if not is_left_out(command)]
     for command, status, said in run_in_shell(clone.top, wanted, room):
         right = next((number for begins, number in STATUSES.items() if command.startswith(begins)), 0)
         checks.check(status == right, f"{command}: status {status}, and not {right}: {said[-600:]}")
-        checks.check(not said or not command.startswith(SILENT), f"{command}: it says {said[-600:]}")
+        wanted_words = next((words for begins, words in SAID.items() if command.startswith(begins)), "")
+        checks.check(said == wanted_words or not command.startswith(SILENT), f"{command}: it says {said[-600:]}")
 
 
 def check_left(checks, clone):
     """What the commands have left, and where."""
     for name, data in LEFT.items():
         found = read(os.path.join(clone.top, name))
+        # (a record has a key and a digest in two more lines)
+        found = found.partition(b"\n")[0] if found and name.endswith(".number") else found
         checks.check(found == data, f"{name} has {found} in place of {data}")
     new = clone.git("status", "--porcelain")
     checks.check(not new, f"git finds in the clone: {new}")
     keys = clone.new_secret_keys()
-    checks.check(keys == {f"{it}/my.key" for it in IGNORED}, f"secret keys lie at {sorted(keys)}")
+    checks.check(keys == {f"{directory}/my.key" for directory in IGNORED} | {"try-installing/root.key"}, f"secret keys lie at {sorted(keys)}")
 
 
-def main():
-    checks = Checks()
-    with tempfile.TemporaryDirectory(prefix="commands-") as room:
-        try:
-            needs.libsodium()
-            needs.rust_compiler()
-            for name, package in (("make", "make"), ("ld", "binutils")):
-                needs.program(name, package)
-            clone = Clone(room)
-            check_commands(checks, clone, room)
-            check_left(checks, clone)
-        except (needs.Missing, static_library.NotBuilt, OSError) as why:
-            checks.check(False, str(why))
-    return checks.end()
+def run_all(checks, room):
+    needs.libsodium()
+    needs.rust_compiler()
+    needs.program("cargo", "cargo")
+    for name, package in (("make", "make"), ("ld", "binutils")):
+        needs.program(name, package)
+    clone = Clone(room)
+    check_commands(checks, clone, room)
+    check_left(checks, clone)
 
 
 if __name__ == "__main__":
-    sys.exit(main())
+    sys.exit(ending.check("commands", run_all))

@@ -21,9 +21,9 @@ import needs
 import static_library
 from checks import Checks
 from c_library import INCLUDE, PROGRAMS, STRICT
+from process import run
 
 TOP = os.path.realpath(os.path.join(HERE, "..", ".."))
-SECONDS = 600
 # How many rows of a derivation the key of a usual limit takes.
 USUAL_ROWS = "1048576"
 PACKAGES = ("libsodium-dev", "libsodium23")
@@ -34,23 +34,15 @@ Kind = namedtuple("Kind", "name triple debian emulator elf has_sodium has_32_bit
 AARCH64 = Kind("AArch64", "aarch64-linux-gnu", "arm64", "aarch64", "AArch64")
 
 
-def run(command, directory=None, typed=b"", **environment):
-    """Runs a command: its status, and all that it said."""
-    ran = subprocess.run(command, cwd=directory, env=dict(os.environ, **environment), input=typed, stdout=subprocess.PIPE,
-                         stderr=subprocess.STDOUT, timeout=SECONDS)
-    return ran.returncode, ran.stdout.decode(errors="replace")
-
-
 def place_of_sodium(kind):
     """Where the libsodium stands that is linked."""
     return os.path.join(TOP, "out", f"libsodium-for-{kind.name.lower()}")
 
 
-def fetch_sodium(kind):
-    """Has apt-get fetch Debian's libsodium for a processor, with a list of packages of its own, and unpacks it."""
+def fetch(kind, place, *packages):
+    """Has apt-get fetch packages of Debian for a processor, with a list of packages of its own, and unpacks them into a directory."""
     if not needs.may_install():
-        return None
-    place = place_of_sodium(kind)
+        raise needs.Missing(f"{' and '.join(packages)} for {kind.debian} is not here: unpack it into {os.path.relpath(place, TOP)}")
     with tempfile.TemporaryDirectory(prefix="packages-") as room:
         for directory in ("lists/partial", "cache/archives/partial"):
             os.makedirs(f"{room}/{directory}")
@@ -58,9 +50,9 @@ def fetch_sodium(kind):
                                        f"APT::Architectures={kind.debian}", "APT::Sandbox::User=root", "Acquire::Retries=3") for word in ("-o", option)]
         # (a mirror may lack one of the lists for a while, of which the packages need the first)
         _, listed = run(["apt-get", "-q", *options, "update"], room)
-        status, said = run(["apt-get", "-q", *options, "download", *PACKAGES], room)
+        status, said = run(["apt-get", "-q", *options, "download", *packages], room)
         if status != 0:
-            raise needs.Missing(f"libsodium for {kind.name} was not fetched: {listed[-300:]}{said[-300:]}")
+            raise needs.Missing(f"{' and '.join(packages)} for {kind.name} was not fetched: {listed[-300:]}{said[-300:]}")
         for package in glob.glob(f"{room}/*.deb"):
             subprocess.run(["dpkg", "-x", package, f"{room}/unpacked"], check=True)
         # (`rt ci`, beside which this may run, takes no link in the repository)
@@ -69,15 +61,15 @@ def fetch_sodium(kind):
         shutil.rmtree(place, ignore_errors=True)
         os.makedirs(os.path.dirname(place), exist_ok=True)
         shutil.move(f"{room}/unpacked", place)
-    return place
 
 
 def sodium(kind):
-    """The directory of that libsodium, and its archive."""
+    """The directory of that libsodium, and its archive, which has a directory of Debian's name for the processor."""
     place = place_of_sodium(kind)
-    archive = f"{place}/usr/lib/{kind.triple}/libsodium.a"
-    if not os.path.exists(archive) and fetch_sodium(kind) is None:
-        raise needs.Missing(f"libsodium for {kind.name} is not here: Debian's libsodium-dev:{kind.debian}, unpacked into {os.path.relpath(place, TOP)}")
+    archives = f"{place}/usr/lib/*/libsodium.a"
+    if not glob.glob(archives):
+        fetch(kind, place, *PACKAGES)
+    archive, = glob.glob(archives)
     return f"{place}/usr/include", archive
 
 
@@ -121,95 +113,95 @@ class Emulated:
         return run([*self.emulator, program, *words], directory, typed)
 
     def compile(self, name, *flags):
-        """A program of tests/c."""
+        """A program of tests/c, which does less of what takes long."""
         program = os.path.join(self.room, name)
-        status, said = run([self.compiler, "-std=c11", *STRICT, "-O1", "-I", INCLUDE, "-o", program, os.path.join(HERE, f"{name}.c"),
-                            f"{self.out}/libminisign.a", *flags])
+        status, said = run([self.compiler, "-std=c11", *STRICT, "-O1", "-DIS_EMULATED", "-I", INCLUDE, "-o", program,
+                            os.path.join(HERE, f"{name}.c"), f"{self.out}/libminisign.a", *flags])
         self.checks.check(status == 0, f"{name}.c was not built: {said[-600:]}")
         return program
 
 
-def check_built(checks, it):
+def check_built(checks, built):
     """It is for this processor, and its structs are laid out as those of the library."""
-    _, said = run(["readelf", "-h", f"{it.out}/libminisign.so"])
-    checks.check(it.kind.elf in said, f"{it.kind.name}: the library is for another processor: {said}")
-    status, said = run([it.compiler, "-std=c11", *STRICT, "-I", INCLUDE, "-fsyntax-only", exports.write_layout(it.room)])
-    checks.check(status == 0, f"{it.kind.name}: the layout: {said[-600:]}")
+    _, said = run(["readelf", "-h", f"{built.out}/libminisign.so"])
+    checks.check(built.kind.elf in said, f"{built.kind.name}: the library is for another processor: {said}")
+    status, said = run([built.compiler, "-std=c11", *STRICT, "-I", INCLUDE, "-fsyntax-only", exports.write_layout(built.room)])
+    checks.check(status == 0, f"{built.kind.name}: the layout: {said[-600:]}")
 
 
-def check_corpus(checks, it):
+def check_corpus(checks, built):
     """The program verifies what is kept, and rejects what is damaged."""
-    status, said = run(["make", "-s", "-C", static_library.DIRECTORY, *it.flags, f"OUT={it.out}", "check"], RUN=" ".join(it.emulator))
+    status, said = run(["make", "-s", "-C", static_library.DIRECTORY, *built.flags, f"OUT={built.out}", "test"], RUN=" ".join(built.emulator))
     checks.check(status == 0 and re.search(r"^(2[5-9]|[3-9]\d) passed, 0 failed$", said, re.M),
-                 f"{it.kind.name}: make check: status {status}: {said[-600:]}")
+                 f"{built.kind.name}: make test: status {status}: {said[-600:]}")
 
 
-def check_programs(checks, it, programs=PROGRAMS):
+def check_programs(checks, built, programs=PROGRAMS):
     """The programs of tests/c."""
     for name, flags in programs.items():
-        status, said = it.run(it.compile(name, *flags))
-        checks.check(status == 0, f"{it.kind.name}: {name}: status {status}: {said[-600:]}")
+        status, said = built.run(built.compile(name, *flags))
+        checks.check(status == 0, f"{built.kind.name}: {name}: status {status}: {said[-600:]}")
         found = re.search(r"(\d+) passed, 0 failed\n$", said) or re.match(r"(\d+)", said.splitlines()[-1] if said else "")
         checks.passed += int(found[1]) if found else 0
 
 
-def check_keys(checks, it):
+def check_keys(checks, built):
     """A key from its making to a signature."""
-    directory = tempfile.mkdtemp(dir=it.room)
-    ours = f"{it.out}/minisign"
-    status, said = it.run(ours, "-G", "-W", "-p", "a.pub", "-s", "open.key", directory=directory)
+    directory = tempfile.mkdtemp(dir=built.room)
+    ours = f"{built.out}/minisign"
+    status, said = built.run(ours, "-G", "-W", "-p", "a.pub", "-s", "open.key", directory=directory)
     checks.check(status == 0, f"-G -W: {said}")
-    keys = it.compile("keys")
-    own = f"{it.room}/own"
+    keys = built.compile("keys")
+    own = f"{built.room}/own"
     static_library.run_make(f"OUT={own}", "library")
-    own_keys = f"{it.room}/own-keys"
+    own_keys = f"{built.room}/own-keys"
     run([needs.c_compiler(), "-std=c11", "-I", INCLUDE, "-o", own_keys, os.path.join(HERE, "keys.c"), f"{own}/libminisign.a"])
-    status, said = it.run(keys, "open", "1", USUAL_ROWS, "open.key", directory=directory)
+    status, said = built.run(keys, "open", "1", USUAL_ROWS, "open.key", directory=directory)
     checks.check(status == 0, f"the key does not open: {said}")
     key_id, secret = said.split()
     words = ["secret", key_id, secret, "5a" * 32, "32768", "1048576", "1", "4096", "sealed", "pw"]
-    status, text = it.run(keys, *words)
+    status, text = built.run(keys, *words)
     checks.check(status == 0 and (status, text) == run([own_keys, *words]), f"sealing: {text!r}")
     with open(f"{directory}/sealed.key", "w", encoding="utf-8") as file:
         file.write(text)
     for keep_every in ("1", "16"):
-        status, said = it.run(keys, "open", keep_every, USUAL_ROWS, "sealed.key", "pw", directory=directory)
+        status, said = built.run(keys, "open", keep_every, USUAL_ROWS, "sealed.key", "pw", directory=directory)
         checks.check(status == 0 and said.split() == [key_id, secret], f"opening with {keep_every}: {said}")
-    status, said = it.run(keys, "open", "1", USUAL_ROWS, "sealed.key", "pv", directory=directory)
+    status, said = built.run(keys, "open", "1", USUAL_ROWS, "sealed.key", "pv", directory=directory)
     checks.check(status == 1, f"another password: {said}")
     with open(f"{directory}/data", "wb") as file:
         file.write(bytes(range(256)) * 1000)
-    status, said = it.run(ours, "-S", "-s", "sealed.key", "-m", "data", "-t", "a comment", directory=directory, typed=b"pw\n")
+    status, said = built.run(ours, "-S", "-s", "sealed.key", "-m", "data", "-t", "a comment", directory=directory, typed=b"pw\n")
     checks.check(status == 0, f"-S: {said}")
-    for command in ([needs.minisign(), "-V", "-Q"], [*it.emulator, ours, "-V", "-Q"]):
+    for command in ([needs.minisign(), "-V", "-Q"], [*built.emulator, ours, "-V", "-Q"]):
         status, said = run([*command, "-p", "a.pub", "-m", "data"], directory)
         checks.check(status == 0 and said == "a comment\n", f"{command}: {said}")
     with open(f"{directory}/data", "ab") as file:
         file.write(b"more")
-    status, said = it.run(ours, "-V", "-p", "a.pub", "-m", "data", directory=directory)
+    status, said = built.run(ours, "-V", "-p", "a.pub", "-m", "data", directory=directory)
     checks.check(status == 1, f"changed data: {said}")
 
 
-def check_installing(checks, it):
+def check_installing(checks, built):
     """A first installation, an update, an older one, and one that is there already."""
-    directory = tempfile.mkdtemp(dir=it.room)
+    directory = tempfile.mkdtemp(dir=built.room)
     os.mkdir(f"{directory}/there")
-    it.run(f"{it.out}/minisign", "-G", "-W", "-p", "a.pub", "-s", "a.key", directory=directory)
+    built.run(f"{built.out}/minisign", "-G", "-W", "-p", "a.pub", "-s", "a.key", directory=directory)
     for number in "12":
         with open(f"{directory}/{number}", "w", encoding="ascii") as file:
             file.write(f"version {number}\n")
-        it.run(f"{it.out}/minisign", "-S", "-s", "a.key", "-m", number, "-t", f"version:{number}\tfile:app", directory=directory)
+        built.run(f"{built.out}/minisign", "-S", "-s", "a.key", "-m", number, "-t", f"version:{number}\tfile:app", directory=directory)
     words = ["--numbering", "version", "a.pub"]
     for number, first, wanted, there in (("1", ["--first"], 0, "1"), ("2", [], 0, "2"), ("1", [], 4, "2"), ("2", [], 10, "2")):
-        status, said = it.run(f"{it.out}/minisign-install", *first, *words, number, f"{number}.minisig", "there/app", directory=directory)
+        status, said = built.run(f"{built.out}/minisign-install", *first, *words, number, f"{number}.minisig", "there/app", directory=directory)
         with open(f"{directory}/there/app", encoding="ascii") as file:
             checks.check(status == wanted and file.read() == f"version {there}\n", f"installing {number}: status {status}: {said}")
 
 
-def check_all(checks, it, programs=PROGRAMS):
+def check_all(checks, built, programs=PROGRAMS):
     """All of it, as far as there is a libsodium."""
-    check_built(checks, it)
-    check_programs(checks, it, programs)
-    if it.kind.has_sodium:
+    check_built(checks, built)
+    check_programs(checks, built, programs)
+    if built.kind.has_sodium:
         for check in (check_corpus, check_keys, check_installing):
-            check(checks, it)
+            check(checks, built)

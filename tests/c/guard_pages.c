@@ -10,11 +10,13 @@
 #include <stdlib.h>
 #include <string.h>
 #include <sys/mman.h>
+#include <unistd.h>
 
 #include "minisign_install.h"
 #include "texts_for_tests.h"
 
-enum { PAGE = 4096, BYTES = 32 * PAGE, REGIONS = 16 };
+/* (whole pages of each size that systems have, up to 64 KiB; and how much on a buffer's other side holds nothing of before) */
+enum { BYTES = 2 << 16, REGIONS = 16, BESIDE = 256 };
 
 static uint8_t *regions[REGIONS];
 static int used, at_end;
@@ -23,8 +25,9 @@ static int used, at_end;
 static uint8_t *buffer(size_t len)
 {
     uint8_t *region = regions[used++];
+    size_t blank = len + BESIDE < BYTES ? len + BESIDE : BYTES;
 
-    memset(region, 0xaa, BYTES);
+    memset(at_end ? region + BYTES - blank : region, 0xaa, blank);
     return at_end ? region + BYTES - len : region;
 }
 
@@ -77,18 +80,62 @@ static minisign_public_key *public_key(void)
     return key;
 }
 
+/* A signature, alone in its bytes. */
+static minisign_signature *signature(void)
+{
+    minisign_signature *read = (minisign_signature *) (void *) buffer(sizeof *read);
+
+    CHECK(minisign_read_signature((const uint8_t *) SIGNATURE, sizeof SIGNATURE - 1, read) == MINISIGN_OK);
+    return read;
+}
+
+/* Asks with so much of the text of a signature, and so much room. */
+static enum minisign_error ask_with(minisign_state *state, const minisign_signature *read, size_t len, size_t room)
+{
+    minisign_questions *q = (minisign_questions *) (void *) buffer(sizeof *q);
+
+    return minisign_ask(state, public_key(), read, copied(SIGNATURE, len), len, 0, q, buffer(room), room);
+}
+
+/* A signature whose comment is said to begin here and to have this length: nothing outside the text is read. */
+static void ask_about_place(uint64_t offset, uint64_t len)
+{
+    minisign_signature *read;
+    enum minisign_error error;
+
+    used = 0;
+    read = signature();
+    read->comment_offset = offset;
+    read->comment_len = len;
+    error = ask_with(begun(), read, sizeof SIGNATURE - 1, 1024);
+    CHECK(offset <= sizeof SIGNATURE - 1 && len <= sizeof SIGNATURE - 1 - offset ? error != MINISIGN_SIGNATURE_NOT_READ
+                                                                                 : error == MINISIGN_OTHER_SIGNATURE_TEXT);
+}
+
 /* The texts cut at each length, and room of each length for the message. */
 static void asking(void)
 {
+    static const uint64_t places[] = { 0, 1, sizeof SIGNATURE - 2, sizeof SIGNATURE - 1, sizeof SIGNATURE, BYTES, UINT32_MAX,
+                                       UINT64_MAX - 1, UINT64_MAX };
+
     for (size_t len = 0; len < sizeof SIGNATURE; len++) {
-        minisign_state *state;
-        minisign_questions *q;
+        minisign_signature *cut;
+        int is_read;
 
         used = 0;
-        state = begun();
-        q = (minisign_questions *) (void *) buffer(sizeof *q);
-        CHECK(minisign_ask(state, public_key(), copied(SIGNATURE, len), len, 0, q, buffer(len), len) == MINISIGN_OK
-              || len < sizeof SIGNATURE - 1);
+        cut = (minisign_signature *) (void *) buffer(sizeof *cut);
+        is_read = minisign_read_signature(copied(SIGNATURE, len), len, cut) == MINISIGN_OK;
+        CHECK(is_read || len < sizeof SIGNATURE - 1);
+        CHECK(ask_with(begun(), cut, len, len)
+              == (is_read ? MINISIGN_OK : MINISIGN_SIGNATURE_NOT_READ));
+        used = 0;
+        CHECK(ask_with(begun(), signature(), len, MESSAGE_LEN)
+              == (len < sizeof SIGNATURE - 1 ? MINISIGN_OTHER_SIGNATURE_TEXT : MINISIGN_OK));
+    }
+    for (size_t i = 0; i < sizeof places / sizeof *places; i++) {
+        for (size_t j = 0; j < sizeof places / sizeof *places; j++) {
+            ask_about_place(places[i], places[j]);
+        }
     }
     for (size_t len = 0; len < sizeof KEY; len++) {
         used = 0;
@@ -98,14 +145,11 @@ static void asking(void)
     }
     for (size_t room = 0; room <= MESSAGE_LEN; room++) {
         minisign_state *state;
-        minisign_questions *q;
         enum minisign_error wanted = room < MESSAGE_LEN ? MINISIGN_NO_ROOM : MINISIGN_OK;
 
         used = 0;
         state = begun();
-        q = (minisign_questions *) (void *) buffer(sizeof *q);
-        CHECK(minisign_ask(state, public_key(), copied(SIGNATURE, sizeof SIGNATURE - 1), sizeof SIGNATURE - 1, 0, q,
-                           buffer(room), room) == wanted);
+        CHECK(ask_with(state, signature(), sizeof SIGNATURE - 1, room) == wanted);
         CHECK(minisign_comment_verdict(state, MINISIGN_ANSWER_YES) == (wanted == MINISIGN_OK ? MINISIGN_OK : MINISIGN_NOT_ASKED));
         CHECK(minisign_digest(state, buffer(64)) == MINISIGN_OK);
         CHECK(minisign_verdict(state, MINISIGN_ANSWER_YES, MINISIGN_ANSWER_YES)
@@ -225,31 +269,35 @@ static void opening_in_place(uint64_t p)
               == (i % 4 == 0 ? MINISIGN_OK : i % 4 == 3 ? MINISIGN_WRONG_PASSWORD : MINISIGN_NO_ROOM));
         CHECK(memcmp(opened, i % 4 == 0 ? &key : &before, sizeof key) == 0);
         CHECK(is_zeros(words, 4 * words_len) && is_zeros(bytes, bytes_len));
-        CHECK(minisign_open_sealed_key(unopened, copied(password, 2), 2, kept[i / 4], 1024 * p, opened)
-              == (i % 4 == 3 ? MINISIGN_WRONG_PASSWORD : MINISIGN_OK));
+        if (words_len == *words_wanted && bytes_len == *bytes_wanted) {
+            CHECK(minisign_open_sealed_key(unopened, copied(password, 2), 2, MINISIGN_KEEP_EVERY_ROW, 1024 * p, opened)
+                  == (i % 4 == 3 ? MINISIGN_WRONG_PASSWORD : MINISIGN_OK));
+        }
     }
 }
 
-/* An installation at which the answers are due, or the number is to be written. */
+/* Asks about the signature, with this room for the message, and has these answers. */
+static enum minisign_error ask_and_answer(minisign_installation *i)
+{
+    minisign_questions *q = (minisign_questions *) (void *) buffer(sizeof *q);
+    enum minisign_error error = minisign_install_ask(i, (const uint8_t *) SIGNATURE, sizeof SIGNATURE - 1, copied("test", 4), 4, 0,
+                                                     q, buffer(MESSAGE_LEN), MESSAGE_LEN);
+
+    return error == MINISIGN_OK ? minisign_install_answer(i, MINISIGN_ANSWER_YES, MINISIGN_ANSWER_YES) : error;
+}
+
+/* An installation at which this is due. */
 static minisign_installation *installing(uint32_t due)
 {
     minisign_installation *i = (minisign_installation *) (void *) buffer(sizeof *i);
-    enum minisign_error error = minisign_install_init(i, 0, MINISIGN_NUMBERING_TIMESTAMP);
+    enum minisign_error error = minisign_install_init(i, public_key(), public_key(), 0, 0, 0, 0, MINISIGN_NUMBERING_TIMESTAMP);
 
     while (error == MINISIGN_OK && minisign_install_due(i) != due) {
         switch (minisign_install_due(i)) {
         case MINISIGN_DUE_READ_RECORD: error = minisign_install_record(i, copied("5", 1), 1); break;
         case MINISIGN_DUE_READ_BACK: error = minisign_install_piece(i, buffer(0), 0); break;
-        case MINISIGN_DUE_ANSWER: {
-            minisign_questions *q = (minisign_questions *) (void *) buffer(sizeof *q);
-
-            error = minisign_install_ask(i, public_key(), (const uint8_t *) SIGNATURE, sizeof SIGNATURE - 1, copied("test", 4), 4, 0, q,
-                                         buffer(MESSAGE_LEN), MESSAGE_LEN);
-            if (error == MINISIGN_OK) {
-                error = minisign_install_answer(i, MINISIGN_ANSWER_YES, MINISIGN_ANSWER_YES);
-            }
-            break;
-        }
+        case MINISIGN_DUE_JUDGE:
+        case MINISIGN_DUE_ANSWER: error = ask_and_answer(i); break;
         default: error = minisign_install_done(i);
         }
     }
@@ -257,67 +305,62 @@ static minisign_installation *installing(uint32_t due)
     return i;
 }
 
-/* Records, names and comments of each length, and room of each length for the message and the number. */
+/* Records, names and comments of each length, and room of each length for the message and the record. */
 static void installations(void)
 {
-    static const char zeros[100] = "0";
+    static const char zeros[MINISIGN_RECORD_TEXT_BYTES + 1] = "0";
     static const char comment[] = "timestamp:1556193335\tfile:test";
+    const size_t len = sizeof SIGNATURE - 1, record_len = sizeof "timestamp:1556193335" + 64 + 1 + 128;
 
-    for (size_t len = 0; len < sizeof zeros; len++) {
+    for (size_t size = 0; size < sizeof zeros; size++) {
         uint8_t *record;
         minisign_installation *i;
 
         used = 0;
         i = installing(MINISIGN_DUE_READ_RECORD);
-        record = copied(zeros, len);
-        memset(record, '0', len);
-        CHECK(minisign_install_record(i, record, len) == MINISIGN_OK);
-        CHECK(minisign_install_due(i) == (0 < len && len <= 64 ? MINISIGN_DUE_CREATE : MINISIGN_DUE_REFUSED));
+        record = copied(zeros, size);
+        memset(record, '0', size);
+        CHECK(minisign_install_record(i, record, size) == MINISIGN_OK);
+        CHECK(minisign_install_due(i) == (0 < size && size <= 64 ? MINISIGN_DUE_JUDGE : MINISIGN_DUE_REFUSED));
     }
     for (size_t room = 0; room <= MESSAGE_LEN; room++) {
         minisign_installation *i;
         minisign_questions *q;
 
         used = 0;
-        i = installing(MINISIGN_DUE_ANSWER);
-        used = 1;
+        i = installing(MINISIGN_DUE_JUDGE);
+        used = 2;
         q = (minisign_questions *) (void *) buffer(sizeof *q);
-        CHECK(minisign_install_ask(i, public_key(), copied(SIGNATURE, sizeof SIGNATURE - 1), sizeof SIGNATURE - 1, copied("test", 4),
-                                   4, 0, q, buffer(room), room)
+        CHECK(minisign_install_ask(i, copied(SIGNATURE, len), len, copied("test", 4), 4, 0, q, buffer(room), room)
               == (room < MESSAGE_LEN ? MINISIGN_NO_ROOM : MINISIGN_OK));
     }
-    for (size_t room = 0; room <= MINISIGN_NUMBER_TEXT_BYTES; room++) {
+    for (size_t size = 0; size < len; size++) {
+        minisign_signature read;
+        minisign_installation *i;
+        minisign_questions *q;
+
+        used = 0;
+        i = installing(MINISIGN_DUE_JUDGE);
+        used = 2;
+        q = (minisign_questions *) (void *) buffer(sizeof *q);
+        CHECK(minisign_install_ask(i, copied(SIGNATURE, size), size, copied("test", 4), 4, 0, q, buffer(MESSAGE_LEN), MESSAGE_LEN)
+              == minisign_read_signature((const uint8_t *) SIGNATURE, size, &read));
+    }
+    for (size_t room = 0; room <= MINISIGN_RECORD_TEXT_BYTES; room++) {
         minisign_installation *i;
 
         used = 0;
         i = installing(MINISIGN_DUE_WRITE_RECORD);
-        used = 1;
-        CHECK(minisign_install_number_text(i, buffer(room), room) == (room < 20 ? 0 : 20));
+        used = 3;
+        CHECK(minisign_install_record_text(i, buffer(room), room) == (room < record_len ? 0 : record_len));
     }
-    for (size_t len = 0; len < sizeof comment; len++) {
+    for (size_t size = 0; size < sizeof comment; size++) {
         uint64_t *number;
 
         used = 0;
         number = (uint64_t *) (void *) buffer(sizeof *number);
-        CHECK(minisign_judge_comment(copied(comment, len), len, copied("test", 4), 4, MINISIGN_NUMBERING_TIMESTAMP, 0, 0, number)
-              == (len < sizeof comment - 1 ? MINISIGN_OTHER_FILE : MINISIGN_OK));
-    }
-    for (size_t len = 0; len <= 64; len++) {
-        uint64_t *number;
-        uint32_t *offer;
-        uint8_t *record;
-
-        used = 0;
-        number = (uint64_t *) (void *) buffer(sizeof *number);
-        offer = (uint32_t *) (void *) buffer(sizeof *offer);
-        record = copied(zeros, len);
-        memset(record, '0', len);
-        CHECK(minisign_check_comment(copied(comment, sizeof comment - 1), sizeof comment - 1, copied("test", 4), 4,
-                                     MINISIGN_NUMBERING_TIMESTAMP, 0, 0, record, len, offer, number)
-              == (len == 0 ? MINISIGN_DAMAGED_RECORD : MINISIGN_OK));
-        CHECK(minisign_check_first_comment(copied(comment, sizeof comment - 1 - len % 2), sizeof comment - 1 - len % 2,
-                                           copied("test", 4), 4, MINISIGN_NUMBERING_TIMESTAMP, 0, 1, offer, number)
-              == (len % 2 == 0 ? MINISIGN_OK : MINISIGN_OTHER_FILE));
+        CHECK(minisign_judge_comment(copied(comment, size), size, copied("test", 4), 4, MINISIGN_NUMBERING_TIMESTAMP, 0, 0, number)
+              == (size < sizeof comment - 1 ? MINISIGN_OTHER_FILE : MINISIGN_OK));
     }
 }
 
@@ -333,14 +376,16 @@ static void texts(void)
 
 int main(void)
 {
-    for (int i = 0; i < REGIONS; i++) {
-        uint8_t *all = mmap(NULL, BYTES + 2 * PAGE, PROT_NONE, MAP_PRIVATE | MAP_ANONYMOUS, -1, 0);
+    const size_t page = (size_t) sysconf(_SC_PAGESIZE);
 
-        if (all == MAP_FAILED || mprotect(all + PAGE, BYTES, PROT_READ | PROT_WRITE) != 0) {
+    for (int i = 0; i < REGIONS; i++) {
+        uint8_t *all = mmap(NULL, BYTES + 2 * page, PROT_NONE, MAP_PRIVATE | MAP_ANONYMOUS, -1, 0);
+
+        if (all == MAP_FAILED || mprotect(all + page, BYTES, PROT_READ | PROT_WRITE) != 0) {
             puts("0 passed, 1 failed");
             return 1;
         }
-        regions[i] = all + PAGE;
+        regions[i] = all + page;
     }
     for (at_end = 0; at_end < 2; at_end++) {
         feeding();
@@ -348,7 +393,7 @@ int main(void)
         signing();
         making();
         opening_in_place(1);
-        opening_in_place(4);
+        opening_in_place(2);
         installations();
         texts();
     }

@@ -57,9 +57,22 @@ static const char LEGACY[] =
     "RWQf6LRCGA9i59SLOFxz6NxvASXDJeRtuZykwQepbDEGt87ig1BNpWaVWuNrm73YiIiJbq71Wi+dP9eKL8OC351vwIasSSbXxwA=\n"
     "trusted comment: timestamp:1555779966\tfile:test\n"
     "QtKMXWyYcwdpZAlPF7tE2ENJkRd1ujvKjlj1m9RtHTBnZPa5WKU5uWRs5GoP5M/VqE81QFuMKI5k/SfNQUaOAA==";
+/* One of another key. */
+static const char OF_OTHER_KEY[] =
+    "untrusted comment: signature from minisign secret key\n"
+    "RUS4oO+OTGvmIe/AFUZesFY/ONgyTgR9P0wlXFBD98cDX7Pao0WBeMSBQywks6PdOxlxIHanFJJYpkqO7tBvYfnm/DXVQmwFYQ0=\n"
+    "trusted comment: a trusted comment\n"
+    "VFXOnLXSP360tFPUt7eqzsSHMo0p1bPS9fRkoO0MOvNy8kHZu0k9okhkkORQyQv79DEl+OdNXurVl1Qt+AMEAQ==\n";
 #define COMMENT "timestamp:1556193335\tfile:test"
-/* What is written into the record of it. */
-#define RECORD "timestamp:1556193335"
+#define NUMBER 1556193335
+/* What is written into the record of it, with the data `abc`: the key's bytes behind its key ID, and the digest below. */
+#define OWN_NUMBER "timestamp:1556193335"
+#define RECORD OWN_NUMBER                                                \
+    "\n79a561e70ee08cd3e754c63e9bd6b9c3520a1d4204cd104da2e7ef763b1853b7" \
+    "\n" HEX_OF_ABC
+#define HEX_OF_ABC                                                     \
+    "ba80a53f981c4d0d6a2797b69f12f6e94c212f14685ac4b74b12bb6fdbffa2d1" \
+    "7d87c5392aab792dc252d5de4533cc9518d38aa8dbf1925ab92386edd4009923"
 
 #define YES MINISIGN_ANSWER_YES
 #define NO MINISIGN_ANSWER_NO
@@ -72,14 +85,20 @@ static const uint8_t DIGEST_OF_ABC[64] = {
     0x18, 0xd3, 0x8a, 0xa8, 0xdb, 0xf1, 0x92, 0x5a, 0xb9, 0x23, 0x86, 0xed, 0xd4, 0x00, 0x99, 0x23,
 };
 
-/* What is due after each call: where it was done, where it failed, and whether it may be done at all by
- * minisign_install_done. */
+/* What is due after each call: where it was done, if that is told by minisign_install_done, and where it failed. */
 static const struct row {
     uint32_t due, done, failed;
 } table[] = {
-    { MINISIGN_DUE_LOCK, MINISIGN_DUE_CLEAR, MINISIGN_DUE_REFUSED },
-    { MINISIGN_DUE_CLEAR, MINISIGN_DUE_READ_RECORD, MINISIGN_DUE_REFUSED },
+    { MINISIGN_DUE_LOCK, MINISIGN_DUE_READ_RECORD, MINISIGN_DUE_REFUSED },
     { MINISIGN_DUE_READ_RECORD, 0, MINISIGN_DUE_REFUSED },
+    { MINISIGN_DUE_JUDGE, 0, MINISIGN_DUE_REFUSED },
+    { MINISIGN_DUE_LOOK, 0, MINISIGN_DUE_REFUSED },
+    { MINISIGN_DUE_JUDGE_TARGET, 0, MINISIGN_DUE_REFUSED },
+    { MINISIGN_DUE_SYNC_TARGET, MINISIGN_DUE_SYNC_TARGET_NAME, MINISIGN_DUE_REFUSED },
+    { MINISIGN_DUE_SYNC_TARGET_NAME, MINISIGN_DUE_ALREADY, MINISIGN_DUE_REFUSED },
+    { MINISIGN_DUE_UNLOCK, MINISIGN_DUE_RECEIVE, MINISIGN_DUE_REFUSED },
+    { MINISIGN_DUE_RECEIVE, MINISIGN_DUE_LOCK, MINISIGN_DUE_REFUSED },
+    { MINISIGN_DUE_CLEAR, MINISIGN_DUE_CREATE, MINISIGN_DUE_REFUSED },
     { MINISIGN_DUE_CREATE, MINISIGN_DUE_COPY, MINISIGN_DUE_REFUSED },
     { MINISIGN_DUE_COPY, MINISIGN_DUE_READ_BACK, MINISIGN_DUE_REMOVE },
     { MINISIGN_DUE_READ_BACK, 0, MINISIGN_DUE_REMOVE },
@@ -96,6 +115,8 @@ static const struct row {
     { MINISIGN_DUE_REMOVE_RECORD, MINISIGN_DUE_REMOVE, MINISIGN_DUE_REMOVE },
     { MINISIGN_DUE_REMOVE, MINISIGN_DUE_REFUSED, MINISIGN_DUE_REFUSED },
     { MINISIGN_DUE_INSTALLED, 0, 0 },
+    { MINISIGN_DUE_ALREADY, 0, 0 },
+    { MINISIGN_DUE_WOULD_INSTALL, 0, 0 },
     { MINISIGN_DUE_REFUSED, 0, 0 },
 };
 
@@ -107,19 +128,24 @@ static const struct row {
 static minisign_questions questions;
 static uint8_t message[4096];
 
-static enum minisign_error ask_of(minisign_installation *i, const char *signature, const char *file, size_t room)
+/* Asks about a signature with this text. */
+static enum minisign_error ask_of(minisign_installation *i, const char *sig_text, const char *file, size_t room)
 {
-    minisign_public_key key;
-    enum minisign_error error = minisign_read_public_key((const uint8_t *) KEY, sizeof KEY - 1, &key);
-
-    return error != MINISIGN_OK ? error
-                                : minisign_install_ask(i, &key, (const uint8_t *) signature, strlen(signature), (const uint8_t *) file,
-                                                       strlen(file), NOW, &questions, message, room);
+    return minisign_install_ask(i, (const uint8_t *) sig_text, strlen(sig_text), (const uint8_t *) file, strlen(file), NOW,
+                                &questions, message, room);
 }
 
 static enum minisign_error ask(minisign_installation *i)
 {
     return ask_of(i, SIGNATURE, "test", sizeof message);
+}
+
+/* Asks, and has these answers. */
+static enum minisign_error judge(minisign_installation *i, enum minisign_answer first, enum minisign_answer second)
+{
+    enum minisign_error error = ask(i);
+
+    return error == MINISIGN_OK ? minisign_install_answer(i, first, second) : error;
 }
 
 static enum minisign_error record(minisign_installation *i, const char *text)
@@ -132,20 +158,35 @@ static enum minisign_error piece(minisign_installation *i, const char *bytes)
     return minisign_install_piece(i, (const uint8_t *) bytes, strlen(bytes));
 }
 
-/* Makes the call that is due, which goes well. */
-static void step(minisign_installation *i)
+/* Hands over `abc`, and the end. */
+static enum minisign_error pieces(minisign_installation *i)
+{
+    enum minisign_error error = piece(i, "abc");
+
+    return error == MINISIGN_OK ? piece(i, "") : error;
+}
+
+/* An installation under the published key alone. */
+static enum minisign_error begin(minisign_installation *i, uint32_t is_first, uint32_t again, uint32_t is_check,
+                                 uint32_t is_waiting, uint32_t numbering)
+{
+    const minisign_public_key key = key_of(KEY);
+
+    return minisign_install_init(i, &key, &key, is_first, again, is_check, is_waiting, numbering);
+}
+
+/* Makes the call that is due, which goes well; the record holds this. */
+static void step(minisign_installation *i, const char *kept)
 {
     enum minisign_error error;
 
     switch (minisign_install_due(i)) {
-    case MINISIGN_DUE_READ_RECORD: error = record(i, "5"); break;
-    case MINISIGN_DUE_READ_BACK: error = piece(i, ""); break;
-    case MINISIGN_DUE_ANSWER:
-        error = ask(i);
-        if (error == MINISIGN_OK) {
-            error = minisign_install_answer(i, YES, YES);
-        }
-        break;
+    case MINISIGN_DUE_READ_RECORD: error = record(i, kept); break;
+    case MINISIGN_DUE_JUDGE: error = judge(i, NO, YES); break;
+    case MINISIGN_DUE_LOOK:
+    case MINISIGN_DUE_READ_BACK: error = pieces(i); break;
+    case MINISIGN_DUE_JUDGE_TARGET:
+    case MINISIGN_DUE_ANSWER: error = judge(i, YES, YES); break;
     default: error = minisign_install_done(i);
     }
     if (error != MINISIGN_OK) {
@@ -154,36 +195,34 @@ static void step(minisign_installation *i)
     }
 }
 
-/* An installation by this field at which this is due. */
-static minisign_installation at_after(uint32_t due, const char *kept, uint32_t numbering)
+/* Makes the calls that are due until this is; the record holds that. */
+static void go_to(minisign_installation *i, uint32_t due, const char *kept)
 {
-    minisign_installation i;
-    enum minisign_error error = minisign_install_init(&i, 0, numbering);
+    for (int calls = 0; minisign_install_due(i) != due; calls++) {
+        if (calls == 40) {
+            printf("the call %u is never due\n", due);
+            exit(1);
+        }
+        step(i, kept);
+    }
+}
+
+/* An installation at which this is due: over an older number, but where it is looked what stands at the target. */
+static minisign_installation at(uint32_t due)
+{
+    int looks = due >= MINISIGN_DUE_LOOK && due <= MINISIGN_DUE_SYNC_TARGET_NAME;
+    int waits = due == MINISIGN_DUE_UNLOCK || due == MINISIGN_DUE_RECEIVE;
     uint32_t by = due == MINISIGN_DUE_REMOVE_RECORD ? MINISIGN_DUE_WRITE_RECORD
                   : due == MINISIGN_DUE_REMOVE      ? MINISIGN_DUE_COPY
                   : due == MINISIGN_DUE_REFUSED     ? MINISIGN_DUE_LOCK
                                                     : due;
+    minisign_installation i;
 
-    while (error == MINISIGN_OK && minisign_install_due(&i) != by) {
-        if (minisign_install_due(&i) == MINISIGN_DUE_READ_RECORD) {
-            error = record(&i, kept);
-        } else {
-            step(&i);
-        }
-    }
-    if (error == MINISIGN_OK && by != due) {
-        error = minisign_install_failed(&i, MINISIGN_WRITING_FAILED);
-    }
-    if (error != MINISIGN_OK || minisign_install_due(&i) != due) {
-        printf("the call %u is never due\n", due);
-        exit(1);
-    }
+    CHECK(begin(&i, 0, 0, due == MINISIGN_DUE_WOULD_INSTALL, waits, MINISIGN_NUMBERING_TIMESTAMP) == MINISIGN_OK);
+    go_to(&i, by, looks || due == MINISIGN_DUE_ALREADY ? OWN_NUMBER : "5");
+    CHECK(by == due || minisign_install_failed(&i, MINISIGN_WRITING_FAILED) == MINISIGN_OK);
+    CHECK(minisign_install_due(&i) == due);
     return i;
-}
-
-static minisign_installation at(uint32_t due)
-{
-    return at_after(due, "5", MINISIGN_NUMBERING_TIMESTAMP);
 }
 
 static int same(const minisign_installation *one, const minisign_installation *other)
@@ -191,70 +230,57 @@ static int same(const minisign_installation *one, const minisign_installation *o
     return memcmp(one, other, sizeof *one) == 0;
 }
 
+/* That a call went well, or is not due, and what is due then: 0 where it is not. */
+#define GOES(due, call, to)                                                                                             \
+    do {                                                                                                                \
+        const minisign_installation before = at(due);                                                                   \
+        minisign_installation i = before;                                                                               \
+        uint32_t next = (to);                                                                                           \
+        enum minisign_error error = (call);                                                                             \
+                                                                                                                        \
+        CHECK_AT(due, next == 0 ? error == MINISIGN_NOT_DUE && same(&i, &before)                                        \
+                                : error == MINISIGN_OK && minisign_install_due(&i) == next);                            \
+    } while (0)
+
 /* Each call where each is due. */
 static void order(void)
 {
     for (size_t row = 0; row < ROWS; row++) {
-        uint32_t due = table[row].due;
+        const uint32_t due = table[row].due;
+        const int reads = due == MINISIGN_DUE_LOOK || due == MINISIGN_DUE_READ_BACK;
         const minisign_installation begun = at(due);
-        minisign_installation i = begun;
-        int is_end = due == MINISIGN_DUE_INSTALLED || due == MINISIGN_DUE_REFUSED;
 
-        if (table[row].done != 0) {
-            CHECK_AT(due, minisign_install_done(&i) == MINISIGN_OK && minisign_install_due(&i) == table[row].done);
-        } else {
-            CHECK_AT(due, minisign_install_done(&i) == MINISIGN_NOT_DUE && same(&i, &begun));
-        }
-        i = begun;
-        if (!is_end) {
-            CHECK_AT(due, minisign_install_failed(&i, MINISIGN_WRITING_FAILED) == MINISIGN_OK
-                              && minisign_install_due(&i) == table[row].failed);
-        } else {
-            CHECK_AT(due, minisign_install_failed(&i, MINISIGN_WRITING_FAILED) == MINISIGN_NOT_DUE && same(&i, &begun));
-        }
-        i = begun;
-        if (due == MINISIGN_DUE_COPY) {
-            CHECK_AT(due, minisign_install_more(&i) == MINISIGN_OK && minisign_install_due(&i) == due);
-        } else {
-            CHECK_AT(due, minisign_install_more(&i) == MINISIGN_NOT_DUE && same(&i, &begun));
-        }
-        i = begun;
-        if (due == MINISIGN_DUE_READ_RECORD) {
-            CHECK_AT(due, record(&i, "5") == MINISIGN_OK && minisign_install_due(&i) == MINISIGN_DUE_CREATE);
-            i = begun;
-            CHECK_AT(due, minisign_install_no_record(&i) == MINISIGN_OK && minisign_install_due(&i) == MINISIGN_DUE_REFUSED);
-        } else {
-            CHECK_AT(due, record(&i, "5") == MINISIGN_NOT_DUE && same(&i, &begun));
-            CHECK_AT(due, minisign_install_no_record(&i) == MINISIGN_NOT_DUE && same(&i, &begun));
-        }
-        i = begun;
-        if (due == MINISIGN_DUE_READ_BACK) {
-            CHECK_AT(due, piece(&i, "abc") == MINISIGN_OK && minisign_install_due(&i) == due);
-            CHECK_AT(due, piece(&i, "") == MINISIGN_OK && minisign_install_due(&i) == MINISIGN_DUE_ANSWER);
-        } else {
-            CHECK_AT(due, piece(&i, "abc") == MINISIGN_NOT_DUE && same(&i, &begun));
-            CHECK_AT(due, piece(&i, "") == MINISIGN_NOT_DUE && same(&i, &begun));
-        }
-        i = begun;
-        if (due == MINISIGN_DUE_ANSWER) {
-            CHECK_AT(due, minisign_install_answer(&i, YES, YES) == MINISIGN_NOT_ASKED && same(&i, &begun));
-            CHECK_AT(due, ask(&i) == MINISIGN_OK && minisign_install_due(&i) == due);
-            CHECK_AT(due, minisign_install_answer(&i, YES, YES) == MINISIGN_OK
-                              && minisign_install_due(&i) == MINISIGN_DUE_TAKE_PERMISSIONS);
-        } else {
-            CHECK_AT(due, ask(&i) == MINISIGN_NOT_DUE && same(&i, &begun));
-            CHECK_AT(due, minisign_install_answer(&i, YES, YES) == MINISIGN_NOT_DUE && same(&i, &begun));
-        }
-        memset(message, 0xaa, sizeof message);
-        if (due == MINISIGN_DUE_WRITE_RECORD) {
-            CHECK_AT(due, minisign_install_number_text(&begun, message, sizeof RECORD - 1) == sizeof RECORD - 1
-                              && memcmp(message, RECORD "\xaa", sizeof RECORD) == 0);
-            memset(message, 0xaa, sizeof message);
-            CHECK_AT(due, minisign_install_number_text(&begun, message, sizeof RECORD - 2) == 0 && message[0] == 0xaa);
-        } else {
-            CHECK_AT(due, minisign_install_number_text(&begun, message, sizeof message) == 0 && message[0] == 0xaa);
-        }
+        GOES(due, minisign_install_done(&i), table[row].done);
+        GOES(due, minisign_install_failed(&i, MINISIGN_WRITING_FAILED), table[row].failed);
+        GOES(due, minisign_install_more(&i), due == MINISIGN_DUE_COPY || due == MINISIGN_DUE_RECEIVE ? due : 0);
+        GOES(due, record(&i, "5"), due == MINISIGN_DUE_READ_RECORD ? MINISIGN_DUE_JUDGE : 0);
+        GOES(due, minisign_install_no_record(&i), due == MINISIGN_DUE_READ_RECORD ? MINISIGN_DUE_REFUSED : 0);
+        GOES(due, piece(&i, "abc"), reads ? due : 0);
+        GOES(due, piece(&i, ""), reads ? due + 1 : 0);
+        GOES(due, minisign_install_no_target(&i), due == MINISIGN_DUE_LOOK ? MINISIGN_DUE_CLEAR : 0);
+        GOES(due, ask(&i), due == MINISIGN_DUE_JUDGE || due == MINISIGN_DUE_JUDGE_TARGET || due == MINISIGN_DUE_ANSWER ? due : 0);
+        GOES(due, judge(&i, YES, YES),
+             due == MINISIGN_DUE_JUDGE           ? MINISIGN_DUE_CLEAR
+             : due == MINISIGN_DUE_JUDGE_TARGET ? MINISIGN_DUE_SYNC_TARGET
+             : due == MINISIGN_DUE_ANSWER       ? MINISIGN_DUE_TAKE_PERMISSIONS
+                                                : 0);
         CHECK_AT(due, minisign_install_error(&begun) == (due == MINISIGN_DUE_REFUSED ? MINISIGN_WRITING_FAILED : MINISIGN_OK));
+        CHECK_AT(due, minisign_install_number(&begun) == (due <= MINISIGN_DUE_JUDGE || due == MINISIGN_DUE_REFUSED ? 0 : NUMBER));
+    }
+}
+
+/* The record is written where that is due, if there is room. */
+static void written(void)
+{
+    for (size_t row = 0; row < ROWS; row++) {
+        const minisign_installation begun = at(table[row].due);
+        const size_t len = table[row].due == MINISIGN_DUE_WRITE_RECORD ? sizeof RECORD - 1 : 0;
+
+        memset(message, 0xaa, sizeof message);
+        CHECK_AT(table[row].due, minisign_install_record_text(&begun, message, MINISIGN_RECORD_TEXT_BYTES) == len);
+        CHECK_AT(table[row].due, memcmp(message, RECORD, len) == 0 && message[len] == 0xaa);
+        memset(message, 0xaa, sizeof message);
+        CHECK_AT(table[row].due, minisign_install_record_text(&begun, message, sizeof RECORD - 2) == 0 && message[0] == 0xaa);
     }
 }
 
@@ -267,10 +293,11 @@ static void failures(void)
                                                 MINISIGN_DIRECTORY_NOT_SYNCED, (enum minisign_error) 999 };
 
     for (uint32_t due = MINISIGN_DUE_LOCK; due <= MINISIGN_DUE_SYNC_NAME; due++) {
+        const int syncs = due == MINISIGN_DUE_SYNC_TARGET || due == MINISIGN_DUE_SYNC_TARGET_NAME || due == MINISIGN_DUE_SYNC_NAME;
         const minisign_installation begun = at(due);
 
         for (size_t n = 0; n < sizeof reasons / sizeof reasons[0]; n++) {
-            enum minisign_error why = due == MINISIGN_DUE_SYNC_NAME ? MINISIGN_DIRECTORY_NOT_SYNCED : reasons[n];
+            enum minisign_error why = syncs ? MINISIGN_DIRECTORY_NOT_SYNCED : reasons[n];
             minisign_installation i = begun;
 
             if (reasons[n] == MINISIGN_PLACE_IN_USE && due != MINISIGN_DUE_LOCK) {
@@ -307,12 +334,14 @@ static void beginnings(void)
         CHECK(record(&i, "5") == MINISIGN_NOT_DUE && minisign_install_no_record(&i) == MINISIGN_NOT_DUE);
         CHECK(piece(&i, "abc") == MINISIGN_NOT_DUE && ask(&i) == MINISIGN_NOT_DUE);
         CHECK(minisign_install_answer(&i, YES, YES) == MINISIGN_NOT_DUE);
-        CHECK(minisign_install_number_text(&i, message, sizeof message) == 0);
-        CHECK(minisign_install_init(&i, 2, MINISIGN_NUMBERING_TIMESTAMP) == MINISIGN_BAD_FIRST_FLAG);
-        CHECK(minisign_install_init(&i, 2, 2) == MINISIGN_BAD_FIRST_FLAG);
-        CHECK(minisign_install_init(&i, 0, 2) == MINISIGN_BAD_NUMBERING && minisign_install_init(&i, 1, UINT32_MAX) == MINISIGN_BAD_NUMBERING);
+        CHECK(minisign_install_no_target(&i) == MINISIGN_NOT_DUE && minisign_install_number(&i) == 0);
+        CHECK(minisign_install_record_text(&i, message, sizeof message) == 0);
+        CHECK(begin(&i, 2, 0, 0, 0, MINISIGN_NUMBERING_TIMESTAMP) == MINISIGN_BAD_FIRST_FLAG);
+        CHECK(begin(&i, 2, 0, 0, 0, 2) == MINISIGN_BAD_FIRST_FLAG);
+        CHECK(begin(&i, 0, 0, 0, 0, 2) == MINISIGN_BAD_NUMBERING && begin(&i, 1, 0, 0, 0, UINT32_MAX) == MINISIGN_BAD_NUMBERING);
         CHECK(same(&i, &before));
-        CHECK(minisign_install_init(&i, 1, MINISIGN_NUMBERING_VERSION) == MINISIGN_OK && minisign_install_due(&i) == MINISIGN_DUE_LOCK);
+        CHECK(begin(&i, 1, 0, 0, 0, MINISIGN_NUMBERING_VERSION) == MINISIGN_OK && minisign_install_due(&i) == MINISIGN_DUE_LOCK);
+        CHECK(begin(&i, 0, 9, 9, 9, MINISIGN_NUMBERING_VERSION) == MINISIGN_OK && minisign_install_due(&i) == MINISIGN_DUE_READ_RECORD);
     }
 }
 
@@ -321,11 +350,10 @@ static void record_gives(const uint8_t *text, size_t len, uint32_t is_first, uin
 {
     minisign_installation i;
 
-    CHECK(minisign_install_init(&i, is_first, numbering) == MINISIGN_OK);
-    step(&i);
-    step(&i);
+    CHECK(begin(&i, is_first, 0, 0, 0, numbering) == MINISIGN_OK);
+    step(&i, "");
     CHECK((text == NULL ? minisign_install_no_record(&i) : minisign_install_record(&i, text, len)) == MINISIGN_OK);
-    CHECK(minisign_install_due(&i) == (rejected == MINISIGN_OK ? MINISIGN_DUE_CREATE : MINISIGN_DUE_REFUSED));
+    CHECK(minisign_install_due(&i) == (rejected == MINISIGN_OK ? MINISIGN_DUE_JUDGE : MINISIGN_DUE_REFUSED));
     CHECK(minisign_install_error(&i) == rejected);
 }
 
@@ -346,7 +374,7 @@ static void records(void)
     static const char *const numbers[] = { "0", "5", "5\n", "18446744073709551615",
                                            "0000000000000000000000000000000000000000000000000000000000000005",
                                            "000000000000000000000000000000000000000000000000000000000000005\n" };
-    static const char *const timestamps[] = { "timestamp:0", "timestamp:5", "timestamp:5\n", "timestamp:18446744073709551615",
+    static const char *const timestamps[] = { RECORD, "timestamp:0", "timestamp:5", "timestamp:5\n", "timestamp:18446744073709551615",
                                               "timestamp:000000000000000000000000000000000000000000000000000005",
                                               "timestamp:00000000000000000000000000000000000000000000000000005\n" };
     static const char *const versions[] = { "version:0", "version:5", "version:5\n", "version:18446744073709551615" };
@@ -358,7 +386,9 @@ static void records(void)
                                         "timestamp:5\tversion:5", "file:5",
                                         "timestamp:0000000000000000000000000000000000000000000000000000005",
                                         "00000000000000000000000000000000000000000000000000000000000000005",
-                                        "0000000000000000000000000000000000000000000000000000000000000005\n" };
+                                        "0000000000000000000000000000000000000000000000000000000000000005\n",
+                                        RECORD "\n", RECORD "0", "timestamp:5\n" HEX_OF_ABC, "five" HEX_OF_ABC HEX_OF_ABC,
+                                        "timestamp:5\n" HEX_OF_ABC "\n" HEX_OF_ABC "\n" HEX_OF_ABC };
 
     for (size_t n = 0; n < sizeof numbers / sizeof numbers[0]; n++) {
         text_gives(numbers[n], MINISIGN_OK, MINISIGN_OK);
@@ -380,34 +410,34 @@ static void records(void)
     }
 }
 
-/* What a record of these bytes holds back at the first installation: a number of the other field does not, one of the
- * same field and one alone do. */
-static void first_gives(const char *kept, enum minisign_error answered)
+/* What the comment gives over a record, where the key has signed it or not: at the judgement before anything is staged, and, but of
+ * an update that is asked about there, at the one after that. */
+static void gives(const char *kept, uint32_t is_first, const char *signature, const char *file, uint32_t numbering,
+                  enum minisign_answer second, enum minisign_error rejected)
 {
     minisign_installation i;
+    enum minisign_error error;
 
-    CHECK(minisign_install_init(&i, 1, MINISIGN_NUMBERING_TIMESTAMP) == MINISIGN_OK);
-    step(&i);
-    step(&i);
-    CHECK(record(&i, kept) == MINISIGN_OK);
-    while (minisign_install_due(&i) != MINISIGN_DUE_ANSWER) {
-        step(&i);
+    CHECK(begin(&i, is_first, 0, 0, 0, numbering) == MINISIGN_OK);
+    go_to(&i, MINISIGN_DUE_JUDGE, kept);
+    error = ask_of(&i, signature, file, sizeof message);
+    if (error == MINISIGN_OK) {
+        CHECK(minisign_install_error(&i) == MINISIGN_OK && minisign_install_due(&i) == MINISIGN_DUE_JUDGE);
+        CHECK(minisign_install_number(&i) == 0);
+        error = minisign_install_answer(&i, NO, second);
     }
-    CHECK(ask(&i) == MINISIGN_OK && minisign_install_answer(&i, YES, YES) == answered);
+    CHECK(error == rejected && minisign_install_error(&i) == rejected);
+    CHECK((minisign_install_due(&i) == MINISIGN_DUE_REFUSED) == (rejected != MINISIGN_OK));
+    CHECK(minisign_install_number(&i) == 0 || rejected == MINISIGN_OK);
 }
 
-/* What the texts, the answers and the comment give, over a number that is kept. */
-static void gives(const char *kept, const char *signature, const char *file, uint32_t numbering, enum minisign_answer first,
-                  enum minisign_answer second, enum minisign_error asked, enum minisign_error answered)
+/* What the answers give of what the stage holds. */
+static void staged_gives(enum minisign_answer first, enum minisign_answer second, enum minisign_error rejected)
 {
-    minisign_installation i = at_after(MINISIGN_DUE_ANSWER, kept, numbering);
-    enum minisign_error rejected = asked == MINISIGN_OK ? answered : asked;
+    minisign_installation i = at(MINISIGN_DUE_ANSWER);
 
-    CHECK(ask_of(&i, signature, file, sizeof message) == asked);
-    if (asked == MINISIGN_OK) {
-        CHECK(minisign_install_error(&i) == MINISIGN_OK && minisign_install_due(&i) == MINISIGN_DUE_ANSWER);
-        CHECK(minisign_install_answer(&i, first, second) == answered);
-    }
+    CHECK(ask(&i) == MINISIGN_OK && memcmp(questions.digest, DIGEST_OF_ABC, sizeof DIGEST_OF_ABC) == 0);
+    CHECK(minisign_install_answer(&i, first, second) == rejected && minisign_install_error(&i) == MINISIGN_OK);
     CHECK(minisign_install_due(&i) == (rejected == MINISIGN_OK ? MINISIGN_DUE_TAKE_PERMISSIONS : MINISIGN_DUE_REMOVE));
     if (rejected != MINISIGN_OK) {
         CHECK(minisign_install_done(&i) == MINISIGN_OK && minisign_install_error(&i) == rejected);
@@ -417,43 +447,119 @@ static void gives(const char *kept, const char *signature, const char *file, uin
 static void answers(void)
 {
     const uint32_t by_time = MINISIGN_NUMBERING_TIMESTAMP, by_version = MINISIGN_NUMBERING_VERSION;
+
+    gives("0", 0, SIGNATURE, "test", by_time, YES, MINISIGN_OK);
+    gives(OWN_NUMBER, 0, SIGNATURE, "test", by_time, YES, MINISIGN_OK);
+    gives(RECORD, 0, SIGNATURE, "test", by_time, YES, MINISIGN_OK);
+    gives("1556193336", 0, SIGNATURE, "test", by_time, YES, MINISIGN_OLDER_UPDATE);
+    gives("timestamp:1556193336", 0, SIGNATURE, "test", by_time, YES, MINISIGN_OLDER_UPDATE);
+    gives("timestamp:1556193336\n" HEX_OF_ABC, 1, SIGNATURE, "test", by_time, YES, MINISIGN_OK);
+    /* At a first installation a number of the other field does not count, one of the same field and one alone do. */
+    gives("version:1556193336", 1, SIGNATURE, "test", by_time, YES, MINISIGN_OK);
+    gives("timestamp:1556193336", 1, SIGNATURE, "test", by_time, YES, MINISIGN_OLDER_UPDATE);
+    gives("1556193336", 1, SIGNATURE, "test", by_time, YES, MINISIGN_OLDER_UPDATE);
+    gives("0", 0, SIGNATURE, "tes", by_time, YES, MINISIGN_OTHER_FILE);
+    gives("0", 0, SIGNATURE, "", by_time, YES, MINISIGN_OTHER_FILE);
+    gives("0", 0, SIGNATURE, "test", by_version, YES, MINISIGN_NO_NUMBER);
+    /* What is said of the comment comes after the verdict. */
+    gives("1556193336", 0, SIGNATURE, "tes", by_version, NO, MINISIGN_COMMENT_SIGNATURE_REFUSED);
+    gives("0", 0, LEGACY, "test", by_time, YES, MINISIGN_LEGACY_NOT_ACCEPTED);
+    gives("0", 0, OF_OTHER_KEY, "test", by_time, YES, MINISIGN_DIFFERENT_KEY_IDS);
+    gives("0", 0, SIGNATURE, "\xff", by_time, YES, MINISIGN_NOT_UTF8);
+    gives("0", 0, "untrusted comment: none", "test", by_time, YES, MINISIGN_MISSING_SIGNATURE);
+    staged_gives(YES, YES, MINISIGN_OK);
+    staged_gives(NO, NO, MINISIGN_SIGNATURE_REFUSED);
+    staged_gives(NO, YES, MINISIGN_SIGNATURE_REFUSED);
+    staged_gives(YES, NO, MINISIGN_COMMENT_SIGNATURE_REFUSED);
+}
+
+/* What is asked, and of which key; and what is used wrongly changes nothing. */
+static void asked(void)
+{
+    static const uint32_t judging[] = { MINISIGN_DUE_JUDGE, MINISIGN_DUE_JUDGE_TARGET, MINISIGN_DUE_ANSWER };
+    const minisign_public_key key = key_of(KEY);
+    minisign_public_key other = key;
     minisign_installation i, before;
 
-    gives("0", SIGNATURE, "test", by_time, YES, YES, MINISIGN_OK, MINISIGN_OK);
-    gives("1556193335", SIGNATURE, "test", by_time, YES, YES, MINISIGN_OK, MINISIGN_OK);
-    gives(RECORD, SIGNATURE, "test", by_time, YES, YES, MINISIGN_OK, MINISIGN_OK);
-    gives("1556193336", SIGNATURE, "test", by_time, YES, YES, MINISIGN_OK, MINISIGN_OLDER_UPDATE);
-    gives("timestamp:1556193336", SIGNATURE, "test", by_time, YES, YES, MINISIGN_OK, MINISIGN_OLDER_UPDATE);
-    first_gives("version:1556193336", MINISIGN_OK);
-    first_gives("timestamp:1556193336", MINISIGN_OLDER_UPDATE);
-    first_gives("1556193336", MINISIGN_OLDER_UPDATE);
-    gives("0", SIGNATURE, "tes", by_time, YES, YES, MINISIGN_OK, MINISIGN_OTHER_FILE);
-    gives("0", SIGNATURE, "", by_time, YES, YES, MINISIGN_OK, MINISIGN_OTHER_FILE);
-    gives("0", SIGNATURE, "test", by_version, YES, YES, MINISIGN_OK, MINISIGN_NO_NUMBER);
-    /* What is said of the comment comes after the verdict. */
-    gives("1556193336", SIGNATURE, "tes", by_version, NO, NO, MINISIGN_OK, MINISIGN_SIGNATURE_REFUSED);
-    gives("1556193336", SIGNATURE, "tes", by_version, NO, YES, MINISIGN_OK, MINISIGN_SIGNATURE_REFUSED);
-    gives("1556193336", SIGNATURE, "tes", by_version, YES, NO, MINISIGN_OK, MINISIGN_COMMENT_SIGNATURE_REFUSED);
-    gives("0", LEGACY, "test", by_time, YES, YES, MINISIGN_LEGACY_NOT_ACCEPTED, MINISIGN_OK);
-    gives("0", "", "test", by_time, YES, YES, MINISIGN_MISSING_UNTRUSTED_COMMENT, MINISIGN_OK);
-    gives("0", "\xff", "test", by_time, YES, YES, MINISIGN_NOT_UTF8, MINISIGN_OK);
-    gives("0", SIGNATURE, "\xff", by_time, YES, YES, MINISIGN_NOT_UTF8, MINISIGN_OK);
+    for (size_t n = 0; n < sizeof judging / sizeof judging[0]; n++) {
+        i = before = at(judging[n]);
+        CHECK(minisign_install_answer(&i, YES, YES) == MINISIGN_NOT_ASKED && same(&i, &before));
+        CHECK(ask_of(&i, SIGNATURE, "test", 64 + sizeof COMMENT - 2) == MINISIGN_NO_ROOM && same(&i, &before));
+        CHECK(ask_of(&i, SIGNATURE, "test", 64 + sizeof COMMENT - 1) == MINISIGN_OK);
+        CHECK(questions.message_len == 64 + sizeof COMMENT - 1 && memcmp(message, questions.signature, 64) == 0
+              && memcmp(message + 64, COMMENT, sizeof COMMENT - 1) == 0 && questions.legacy == 0);
+        CHECK(questions.comment_offset == 64 && questions.comment_len == sizeof COMMENT - 1);
+        CHECK(memcmp(questions.public_key, key.key, sizeof key.key) == 0);
+        before = i;
+        CHECK(minisign_install_answer(&i, (enum minisign_answer) 1, YES) == MINISIGN_BAD_ANSWER && same(&i, &before));
+        CHECK(minisign_install_answer(&i, YES, (enum minisign_answer) 0) == MINISIGN_BAD_ANSWER && same(&i, &before));
+    }
+    /* Either of two keys may have signed, by its key ID. */
+    other.key_id[0] ^= 1;
+    other.key[0] ^= 1;
+    for (int n = 0; n < 4; n++) {
+        CHECK(minisign_install_init(&i, n & 1 ? &key : &other, n & 2 ? &key : &other, 0, 0, 0, 0, 0) == MINISIGN_OK);
+        go_to(&i, MINISIGN_DUE_JUDGE, "5");
+        CHECK(ask(&i) == (n == 0 ? MINISIGN_DIFFERENT_KEY_IDS : MINISIGN_OK));
+        CHECK(n == 0 || memcmp(questions.public_key, key.key, sizeof key.key) == 0);
+    }
+}
 
-    /* A usage error changes nothing. */
-    i = before = at(MINISIGN_DUE_ANSWER);
-    CHECK(ask_of(&i, SIGNATURE, "test", 64 + sizeof COMMENT - 2) == MINISIGN_NO_ROOM && same(&i, &before));
-    CHECK(ask_of(&i, SIGNATURE, "test", 64 + sizeof COMMENT - 1) == MINISIGN_OK);
-    before = i;
-    CHECK(ask(&i) == MINISIGN_ALREADY_ASKED && same(&i, &before));
-    CHECK(minisign_install_answer(&i, (enum minisign_answer) 1, YES) == MINISIGN_BAD_ANSWER && same(&i, &before));
-    CHECK(minisign_install_answer(&i, YES, (enum minisign_answer) 0) == MINISIGN_BAD_ANSWER && same(&i, &before));
+/* What is due where the number is the kept one: whether the record is of this update, and what stands at the target. */
+static void kept_gives(const char *kept, uint32_t again, uint32_t is_check, uint32_t is_waiting, enum minisign_answer own,
+                       enum minisign_answer there, uint32_t due, enum minisign_error rejected)
+{
+    static const uint8_t zeros[64];
+    minisign_installation i;
 
-    /* What is asked is of what was read back. */
-    i = at(MINISIGN_DUE_READ_BACK);
-    CHECK(piece(&i, "a") == MINISIGN_OK && piece(&i, "bc") == MINISIGN_OK && piece(&i, "") == MINISIGN_OK);
-    CHECK(ask(&i) == MINISIGN_OK && memcmp(questions.digest, DIGEST_OF_ABC, sizeof DIGEST_OF_ABC) == 0);
-    CHECK(questions.message_len == 64 + sizeof COMMENT - 1 && memcmp(message, questions.signature, 64) == 0
-          && memcmp(message + 64, COMMENT, sizeof COMMENT - 1) == 0 && questions.legacy == 0);
+    CHECK(begin(&i, 0, again, is_check, is_waiting, MINISIGN_NUMBERING_TIMESTAMP) == MINISIGN_OK);
+    go_to(&i, MINISIGN_DUE_JUDGE, kept);
+    CHECK(ask(&i) == MINISIGN_OK);
+    CHECK(memcmp(questions.digest, strlen(kept) > 64 ? DIGEST_OF_ABC : zeros, sizeof questions.digest) == 0);
+    CHECK(minisign_install_answer(&i, own, YES) == MINISIGN_OK && minisign_install_due(&i) == MINISIGN_DUE_LOOK);
+    CHECK(pieces(&i) == MINISIGN_OK && ask(&i) == MINISIGN_OK);
+    CHECK(memcmp(questions.digest, DIGEST_OF_ABC, sizeof DIGEST_OF_ABC) == 0);
+    CHECK(minisign_install_answer(&i, there, YES) == rejected);
+    CHECK(minisign_install_due(&i) == due && minisign_install_error(&i) == rejected);
+}
+
+static void kept(void)
+{
+    for (uint32_t waits = 0; waits < 2; waits++) {
+        const uint32_t on = waits ? MINISIGN_DUE_UNLOCK : MINISIGN_DUE_CLEAR;
+
+        for (uint32_t again = 0; again < 2; again++) {
+            kept_gives(RECORD, again, 0, waits, YES, YES, MINISIGN_DUE_SYNC_TARGET, MINISIGN_OK);
+            kept_gives(OWN_NUMBER, again, 0, waits, NO, YES, MINISIGN_DUE_SYNC_TARGET, MINISIGN_OK);
+            kept_gives(RECORD, again, 1, waits, YES, YES, MINISIGN_DUE_ALREADY, MINISIGN_OK);
+            kept_gives(RECORD, again, 0, waits, YES, NO, on, MINISIGN_OK);
+            kept_gives(RECORD, again, 1, waits, YES, NO, MINISIGN_DUE_WOULD_INSTALL, MINISIGN_OK);
+        }
+        kept_gives(RECORD, 1, 0, waits, NO, NO, on, MINISIGN_OK);
+        kept_gives(RECORD, 0, 0, waits, NO, NO, MINISIGN_DUE_REFUSED, MINISIGN_SAME_NUMBER);
+        kept_gives(RECORD, 0, 1, waits, NO, NO, MINISIGN_DUE_REFUSED, MINISIGN_SAME_NUMBER);
+        /* A record that says nothing of the data is of none, whatever is answered. */
+        kept_gives(OWN_NUMBER, 0, 0, waits, YES, NO, MINISIGN_DUE_REFUSED, MINISIGN_SAME_NUMBER);
+        kept_gives("1556193335", 0, 1, waits, YES, NO, MINISIGN_DUE_REFUSED, MINISIGN_SAME_NUMBER);
+    }
+}
+
+/* Data that may stand still is received while the target is not locked, and all is judged again then. */
+static void received(void)
+{
+    minisign_installation i;
+
+    CHECK(begin(&i, 0, 0, 0, 1, MINISIGN_NUMBERING_TIMESTAMP) == MINISIGN_OK);
+    CHECK(minisign_install_failed(&i, MINISIGN_PLACE_IN_USE) == MINISIGN_OK && minisign_install_due(&i) == MINISIGN_DUE_RECEIVE);
+    CHECK(minisign_install_more(&i) == MINISIGN_OK && minisign_install_done(&i) == MINISIGN_OK);
+    CHECK(minisign_install_due(&i) == MINISIGN_DUE_LOCK && minisign_install_failed(&i, MINISIGN_PLACE_IN_USE) == MINISIGN_OK);
+    CHECK(minisign_install_due(&i) == MINISIGN_DUE_REFUSED && minisign_install_error(&i) == MINISIGN_PLACE_IN_USE);
+
+    i = at(MINISIGN_DUE_RECEIVE);
+    CHECK(minisign_install_done(&i) == MINISIGN_OK && minisign_install_due(&i) == MINISIGN_DUE_LOCK);
+    go_to(&i, MINISIGN_DUE_JUDGE, OWN_NUMBER);
+    CHECK(judge(&i, NO, YES) == MINISIGN_OK && minisign_install_due(&i) == MINISIGN_DUE_LOOK);
+    CHECK(minisign_install_no_target(&i) == MINISIGN_OK && minisign_install_due(&i) == MINISIGN_DUE_CLEAR);
 }
 
 static void comment_gives(const char *comment, const char *file, uint32_t numbering, uint64_t kept,
@@ -514,89 +620,34 @@ static void comments(void)
     comment_gives("file:a\tversion:1\texpires:2000", "a", by_version, 2, MINISIGN_OLDER_UPDATE, 0);
 }
 
-/* What a check answers: `offer` of the number 5, or an error. Without a record where that is NULL. */
-static void check_gives(const char *comment, const char *file, uint32_t numbering, uint32_t is_first, const char *record,
-                        enum minisign_error error, uint32_t offer)
-{
-    const uint8_t *bytes = (const uint8_t *) comment, *name = (const uint8_t *) file;
-    uint64_t number = 77;
-    uint32_t told = 77;
-
-    CHECK((record == NULL ? minisign_check_first_comment(bytes, strlen(comment), name, strlen(file), numbering, NOW, is_first,
-                                                         &told, &number)
-                          : minisign_check_comment(bytes, strlen(comment), name, strlen(file), numbering, NOW, is_first,
-                                                   (const uint8_t *) record, strlen(record), &told, &number))
-          == error);
-    CHECK(told == (error == MINISIGN_OK ? offer : 77) && number == (error == MINISIGN_OK ? 5 : 77));
-}
-
-static void checks(void)
-{
-    const uint32_t by_time = MINISIGN_NUMBERING_TIMESTAMP, by_version = MINISIGN_NUMBERING_VERSION;
-    static const char offered[] = "version:5\tfile:a\texpires:2000";
-
-    for (uint32_t is_first = 0; is_first <= 1; is_first++) {
-        check_gives(offered, "a", by_version, is_first, "4", MINISIGN_OK, MINISIGN_OFFER_NEWER);
-        check_gives(offered, "a", by_version, is_first, "version:4\n", MINISIGN_OK, MINISIGN_OFFER_NEWER);
-        check_gives(offered, "a", by_version, is_first, "version:5", MINISIGN_OK, MINISIGN_OFFER_SAME);
-        check_gives(offered, "a", by_version, is_first, "05", MINISIGN_OK, MINISIGN_OFFER_SAME);
-        check_gives(offered, "a", by_version, is_first, "version:6", MINISIGN_OK, MINISIGN_OFFER_OLDER);
-        check_gives(offered, "a", by_version, is_first, "18446744073709551615", MINISIGN_OK, MINISIGN_OFFER_OLDER);
-        check_gives(offered, "b", by_version, is_first, "4", MINISIGN_OTHER_FILE, 0);
-        check_gives(offered, "a", by_time, is_first, "4", MINISIGN_NO_NUMBER, 0);
-        check_gives("version:5\tfile:a\texpires:1000", "a", by_version, is_first, "4", MINISIGN_EXPIRED, 0);
-        check_gives("version:5\tfile:a\texpires:1000", "a", by_version, is_first, "6", MINISIGN_EXPIRED, 0);
-        check_gives("version:5\tfile:a\texpires:x", "a", by_version, is_first, "4", MINISIGN_BAD_EXPIRY, 0);
-        check_gives("\xff", "a", by_version, is_first, "x", MINISIGN_NOT_UTF8, 0);
-        check_gives(offered, "\xff", by_version, is_first, "x", MINISIGN_NOT_UTF8, 0);
-        check_gives(offered, "a", 2, is_first, "4", MINISIGN_BAD_NUMBERING, 0);
-        check_gives(offered, "a", 2, 2, "4", MINISIGN_BAD_FIRST_FLAG, 0);
-    }
-    /* What holds no number of the field is rejected as installing rejects it, or counts for nothing. */
-    check_gives(offered, "b", by_version, 0, NULL, MINISIGN_NO_RECORD, 0);
-    check_gives(offered, "b", by_version, 0, "", MINISIGN_DAMAGED_RECORD, 0);
-    check_gives(offered, "b", by_version, 0, "version:x", MINISIGN_DAMAGED_RECORD, 0);
-    check_gives(offered, "b", by_version, 0, "timestamp:9", MINISIGN_KEPT_BY_TIMESTAMP, 0);
-    check_gives(offered, "b", by_time, 0, "version:9", MINISIGN_KEPT_BY_VERSION, 0);
-    check_gives(offered, "a", by_version, 1, NULL, MINISIGN_OK, MINISIGN_OFFER_NEWER);
-    check_gives(offered, "a", by_version, 1, "", MINISIGN_OK, MINISIGN_OFFER_NEWER);
-    check_gives(offered, "a", by_version, 1, "timestamp:9", MINISIGN_OK, MINISIGN_OFFER_NEWER);
-    check_gives(offered, "b", by_version, 1, NULL, MINISIGN_OTHER_FILE, 0);
-    check_gives(offered, "a", 2, 1, NULL, MINISIGN_BAD_NUMBERING, 0);
-    check_gives(offered, "a", 2, 2, NULL, MINISIGN_BAD_FIRST_FLAG, 0);
-}
-
 /* NULL where there are no bytes. */
 static void nulls(void)
 {
     minisign_installation i = at(MINISIGN_DUE_READ_RECORD);
-    minisign_public_key key;
     uint64_t number;
-    uint32_t offer;
 
     CHECK(minisign_install_record(&i, NULL, 0) == MINISIGN_OK && minisign_install_error(&i) == MINISIGN_DAMAGED_RECORD);
     i = at(MINISIGN_DUE_READ_BACK);
     CHECK(minisign_install_piece(&i, NULL, 0) == MINISIGN_OK && minisign_install_due(&i) == MINISIGN_DUE_ANSWER);
-    CHECK(minisign_read_public_key((const uint8_t *) KEY, sizeof KEY - 1, &key) == MINISIGN_OK);
-    CHECK(minisign_install_ask(&i, &key, (const uint8_t *) SIGNATURE, sizeof SIGNATURE - 1, NULL, 0, NOW, &questions, NULL, 0)
-          == MINISIGN_NO_ROOM);
-    CHECK(minisign_install_ask(&i, &key, NULL, 0, NULL, 0, NOW, &questions, NULL, 0) == MINISIGN_MISSING_UNTRUSTED_COMMENT);
+    CHECK(minisign_install_ask(&i, (const uint8_t *) SIGNATURE, sizeof SIGNATURE - 1, NULL, 0, NOW, &questions, NULL, 0) == MINISIGN_NO_ROOM);
+    CHECK(minisign_install_ask(&i, NULL, 0, NULL, 0, NOW, &questions, NULL, 0) == MINISIGN_MISSING_UNTRUSTED_COMMENT);
     i = at(MINISIGN_DUE_WRITE_RECORD);
-    CHECK(minisign_install_number_text(&i, NULL, 0) == 0);
+    CHECK(minisign_install_record_text(&i, NULL, 0) == 0);
     CHECK(minisign_judge_comment(NULL, 0, NULL, 0, MINISIGN_NUMBERING_TIMESTAMP, NOW, 0, &number) == MINISIGN_OTHER_FILE);
-    CHECK(minisign_check_comment(NULL, 0, NULL, 0, MINISIGN_NUMBERING_TIMESTAMP, NOW, 0, NULL, 0, &offer, &number) == MINISIGN_DAMAGED_RECORD);
-    CHECK(minisign_check_first_comment(NULL, 0, NULL, 0, MINISIGN_NUMBERING_TIMESTAMP, NOW, 1, &offer, &number) == MINISIGN_OTHER_FILE);
 }
 
 int main(void)
 {
     order();
+    written();
     failures();
     beginnings();
     records();
     answers();
+    asked();
+    kept();
+    received();
     comments();
-    checks();
     nulls();
     CHECK(requests == 0);
     printf("%u passed, %u failed\n", passed, failed);

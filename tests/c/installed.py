@@ -19,23 +19,21 @@ import base64
 import os
 import re
 import shlex
-import subprocess
 import sys
-import tempfile
 
 HERE = os.path.dirname(os.path.realpath(__file__))
-sys.path += [os.path.join(HERE, "..", it) for it in ("shared", "minisign")]
+sys.path += [os.path.join(HERE, "..", name) for name in ("shared", "minisign")]
 
+import ending
 import needs
 import static_library
-from checks import Checks
 from minisign_signing import MEMORY, sealed_key
+from process import run_apart
 
 TOP = os.path.join(HERE, "..", "..")
 EXAMPLES = os.path.join(TOP, "c", "examples")
 CORPUS = os.path.join(HERE, "..", "corpus")
 PREFIX = "/prefix"
-SECONDS = 300
 STRICT = ["-Wall", "-Wextra", "-Wpedantic", "-Werror"]
 
 # What is installed beside the shared library, whose name has its version.
@@ -58,13 +56,6 @@ SEED_AT, PUBLIC_HALF_AT = 62, 94
 COMMENT = "version 2 \u00e9"
 
 
-def run(command, directory=None, environment=None):
-    """Runs a command: its status, its output, and what it said."""
-    ran = subprocess.run(command, cwd=directory, env=dict(os.environ, **(environment or {})), stdin=subprocess.DEVNULL,
-                         stdout=subprocess.PIPE, stderr=subprocess.PIPE, timeout=SECONDS)
-    return ran.returncode, ran.stdout.decode(errors="replace"), ran.stderr.decode(errors="replace")
-
-
 def header_names(header):
     """The names of the calls that the header declares."""
     with open(header, encoding="utf-8") as file:
@@ -74,7 +65,7 @@ def header_names(header):
 
 def defined_names(library, *flags):
     """The names that a library defines for others."""
-    status, said, _ = run([needs.program("nm", "binutils"), "-g", "--defined-only", *flags, library])
+    status, said, _ = run_apart([needs.program("nm", "binutils"), "-g", "--defined-only", *flags, library])
     return {line.split()[-1] for line in said.splitlines() if re.match(r"[0-9a-f]+ [A-Z] ", line)}
 
 
@@ -92,7 +83,7 @@ def installed_files(checks, root):
     for name, flags in (("libminisign.so", ["-D"]), ("libminisign.a", [])):
         defined = defined_names(os.path.join(root, "lib", name), *flags)
         checks.check(defined == names, f"{name} defines {sorted(defined ^ names)}, of which the header or the library has nothing")
-    _, said, _ = run([needs.program("readelf", "binutils"), "-d", os.path.join(root, "lib", "libminisign.so")])
+    _, said, _ = run_apart([needs.program("readelf", "binutils"), "-d", os.path.join(root, "lib", "libminisign.so")])
     soname = re.search(r"\(SONAME\).*\[(.*)\]", said)
     checks.check(soname is not None and f"lib/{soname[1]}" in found, f"the soname is {soname and soname[1]}")
     # (before 1.0 a program that was built for another revision does not start)
@@ -100,14 +91,14 @@ def installed_files(checks, root):
     checks.check("TEXTREL" not in said, "the shared library has to be changed where it is loaded")
     groff = needs.program("groff", "groff")
     for page in (name for name in FILES if "/man/" in name):
-        status, _, said = run([groff, "-man", "-ww", "-Tutf8", os.path.join(root, page)])
+        status, _, said = run_apart([groff, "-man", "-ww", "-Tutf8", os.path.join(root, page)])
         checks.check(status == 0 and not said, f"{page}: {said}")
 
 
 def flags_of(root, room, *wanted):
     """What pkg-config tells of what was installed."""
     environment = {"PKG_CONFIG_PATH": os.path.join(root, "lib", "pkgconfig"), "PKG_CONFIG_SYSROOT_DIR": os.path.join(room, "dest")}
-    status, said, why = run([needs.program("pkg-config", "pkg-config"), *wanted, "minisign"], environment=environment)
+    status, said, why = run_apart([needs.program("pkg-config", "pkg-config"), *wanted, "minisign"], **environment)
     if status != 0:
         raise static_library.NotBuilt(f"pkg-config: {why}")
     return shlex.split(said)
@@ -125,10 +116,10 @@ def build_all(checks, root, room):
         "C++ 11": [cpp, "-std=c++11", *STRICT, *cflags, os.path.join(HERE, "installed_verify.cpp"), archive, "-lsodium"],
         "C++ 17 over the shared library": [cpp, "-std=c++17", *STRICT, *cflags, os.path.join(HERE, "installed_verify.cpp"), *libs,
                                           "-lsodium"],
-        "Rust": [rustc, "--edition", "2021", "-D", "warnings", os.path.join(TOP, "examples", "rust", "minisign-verify.rs"),
+        "Rust": [rustc, "--edition", "2021", "-D", "warnings", os.path.join(HERE, "installed_verify.rs"),
                  "-C", f"link-arg={archive}", "-l", "sodium"],
         "Rust over the shared library": [rustc, "--edition", "2021", "-D", "warnings", "-L", shared, "-l", "dylib=minisign",
-                                         os.path.join(TOP, "examples", "rust", "minisign-verify.rs"), "-l", "sodium"],
+                                         os.path.join(HERE, "installed_verify.rs"), "-l", "sodium"],
         "sign": [compiler, "-std=c11", *STRICT, *cflags, os.path.join(EXAMPLES, "sign.c"), archive, "-lsodium"],
         "check": [compiler, "-std=c99", *STRICT, *cflags, os.path.join(EXAMPLES, "check.c"), archive, "-lsodium"],
         "simple calls": [compiler, "-std=c99", *STRICT, *cflags, os.path.join(HERE, "simple.c"), archive, "-lsodium"],
@@ -136,7 +127,7 @@ def build_all(checks, root, room):
     programs = {}
     for name, command in commands.items():
         program = os.path.join(room, name.replace(" ", "-"))
-        status, _, said = run([*command, "-o", program])
+        status, _, said = run_apart([*command, "-o", program])
         checks.check(status == 0, f"{name} was not built: {said[-1000:]}")
         programs[name] = [program]
     programs["Python"] = [sys.executable, os.path.join(HERE, "installed_verify.py"), os.path.join(shared, "libminisign.so")]
@@ -144,7 +135,7 @@ def build_all(checks, root, room):
         source = os.path.join(room, "dropped")
         with open(source, "w", encoding="utf-8") as file:
             file.write(DROPPED)
-        status, _, said = run([*command, *STRICT, *cflags, "-c", source, "-o", os.path.join(room, "dropped.o")])
+        status, _, said = run_apart([*command, *STRICT, *cflags, "-c", source, "-o", os.path.join(room, "dropped.o")])
         checks.check(status != 0 and "minisign_update" in said, f"{name}: a result that is dropped is no warning")
     return programs
 
@@ -176,12 +167,12 @@ def read(path):
 def verifying_cases(room, minisign):
     """Calls that verify: what they are given, and the trusted comment where the texts vouch for the data, else None."""
     for name in ("key", "other"):
-        run([minisign, "-G", "-W", "-p", f"{name}.pub", "-s", f"{name}.key"], room)
+        run_apart([minisign, "-G", "-W", "-p", f"{name}.pub", "-s", f"{name}.key"], room)
     data = write(room, "data", b"some data\n" * 20000)
-    run([minisign, "-S", "-s", "key.key", "-m", data, "-x", "sig", "-t", COMMENT, "-c", "u"], room)
-    run([minisign, "-S", "-l", "-s", "key.key", "-m", data, "-x", "legacy", "-t", COMMENT], room)
+    run_apart([minisign, "-S", "-s", "key.key", "-m", data, "-x", "sig", "-t", COMMENT, "-c", "u"], room)
+    run_apart([minisign, "-S", "-l", "-s", "key.key", "-m", data, "-x", "legacy", "-t", COMMENT], room)
     empty = write(room, "empty", b"")
-    run([minisign, "-S", "-s", "key.key", "-m", empty, "-x", "empty.sig", "-t", "t"], room)
+    run_apart([minisign, "-S", "-s", "key.key", "-m", empty, "-x", "empty.sig", "-t", "t"], room)
     key, other, sig = (os.path.join(room, name) for name in ("key.pub", "other.pub", "sig"))
     text, key_text = read(sig), read(key)
     second, fourth = (text.index(text.split(b"\n")[number]) for number in (1, 3))
@@ -211,7 +202,7 @@ def run_verifiers(checks, programs, root, room, minisign):
         for name, program in programs.items():
             if name in ("sign", "check"):
                 continue
-            status, said, why = run([*program, *names], environment=shared if "shared" in name else None)
+            status, said, why = run_apart([*program, *names], **(shared if "shared" in name else {}))
             if comment is None:
                 checks.check(status in (1, 2) and not said and why, f"{name}, {what}: status {status}, {said!r}, {why!r}")
             else:
@@ -252,18 +243,18 @@ def run_signer(checks, program, room, minisign):
         made = os.path.join(room, "made")
         if os.path.exists(made):
             os.remove(made)
-        status, said, why = run([*program, secret, of, made, comment, *password])
+        status, said, why = run_apart([*program, secret, of, made, comment, *password])
         if rejected is None:
             checks.check(status == 0 and not why, f"sign, {what}: status {status}, {why!r}")
             if secret == key:
-                status, said, why = run([minisign, "-Q", "-V", "-p", "key.pub", "-m", of, "-x", made], room)
+                status, said, why = run_apart([minisign, "-Q", "-V", "-p", "key.pub", "-m", of, "-x", made], room)
                 checks.check(status == 0 and said == comment + "\n", f"sign, {what}: minisign says {said!r}, {why!r}")
         else:
             checks.check(status == 1 and why == f"sign: {rejected}\n", f"sign, {what}: status {status}, {why!r}")
             checks.check(not os.path.exists(made), f"sign, {what}: a signature was written")
-    status, _, why = run([*program, key, data, os.path.join(room, "nothing", "made"), COMMENT])
+    status, _, why = run_apart([*program, key, data, os.path.join(room, "nothing", "made"), COMMENT])
     checks.check(status == 1 and why == "sign: a file cannot be opened\n", f"sign, no directory: {why!r}")
-    status, _, why = run([*program, key, data, "/dev/full", COMMENT])
+    status, _, why = run_apart([*program, key, data, "/dev/full", COMMENT])
     checks.check(status == 1 and why == "sign: the signature cannot be written\n", f"sign, a full disk: {why!r}")
 
 
@@ -276,10 +267,10 @@ def run_simple_signer(checks, program, room, minisign):
             ("a key that was never sealed", key, COMMENT, None), ("no comment", key, "", None),
             ("a key of which a half was changed", half, COMMENT, "Signature verification failed"),
             ("a sealed key", sealed, COMMENT, "Key might be encrypted"), ("a comment of two lines", key, "a\nb", "a comment has a line break")):
-        status, said, why = run([*program, secret, data, made, comment])
+        status, said, why = run_apart([*program, secret, data, made, comment])
         if rejected is None:
             checks.check(status == 0 and not why, f"signing simply, {what}: status {status}, {why!r}")
-            status, said, why = run([minisign, "-Q", "-V", "-p", "key.pub", "-m", data, "-x", made], room)
+            status, said, why = run_apart([minisign, "-Q", "-V", "-p", "key.pub", "-m", data, "-x", made], room)
             checks.check(status == 0 and said == comment + "\n", f"signing simply, {what}: minisign says {said!r}, {why!r}")
         else:
             checks.check(status == 1 and rejected.lower() in why.lower(), f"signing simply, {what}: status {status}, {why!r}")
@@ -291,7 +282,7 @@ def check_under(checks, key, root, room):
     with open(source, "wb") as file:
         file.write(re.sub(rb'KEY\[\] = "[^"]*"', b'KEY[] = "%s"' % key, read(os.path.join(EXAMPLES, "check.c"))))
     archive = os.path.join(root, "lib", "libminisign.a")
-    status, _, said = run([needs.libsodium(), "-std=c99", *STRICT, *flags_of(root, room, "--cflags"), source, archive, "-lsodium", "-o", program])
+    status, _, said = run_apart([needs.libsodium(), "-std=c99", *STRICT, *flags_of(root, room, "--cflags"), source, archive, "-lsodium", "-o", program])
     checks.check(status == 0, f"check under another key was not built: {said[-1000:]}")
     return [program]
 
@@ -312,7 +303,7 @@ def run_check(checks, program, root, room):
             ("no data for an empty file", under, (missing, empty_signature), 2),
             ("a directory for an empty file", under, (room, empty_signature), 2),
             ("too long a file for an empty file", under, (long, empty_signature), 2)):
-        status, said, why = run([*check, *words])
+        status, said, why = run_apart([*check, *words])
         checks.check((status, said, why) == (wanted, "", ""), f"check, {what}: status {status}, {said!r}, {why!r}")
 
 
@@ -320,18 +311,18 @@ def run_programs(checks, root, room, minisign):
     """The programs that were installed, once each; `tests/whole/whole_minisign.py` has all about the first."""
     key, data, sig = (os.path.join(room, name) for name in ("key.pub", "data", "installed.sig"))
     ours = os.path.join(root, "bin", "minisign")
-    status, _, why = run([ours, "-S", "-s", os.path.join(room, "key.key"), "-m", data, "-x", sig, "-t", COMMENT])
+    status, _, why = run_apart([ours, "-S", "-s", os.path.join(room, "key.key"), "-m", data, "-x", sig, "-t", COMMENT])
     checks.check(status == 0, f"minisign -S: {why}")
     for program in (ours, minisign):
-        status, said, why = run([program, "-V", "-Q", "-p", key, "-m", data, "-x", sig])
+        status, said, why = run_apart([program, "-V", "-Q", "-p", key, "-m", data, "-x", sig])
         checks.check(status == 0 and said == COMMENT + "\n", f"{program}: {said!r}, {why!r}")
     place = os.path.join(room, "place")
-    run([minisign, "-S", "-s", "key.key", "-m", data, "-x", sig, "-t", "version:7\tfile:place"], room)
+    run_apart([minisign, "-S", "-s", "key.key", "-m", data, "-x", sig, "-t", "version:7\tfile:place"], room)
     install = os.path.join(root, "bin", "minisign-install")
     for words, wanted in (([], 7), (["--first"], 0), ([], 10)):
-        status, said, why = run([install, *words, "--numbering", "version", key, data, sig, place])
+        status, said, why = run_apart([install, *words, "--numbering", "version", key, data, sig, place])
         checks.check(status == wanted and not said and bool(why) == (wanted == 7), f"minisign-install {words}: status {status}, {why!r}")
-    checks.check(read(place) == read(data) and read(os.path.join(room, ".place.number")) == b"version:7", "minisign-install: what was installed")
+    checks.check(read(place) == read(data) and read(os.path.join(room, ".place.number")).splitlines()[0] == b"version:7", "minisign-install: what was installed")
 
 
 def use(checks, root, room, minisign):
@@ -346,19 +337,12 @@ def use(checks, root, room, minisign):
     run_programs(checks, root, room, minisign)
 
 
-def main():
-    checks = Checks()
-    with tempfile.TemporaryDirectory(prefix="installed-") as room:
-        root = os.path.join(room, "dest") + PREFIX
-        try:
-            needs.libsodium()
-            minisign = needs.minisign()
-            static_library.run_make(f"OUT={room}/out", f"PREFIX={PREFIX}", f"DESTDIR={room}/dest", "install")
-            use(checks, root, room, minisign)
-        except (needs.Missing, static_library.NotBuilt) as why:
-            checks.check(False, str(why))
-    return checks.end()
+def run_all(checks, room):
+    needs.libsodium()
+    minisign = needs.minisign()
+    static_library.run_make(f"OUT={room}/out", f"PREFIX={PREFIX}", f"DESTDIR={room}/dest", "install")
+    use(checks, os.path.join(room, "dest") + PREFIX, room, minisign)
 
 
 if __name__ == "__main__":
-    sys.exit(main())
+    sys.exit(ending.check("installed", run_all))

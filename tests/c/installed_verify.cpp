@@ -34,6 +34,7 @@ int main(int argc, char **argv)
 {
     std::string key, data, signature, message;
     minisign_public_key pk;
+    minisign_signature read_signature;
     minisign_state state;
     minisign_questions q;
 
@@ -45,7 +46,10 @@ int main(int argc, char **argv)
     minisign_init(&state);
     minisign_error error = minisign_read_public_key(bytes(key), key.size(), &pk);
     if (error == MINISIGN_OK) {
-        error = minisign_ask(&state, &pk, bytes(signature), signature.size(), 0, &q,
+        error = minisign_read_signature(bytes(signature), signature.size(), &read_signature);
+    }
+    if (error == MINISIGN_OK) {
+        error = minisign_ask(&state, &pk, &read_signature, bytes(signature), signature.size(), 0, &q,
                              reinterpret_cast<std::uint8_t *>(&message[0]), message.size());
     }
     if (error == MINISIGN_OK) {
@@ -64,6 +68,6 @@ int main(int argc, char **argv)
         std::fprintf(stderr, "%s\n", why);
         return 1;
     }
-    std::printf("%.*s\n", static_cast<int>(q.message_len - 64), message.data() + 64);
+    std::printf("%.*s\n", static_cast<int>(q.comment_len), message.data() + q.comment_offset);
     return 0;
 }

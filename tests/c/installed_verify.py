@@ -8,10 +8,17 @@ import sys
 YES, NO = 0x796573, 0x6E6F
 
 
+class Signature(ctypes.Structure):
+    _fields_ = [("mark", ctypes.c_uint64), ("key_id", ctypes.c_uint8 * 8), ("signature", ctypes.c_uint8 * 64),
+                ("comment_signature", ctypes.c_uint8 * 64), ("comment_offset", ctypes.c_uint64), ("comment_len", ctypes.c_uint64),
+                ("text_digest", ctypes.c_uint8 * 32), ("algorithm", ctypes.c_uint8 * 2), ("legacy", ctypes.c_uint8),
+                ("whole", ctypes.c_uint8), ("reserved", ctypes.c_uint32)]
+
+
 class Questions(ctypes.Structure):
     _fields_ = [("public_key", ctypes.c_uint8 * 32), ("digest", ctypes.c_uint8 * 64), ("signature", ctypes.c_uint8 * 64),
                 ("comment_signature", ctypes.c_uint8 * 64), ("message_len", ctypes.c_uint64),
-                ("public_key_id", ctypes.c_uint8 * 8), ("signature_key_id", ctypes.c_uint8 * 8),
+                ("comment_offset", ctypes.c_uint64), ("comment_len", ctypes.c_uint64),
                 ("legacy", ctypes.c_uint32), ("reserved", ctypes.c_uint32)]
 
 
@@ -23,8 +30,9 @@ def opened(path):
     library.minisign_init.restype = None
     library.minisign_update.argtypes = [ctypes.c_void_p, text, size]
     library.minisign_read_public_key.argtypes = [text, size, ctypes.c_void_p]
-    library.minisign_ask.argtypes = [ctypes.c_void_p, ctypes.c_void_p, text, size, ctypes.c_uint32, ctypes.c_void_p,
-                                     ctypes.c_void_p, size]
+    library.minisign_read_signature.argtypes = [text, size, ctypes.c_void_p]
+    library.minisign_ask.argtypes = [ctypes.c_void_p, ctypes.c_void_p, ctypes.c_void_p, text, size, ctypes.c_uint32,
+                                     ctypes.c_void_p, ctypes.c_void_p, size]
     library.minisign_digest.argtypes = [ctypes.c_void_p, ctypes.c_void_p]
     library.minisign_verdict.argtypes = [ctypes.c_void_p, ctypes.c_uint32, ctypes.c_uint32]
     library.minisign_error_text.argtypes = [ctypes.c_uint32, ctypes.c_void_p, size]
@@ -58,14 +66,17 @@ def main():
         key, data, signature = map(read, names)
     except OSError as why:
         return str(why)
-    state, questions, message = (ctypes.c_uint64 * 64)(), Questions(), ctypes.create_string_buffer(max(len(signature), 1))
+    state, read_signature, questions = (ctypes.c_uint64 * 64)(), Signature(), Questions()
+    message = ctypes.create_string_buffer(max(len(signature), 1))
     library.minisign_init(state)
     # NULL where there are no bytes, as other languages hand it over.
     pk = ctypes.create_string_buffer(40)
     error = library.minisign_read_public_key(key or None, len(key), pk)
     if error == 0:
-        error = library.minisign_ask(state, pk, signature or None, len(signature), 0, ctypes.byref(questions), message,
-                                     len(signature))
+        error = library.minisign_read_signature(signature or None, len(signature), ctypes.byref(read_signature))
+    if error == 0:
+        error = library.minisign_ask(state, pk, ctypes.byref(read_signature), signature or None, len(signature), 0,
+                                     ctypes.byref(questions), message, len(signature))
     if error == 0:
         error = library.minisign_update(state, data or None, len(data))
     if error == 0:
@@ -78,7 +89,7 @@ def main():
         why = ctypes.create_string_buffer(128)
         library.minisign_error_text(error, why, 128)
         return why.value.decode()
-    sys.stdout.buffer.write(message.raw[64:questions.message_len] + b"\n")
+    sys.stdout.buffer.write(message.raw[questions.comment_offset:][:questions.comment_len] + b"\n")
     return 0
 
 

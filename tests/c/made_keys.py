@@ -24,11 +24,12 @@ import tempfile
 HERE = os.path.dirname(os.path.realpath(__file__))
 sys.path.append(os.path.join(HERE, "..", "shared"))
 
+import ending
 import needs
 import static_library
 
 INCLUDE = os.path.join(HERE, "..", "..", "include")
-SECONDS = 300
+SECONDS = 1200
 STRICT = ["-std=c11", "-Wall", "-Wextra", "-Wpedantic", "-Werror", "-O1"]
 
 # The limits of `minisign -G`, and some that take little: N is 1024, and p is 1 or 4.
@@ -227,7 +228,7 @@ def bounds(keys):
                    and parts == 1024 * times)
     # (of these limits the one of memory is too high, and of the others scrypt takes none)
     for limits in (33554432, 1073741825), (1 << 44, 1 << 20):
-        other = first + b"\n" + base64.b64encode(record[:38] + b"".join(it.to_bytes(8, "little") for it in limits) + record[54:]) + b"\n"
+        other = first + b"\n" + base64.b64encode(record[:38] + b"".join(limit.to_bytes(8, "little") for limit in limits) + record[54:]) + b"\n"
         keys.holds(f"limits {limits}: the memory", keys.memory(other) == (0, 0))
     keys.holds("a key that is not sealed: the memory", keys.memory(keys.secret(KEY_ID, SEED + SALT)) == (0, 0))
 
@@ -286,7 +287,7 @@ def rejections(keys):
 
 
 def run_all(library, room):
-    """Runs everything: the failures, and how many checks hold."""
+    """Runs everything: the failures, and how many checks there are."""
     compiler, minisign = needs.libsodium(), needs.minisign()
     program, known = os.path.join(room, "keys"), os.path.join(room, "known_random.so")
     for command in ([compiler, *STRICT, "-I", INCLUDE, "-o", program, os.path.join(HERE, "keys.c"), library],
@@ -297,21 +298,12 @@ def run_all(library, room):
     keys = Keys(program, minisign, known, room)
     for part in (rejections, other_limits, bounds, sealed_as_hashlib_says, comments, same_bytes, made_again):
         part(keys)
-    return keys.failures, keys.count - len(keys.failures)
+    return keys.failures, keys.count
 
 
-def main():
-    with tempfile.TemporaryDirectory(prefix="made-keys-") as room:
-        try:
-            library = sys.argv[1] if len(sys.argv) > 1 else static_library.library(os.path.join(room, "c"))
-            failures, count = run_all(os.path.realpath(library), room)
-        except (needs.Missing, static_library.NotBuilt) as why:
-            failures, count = [str(why)], 0
-    for failure in failures:
-        print(f"FAILED: {failure}")
-    print(f"{count} passed, {len(failures)} failed")
-    return 1 if failures else 0
+def main(room):
+    return run_all(os.path.realpath(sys.argv[1] if len(sys.argv) > 1 else static_library.library(os.path.join(room, "c"))), room)
 
 
 if __name__ == "__main__":
-    sys.exit(main())
+    sys.exit(ending.main("made-keys", main))

@@ -4,8 +4,8 @@ of the gate, which has `portable.py`.
 
     tests/c/more_processors.py [NAME ..]
 
-NAME is Debian's, as below; without any, all of them. It does what `portable.py elsewhere` does. It prints a line for each failure;
-the last line is `N passed, M failed`.
+NAME is Debian's, as below; without any, all of them. It does what `portable.py elsewhere` does, but for the search for secrets: of
+these processors the library clears no registers. It prints a line for each failure; the last line is `N passed, M failed`.
 
 Needs what `portable.py elsewhere` needs, with the cross compilers and C libraries of these, and installs what is not there where it
 may.
@@ -25,7 +25,7 @@ import static_library
 from checks import Checks
 from emulated import Kind
 
-KINDS = {it.debian: it for it in (
+KINDS = {each.debian: each for each in (
     Kind("i386", "i686-linux-gnu", "i386", "i386", "Intel 80386", has_32_bits=True),
     Kind("armel", "arm-linux-gnueabi", "armel", "arm", "ARM", has_32_bits=True),
     Kind("mips64el", "mips64el-linux-gnuabi64", "mips64el", "mips64el", "MIPS R3000"),

@@ -43,12 +43,15 @@ static void asking(void)
 {
     minisign_state state = begun();
     minisign_public_key key = key_of(KEY);
+    minisign_signature signature = { 0 }, read = signature_of(SIGNATURE);
     minisign_questions q;
 
     CHECK(minisign_read_public_key(NULL, 0, &key) == MINISIGN_MISSING_PUBLIC_KEY_COMMENT);
     CHECK(minisign_read_bare_public_key(NULL, 0, &key) == MINISIGN_BARE_PUBLIC_KEY_LENGTH);
-    CHECK(minisign_ask(&state, &key, NULL, 0, 0, &q, NULL, 0) == MINISIGN_MISSING_UNTRUSTED_COMMENT);
-    CHECK(minisign_ask(&state, &key, bytes(SIGNATURE), sizeof SIGNATURE - 1, 0, &q, NULL, 0) == MINISIGN_NO_ROOM);
+    CHECK(minisign_read_signature(NULL, 0, &signature) == MINISIGN_MISSING_UNTRUSTED_COMMENT);
+    CHECK(minisign_ask(&state, &key, &signature, NULL, 0, 0, &q, NULL, 0) == MINISIGN_SIGNATURE_NOT_READ);
+    CHECK(minisign_ask(&state, &key, &read, NULL, 0, 0, &q, NULL, 0) == MINISIGN_OTHER_SIGNATURE_TEXT);
+    CHECK(minisign_ask(&state, &key, &read, bytes(SIGNATURE), sizeof SIGNATURE - 1, 0, &q, NULL, 0) == MINISIGN_NO_ROOM);
 }
 
 static void signing(void)

@@ -10,7 +10,6 @@
  */
 #define _DEFAULT_SOURCE
 
-#include <stdio.h>
 #include <stdlib.h>
 #include <string.h>
 #ifdef __linux__
@@ -19,6 +18,7 @@
 
 #include "minisign.h"
 #include "signed_text.h"
+#include "texts_for_tests.h"
 
 /* The number of the request that is refused, and of the last one: 0 for none. */
 static long refused_from, refused_to;
@@ -26,7 +26,6 @@ static long refused_from, refused_to;
 static size_t greatest = SIZE_MAX;
 /* How many requests there were, how many blocks are held, and how many threads were asked for. */
 static long requests, held, threads;
-static unsigned passed, failed;
 
 void *__real_malloc(size_t size);
 void *__real_realloc(void *old, size_t size);
@@ -70,7 +69,7 @@ int __wrap_pthread_create(void *thread, const void *attributes, void *(*begin)(v
     return 11;
 }
 
-static void check(int holds, const char *call, const char *what, long request)
+static void check_call(int holds, const char *call, const char *what, long request)
 {
     if (holds) {
         passed++;
@@ -80,19 +79,7 @@ static void check(int holds, const char *call, const char *what, long request)
     }
 }
 
-static const char KEY[] = "untrusted comment: minisign public key E7620F1842B4E81F\n"
-                          "RWQf6LRCGA9i53mlYecO4IzT51TGPpvWucNSCh1CBM0QTaLn73Y7GFO3\n";
-static const char SIGNATURE[] =
-    "untrusted comment: signature from minisign secret key\n"
-    "RUQf6LRCGA9i559r3g7V1qNyJDApGip8MfqcadIgT9CuhV3EMhHoN1mGTkUidF/z7SrlQgXdy8ofjb7bNJJylDOocrCo8KLzZwo=\n"
-    "trusted comment: timestamp:1556193335\tfile:test\n"
-    "y/rUw2y8/hOUYjZU71eHp/Wo1KZ40fGy2VJEDl34XMJM+TX48Ss/17u3IvIfbVR1FkZZSNCisQbuQY+bHwhEBg==";
-/* Secret keys that Minisign made for these checks alone: with -G -W, and with -G and the password `pw`. */
-static const char UNSEALED[] =
-    "untrusted comment: minisign encrypted secret key\n"
-    "RWQAAEIyAAAAAAAAAAAAAAAAAAAAAAAAAAAAAAAAAAAAAAAAAAAAAAAAAAAAAAAAAAAAAAAAu82A"
-    "eu/lPqv5tw414tB2l3S0AV4BthpWrWHyA+ItsehisjsR8AROg+V8Ng82TAEWPpchqblhFFay7/kQ"
-    "ioiXfnOLD1OmyTi9AAAAAAAAAAAAAAAAAAAAAAAAAAAAAAAAAAAAAAAAAAA=\n";
+/* A secret key that Minisign made with -G and the password `pw`, for these checks alone. */
 static const char SEALED[] =
     "untrusted comment: minisign encrypted secret key\n"
     "RWRTY0IyQuX046PjIcXDk/r4CSffEseU3JAL7PlB8O5JOO7pY2sAAAACAAAAAAAAAEAAAAAAytQo"
@@ -101,6 +88,7 @@ static const char SEALED[] =
 
 static minisign_state state;
 static minisign_public_key public_key;
+static minisign_signature signature;
 static minisign_questions questions;
 static minisign_unopened_key unopened;
 static minisign_secret_key key;
@@ -114,12 +102,13 @@ static const uint8_t *bytes(const char *text)
 
 static enum minisign_error ask(void)
 {
-    return minisign_ask(&state, &public_key, bytes(SIGNATURE), sizeof SIGNATURE - 1, 0, &questions, message, sizeof message);
+    return minisign_ask(&state, &public_key, &signature, bytes(SIGNATURE), sizeof SIGNATURE - 1, 0, &questions, message,
+                        sizeof message);
 }
 
 static enum minisign_error open_key(void)
 {
-    enum minisign_error error = minisign_read_secret_key(bytes(UNSEALED), sizeof UNSEALED - 1, &unopened);
+    enum minisign_error error = minisign_read_secret_key(bytes(SECRET_KEY), sizeof SECRET_KEY - 1, &unopened);
 
     return error != MINISIGN_OK ? error : minisign_open_unsealed_key(&unopened, &key);
 }
@@ -173,9 +162,9 @@ static int refuse(const char *name, enum minisign_error (*call)(void), const min
     error = call();
     refused_from = refused_to = 0;
     came = requests >= request;
-    check(held == 0, name, "memory is not given back", request);
-    check(error == (came ? MINISIGN_OUT_OF_MEMORY : MINISIGN_OK), name, "another number", request);
-    check(!came || memcmp(before, &key, sizeof key) == 0, name, "the key has changed", request);
+    check_call(held == 0, name, "memory is not given back", request);
+    check_call(error == (came ? MINISIGN_OUT_OF_MEMORY : MINISIGN_OK), name, "another number", request);
+    check_call(!came || memcmp(before, &key, sizeof key) == 0, name, "the key has changed", request);
     return came;
 }
 
@@ -187,27 +176,32 @@ static void refuse_each(const char *name, enum minisign_error (*call)(void), con
         refuse(name, call, before, request, 1000000);
         request++;
     }
-    check(1 < request && request < 1000, name, "no end of requests", request);
+    check_call(1 < request && request < 1000, name, "no end of requests", request);
 }
 
 /* Verifying, also of texts that are refused: it makes no request. */
 static void verify_without_memory(void)
 {
     requests = held = 0;
-    check(minisign_read_public_key(bytes(KEY), sizeof KEY - 1, &public_key) == MINISIGN_OK, "minisign_read_public_key",
+    check_call(minisign_read_public_key(bytes(KEY), sizeof KEY - 1, &public_key) == MINISIGN_OK, "minisign_read_public_key",
           "another number", 0);
     minisign_init(&state);
-    check(ask() == MINISIGN_OK, "minisign_ask", "another number", 0);
-    check(minisign_comment_verdict(&state, MINISIGN_ANSWER_YES) == MINISIGN_OK, "minisign_comment_verdict", "another number", 0);
-    check(minisign_update(&state, bytes("test"), 4) == MINISIGN_OK, "minisign_update", "another number", 0);
-    check(minisign_digest(&state, questions.digest) == MINISIGN_OK, "minisign_digest", "another number", 0);
-    check(minisign_verdict(&state, MINISIGN_ANSWER_YES, MINISIGN_ANSWER_YES) == MINISIGN_OK, "minisign_verdict", "another number", 0);
+    check_call(ask() == MINISIGN_SIGNATURE_NOT_READ, "minisign_ask", "another number", 0);
+    check_call(minisign_read_signature(bytes(SIGNATURE), sizeof SIGNATURE - 1, &signature) == MINISIGN_OK, "minisign_read_signature",
+          "another number", 0);
+    check_call(ask() == MINISIGN_OK, "minisign_ask", "another number", 0);
+    check_call(minisign_comment_verdict(&state, MINISIGN_ANSWER_YES) == MINISIGN_OK, "minisign_comment_verdict", "another number", 0);
+    check_call(minisign_update(&state, bytes("test"), 4) == MINISIGN_OK, "minisign_update", "another number", 0);
+    check_call(minisign_digest(&state, questions.digest) == MINISIGN_OK, "minisign_digest", "another number", 0);
+    check_call(minisign_verdict(&state, MINISIGN_ANSWER_YES, MINISIGN_ANSWER_YES) == MINISIGN_OK, "minisign_verdict", "another number", 0);
     minisign_init(&state);
-    check(minisign_read_public_key(bytes(SIGNATURE), sizeof SIGNATURE - 1, &public_key) == MINISIGN_PUBLIC_KEY_LENGTH,
+    check_call(minisign_read_public_key(bytes(SIGNATURE), sizeof SIGNATURE - 1, &public_key) == MINISIGN_PUBLIC_KEY_LENGTH,
           "minisign_read_public_key", "another number", 0);
-    check(minisign_ask(&state, &public_key, bytes(KEY), sizeof KEY - 1, 0, &questions, message, sizeof message)
-              == MINISIGN_MISSING_TRUSTED_COMMENT, "minisign_ask", "another number", 0);
-    check(requests == 0 && held == 0, "minisign_ask", "memory is asked for", requests);
+    check_call(minisign_read_signature(bytes(KEY), sizeof KEY - 1, &signature) == MINISIGN_MISSING_TRUSTED_COMMENT,
+          "minisign_read_signature", "another number", 0);
+    check_call(minisign_ask(&state, &public_key, &signature, bytes(KEY), sizeof KEY - 1, 0, &questions, message, sizeof message)
+              == MINISIGN_OTHER_SIGNATURE_TEXT, "minisign_ask", "another number", 0);
+    check_call(requests == 0 && held == 0, "minisign_ask", "memory is asked for", requests);
 }
 
 /* A sealed key whose rows take 32 MiB: the call that takes them from malloc asks for a thread. */
@@ -220,9 +214,9 @@ static void seal_large(void)
 {
     static const minisign_sealing sealing = { .operations_limit = 32 * LARGE_ROWS, .memory_limit = 1024 * LARGE_ROWS };
 
-    check(minisign_secret_key_text(&key, 1, bytes("pw"), 2, &sealing, MINISIGN_KEEP_EVERY_ROW, bytes("c"), 1, message,
+    check_call(minisign_secret_key_text(&key, 1, bytes("pw"), 2, &sealing, MINISIGN_KEEP_EVERY_ROW, bytes("c"), 1, message,
                                    sizeof message, &text_len) == MINISIGN_OK, "minisign_secret_key_text", "another number", 0);
-    check(minisign_read_secret_key(message, text_len, &unopened) == MINISIGN_OK, "minisign_read_secret_key", "another number", 0);
+    check_call(minisign_read_secret_key(message, text_len, &unopened) == MINISIGN_OK, "minisign_read_secret_key", "another number", 0);
 }
 
 static enum minisign_error open_in_place(const char *password, size_t room)
@@ -241,24 +235,24 @@ static void open_without_memory(const minisign_secret_key *opened)
     key = *opened;
     seal_large();
     requests = held = threads = 0;
-    check(minisign_open_sealed_key(&unopened, bytes("pw"), 2, MINISIGN_KEEP_EVERY_ROW, MINISIGN_USUAL_ROWS, &key) == MINISIGN_OK,
+    check_call(minisign_open_sealed_key(&unopened, bytes("pw"), 2, MINISIGN_KEEP_EVERY_ROW, MINISIGN_USUAL_ROWS, &key) == MINISIGN_OK,
           "minisign_open_sealed_key", "another number", 0);
-    check(requests > 0 && held == 0, "minisign_open_sealed_key", "it asks for no memory, or gives it not back", requests);
-    /* (where c/allocation.c is what takes the memory) */
+    check_call(requests > 0 && held == 0, "minisign_open_sealed_key", "it asks for no memory, or gives it not back", requests);
+    /* (where c/library/allocation.c is what takes the memory) */
 #if defined(__LP64__) && defined(MADV_HUGEPAGE) && defined(MADV_POPULATE_WRITE) && !defined(MINISIGN_NO_THREADS)
-    check(threads == 1, "minisign_open_sealed_key", "no thread is asked for", threads);
+    check_call(threads == 1, "minisign_open_sealed_key", "no thread is asked for", threads);
 #endif
     memset(&key, 0, sizeof key);
     requests = threads = 0;
     greatest = 0;
     minisign_opening_memory(&unopened, MINISIGN_KEEP_EVERY_ROW, &words_wanted, &bytes_wanted);
-    check(words_wanted <= room && bytes_wanted <= sizeof parts, "minisign_opening_memory", "more memory than there is", 0);
-    check(open_in_place("pw", (size_t) words_wanted - 1) == MINISIGN_NO_ROOM, call, "another number, for too little memory", 0);
-    check(open_in_place("wp", room) == MINISIGN_WRONG_PASSWORD, call, "another number, with a wrong password", 0);
-    check(open_in_place("pw", room) == MINISIGN_OK, call, "another number", 0);
-    check(memcmp(&key, opened, sizeof key) == 0, call, "another key", 0);
-    check(requests == 0 && held == 0, call, "memory is asked for", requests);
-    check(threads == 0, call, "a thread is asked for", threads);
+    check_call(words_wanted <= room && bytes_wanted <= sizeof parts, "minisign_opening_memory", "more memory than there is", 0);
+    check_call(open_in_place("pw", (size_t) words_wanted - 1) == MINISIGN_NO_ROOM, call, "another number, for too little memory", 0);
+    check_call(open_in_place("wp", room) == MINISIGN_WRONG_PASSWORD, call, "another number, with a wrong password", 0);
+    check_call(open_in_place("pw", room) == MINISIGN_OK, call, "another number", 0);
+    check_call(memcmp(&key, opened, sizeof key) == 0, call, "another key", 0);
+    check_call(requests == 0 && held == 0, call, "memory is asked for", requests);
+    check_call(threads == 0, call, "a thread is asked for", threads);
     greatest = SIZE_MAX;
 }
 
@@ -268,8 +262,8 @@ int main(void)
 
     verify_without_memory();
     requests = held = 0;
-    check(open_key() == MINISIGN_OK, "minisign_open_unsealed_key", "another number", 0);
-    check(requests == 0 && held == 0, "minisign_open_unsealed_key", "memory is asked for", requests);
+    check_call(open_key() == MINISIGN_OK, "minisign_open_unsealed_key", "another number", 0);
+    check_call(requests == 0 && held == 0, "minisign_open_unsealed_key", "memory is asked for", requests);
     opened = key;
     open_without_memory(&opened);
     refuse_each("minisign_signed_text", write_text, &opened);
@@ -277,11 +271,11 @@ int main(void)
     refuse_each("minisign_public_key_text", write_public_key, &opened);
     greatest = 100000;
     held = 0;
-    check(open_sealed() == MINISIGN_OUT_OF_MEMORY, "minisign_open_sealed_key", "another number", requests);
-    check(held == 0, "minisign_open_sealed_key", "memory is not given back", requests);
+    check_call(open_sealed() == MINISIGN_OUT_OF_MEMORY, "minisign_open_sealed_key", "another number", requests);
+    check_call(held == 0, "minisign_open_sealed_key", "memory is not given back", requests);
     key = opened;
-    check(write_sealed_key() == MINISIGN_OUT_OF_MEMORY, "minisign_secret_key_text, sealed", "another number", requests);
-    check(held == 0, "minisign_secret_key_text, sealed", "memory is not given back", requests);
+    check_call(write_sealed_key() == MINISIGN_OUT_OF_MEMORY, "minisign_secret_key_text, sealed", "another number", requests);
+    check_call(held == 0, "minisign_secret_key_text, sealed", "memory is not given back", requests);
     printf("%u passed, %u failed\n", passed, failed);
     return failed != 0;
 }

@@ -7,9 +7,10 @@ PART is one of those below; without any, all of them. `here`: by gcc, clang and 
 memory and undefined behaviour, the programs that `c_library.py` runs over the archives. `elsewhere`: under qemu for s390x, whose
 numbers are the other way round, for ARM with pointers of 32 bits, and for RISC-V, all that `aarch64.py` runs for AArch64, of
 RISC-V without the programs that need libsodium, which this Debian does not have for it; and no secret stays behind. `windows`: `minisign.dll` and the static
-library by mingw-w64, with pointers of 64 bits under wine. `compiled`: for the systems of Apple and the BSDs all C of the library compiles.
-`release`: a release is built with nothing that was built before. Everywhere the answers to many texts
-are those of the archives, byte for byte. It prints a line for each failure; the last line is `N passed, M failed`.
+library by mingw-w64, with pointers of 64 bits under wine. `compiled`: for the systems of Apple and the BSDs, of which nothing is here, all C
+of the library compiles over a few declarations, and that of the programs over the headers of musl, which are those of POSIX.
+`release`: a release is built with nothing that was built before. Everywhere the answers to many texts are those of the archives,
+byte for byte. It prints a line for each failure; the last line is `N passed, M failed`.
 
 Needs Python 3.9 or later, make, binutils, gcc, clang, tcc, musl-gcc, libsodium with its header, minisign, and of Debian
 qemu-user-static, wine64, gcc-mingw-w64-x86-64 and cross compilers with their C libraries for s390x, armhf and riscv64, and
@@ -23,37 +24,34 @@ import re
 import struct
 import subprocess
 import sys
-import tempfile
 
 HERE = os.path.dirname(os.path.realpath(__file__))
-sys.path += [os.path.join(HERE, "..", it) for it in ("shared", "page", "minisign")]
+sys.path += [os.path.join(HERE, "..", name) for name in ("shared", "page", "minisign")]
 
 import c_library
 import cases
 import cleared
 import emulated
+import ending
 import needs
 import static_library
-from checks import Checks
+from process import run
 from emulated import Kind
 from minisign_cases import random_cases
 
-PORTABLE = os.path.join(static_library.DIRECTORY, "library", "portable")
+LIBRARY = os.path.join(static_library.DIRECTORY, "library")
+PORTABLE = os.path.join(LIBRARY, "portable")
 C_CALLS = os.path.join(static_library.DIST, "calls.c")
 INCLUDE = c_library.INCLUDE
+# Where what is built with the calls as C finds what stands beside them.
+OF_LIBRARY = ["-I", PORTABLE, "-I", LIBRARY]
 DRAWN = 1500
-SECONDS = 600
-# What programs are built with that do less where all takes longer.
+SECONDS = 1800
+# What programs are built with that do less of what takes long, which they do over the archives (`c_library.py`).
 LESS = ["-DIS_EMULATED"]
 # The programs of tests/c, and how they are built where memory is malloc's alone: but on Linux with pointers of 64 bits.
 PROGRAMS = c_library.PROGRAMS
-OF_MALLOC = {**PROGRAMS, "allocations": [*PROGRAMS["allocations"], "-DMINISIGN_MALLOC_ALONE", "-I", PORTABLE]}
-
-
-def run(command, **more):
-    """Runs a command: its status, and all that it said."""
-    ran = subprocess.run(command, stdin=subprocess.DEVNULL, stdout=subprocess.PIPE, stderr=subprocess.STDOUT, timeout=SECONDS, **more)
-    return ran.returncode, ran.stdout.decode(errors="replace")
+OF_MALLOC = {**PROGRAMS, "allocations": [*PROGRAMS["allocations"], "-DMINISIGN_MALLOC_ALONE", *OF_LIBRARY]}
 
 
 class Answers:
@@ -68,8 +66,8 @@ class Answers:
         found = [*kept, *random_cases(kept, DRAWN)]
         with open(self.file, "wb") as file:
             file.write(struct.pack("<I", len(found)))
-            for it in found:
-                file.write(b"".join(struct.pack("<I", len(part)) + part for part in (it.pk, it.sig, it.data)))
+            for case in found:
+                file.write(b"".join(struct.pack("<I", len(part)) + part for part in (case.pk, case.sig, case.data)))
         library = static_library.library(os.path.join(room, "archives"))
         self.wanted = self.of(needs.c_compiler(), library)
 
@@ -93,10 +91,11 @@ class Answers:
 
 def libraries(room):
     """The libraries by their names: with what make is told, how a program is linked to each, and the programs."""
-    sanitized = f"CFLAGS=-O1 -g {' '.join(c_library.SANITIZED)}"
+    # (with -g gcc takes twice as long for the calls; without -O1 all that is run takes several times as long)
+    sanitized = f"CFLAGS=-O1 {' '.join(c_library.SANITIZED)}"
     tcc = needs.program("tcc", "tcc")
     return {
-        "gcc": ([], [], PROGRAMS), "clang": ([f"CC={needs.program('clang', 'clang')}"], [], PROGRAMS),
+        "gcc": ([], LESS, PROGRAMS), "clang": ([f"CC={needs.program('clang', 'clang')}"], LESS, PROGRAMS),
         "sanitized": ([sanitized, "CPPFLAGS=", "LDFLAGS="], [*c_library.SANITIZED, *LESS], PROGRAMS),
         "tcc": ([f"CC={tcc}", "TARGET=x86_64-linux", "LD=ld", "OBJCOPY=objcopy", "AR=ar", "CFLAGS=", "CPPFLAGS=", "HAS_PAGES="],
                 [*LESS, "-DMINISIGN_NO_THREADS"], OF_MALLOC),
@@ -119,16 +118,44 @@ def check_here(checks, room, answers):
     check_strict(checks, room)
 
 
+# What Debian's libsodium calls of the other C library.
+OF_GLIBC = "#define _GNU_SOURCE\n#include <string.h>\nvoid __explicit_bzero_chk(void *p, size_t n, size_t room) { (void) room; explicit_bzero(p, n); }\n"
+
+
+def headers_of_sodium(room):
+    """A directory that has libsodium's headers and no others."""
+    needs.libsodium()
+    include = os.path.join(room, "of-sodium")
+    if not os.path.exists(include):
+        os.mkdir(include)
+        for name in ("sodium.h", "sodium"):
+            os.symlink(f"/usr/include/{name}", os.path.join(include, name))
+    return include
+
+
+def words_of_musl(room, musl):
+    """What make is told to build the programs of the headers of musl alone, and of libsodium, which is of the other C library."""
+    include, shim = headers_of_sodium(room), os.path.join(room, "shim")
+    with open(f"{shim}.c", "w", encoding="ascii") as file:
+        file.write(OF_GLIBC)
+    run([musl, "-c", "-o", f"{shim}.o", f"{shim}.c"])
+    archive = run([needs.libsodium(), "-print-file-name=libsodium.a"])[1].strip()
+    return [f"CC={musl}", f"SODIUM={archive} {shim}.o", f"CPPFLAGS=-I{include}", "LDFLAGS=-static"]
+
+
 def check_musl(checks, room, answers):
-    """Over musl, in static programs, and the program minisign, which its C library has no name for a call of the system for."""
+    """Over musl, in static programs; those of c/ verify the kept signatures."""
     musl, out = needs.program("musl-gcc", "musl-tools"), os.path.join(room, "musl")
-    static_library.run_make(f"CC={musl}", "PORTABLE=1", f"OUT={out}", "library")
+    static_library.run_make(*words_of_musl(room, musl), "PORTABLE=1", f"OUT={out}", "all")
     answers.check(checks, "musl", musl, f"{out}/libminisign.a", flags=["-static"])
     for name in ("usage_errors", "asked_texts", "null", "random_calls"):
         program = os.path.join(out, name)
-        status, said = run([musl, "-std=c11", "-O1", "-static", "-I", INCLUDE, "-o", program, os.path.join(HERE, f"{name}.c"), f"{out}/libminisign.a"])
+        status, said = run([musl, "-std=c11", "-O1", "-static", *LESS, "-I", INCLUDE, "-o", program, os.path.join(HERE, f"{name}.c"),
+                            f"{out}/libminisign.a"])
         status, said = run([program]) if status == 0 else (status, said)
         checks.check(status == 0, f"musl: {name}: status {status}: {said[-600:]}")
+    status, said = run(["sh", os.path.join(static_library.DIRECTORY, "check.sh"), f"{out}/minisign"], cwd=static_library.DIRECTORY)
+    checks.check(status == 0 and " passed, 0 failed" in said, f"musl: the programs: {said[-600:]}")
 
 
 def check_strict(checks, room):
@@ -137,8 +164,8 @@ def check_strict(checks, room):
     with open(whole, "w", encoding="utf-8") as file:
         file.write(f'#include "{C_CALLS}"\n#include "{PORTABLE}/pointers.c"\n')
     for compiler in (needs.program("gcc", "gcc"), needs.program("clang", "clang")):
-        for source in (C_CALLS, *sorted(glob.glob(f"{PORTABLE}/*.c")), whole):
-            status, said = run([compiler, "-std=c99", *c_library.STRICT, "-O1", "-I", PORTABLE, "-I", INCLUDE, "-c", "-o", os.devnull, source])
+        for source in (*sorted(glob.glob(f"{PORTABLE}/*.c")), whole):
+            status, said = run([compiler, "-std=c99", *c_library.STRICT, "-O1", *OF_LIBRARY, "-I", INCLUDE, "-c", "-o", os.devnull, source])
             checks.check(status == 0, f"{os.path.basename(source)} by {compiler}: {said[-800:]}")
 
 
@@ -150,20 +177,21 @@ KINDS = [Kind("s390x", "s390x-linux-gnu", "s390x", "s390x", "IBM S/390"), Kind("
 
 
 def check_kind(checks, room, answers, kind):
-    """A kind of processors, under qemu."""
+    """A kind of processors, under qemu; what was built."""
     place = os.path.join(room, kind.name)
     os.mkdir(place)
-    it = emulated.Emulated(checks, place, kind)
-    programs = OF_MALLOC if kind.has_32_bits else PROGRAMS
-    emulated.check_all(checks, it, {name: [*flags, *LESS] for name, flags in programs.items()})
-    answers.check(checks, kind.name, it.compiler, f"{it.out}/libminisign.a", before=it.emulator)
-    program = cleared.Builder(place).program(it.compiler, "-O2", linking=["-static"])
-    cleared.check_run(checks, kind.name, cleared.Run([*it.emulator, program]))
+    built = emulated.Emulated(checks, place, kind)
+    emulated.check_all(checks, built, OF_MALLOC if kind.has_32_bits else PROGRAMS)
+    answers.check(checks, kind.name, built.compiler, f"{built.out}/libminisign.a", before=built.emulator)
+    return built
 
 
 def check_elsewhere(checks, room, answers):
+    """Kinds of processors, of which the registers are cleared too."""
     for kind in KINDS:
-        check_kind(checks, room, answers, kind)
+        built = check_kind(checks, room, answers, kind)
+        program = cleared.Builder(built.room).linked(built.compiler, "-O2", f"{built.out}/libminisign.a", linking=["-static"])
+        cleared.check_run(checks, kind.name, cleared.Run([*built.emulator, program]))
 
 
 # ---------------------------------------------------------------------------------------------------------------
@@ -191,21 +219,28 @@ class Windows:
         subprocess.run([f"{WINE}/wineserver", "-k"], env=self.variables, stderr=subprocess.DEVNULL, timeout=SECONDS)
 
 
+def check_library_of_windows(checks, answers, compiler, windows, what, library):
+    """The programs over a library."""
+    for name in ("answers", "usage_errors", "asked_texts", "error_texts", "null", "random_calls"):
+        program = os.path.join(os.path.dirname(library), f"{name}.exe")
+        status, said = run([compiler, "-std=c11", "-O1", "-w", *LESS, "-D__USE_MINGW_ANSI_STDIO=1", "-I", INCLUDE, "-o", program,
+                            os.path.join(HERE, f"{name}.c"), library])
+        checks.check(status == 0, f"Windows, {what}: {name}.c: {said[-600:]}")
+        status, said = windows.run(program, *([answers.file] if name == "answers" else []))
+        is_right = said == answers.wanted if name == "answers" else b" passed, 0 failed" in said
+        checks.check(status == 0 and is_right, f"Windows, {what}: {name}: status {status}: {said[-300:]!r}")
+
+
 def check_windows(checks, room, answers):
     """The dynamic library, and the static one."""
     compiler, place = needs.program("x86_64-w64-mingw32-gcc", "gcc-mingw-w64-x86-64"), os.path.join(room, "windows")
     static_library.run_make(f"CC={compiler}", f"OUT={place}", "library")
     windows = Windows(room)
-    for what, library in (("static", "libminisign.a"), ("dynamic", "libminisign.dll.a")):
-        for name in ("answers", "usage_errors", "asked_texts", "error_texts", "null", "random_calls"):
-            program = os.path.join(place, f"{name}.exe")
-            status, said = run([compiler, "-std=c11", "-O1", "-w", *LESS, "-D__USE_MINGW_ANSI_STDIO=1", "-I", INCLUDE, "-o", program,
-                                os.path.join(HERE, f"{name}.c"), os.path.join(place, library)])
-            checks.check(status == 0, f"Windows, {what}: {name}.c: {said[-600:]}")
-            status, said = windows.run(program, *([answers.file] if name == "answers" else []))
-            is_right = said == answers.wanted if name == "answers" else b" passed, 0 failed" in said
-            checks.check(status == 0 and is_right, f"Windows, {what}: {name}: status {status}: {said[-300:]!r}")
-    windows.end()
+    try:
+        for what, library in (("static", "libminisign.a"), ("dynamic", "libminisign.dll.a")):
+            check_library_of_windows(checks, answers, compiler, windows, what, os.path.join(place, library))
+    finally:
+        windows.end()
 
 
 # The functions of the C library that the library calls, where no header of the system is here.
@@ -216,18 +251,47 @@ TARGETS = ("x86_64-apple-macos11", "arm64-apple-macos11", "x86_64-unknown-freebs
            "x86_64-unknown-netbsd9", "i686-unknown-netbsd9", "aarch64-pc-windows-msvc")
 
 
+# Those for which the programs compile, over the headers of musl, which has those of POSIX; and which of its headers Linux alone has,
+# or has otherwise than macOS.
+TARGETS_OF_PROGRAMS = [target for target in TARGETS if re.match("x86_64-.*(apple|bsd)", target)]
+OF_MACOS = {"sys/random.h": "#include <stddef.h>\nint getentropy(void *, size_t);\n"}
+OF_LINUX = ("sys/inotify.h", "sys/prctl.h", "sys/random.h", "sys/sendfile.h", "sys/statfs.h", "sys/syscall.h", "sys/sysinfo.h", "sys/vfs.h", "sys/xattr.h")
+
+
+def check_programs_compiled(checks, room):
+    """All C of the programs compiles where the system is not Linux, with nothing of Linux alone."""
+    needs.program("musl-gcc", "musl-tools")
+    headers, rejected, macos = f"/usr/include/{os.uname().machine}-linux-musl", os.path.join(room, "of-linux"), os.path.join(room, "of-macos")
+    for directory, texts in ((rejected, {name: f"#error {name} is of Linux alone\n" for name in OF_LINUX}), (macos, OF_MACOS)):
+        os.makedirs(os.path.join(directory, "sys"))
+        for name, text in texts.items():
+            with open(os.path.join(directory, name), "w", encoding="ascii") as file:
+                file.write(text)
+    found = [*(word for place in (rejected, headers, headers_of_sodium(room)) for word in ("-isystem", place)), "-I", static_library.DIRECTORY, "-I", INCLUDE]
+    sources = [path for name in ("minisign", "install", "shared") for path in sorted(glob.glob(f"{static_library.DIRECTORY}/{name}/*.c"))]
+    for target in TARGETS_OF_PROGRAMS:
+        first = ["-isystem", macos] if "apple" in target else []
+        status, said = run([needs.program("clang", "clang"), f"--target={target}", "-std=c11", *c_library.STRICT, "-nostdlibinc", *first, *found, "-fsyntax-only", *sources])
+        checks.check(status == 0 and len(sources) > 25, f"the programs for {target}: {said[-600:]}")
+
+
 def check_compiled(checks, room):
-    """All C of the library compiles for systems of which nothing is here."""
+    """All C of the library compiles for systems of which nothing is here; and each program is linked with what has the timers of a C
+    library before glibc 2.34."""
+    check_programs_compiled(checks, room)
+    status, said = run(["make", "-Bn", "-C", static_library.DIRECTORY, f"OUT={room}/none", "all"])
+    for name in ("minisign", "minisign-install"):
+        checks.check(status == 0 and re.search(rf" -o {room}/none/{name} .* -lrt$", said, re.M), f"{name} is linked without -lrt: {said[-300:]}")
     place, clang = os.path.join(room, "headers"), needs.program("clang", "clang")
     os.mkdir(place)
     for name, words in HEADERS.items():
         with open(os.path.join(place, name), "w", encoding="utf-8") as file:
             file.write(words)
-    sources = [os.path.join(static_library.DIRECTORY, f"{it}.c") for it in ("boundary", "clearing")] + [*sorted(glob.glob(f"{PORTABLE}/*.c")), C_CALLS]
+    sources = [os.path.join(LIBRARY, f"{name}.c") for name in ("boundary", "clearing")] + [*sorted(glob.glob(f"{PORTABLE}/*.c")), C_CALLS]
     for target in TARGETS:
         for source in sources:
             status, said = run([clang, f"--target={target}", "-std=c11", *c_library.STRICT, "-nostdlibinc", "-isystem", place, "-DMINISIGN_PORTABLE",
-                                "-DMINISIGN_MALLOC_ALONE", "-I", PORTABLE, "-I", INCLUDE, "-I", static_library.DIRECTORY, "-c", "-o", os.devnull, source])
+                                "-DMINISIGN_MALLOC_ALONE", *OF_LIBRARY, "-I", INCLUDE, "-c", "-o", os.devnull, source])
             checks.check(status == 0, f"{os.path.basename(source)} for {target}: {said[-600:]}")
 
 
@@ -243,7 +307,7 @@ def check_release(checks, room):
     top, = glob.glob(f"{room}/minisign-in-rattle-*")
     for archive in glob.glob(f"{top}/dist/*.a"):
         os.remove(archive)
-    status, said = run(["make", "-s", "-C", f"{top}/c", f"CC={needs.libsodium()}", "PORTABLE=1", f"OUT={room}/bare", "all", "check"])
+    status, said = run(["make", "-s", "-C", f"{top}/c", f"CC={needs.libsodium()}", "PORTABLE=1", f"OUT={room}/bare", "all", "test"])
     checks.check(status == 0 and re.search(r"^(2[5-9]|[3-9]\d) passed, 0 failed$", said, re.M), f"a release with nothing prebuilt: {said[-600:]}")
     with open(f"{top}/dist/calls.c", "a", encoding="utf-8") as file:
         file.write("/* changed */\n")
@@ -254,18 +318,13 @@ def check_release(checks, room):
 PARTS = {"here": check_here, "elsewhere": check_elsewhere, "windows": check_windows, "compiled": check_compiled, "release": check_release}
 
 
-def main():
-    checks, parts = Checks(), sys.argv[1:] or [*PARTS]
-    with tempfile.TemporaryDirectory(prefix="portable-") as room:
-        try:
-            needs.libsodium()
-            answers = Answers(room) if {*parts} & {"here", "elsewhere", "windows"} else None
-            for part in parts:
-                PARTS[part](*((checks, room) if part in ("compiled", "release") else (checks, room, answers)))
-        except (needs.Missing, static_library.NotBuilt, OSError, subprocess.SubprocessError) as why:
-            checks.check(False, str(why))
-    return checks.end()
+def run_all(checks, room):
+    needs.libsodium()
+    parts = sys.argv[1:] or [*PARTS]
+    answers = Answers(room) if {*parts} & {"here", "elsewhere", "windows"} else None
+    for part in parts:
+        PARTS[part](*((checks, room) if part in ("compiled", "release") else (checks, room, answers)))
 
 
 if __name__ == "__main__":
-    sys.exit(main())
+    sys.exit(ending.check("portable", run_all))

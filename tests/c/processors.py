@@ -14,17 +14,16 @@ installs what is not there where it may.
 import os
 import subprocess
 import sys
-import tempfile
 
 HERE = os.path.dirname(os.path.realpath(__file__))
 sys.path.append(os.path.join(HERE, "..", "shared"))
 
+import ending
 import needs
 import static_library
-from checks import Checks
 
 CORPUS = os.path.join(HERE, "..", "corpus")
-SECONDS = 300
+SECONDS = 1200
 # Processors by the names of qemu, with the copy that has to run.
 RUNS = {
     "core2duo": "c",
@@ -62,21 +61,15 @@ def verify(emulator, processor, program):
                           timeout=SECONDS).returncode
 
 
-def main():
-    checks = Checks()
-    with tempfile.TemporaryDirectory(prefix="processors-") as room:
-        try:
-            needs.libsodium()
-            emulator = needs.program("qemu-x86_64-static", "qemu-user-static")
-            programs = {wrong: build(room, wrong) for wrong in COPIES}
-            for processor, copy in RUNS.items():
-                for wrong, program in programs.items():
-                    status = verify(emulator, processor, program)
-                    checks.check(status == (1 if wrong == copy else 0), f"{processor}, {wrong} with a wrong value: status {status}")
-        except (needs.Missing, static_library.NotBuilt, OSError, subprocess.SubprocessError) as why:
-            checks.check(False, str(why))
-    return checks.end()
+def run_all(checks, room):
+    needs.libsodium()
+    emulator = needs.program("qemu-x86_64-static", "qemu-user-static")
+    programs = {wrong: build(room, wrong) for wrong in COPIES}
+    for processor, copy in RUNS.items():
+        for wrong, program in programs.items():
+            status = verify(emulator, processor, program)
+            checks.check(status == (1 if wrong == copy else 0), f"{processor}, {wrong} with a wrong value: status {status}")
 
 
 if __name__ == "__main__":
-    sys.exit(main())
+    sys.exit(ending.check("processors", run_all))

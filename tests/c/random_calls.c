@@ -1,6 +1,6 @@
 /*
- * 2,000,000 calls at random, or with -DIS_EMULATED a tenth of them, on a few states and keys, beside a model of what
- * each state and key is: the number of each call is the model's, an error changes nothing, and what is told is what the
+ * 2,000,000 calls at random, or with -DIS_EMULATED a tenth of them, on a few states, keys and signatures, beside a model of
+ * what each of them is: the number of each call is the model's, an error changes nothing, and what is told is what the
  * model was fed.
  *
  * Prints a line for each check that failed; the last line is `N passed, M failed`. What Ed25519 would answer is made up
@@ -19,7 +19,7 @@
 #define CALLS 2000000
 #endif
 
-enum { STATES = 4, KEYS = 3, MOST = 300, ROOM = 1024 };
+enum { STATES = 4, KEYS = 3, SIGNATURES = 4, MOST = 300, ROOM = 1024 };
 
 #define COMMENT_LINES "untrusted comment: x\n"
 #define RECORD "RUQf6LRCGA9i559r3g7V1qNyJDApGip8MfqcadIgT9CuhV3EMhHoN1mGTkUidF/z7SrlQgXdy8ofjb7bNJJylDOocrCo8KLzZwo="
@@ -27,7 +27,7 @@ enum { STATES = 4, KEYS = 3, MOST = 300, ROOM = 1024 };
 #define OTHER_RECORD "RUS4oO+OTGvmIe/AFUZesFY/ONgyTgR9P0wlXFBD98cDX7Pao0WBeMSBQywks6PdOxlxIHanFJJYpkqO7tBvYfnm/DXVQmwFYQ0="
 #define WHOLE "y/rUw2y8/hOUYjZU71eHp/Wo1KZ40fGy2VJEDl34XMJM+TX48Ss/17u3IvIfbVR1FkZZSNCisQbuQY+bHwhEBg=="
 
-/* Texts of signatures: what is wrong with each, and what is asked of it. */
+/* Texts of signatures: what is wrong with each by itself, or under the key, and what is asked of it. */
 static const struct {
     const char *text;
     enum minisign_error wrong;
@@ -45,6 +45,7 @@ static const struct {
     { COMMENT_LINES RECORD "\ntrusted comment: abc\n!", MINISIGN_SIGNATURE_NOT_BASE64, 0, 0, 0 },
 };
 
+enum { ROWS = sizeof rows / sizeof rows[0] };
 enum phase { NONE, FED, TOLD };
 
 /* What a state is. */
@@ -59,8 +60,11 @@ static minisign_state states[STATES];
 static struct model models[STATES];
 static minisign_secret_key keys[KEYS];
 static int opened[KEYS];
-/* The mark of a key that is opened. */
-static uint64_t mark;
+static minisign_signature signatures[SIGNATURES];
+/* The row that each was read from last, or ROWS where it has none. */
+static size_t row_of[SIGNATURES];
+/* The mark of a key that is opened, and that of a signature that was read. */
+static uint64_t mark, signature_mark;
 static minisign_public_key public_key;
 static const uint8_t any_signature[64];
 
@@ -122,11 +126,13 @@ static void digest(int at)
     CHECK(memcmp(told, expected, sizeof told) == 0);
 }
 
-static enum minisign_error ask_number(const struct model *model, size_t row, uint32_t legacy, size_t room)
+static enum minisign_error ask_number(const struct model *model, size_t read, size_t row, uint32_t legacy, size_t room)
 {
     return legacy > 1                                ? MINISIGN_BAD_LEGACY_FLAG
            : model->phase == NONE                    ? MINISIGN_NOT_BEGUN
            : model->phase == TOLD || model->asked    ? MINISIGN_ALREADY_ASKED
+           : read == ROWS                            ? MINISIGN_SIGNATURE_NOT_READ
+           : read != row                             ? MINISIGN_OTHER_SIGNATURE_TEXT
            : rows[row].wrong != MINISIGN_OK          ? rows[row].wrong
            : rows[row].legacy && !legacy             ? MINISIGN_LEGACY_NOT_ACCEPTED
            : room < 64 + rows[row].comment_len       ? MINISIGN_NO_ROOM
@@ -139,25 +145,27 @@ static void ask(int at)
     static const size_t rooms[] = { ROOM, ROOM, 64, 63, 66, 67, 68, 0 };
     static const uint8_t zeros[64];
     struct model *model = &models[at];
-    size_t row = draw(sizeof rows / sizeof rows[0]), room = rooms[draw(8)];
+    size_t by = draw(SIGNATURES), read = signatures[by].mark == signature_mark ? row_of[by] : ROWS, row = read == ROWS || draw(8) == 0 ? draw(ROWS) : read, room = rooms[draw(8)];
     uint32_t legacy = flags[draw(8)];
-    enum minisign_error wanted = ask_number(model, row, legacy, room);
+    enum minisign_error wanted = ask_number(model, read, row, legacy, room);
     uint8_t message[ROOM], before[ROOM];
     minisign_questions q;
 
+    memset(&q, 0xaa, sizeof q);
     memset(message, 0xaa, sizeof message);
     memset(before, 0xaa, sizeof before);
-    CHECK(minisign_ask(&states[at], &public_key, (const uint8_t *) rows[row].text, strlen(rows[row].text), legacy, &q,
-                       room == 0 ? NULL : message, room) == wanted);
+    CHECK(minisign_ask(&states[at], &public_key, &signatures[by], (const uint8_t *) rows[row].text, strlen(rows[row].text),
+                       legacy, &q, room == 0 ? NULL : message, room) == wanted);
     if (wanted == MINISIGN_OK) {
         model->asked = 1;
         model->whole = rows[row].whole;
         CHECK(q.message_len == 64 + rows[row].comment_len && memcmp(message, q.signature, 64) == 0);
         CHECK(memcmp(q.digest, zeros, 64) == 0 && memcmp(q.public_key, public_key.key, 32) == 0);
+        CHECK(q.comment_offset == 64 && q.comment_len == rows[row].comment_len);
         CHECK(memcmp(message + 64, "abcd", rows[row].comment_len) == 0 && memcmp(message + q.message_len, before, ROOM - q.message_len) == 0);
         CHECK(q.legacy == (uint32_t) rows[row].legacy && (memcmp(q.comment_signature, zeros, 64) != 0) == rows[row].whole);
     } else {
-        CHECK(memcmp(message, before, sizeof message) == 0);
+        CHECK(memcmp(message, before, sizeof message) == 0 && memcmp(&q, before, sizeof q) == 0);
     }
 }
 
@@ -273,14 +281,45 @@ static void on_key(void)
     CHECK(memcmp(&before, &keys[at], sizeof before) == 0 && (len != 0) <= opened[at]);
 }
 
+/* One call on a signature: which is read, whatever it was before, or changed without the library. */
+static void on_signature(void)
+{
+    size_t at = draw(SIGNATURES), row = draw(ROWS), len = strlen(rows[row].text);
+    minisign_signature before = signatures[at], *signature = &signatures[at];
+    enum minisign_error wanted = rows[row].wrong == MINISIGN_DIFFERENT_KEY_IDS ? MINISIGN_OK : rows[row].wrong;
+
+    switch (draw(8)) {
+    case 0: memset(signature, (int) draw(256), sizeof *signature); row_of[at] = ROWS; return;
+    case 1: signature->mark ^= UINT64_C(1) << draw(64); return;
+    case 2: row = draw(SIGNATURES); *signature = signatures[row]; row_of[at] = row_of[row]; return;
+    default:
+        CHECK(minisign_read_signature((const uint8_t *) rows[row].text, len, signature) == wanted);
+        if (wanted != MINISIGN_OK) {
+            CHECK(memcmp(signature, &before, sizeof before) == 0);
+            return;
+        }
+        row_of[at] = row;
+        CHECK(signature->legacy == rows[row].legacy && signature->whole == rows[row].whole && signature->comment_len == rows[row].comment_len);
+        CHECK(memcmp(signature->algorithm, rows[row].legacy ? "Ed" : "ED", 2) == 0);
+        CHECK((memcmp(signature->key_id, public_key.key_id, 8) == 0) == (rows[row].wrong == MINISIGN_OK));
+        CHECK(signature->comment_offset + signature->comment_len <= len && memcmp(rows[row].text + signature->comment_offset, "abcd", signature->comment_len) == 0);
+    }
+}
+
 int main(void)
 {
     public_key = key_of(KEY);
+    for (size_t i = 0; i < SIGNATURES; i++) {
+        signatures[i] = signature_of(rows[0].text);
+    }
+    signature_mark = signatures[0].mark;
     minisign_take_secret_key(any_signature, any_signature, &keys[0]);
     mark = keys[0].mark;
     opened[0] = 1;
     for (long call = 0; call < CALLS; call++) {
-        if (call % 8 == 0) {
+        if (call % 16 == 8) {
+            on_signature();
+        } else if (call % 8 == 0) {
             on_key();
         } else {
             on_state();

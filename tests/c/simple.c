@@ -39,18 +39,17 @@ static int read_file(const char *name, int at)
 static int verify(void)
 {
     minisign_public_key key;
-    const uint8_t *comment = NULL;
-    size_t comment_len = 0;
+    minisign_questions questions;
     enum minisign_error error = minisign_read_public_key(texts[0], lens[0], &key);
 
     if (error == MINISIGN_OK) {
         error = minisign_verify_in_memory(&key, texts[2], lens[2], texts[1], lens[1], crypto_sign_verify_detached,
-                                          message, sizeof message, &comment, &comment_len);
+                                          &questions, message, sizeof message);
     }
     if (error != MINISIGN_OK) {
-        return comment == NULL ? fail_for(error) : fail("a comment was told after an error");
+        return fail_for(error);
     }
-    printf("%.*s\n", (int) comment_len, (const char *) comment);
+    printf("%.*s\n", (int) questions.comment_len, (const char *) message + questions.comment_offset);
     return 0;
 }
 

@@ -18,6 +18,7 @@ enum { THREADS = 8, ROUNDS = 40, BYTES = 30011 };
 
 /* What one run tells. */
 struct told {
+    minisign_signature signature;
     minisign_questions questions;
     minisign_unopened_key unopened;
     minisign_secret_key key;
@@ -40,9 +41,11 @@ static void run(struct told *told, int number, int rounds)
         enum minisign_error error = minisign_read_public_key((const uint8_t *) KEY, sizeof KEY - 1, &key);
 
         told->good &= error == MINISIGN_OK;
+        error = minisign_read_signature((const uint8_t *) SIGNATURE, sizeof SIGNATURE - 1, &told->signature);
+        told->good &= error == MINISIGN_OK;
         minisign_init(&state);
-        error = minisign_ask(&state, &key, (const uint8_t *) SIGNATURE, sizeof SIGNATURE - 1, 0, &told->questions,
-                             told->message, sizeof told->message);
+        error = minisign_ask(&state, &key, &told->signature, (const uint8_t *) SIGNATURE, sizeof SIGNATURE - 1, 0,
+                             &told->questions, told->message, sizeof told->message);
         told->good &= error == MINISIGN_OK;
         error = minisign_update(&state, data, sizeof data);
         told->good &= error == MINISIGN_OK;

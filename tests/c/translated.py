@@ -19,19 +19,18 @@ import random
 import re
 import subprocess
 import sys
-import tempfile
 
 HERE = os.path.dirname(os.path.realpath(__file__))
 TOP = os.path.dirname(os.path.dirname(HERE))
-sys.path += [os.path.join(TOP, *it) for it in (("tests", "shared"), ("tools",))]
+sys.path += [os.path.join(TOP, *each) for each in (("tests", "shared"), ("tools",))]
 
+import ending
 import needs
 import wasm_object
 import wasm_to_c
-from checks import Checks
 
 MACHINE = os.path.join(TOP, "c", "library", "portable", "machine.h")
-SECONDS = 300
+SECONDS = 1200
 FLAGS = ["-std=c99", "-w"]
 SANITIZED = ["-fsanitize=undefined", "-fno-sanitize-recover=all", "-fno-sanitize=alignment"]
 I32, I64, NONE = 0x7F, 0x7E, 0x40
@@ -168,11 +167,11 @@ class Module:
         self.functions.append((name, parameters, gives, code, locals_, address_at))
 
     def bytes(self):
-        types = [b"\x60" + listed([bytes([TYPE[it]]) for it in parameters]) + listed([bytes([TYPE[gives]])] if gives else [])
+        types = [b"\x60" + listed([bytes([TYPE[parameter]]) for parameter in parameters]) + listed([bytes([TYPE[gives]])] if gives else [])
                  for _, parameters, gives, *_ in self.functions]
         bodies, addresses = [], []
         for _, _, _, code, locals_, address_at in self.functions:
-            head = listed([b"\1" + bytes([TYPE[it]]) for it in locals_])
+            head = listed([b"\1" + bytes([TYPE[local]]) for local in locals_])
             body = sized(head + code + op("end"))
             if address_at is not None:
                 begun = len(number(len(self.functions))) + sum(map(len, bodies)) + len(body) - len(code) - 1
@@ -189,7 +188,7 @@ class Module:
         exports = [text(name) + b"\0" + number(index) for index, (name, *_) in enumerate(self.functions)]
         return b"\0asm\1\0\0\0" + b"".join([
             section(1, listed(types)), section(2, listed([text("env") + text(wasm_to_c.STACK_POINTER) + b"\3" + bytes([I64, 1])])),
-            section(3, listed([number(it) for it in range(len(types))])), section(5, listed([b"\4" + number(2)])),
+            section(3, listed([number(index) for index in range(len(types))])), section(5, listed([b"\4" + number(2)])),
             section(7, listed([*exports, text("memory") + b"\2\0"])), section(10, listed(bodies)),
             *([section(11, listed([segment]))] if data else []),
             section(0, text("linking"), b"\2", *([b"\5", sized(listed([text("data") + b"\4\0"]))] if data else []), b"\x08", sized(listed(symbols))),
@@ -239,15 +238,15 @@ NODE = """const fs = require('fs');
 const kinds = %s;
 const module_ = new WebAssembly.Module(fs.readFileSync(process.argv[2]));
 const env = { %s: new WebAssembly.Global({ value: 'i64', mutable: true }, %dn) };
-const it = new WebAssembly.Instance(module_, { env }).exports;
+const translated = new WebAssembly.Instance(module_, { env }).exports;
 const calls = fs.readFileSync(0), size = 32 + %d, out = [];
 for (let at = 0; at < calls.length; at += size) {
   const [[name, parameters]] = [kinds[Number(calls.readBigUInt64LE(at))]], given = [8, 16, 24].map((to) => calls.readBigUInt64LE(at + to));
   const words = parameters.map((kind, i) => kind === 'base' ? %dn : kind === 'i32' ? Number(BigInt.asIntN(32, given[i])) : given[i]);
-  const memory = new Uint8Array(it.memory.buffer, %d, %d);
+  const memory = new Uint8Array(translated.memory.buffer, %d, %d);
   memory.set(calls.subarray(at + 32, at + size));
   let made = 0n;
-  try { made = it[name](...words); } catch (error) { if (process.argv[3] === 'ends') { console.log('ended'); process.exit(3); } throw error; }
+  try { made = translated[name](...words); } catch (error) { if (process.argv[3] === 'ends') { console.log('ended'); process.exit(3); } throw error; }
   const answer = Buffer.alloc(8);
   answer.writeBigUInt64LE(typeof made === 'bigint' ? BigInt.asUintN(64, made) : BigInt((made ?? 0) >>> 0));
   out.push(answer, Buffer.from(memory));
@@ -257,7 +256,7 @@ fs.writeSync(1, Buffer.concat(out));
 
 
 def call(function, given, buffer=bytes(BUFFER_BYTES)):
-    return b"".join(it.to_bytes(8, "little") for it in (function, *given, *[0] * (3 - len(given)))) + buffer
+    return b"".join(each.to_bytes(8, "little") for each in (function, *given, *[0] * (3 - len(given)))) + buffer
 
 
 class Runners:
@@ -276,12 +275,12 @@ class Runners:
         self.count += 1
         place = os.path.join(self.room, f"by-c-{self.count}")
         os.mkdir(place)
-        declared = "\n".join(f"uint{BITS[gives or 'i64']}_t machine_{name}({', '.join('uint%d_t' % (32 if it == 'i32' else 64) for it in parameters) or 'void'});"
-                             if gives else f"void machine_{name}({', '.join('uint%d_t' % (32 if it == 'i32' else 64) for it in parameters)});"
+        declared = "\n".join(f"uint{BITS[gives or 'i64']}_t machine_{name}({', '.join('uint%d_t' % (32 if parameter == 'i32' else 64) for parameter in parameters) or 'void'});"
+                             if gives else f"void machine_{name}({', '.join('uint%d_t' % (32 if parameter == 'i32' else 64) for parameter in parameters)});"
                              for name, parameters, gives in kinds)
         cases = "\n".join(f"        case {at}: {'made = ' if gives else ''}machine_{name}({', '.join(self.arguments(parameters))}); break;"
                           for at, (name, parameters, gives) in enumerate(kinds))
-        for name, words in (("calls.c", wasm_to_c.translate(module, [it[0] for it in kinds])), ("machine.h", machine or read(MACHINE)),
+        for name, words in (("calls.c", wasm_to_c.translate(module, [kind[0] for kind in kinds])), ("machine.h", machine or read(MACHINE)),
                             ("runner.c", RUNNER % (declared, BUFFER_BYTES, cases, BUFFER_BYTES))):
             with open(os.path.join(place, name), "w", encoding="utf-8") as file:
                 file.write(words)
@@ -413,7 +412,7 @@ class Drawn:
 
     def local(self, kind):
         """A local of this kind that no loop counts by."""
-        return self.drawn.choice([at for at, it in enumerate(self.locals) if it == kind and at not in self.counters and at > 0])
+        return self.drawn.choice([at for at, local in enumerate(self.locals) if local == kind and at not in self.counters and at > 0])
 
     def place(self):
         """The address of one of the buffer's first 40 bytes."""
@@ -445,7 +444,7 @@ class Drawn:
         return code + (op("i64.extend_i32_u") if kind == "i64" else b"")
 
     def value_load(self, kind, _):
-        return self.place() + of_place(self.drawn.choice([it for it in LOADS if it.startswith(kind)]), self.drawn.randrange(8))
+        return self.place() + of_place(self.drawn.choice([load for load in LOADS if load.startswith(kind)]), self.drawn.randrange(8))
 
     def value_tee(self, kind, deep):
         return self.value(kind, deep) + op("local.tee", number(self.local(kind)))
@@ -510,7 +509,7 @@ class Drawn:
 
     def loop(self):
         """A loop that goes on for a few times at most."""
-        free = [at for at, it in enumerate(self.locals) if it == "i32" and at > 2 and at not in self.counters]
+        free = [at for at, local in enumerate(self.locals) if local == "i32" and at > 2 and at not in self.counters]
         if len(free) < 2:
             return self.set_local()
         counter = free[0]
@@ -551,7 +550,7 @@ class Drawn:
         others = [at for at, (how, one) in enumerate(reversed(self.labels)) if how != "loop" and one == gives]
         labels = [self.drawn.choice([depth] if depth == len(self.labels) else others) for _ in range(self.drawn.randrange(4))]
         return self.within_if(lambda: (self.value(gives, 2) if gives else b"") + self.value("i32", 2) + constant("i32", 3) + op("i32.and")
-                              + op("br_table", listed([number(it + 1) for it in labels]), number(depth + 1)))
+                              + op("br_table", listed([number(label + 1) for label in labels]), number(depth + 1)))
 
     def end(self):
         return self.within_if(lambda: self.value("i64", 2) + op("return"))
@@ -564,9 +563,9 @@ def add_drawn(module, drawn, count):
     """Functions at random, of which later ones call earlier ones."""
     kinds, first = [], len(module.functions)
     for at in range(count):
-        it = Drawn(drawn, [first + one for one in range(at)][-3:] if at % 4 == 3 else [])
-        code = it.code()
-        module.add(f"drawn_{at}", ["i64", "i64", "i32"], "i64", code, it.locals[3:])
+        function = Drawn(drawn, [first + one for one in range(at)][-3:] if at % 4 == 3 else [])
+        code = function.code()
+        module.add(f"drawn_{at}", ["i64", "i64", "i32"], "i64", code, function.locals[3:])
         kinds.append((f"drawn_{at}", ["base", "i64", "i32"], "i64"))
     return kinds
 
@@ -632,11 +631,11 @@ class Case:
         """Where two answers first differ: of which function, to which numbers."""
         size, calls = 8 + BUFFER_BYTES, self.calls + self.drawn_calls
         for at in range(max(len(given), len(made)) // size):
-            one, other = (it[at * size:(at + 1) * size] for it in (given, made))
+            one, other = (each[at * size:(at + 1) * size] for each in (given, made))
             if one != other:
                 asked = calls[at * (32 + BUFFER_BYTES):][:32 + BUFFER_BYTES]
                 numbers = [int.from_bytes(asked[to:to + 8], "little") for to in range(0, 32, 8)]
-                return f"{self.kinds[numbers[0]][0]} of {[hex(it) for it in numbers[1:]]}: {one[:8].hex()} and {other[:8].hex()}"
+                return f"{self.kinds[numbers[0]][0]} of {[hex(number) for number in numbers[1:]]}: {one[:8].hex()} and {other[:8].hex()}"
         return "the lengths"
 
 
@@ -684,15 +683,15 @@ TABLE_BUGS = {"i64.load8_u": "load8(a) + 1", "i64.load32_u": "sign32(load32(a))"
 STEPS = {
     "what reads a local is not kept": ("keep_what_reads", lambda self, what: None),
     "memory is read late": ("keep_what_reads", lambda self, what: KEEPING(self, what) if what != "memory" else None),
-    "nothing is kept before a block": ("begin", lambda self, it, text: BEGINNING(self, it, text, False)),
+    "nothing is kept before a block": ("begin", lambda self, value, text: BEGINNING(self, value, text, False)),
 }
 KEEPING = wasm_to_c.Body.keep_what_reads
 
 
-def BEGINNING(self, it, words, _):
+def BEGINNING(self, translating, words, _):
     """A block is begun, and what stands on the stack is left there."""
     kept, self.stack = self.stack, [wasm_to_c.Value("0", one.kind, frozenset(), True) for one in self.stack]
-    FIRST_BEGIN(self, it, words)
+    FIRST_BEGIN(self, translating, words)
     self.stack = kept
 
 
@@ -758,20 +757,14 @@ def check_rejected(checks):
             checks.check(True)
 
 
-def main():
-    checks = Checks()
-    with tempfile.TemporaryDirectory(prefix="translated-") as room:
-        try:
-            runners, seed = Runners(room), random.randrange(1 << 32)
-            print(f"drawn from {seed}")
-            case, little = (Case(random.Random(seed), count) for count in (DRAWN_FUNCTIONS, 0))
-            check_answers(checks, case, runners)
-            check_bugs(checks, case, little, runners)
-            check_rejected(checks)
-        except (needs.Missing, OSError, subprocess.SubprocessError) as why:
-            checks.check(False, str(why))
-    return checks.end()
+def run_all(checks, room):
+    runners, seed = Runners(room), random.randrange(1 << 32)
+    print(f"drawn from {seed}")
+    case, little = (Case(random.Random(seed), count) for count in (DRAWN_FUNCTIONS, 0))
+    check_answers(checks, case, runners)
+    check_bugs(checks, case, little, runners)
+    check_rejected(checks)
 
 
 if __name__ == "__main__":
-    sys.exit(main())
+    sys.exit(ending.check("translated", run_all))

@@ -12,12 +12,6 @@
 #include "signed_text.h"
 #include "texts_for_tests.h"
 
-/* The signature of `test` over the data itself. */
-static const char LEGACY[] =
-    "untrusted comment: signature from minisign secret key\n"
-    "RWQf6LRCGA9i59SLOFxz6NxvASXDJeRtuZykwQepbDEGt87ig1BNpWaVWuNrm73YiIiJbq71Wi+dP9eKL8OC351vwIasSSbXxwA=\n"
-    "trusted comment: timestamp:1555779966\tfile:test\n"
-    "QtKMXWyYcwdpZAlPF7tE2ENJkRd1ujvKjlj1m9RtHTBnZPa5WKU5uWRs5GoP5M/VqE81QFuMKI5k/SfNQUaOAA==";
 #define COMMENT "timestamp:1556193335\tfile:test"
 
 #define YES MINISIGN_ANSWER_YES
@@ -36,12 +30,29 @@ static const uint8_t DIGEST_OF_ABC[64] = {
 
 static minisign_questions questions;
 static uint8_t message[1024], digest[64];
+/* One that was not read. */
+static const minisign_signature unread;
 
-static enum minisign_error ask_for(minisign_state *state, const char *sig_text, uint32_t allow_legacy, size_t room)
+/* Asks about a signature with this text, whether it was read from that or not. */
+static enum minisign_error ask_with(minisign_state *state, const minisign_signature *signature, const char *sig_text,
+                                    size_t sig_text_len, uint32_t allow_legacy, size_t room)
 {
     const minisign_public_key key = key_of(KEY);
 
-    return minisign_ask(state, &key, (const uint8_t *) sig_text, strlen(sig_text), allow_legacy, &questions, message, room);
+    return minisign_ask(state, &key, signature, (const uint8_t *) sig_text, sig_text_len, allow_legacy, &questions, message, room);
+}
+
+/* Asks about a signature that was not read, with a text of nothing. */
+static enum minisign_error ask_unread(minisign_state *state, uint32_t allow_legacy)
+{
+    return ask_with(state, &unread, "", 0, allow_legacy, 0);
+}
+
+static enum minisign_error ask_for(minisign_state *state, const char *sig_text, uint32_t allow_legacy, size_t room)
+{
+    const minisign_signature signature = signature_of(sig_text);
+
+    return ask_with(state, &signature, sig_text, strlen(sig_text), allow_legacy, room);
 }
 
 static enum minisign_error ask(minisign_state *state)
@@ -68,8 +79,8 @@ static void refused_all(minisign_state *state)
     CHECK(feed(state) == MINISIGN_NOT_BEGUN);
     CHECK(minisign_digest(state, digest) == MINISIGN_NOT_BEGUN && digest[0] == 0xaa);
     CHECK(ask(state) == MINISIGN_NOT_BEGUN);
-    CHECK(ask_for(state, "", 1, 0) == MINISIGN_NOT_BEGUN);
-    CHECK(ask_for(state, "", 2, 0) == MINISIGN_BAD_LEGACY_FLAG);
+    CHECK(ask_unread(state, 1) == MINISIGN_NOT_BEGUN);
+    CHECK(ask_unread(state, 2) == MINISIGN_BAD_LEGACY_FLAG);
     CHECK(minisign_comment_verdict(state, YES) == MINISIGN_NOT_BEGUN);
     CHECK(minisign_comment_verdict(state, 1) == MINISIGN_BAD_ANSWER);
     CHECK(minisign_verdict(state, YES, YES) == MINISIGN_NOT_BEGUN);
@@ -105,8 +116,8 @@ static void after_asking(void)
     before = state;
     asked = questions;
     CHECK(ask(&state) == MINISIGN_ALREADY_ASKED);
-    CHECK(ask_for(&state, "", 0, 0) == MINISIGN_ALREADY_ASKED);
-    CHECK(ask_for(&state, "", 2, 0) == MINISIGN_BAD_LEGACY_FLAG);
+    CHECK(ask_unread(&state, 0) == MINISIGN_ALREADY_ASKED);
+    CHECK(ask_unread(&state, 2) == MINISIGN_BAD_LEGACY_FLAG);
     CHECK(minisign_verdict(&state, YES, YES) == MINISIGN_NOT_ASKED);
     CHECK(memcmp(&before, &state, sizeof before) == 0);
     CHECK(memcmp(&asked, &questions, sizeof asked) == 0);
@@ -118,7 +129,7 @@ static void after_asking(void)
     CHECK(minisign_update(&state, ABC, 0) == MINISIGN_ALREADY_ASKED);
     CHECK(minisign_digest(&state, digest) == MINISIGN_ALREADY_ASKED && digest[0] == 0xaa);
     CHECK(ask(&state) == MINISIGN_ALREADY_ASKED);
-    CHECK(ask_for(&state, "", 0, 0) == MINISIGN_ALREADY_ASKED);
+    CHECK(ask_unread(&state, 0) == MINISIGN_ALREADY_ASKED);
     CHECK(memcmp(&before, &state, sizeof before) == 0);
     CHECK(minisign_verdict(&state, YES, YES) == MINISIGN_OK);
 }
@@ -151,9 +162,7 @@ static void before_asking(void)
     CHECK(minisign_comment_verdict(&state, YES) == MINISIGN_NOT_ASKED);
     CHECK(ask_for(&state, SIGNATURE, 2, sizeof message) == MINISIGN_BAD_LEGACY_FLAG);
     CHECK(ask_for(&state, SIGNATURE, UINT32_MAX, sizeof message) == MINISIGN_BAD_LEGACY_FLAG);
-    CHECK(ask_for(&state, "", 0, sizeof message) == MINISIGN_MISSING_UNTRUSTED_COMMENT);
-    CHECK(ask_for(&state, "\xff", 0, sizeof message) == MINISIGN_NOT_UTF8);
-    CHECK(ask_for(&state, LEGACY, 0, sizeof message) == MINISIGN_LEGACY_NOT_ACCEPTED);
+    CHECK(ask_for(&state, LEGACY_SIGNATURE, 0, sizeof message) == MINISIGN_LEGACY_NOT_ACCEPTED);
     for (size_t room = 0; room < MESSAGE_LEN; room++) {
         CHECK(ask_for(&state, SIGNATURE, 0, room) == MINISIGN_NO_ROOM);
     }
@@ -161,9 +170,110 @@ static void before_asking(void)
     CHECK(ask_for(&state, SIGNATURE, 0, MESSAGE_LEN) == MINISIGN_OK);
     CHECK(questions.message_len == MESSAGE_LEN);
     CHECK(memcmp(message, questions.signature, 64) == 0);
+    CHECK(questions.comment_offset == 64 && questions.comment_len == sizeof COMMENT - 1);
     CHECK(memcmp(message + 64, COMMENT, sizeof COMMENT - 1) == 0);
     CHECK(tell(&state) == MINISIGN_OK && memcmp(questions.digest, DIGEST_OF_ABC, 64) == 0);
     CHECK(questions.legacy == 0);
+}
+
+/* Asks, which is rejected as a usage error: state, questions and message stay as they were. */
+static enum minisign_error ask_in_vain(const minisign_signature *signature, const char *sig_text, size_t sig_text_len,
+                                       uint32_t allow_legacy, size_t room)
+{
+    minisign_state state, before;
+    minisign_questions no_questions;
+    uint8_t no_message[sizeof message];
+    enum minisign_error error;
+
+    minisign_init(&state);
+    CHECK(feed(&state) == MINISIGN_OK);
+    before = state;
+    memset(&questions, 0xaa, sizeof questions);
+    memset(message, 0xaa, sizeof message);
+    no_questions = questions;
+    memcpy(no_message, message, sizeof message);
+    error = ask_with(&state, signature, sig_text, sig_text_len, allow_legacy, room);
+    CHECK(memcmp(&state, &before, sizeof state) == 0 && memcmp(&questions, &no_questions, sizeof questions) == 0);
+    CHECK(memcmp(message, no_message, sizeof message) == 0);
+    return error;
+}
+
+/* Nothing is asked about a signature that was not read, whatever it holds, and a text that is rejected is not read. */
+static void signatures_of_no_text(void)
+{
+    const size_t len = sizeof SIGNATURE - 1;
+    minisign_signature other, before;
+
+    for (int byte = 0; byte < 256; byte++) {
+        memset(&other, byte, sizeof other);
+        before = other;
+        CHECK(ask_in_vain(&other, SIGNATURE, len, 0, sizeof message) == MINISIGN_SIGNATURE_NOT_READ);
+        CHECK(ask_in_vain(&other, "", 0, 1, 0) == MINISIGN_SIGNATURE_NOT_READ);
+        CHECK(minisign_read_signature((const uint8_t *) "\xff", 1, &other) == MINISIGN_NOT_UTF8);
+        CHECK(minisign_read_signature((const uint8_t *) "", 0, &other) == MINISIGN_MISSING_UNTRUSTED_COMMENT);
+        CHECK(minisign_read_signature((const uint8_t *) SIGNATURE, len - 89, &other) == MINISIGN_MISSING_COMMENT_SIGNATURE);
+        CHECK(memcmp(&other, &before, sizeof other) == 0);
+    }
+    /* Nor where a bit of its mark is another. */
+    for (int bit = 0; bit < 64; bit++) {
+        other = signature_of(SIGNATURE);
+        other.mark ^= UINT64_C(1) << bit;
+        CHECK(ask_in_vain(&other, SIGNATURE, len, 0, sizeof message) == MINISIGN_SIGNATURE_NOT_READ);
+    }
+}
+
+/* Nothing is asked about a signature with another text than that which it was read from. */
+static void other_texts(void)
+{
+    static const char longer[] = "untrusted comment: x";
+    static char text[sizeof SIGNATURE + 1];
+    const size_t len = sizeof SIGNATURE - 1;
+    const minisign_signature signature = signature_of(SIGNATURE), legacy = signature_of(LEGACY_SIGNATURE);
+    const minisign_signature other_key = signature_of(OTHER_SIGNATURE);
+
+    memcpy(text, SIGNATURE, sizeof SIGNATURE);
+    for (size_t at = 0; at < len; at++) {
+        for (int bit = 0; bit < 8; bit += 5) {
+            text[at] = (char) (text[at] ^ 1 << bit);
+            CHECK(ask_in_vain(&signature, text, len, 0, sizeof message) == MINISIGN_OTHER_SIGNATURE_TEXT);
+            text[at] = SIGNATURE[at];
+        }
+    }
+    for (size_t shorter = 0; shorter < len; shorter++) {
+        CHECK(ask_in_vain(&signature, SIGNATURE, shorter, 0, sizeof message) == MINISIGN_OTHER_SIGNATURE_TEXT);
+    }
+    CHECK(ask_in_vain(&signature, SIGNATURE, len + 1, 0, sizeof message) == MINISIGN_OTHER_SIGNATURE_TEXT);
+    text[len] = '\n';
+    CHECK(ask_in_vain(&signature, text, len + 1, 0, sizeof message) == MINISIGN_OTHER_SIGNATURE_TEXT);
+    CHECK(ask_in_vain(&signature, longer, sizeof longer - 1, 0, sizeof message) == MINISIGN_OTHER_SIGNATURE_TEXT);
+    CHECK(ask_in_vain(&signature, NULL, 0, 0, sizeof message) == MINISIGN_OTHER_SIGNATURE_TEXT);
+    CHECK(ask_in_vain(&signature, LEGACY_SIGNATURE, sizeof LEGACY_SIGNATURE - 1, 1, sizeof message) == MINISIGN_OTHER_SIGNATURE_TEXT);
+    /* That comes before what is said of the key, of a legacy signature, and of the room. */
+    CHECK(ask_in_vain(&legacy, SIGNATURE, len, 0, 0) == MINISIGN_OTHER_SIGNATURE_TEXT);
+    CHECK(ask_in_vain(&other_key, SIGNATURE, len, 0, 0) == MINISIGN_OTHER_SIGNATURE_TEXT);
+    CHECK(ask_in_vain(&other_key, OTHER_SIGNATURE, sizeof OTHER_SIGNATURE - 1, 0, 0) == MINISIGN_DIFFERENT_KEY_IDS);
+    CHECK(ask_in_vain(&legacy, LEGACY_SIGNATURE, sizeof LEGACY_SIGNATURE - 1, 0, 0) == MINISIGN_LEGACY_NOT_ACCEPTED);
+    CHECK(ask_in_vain(&signature, SIGNATURE, len, 0, MESSAGE_LEN - 1) == MINISIGN_NO_ROOM);
+}
+
+/* Nor where the place of its comment is not within the text. */
+static void other_places(void)
+{
+    static const uint64_t far[] = { 1, 63, 64, 1 << 20, UINT32_MAX, (uint64_t) INT64_MAX };
+    const size_t len = sizeof SIGNATURE - 1;
+    const minisign_signature signature = signature_of(SIGNATURE);
+
+    for (size_t i = 0; i < sizeof far / sizeof far[0]; i++) {
+        minisign_signature other = signature;
+
+        other.comment_offset = len - other.comment_len + far[i];
+        CHECK(ask_in_vain(&other, SIGNATURE, len, 0, sizeof message) == MINISIGN_OTHER_SIGNATURE_TEXT);
+        other = signature;
+        other.comment_len = len - other.comment_offset + far[i];
+        CHECK(ask_in_vain(&other, SIGNATURE, len, 0, sizeof message) == MINISIGN_OTHER_SIGNATURE_TEXT);
+        other.comment_offset = UINT64_MAX - far[i];
+        CHECK(ask_in_vain(&other, SIGNATURE, len, 0, sizeof message) == MINISIGN_OTHER_SIGNATURE_TEXT);
+    }
 }
 
 static void answers(void)
@@ -219,7 +329,7 @@ static void copies(void)
     CHECK(minisign_update(&one, ABC + 2, 1) == MINISIGN_OK);
     CHECK(minisign_update(&two, ABC + 1, 2) == MINISIGN_OK);
     CHECK(tell(&one) == MINISIGN_OK && memcmp(questions.digest, DIGEST_OF_ABC, 64) == 0);
-    CHECK(ask_for(&two, LEGACY, 1, sizeof message) == MINISIGN_OK);
+    CHECK(ask_for(&two, LEGACY_SIGNATURE, 1, sizeof message) == MINISIGN_OK);
     CHECK(tell(&two) == MINISIGN_OK && memcmp(questions.digest, DIGEST_OF_ABC, 64) == 0);
     CHECK(questions.legacy == 1);
 }
@@ -237,9 +347,18 @@ static enum minisign_error open_for(const char *sk_text, int with_password)
                                 : minisign_open_unsealed_key(&unopened, &key);
 }
 
-/* Memory to open keys in, enough for all rows of one whose N is 1024 and whose p is 32. */
+/* The greatest p of a key, and every how manieth row is kept where few are: with -DIS_EMULATED less, as all that takes minutes there. */
+#ifdef IS_EMULATED
+#define MOST_PARTS 2
+#define FEWEST_KEPT 24
+#else
+#define MOST_PARTS 32
+#define FEWEST_KEPT UINT64_MAX
+#endif
+
+/* Memory to open keys in, enough for all rows of one whose N is 1024 and whose p is the greatest. */
 static uint32_t words[256 * (1024 + 3)];
-static uint8_t bytes[1024 * 32];
+static uint8_t bytes[1024 * MOST_PARTS];
 
 /* Opens in so much of that memory, which holds something: all of it is zeros then. */
 static enum minisign_error open_in_place(const minisign_unopened_key *from, const char *password, uint64_t keep_every,
@@ -366,13 +485,6 @@ static void taken_in(void)
     memset(text, 0, sizeof text);
     text_len = 0;
 }
-
-/* Every how manieth row is kept where few are: with -DIS_EMULATED not the first one alone, which takes a minute there. */
-#ifdef IS_EMULATED
-#define FEWEST_KEPT 64
-#else
-#define FEWEST_KEPT UINT64_MAX
-#endif
 
 /* Makes a key of zeros, sealed with little work where there is a password: N is 1024, of which p is so many. */
 static enum minisign_error make_key_of(uint64_t p, uint32_t with_password, uint64_t memory_limit, const char *comment, size_t room)
@@ -578,6 +690,9 @@ int main(void)
     never_begun();
     after_asking();
     before_asking();
+    signatures_of_no_text();
+    other_texts();
+    other_places();
     answers();
     copies();
     told_unasked();
@@ -589,7 +704,7 @@ int main(void)
     texts_for_minisign();
     keys_made();
     rows_bounded(1);
-    rows_bounded(32);
+    rows_bounded(MOST_PARTS);
     no_memory_wanted();
     numbers();
     printf("%u passed, %u failed\n", passed, failed);

@@ -42,10 +42,10 @@ class Answer:
         return f"status {self.status}, {self.output[:80]!r}, {self.said[:120]!r}"
 
 
-def run(command, directory, stdin=None, stdout=subprocess.PIPE):
-    """Runs a program in a directory, with these bytes or nothing on its standard input."""
+def run(command, directory, stdin=None, stdout=subprocess.PIPE, **more):
+    """Runs a program in a directory, with these bytes or nothing on its standard input, and with what else `subprocess` takes."""
     how = {"input": stdin} if stdin is not None else {"stdin": subprocess.DEVNULL}
-    ran = subprocess.run(command, cwd=directory, stdout=stdout, stderr=subprocess.PIPE, timeout=SECONDS, **how)
+    ran = subprocess.run(command, cwd=directory, stdout=stdout, stderr=subprocess.PIPE, timeout=SECONDS, **how, **more)
     return Answer(ran.returncode, ran.stdout or b"", ran.stderr)
 
 

@@ -1,10 +1,11 @@
 /* Preloaded into a program, breaks its call of the system number BREAK_AT among those that are named in BREAK_CALLS
    (all below, where nothing is named): it is killed before the call, or gets the signal BREAK_SIGNAL, or, where
-   BREAK_ERRNO is set, the call fails so. With BREAK_SHORT a write takes half of its bytes first, and the next one fails.
+   BREAK_ERRNO is set, the call fails so. With BREAK_SHORT a write takes half of its bytes first, and the next one fails;
+   and a read brings two bytes at most.
    With BREAK_GOES_ON a call is made after the signal, as one that stops the program, and the next write too. Calls of `write` count
    where they go to a regular file that the program has opened itself; those that only look, and getrandom, where they
    are named, and only calls from the library ONLY_IN, where it is compiled with the name of one. Says so by one byte on the descriptor BREAK_SAYS. With BREAK_UNNAMED no file without a name can be made, as on
-   file systems that have none. */
+   file systems that have none; and with SHOWN_TIME the clock shows that time. */
 #define _GNU_SOURCE
 #include <dirent.h>
 #include <dlfcn.h>
@@ -18,6 +19,7 @@
 #include <sys/random.h>
 #include <sys/stat.h>
 #include <sys/xattr.h>
+#include <time.h>
 #include <unistd.h>
 
 static long calls;
@@ -129,6 +131,17 @@ int openat(int directory, const char *path, int flags, ...)
     return is_broken("openat") ? -1 : real(directory, path, flags, mode);
 }
 
+/* The same where a program was built with _FORTIFY_SOURCE. */
+int __open_2(const char *path, int flags)
+{
+    return open(path, flags);
+}
+
+int __openat_2(int directory, const char *path, int flags)
+{
+    return openat(directory, path, flags);
+}
+
 ssize_t write(int fd, const void *bytes, size_t length)
 {
     ssize_t (*real)(int, const void *, size_t) = (ssize_t (*)(int, const void *, size_t))dlsym(RTLD_NEXT, "write");
@@ -145,6 +158,25 @@ ssize_t write(int fd, const void *bytes, size_t length)
         }
     }
     return real(fd, bytes, length);
+}
+
+ssize_t read(int fd, void *bytes, size_t length)
+{
+    ssize_t (*real)(int, void *, size_t) = (ssize_t (*)(int, void *, size_t))dlsym(RTLD_NEXT, "read");
+
+    if (!is_broken("read"))
+        return real(fd, bytes, length);
+    return getenv("BREAK_SHORT") ? real(fd, bytes, length < 2 ? length : 2) : -1;
+}
+
+time_t time(time_t *found)
+{
+    time_t (*real)(time_t *) = (time_t (*)(time_t *))dlsym(RTLD_NEXT, "time");
+    time_t shown = getenv("SHOWN_TIME") ? atol(getenv("SHOWN_TIME")) : real(NULL);
+
+    if (found)
+        *found = shown;
+    return shown;
 }
 
 /* Closes also where it then fails, as the system does. */
@@ -197,7 +229,6 @@ BREAKS(int, unlinkat, (int directory, const char *path, int flags), (directory, 
 BREAKS(int, fsync, (int fd), (fd))
 BREAKS(int, fchmod, (int fd, mode_t mode), (fd, mode))
 BREAKS(int, fchown, (int fd, uid_t uid, gid_t gid), (fd, uid, gid))
-BREAKS(ssize_t, read, (int fd, void *bytes, size_t length), (fd, bytes, length))
 BREAKS(ssize_t, pread, (int fd, void *bytes, size_t length, off_t at), (fd, bytes, length, at))
 BREAKS(int, flock, (int fd, int operation), (fd, operation))
 BREAKS(ssize_t, getdents64, (int fd, void *bytes, size_t length), (fd, bytes, length))

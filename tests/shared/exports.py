@@ -18,8 +18,9 @@ import sources
 
 # The numbers and the structs by their names in Rattle.
 KINDS = {"u32": "uint32_t", "u64": "uint64_t", "usize": "size_t", "State": "minisign_state",
-         "PublicKeyValue": "minisign_public_key", "Questions": "minisign_questions", "UnopenedKeyValue": "minisign_unopened_key",
-         "SecretKeyValue": "minisign_secret_key", "Sealing": "minisign_sealing", "Installation": "minisign_installation"}
+         "PublicKeyValue": "minisign_public_key", "SignatureValue": "minisign_signature", "Questions": "minisign_questions",
+         "UnopenedKeyValue": "minisign_unopened_key", "SecretKeyValue": "minisign_secret_key", "Sealing": "minisign_sealing",
+         "Installation": "minisign_installation"}
 # The structs whose fields are the library's alone.
 CLOSED = ("minisign_state", "minisign_installation")
 SIZES = {"u8": 1, "u32": 4, "u64": 8}
@@ -59,8 +60,8 @@ def kinds_in_c(kind):
 
 def exported(crate):
     """The types in C of the exports of the crate, by their names: those of the parameters, and of the result."""
-    return {name: ([kind for it in re.split(r",\s*(?![^\[]*\])", parameters.strip().rstrip(",")) if it
-                    for kind in kinds_in_c(it.partition(":")[2].strip())], kinds_in_c(result)[0] if result else "void")
+    return {name: ([kind for parameter in re.split(r",\s*(?![^\[]*\])", parameters.strip().rstrip(",")) if parameter
+                    for kind in kinds_in_c(parameter.partition(":")[2].strip())], kinds_in_c(result)[0] if result else "void")
             for name, parameters, result in EXPORT.findall(crate)}
 
 
@@ -68,8 +69,8 @@ def unfit_declarations():
     """A line for each declaration and each export that have not the same types."""
     exports = exported(sources.read("crates/minisign_c/src/lib.rt"))
     headers = c_header.both()
-    declared = {it.name: ([boundary.plain_parameter(one) for one in headers.taken(it)], boundary.plain(it.answer))
-                for it in boundary.proved_calls(headers)}
+    declared = {call.name: ([boundary.plain_parameter(one) for one in headers.taken(call)], boundary.plain(call.answer))
+                for call in boundary.proved_calls(headers)}
     return [f"{c_header.FILE} declares {name} with {declared.get(name)}, and the crate has {exports.get(name)}"
             for name in sorted({*declared, *exports}) if declared.get(name) != exports.get(name)]
 
@@ -82,8 +83,8 @@ class Layouts:
         for file in sources.files_below(os.path.join(sources.ROOT, "crates"), ".rt"):
             text = sources.read(file)
             if "#[repr(C)]" in text:
-                self.structs.update((it.name, it.text) for it in sources.read_source(file).items
-                                    if it.what == "struct" and "#[repr(C)]" in it.text)
+                self.structs.update((item.name, item.text) for item in sources.read_source(file).items
+                                    if item.what == "struct" and "#[repr(C)]" in item.text)
             self.lengths.update(re.findall(r"const (\w+): usize = (\d+);", text))
 
     def size_and_alignment(self, kind):
@@ -108,7 +109,7 @@ class Layouts:
         """The assertions, on each struct of the header."""
         lines, names = [HEAD], {name: struct for struct, name in KINDS.items()}
         headers = c_header.both()
-        for name in (it for it in headers.structs if it not in headers.in_parts):
+        for name in (struct for struct in headers.structs if struct not in headers.in_parts):
             fields, size, alignment = self.layout(names[name])
             lines.append(f"IS_LAID_OUT({name}, {size}, {alignment});")
             lines += [f"IS_AT({name}, {field}, {at}, {length});" for field, at, length in fields if name not in CLOSED]

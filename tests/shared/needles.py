@@ -34,13 +34,13 @@ def of_ed25519(seed, signed):
 def of_password(password):
     """The needles of a password of up to 64 bytes: itself, and as HMAC puts it into its two first blocks."""
     padded = password.ljust(64, b"\0")
-    return {"password": password, "inner block of the password": bytes(it ^ 0x36 for it in padded),
-            "outer block of the password": bytes(it ^ 0x5c for it in padded)}
+    return {"password": password, "inner block of the password": bytes(byte ^ 0x36 for byte in padded),
+            "outer block of the password": bytes(byte ^ 0x5c for byte in padded)}
 
 
 def masked(data):
     """Bytes as the program has them, in C."""
-    return ", ".join(str(it ^ MASK) for it in data)
+    return ", ".join(str(byte ^ MASK) for byte in data)
 
 
 def text(found):

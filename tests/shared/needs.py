@@ -17,8 +17,9 @@ import tempfile
 SECONDS = 600
 # Scripts that install hold this file: apt-get does not wait for another one that renews the list of packages.
 LOCK = os.path.join(tempfile.gettempdir(), "minisign-installing-packages")
-# Where Debian's packages have their programs.
+# Where Debian's packages have their programs, and those that only root has in PATH, as debootstrap.
 DEBIAN = "/usr/bin"
+OF_ROOT = "/usr/sbin"
 
 HELLO = "int main(void) { return 0; }\n"
 SODIUM = "#include <sodium.h>\nint main(void) { return sodium_init() < 0; }\n"
@@ -45,7 +46,7 @@ def directories():
 
 def which(name):
     """The path of a program, or None: Debian's own, or where none may be installed another one too."""
-    return shutil.which(name, path=DEBIAN if may_install() else os.pathsep.join(directories()))
+    return shutil.which(name, path=os.pathsep.join([*([DEBIAN] if may_install() else directories()), OF_ROOT]))
 
 
 def apt_get(*arguments):

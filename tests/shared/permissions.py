@@ -124,6 +124,7 @@ WITH_LISTS = [
     ("a list that cannot be copied, of one who may do more", Replaced(Older(0o755, MORE), 0o705, broken="fsetxattr")),
     ("a list that cannot be copied, of one who may do less", Replaced(Older(0o755, LESS), 0o704, broken="fsetxattr")),
     ("a list that cannot be copied, of a group that may do nothing", Replaced(Older(0o755, NONE), 0o700, broken="fsetxattr")),
+    ("a list that cannot be copied, whose owning group may do less", Replaced(Older(0o757, f"g::r--,u:{OTHER_USER}:rwx"), 0o704, broken="fsetxattr")),
     ("a list of a file of another group", Replaced(Older(0o755, LESS), 0o704, as_nobody=True, group=OTHER_GROUP)),
     ("a list in nobody's own file", Replaced(Older(0o755, LESS), 0o775, has_list=True, as_nobody=True)),
     ("a list of a file that may not be read", Replaced(Older(0o311, f"g::--x,u:{OTHER_USER}:--x"), 0o311, has_list=True, as_nobody=True)),

@@ -39,17 +39,17 @@ class Crate:
 
     def __init__(self, line, crates):
         (self.name, *self.words), named = line.partition(":")[0].split(), line.partition(":")[2].split()
-        self.near = [it for it in named if it in crates]
-        self.of_kit = ["std", *(it for it in named if it not in crates)]
-        below = [name for it in self.near for name in (*crates[it].below, it)]
+        self.near = [name for name in named if name in crates]
+        self.of_kit = ["std", *(name for name in named if name not in crates)]
+        below = [name for each in self.near for name in (*crates[each].below, each)]
         self.below = list(dict.fromkeys(below))
 
 
 @functools.lru_cache(maxsize=None)
 def crates():
     """The crates of the repository by their names, each after those below it."""
-    with open(f"{ROOT}/crates.txt", encoding="utf-8") as it:
-        left = [line for line in it.read().splitlines() if ":" in line.partition("#")[0]]
+    with open(f"{ROOT}/crates.txt", encoding="utf-8") as file:
+        left = [line for line in file.read().splitlines() if ":" in line.partition("#")[0]]
     found, names = {}, {line.partition(":")[0].split()[0] for line in left}
     while left:
         line = left.pop(0)
@@ -69,16 +69,16 @@ def kit():
 
 def take_over(path):
     """Has what a finished `rt ci` left be taken for proved, as it said in this file."""
-    with open(path, encoding="utf-8", errors="replace") as it:
-        finished.append(it.read())
+    with open(path, encoding="utf-8", errors="replace") as file:
+        finished.append(file.read())
 
 
 def said():
     """What `rt ci` has said, beside or after which this runs; nothing where there is none."""
     if finished or not os.environ.get(SAID):
         return "".join(finished)
-    with open(os.environ[SAID], encoding="utf-8", errors="replace") as it:
-        return it.read()
+    with open(os.environ[SAID], encoding="utf-8", errors="replace") as file:
+        return file.read()
 
 
 def is_under_way():
@@ -89,7 +89,7 @@ def is_under_way():
 def has(names):
     """Whether `rt ci` has proved all of these crates, in this run or, by a kit that keeps them, in an earlier one."""
     words = said()
-    return all(re.search(rf"(?m)^rt: {it} (proved$|is kept: )", words) for it in names)
+    return all(re.search(rf"(?m)^rt: {name} (proved$|is kept: )", words) for name in names)
 
 
 def wait_for(names):
@@ -117,19 +117,19 @@ def place_of(library):
 def are_left(libraries):
     """Whether `rt ci` has proved these libraries, and left them built. At its end it puts back what checks before it had built
     of another state of the sources, maybe: that has a stamp."""
-    places = [os.path.dirname(place_of(it)) for it in libraries]
-    return has(libraries) and all(os.path.isdir(place_of(it)) for it in libraries) and not any(
-        os.path.exists(f"{it}/stamp") for it in places)
+    places = [os.path.dirname(place_of(library)) for library in libraries]
+    return has(libraries) and all(os.path.isdir(place_of(library)) for library in libraries) and not any(
+        os.path.exists(f"{place}/stamp") for place in places)
 
 
 def supply(libraries):
     """Has the libraries built, and returns what is said if one of them is not proved."""
     while is_under_way() and not are_left(libraries):
         time.sleep(1)
-    for it in [] if are_left(libraries) else libraries:
-        ran = run(["rt", "lib"], f"{ROOT}/crates/{it}")
+    for library in [] if are_left(libraries) else libraries:
+        ran = run(["rt", "lib"], f"{ROOT}/crates/{library}")
         if ran.returncode:
-            return f"{it}: {first_of(ran.stdout)}"
+            return f"{library}: {first_of(ran.stdout)}"
     return ""
 
 
@@ -142,21 +142,21 @@ def run(command, directory):
 def first_of(words):
     """The first error of what a check said, or its last line."""
     lines = words.rstrip("\n").split("\n")
-    return next((it for it in lines if "error" in it), lines[-1])[:300]
+    return next((line for line in lines if "error" in line), lines[-1])[:300]
 
 
 def rattle(verb, name, directory, *flags, before=(), crate=None):
     """Has the prover check or build a crate whose files are in this directory, over the libraries below it. It is one of
     crates.txt, or another one that is told by its line."""
     crate = crate or crates()[name]
-    root = next(it for it in ("src/main.rt", "src/lib.rt") if os.path.exists(f"{directory}/{it}"))
+    root = next(name for name in ("src/main.rt", "src/lib.rt") if os.path.exists(f"{directory}/{name}"))
     words = ["--crate-name", name, root, "-L", f"dependency={kit()}/rlibs"]
-    for it in crate.of_kit:
-        words += ["--extern", f"{it}={kit()}/rlibs/{it}.rlib"]
-    for it in crate.near:
-        words += ["--extern", f"{it}={place_of(it)}"]
-    for it in crate.below:
-        words += ["-L", f"dependency={os.path.dirname(place_of(it))}"]
+    for each in crate.of_kit:
+        words += ["--extern", f"{each}={kit()}/rlibs/{each}.rlib"]
+    for each in crate.near:
+        words += ["--extern", f"{each}={place_of(each)}"]
+    for each in crate.below:
+        words += ["-L", f"dependency={os.path.dirname(place_of(each))}"]
     if "staticlib" in crate.words:
         words += ["--crate-type", "staticlib"]
     words += ["--antt-project", f"{kit()}/rattle/logic/antt-project.json", "--logic-built", f"{kit()}/logic_built"]

@@ -7,7 +7,6 @@ import resource
 import shutil
 import signal
 import socket
-import stat
 import subprocess
 import tempfile
 import termios
@@ -16,6 +15,7 @@ import time
 from dataclasses import dataclass, field
 
 import needs
+from process import told
 
 SECONDS = 30
 NOBODY = 65534
@@ -234,7 +234,7 @@ class Runner:
 
     def run(self, case):
         """Makes the run, or all runs of a case that is disturbed, and raises a `Failure` or a `Skip`."""
-        if any(is_forbidding(it) for it in case.files.values()) and os.geteuid() == 0 and not self.nobody:
+        if any(is_forbidding(file) for file in case.files.values()) and os.geteuid() == 0 and not self.nobody:
             raise Skip("root may read and write every file, and cannot become nobody here")
         if case.rejecting:
             rest = {"REFUSE_REST": "1"} if case.rejecting == "all" else {}
@@ -267,21 +267,14 @@ class Runner:
 
     def run_refused(self, case, what, environment, says_name):
         """Runs with one allocation or call failing, and answers whether the run came to it."""
-        told, says = os.pipe()
-        environment = {**environment, says_name: str(says)}
-        try:
+        def run(says):
             try:
-                self.run_once(case, environment, [says])
-                failure = None
-            except Failure as error:
-                failure = error
-            os.close(says)
-            says = None
-            was_refused = os.read(told, 1) != b""
-        finally:
-            os.close(told)
-            if says is not None:
-                os.close(says)
+                self.run_once(case, {**environment, says_name: str(says)}, [says])
+            except Failure as failure:
+                return failure
+            return None
+
+        failure, was_refused = told(run)
         if was_refused and failure:
             raise Failure(f"with {what} rejected: {failure}")
         return was_refused

@@ -62,18 +62,34 @@ __attribute__((destructor)) static void end(void)
     LOOK("end");
 }
 
+/* The permissions of a new file, which a call that opens one is told behind its flags. */
+static mode_t mode_of(int flags, va_list rest)
+{
+    return (flags & O_CREAT) != 0 || (flags & O_TMPFILE) == O_TMPFILE ? va_arg(rest, mode_t) : 0;
+}
+
 int open(const char *name, int flags, ...)
 {
-    mode_t mode = 0;
     va_list rest;
+    mode_t mode;
 
     LOOK("open");
     va_start(rest, flags);
-    if ((flags & O_CREAT) != 0 || (flags & O_TMPFILE) == O_TMPFILE) {
-        mode = va_arg(rest, mode_t);
-    }
+    mode = mode_of(flags, rest);
     va_end(rest);
     return (int) syscall(SYS_openat, AT_FDCWD, name, flags, mode);
+}
+
+int openat(int directory, const char *name, int flags, ...)
+{
+    va_list rest;
+    mode_t mode;
+
+    LOOK("open");
+    va_start(rest, flags);
+    mode = mode_of(flags, rest);
+    va_end(rest);
+    return (int) syscall(SYS_openat, directory, name, flags, mode);
 }
 
 ssize_t write(int fd, const void *bytes, size_t len)

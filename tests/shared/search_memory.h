@@ -48,13 +48,13 @@ static void search(const uint8_t *from, const uint8_t *to, bool is_undumped)
     }
     for (const volatile uint8_t *at = from; at < to; at++) {
         for (size_t n = 0; begins[*at ^ MASK] && n < NEEDLES; n++) {
-            const struct needle *it = &needles[n];
+            const struct needle *needle = &needles[n];
             size_t i = 0;
 
-            while (i < it->len && at + i < to && (at[i] ^ MASK) == it->masked[i]) {
+            while (i < needle->len && at + i < to && (at[i] ^ MASK) == needle->masked[i]) {
                 i++;
             }
-            if (i == it->len) {
+            if (i == needle->len) {
                 counts[n][place_of((const uint8_t *) at, is_undumped)]++;
             }
         }

@@ -2,7 +2,11 @@
 `dist/` is what was proved, `tools/dist.py --check` shows.
 """
 
+import contextlib
+import fcntl
+import hashlib
 import os
+import shutil
 import subprocess
 
 import needs
@@ -17,14 +21,64 @@ STRICT = "WARNINGS=-std=c11 -Wall -Wextra -Wpedantic -Werror"
 
 def path_without_kit():
     """The directories of PATH that have no `rt`, with that of Debian's own compilers first."""
-    return os.pathsep.join(it for it in needs.directories() if not os.path.exists(os.path.join(it, "rt"))) or "/usr/bin:/bin"
+    return os.pathsep.join(directory for directory in needs.directories() if not os.path.exists(os.path.join(directory, "rt"))) or "/usr/bin:/bin"
+
+
+# The object of dist/calls.c, which takes seven seconds to compile, by a sum over all that decides what it is: scripts share it.
+KEPT = os.path.join(proved.ROOT, "out", "kept-objects")
+OBJECT = "portable-calls.o"
+# What decides it: words of make, and what it is compiled from.
+DECIDING = ("CC", "CFLAGS", "CPPFLAGS", "HAS_PAGES", "WARNINGS")
+COMPILED = (os.path.join(DIST, "calls.c"), os.path.join(DIRECTORY, "library", "portable", "machine.h"), os.path.join(DIRECTORY, "Makefile"))
+
+
+def key_of(words):
+    """The sum, or None where another file is compiled, or none."""
+    if "C_CALLS" in words or "-C" in words:
+        return None
+    compiler = words["CC"].split()
+    said = subprocess.run([*compiler, "--version"], stdin=subprocess.DEVNULL, stdout=subprocess.PIPE, stderr=subprocess.DEVNULL).stdout
+    sum_ = hashlib.sha256(repr([(name, words.get(name)) for name in DECIDING[1:]]).encode() + os.path.realpath(shutil.which(compiler[0]) or "").encode() + said)
+    for path in COMPILED:
+        with open(path, "rb") as file:
+            sum_.update(file.read())
+    return sum_.hexdigest()
+
+
+@contextlib.contextmanager
+def kept_object(words):
+    """Puts the object where make builds it, if it was built before; or keeps it, while nobody else builds the same."""
+    out = os.path.join(DIRECTORY, words["OUT"])
+    key, made = key_of(words), os.path.join(out, OBJECT)
+    if key is None or os.path.exists(made):
+        yield
+        return
+    os.makedirs(KEPT, exist_ok=True)
+    kept = os.path.join(KEPT, f"{key}.o")
+    with open(os.path.join(KEPT, f"{key}.lock"), "w", encoding="ascii") as lock:
+        fcntl.flock(lock, fcntl.LOCK_EX)
+        if os.path.exists(kept):
+            fcntl.flock(lock, fcntl.LOCK_UN)
+            os.makedirs(out, exist_ok=True)
+            shutil.copyfile(kept, made)
+        yield
+        if not os.path.exists(kept) and os.path.exists(made):
+            shutil.copyfile(made, f"{kept}.new")
+            os.replace(f"{kept}.new", kept)
+
+
+def words_of(arguments):
+    """The variables that arguments of make name, with their values."""
+    return dict(argument.split("=", 1) for argument in arguments if "=" in argument)
 
 
 def run_make(*arguments):
     """Runs make in the directory of the library."""
-    command = [needs.program("make", "make"), "-s", "-C", DIRECTORY, STRICT, f"CC={needs.c_compiler()}", *arguments]
-    ran = subprocess.run(command, env=dict(os.environ, PATH=path_without_kit()), stdin=subprocess.DEVNULL, stdout=subprocess.PIPE,
-                         stderr=subprocess.STDOUT)
+    told = [STRICT, f"CC={needs.c_compiler()}", *arguments]
+    words = words_of(told)
+    with kept_object(words) if "OUT" in words else contextlib.nullcontext():
+        ran = subprocess.run([needs.program("make", "make"), "-s", "-C", DIRECTORY, *told], env=dict(os.environ, PATH=path_without_kit()),
+                             stdin=subprocess.DEVNULL, stdout=subprocess.PIPE, stderr=subprocess.STDOUT)
     if ran.returncode != 0:
         raise NotBuilt(f"make {' '.join(arguments)} in c/: {ran.stdout.decode(errors='replace')[-1000:]}")
 

@@ -2,7 +2,7 @@
    back, locks, syncs, renames or removes a file below the working directory: what was really done, with the last part of
    the file's path. With TAKE_AWAY a step is left out or done wrongly, as if it had succeeded: `sync` of files,
    `directory` for syncs of directories, `new` for O_EXCL, `mode`, `permissions`, `owner`, `lock`, `rename`, or `digit` for the
-   last digit of a number that is written. With SLOW each of these calls waits first, for up to as many microseconds.
+   last digit of a record that is written. With SLOW each of these calls waits first, for up to as many microseconds.
    Compiled with ONLY_IN, the name of a library, it leaves alone what others call. */
 #define _GNU_SOURCE
 #include <dlfcn.h>
@@ -136,14 +136,27 @@ int openat(int directory, const char *path, int flags, ...)
     return say_open(directory, path, flags, mode);
 }
 
-/* Whether a number of two digits or more is written, after the label of a field or alone. */
+/* The same where a program was built with _FORTIFY_SOURCE. */
+int __open_2(const char *path, int flags)
+{
+    return say_open(AT_FDCWD, path, flags, 0);
+}
+
+int __openat_2(int directory, const char *path, int flags)
+{
+    return say_open(directory, path, flags, 0);
+}
+
+/* Whether a record is written: the label of a field, a number, and two lines of hexadecimal digits. */
 static int is_record(const char *bytes, size_t length)
 {
-    const char *colon = length < 64 ? memchr(bytes, ':', length) : NULL;
-    const char *digits = colon ? colon + 1 : bytes;
-    size_t count = length - (size_t)(digits - bytes);
+    const char *labels[] = {"timestamp:", "version:"};
+    size_t i;
 
-    return count > 1 && count < 21 && strspn(digits, "0123456789") >= count;
+    for (i = 0; i < 2; i++)
+        if (length > 194 && length < 256 && memcmp(bytes, labels[i], strlen(labels[i])) == 0)
+            return strspn(bytes + strlen(labels[i]), "0123456789abcdef\n") >= length - strlen(labels[i]);
+    return 0;
 }
 
 ssize_t write(int fd, const void *bytes, size_t length)

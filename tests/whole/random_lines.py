@@ -25,7 +25,7 @@ import tempfile
 import time
 
 HERE = os.path.dirname(os.path.realpath(__file__))
-sys.path += [os.path.join(HERE, "..", it) for it in ("shared", "minisign", "tool")]
+sys.path += [os.path.join(HERE, "..", name) for name in ("shared", "minisign", "tool")]
 
 import ending
 import needs
@@ -194,7 +194,7 @@ class Line:
     def may_be_tested_in_another_order(self, directory):
         """Whether more than one thing may be wrong of which each program names another first: a directory is among its names, or a
         signature of the older kind is rejected (the row on the order of the tests in docs/DIFFERENCES.md)."""
-        names = (os.path.join(os.fsencode(directory), os.fsencode(it)) for it in self.arguments[1:])
+        names = (os.path.join(os.fsencode(directory), os.fsencode(name)) for name in self.arguments[1:])
         return "-H" in self.arguments or any(map(os.path.isdir, names))
 
     @property
@@ -204,7 +204,7 @@ class Line:
 
     def is_plain(self):
         """Whether Minisign has the same flags, and takes no name more than ours."""
-        return not any(it in self.arguments for it in ("-k", "-K", "-G", "-S", "-Z", "-v", "-h", "--", "-")) and self.arguments.count("-V") == 1
+        return not any(flag in self.arguments for flag in ("-k", "-K", "-G", "-S", "-Z", "-v", "-h", "--", "-")) and self.arguments.count("-V") == 1
 
 
 def beside(name):
@@ -267,7 +267,7 @@ def check_line(before, line):
         if ran.returncode not in (0, 1, 2) or any(word in ran.stderr for word in REPORTS):
             raise Failure(f"it ended with {ran.returncode}, and said {ran.stderr[-1500:].decode(errors='replace')}")
         check_files(before, directory, line)
-        if line.command == "S" and ran.returncode == 0 and not any(it in line.arguments for it in ("-v", "-p", "-P")):
+        if line.command == "S" and ran.returncode == 0 and not any(flag in line.arguments for flag in ("-v", "-p", "-P")):
             check_signatures(before, directory, line)
         if line.command == "V" and line.is_plain():
             theirs = run(before.whole.theirs, directory, line)
@@ -294,7 +294,7 @@ def check_lines(before, seed, numbers, end):
 def build(room):
     """The program, built so that it finds what is wrong."""
     made = f"{room}/c/minisign"
-    static_library.run_make(f"OUT={room}/c", f"CC={needs.libsodium()}", f"CFLAGS={SANITIZED}", made)
+    static_library.run_make(f"OUT={room}/c", f"CC={needs.libsodium()}", f"CFLAGS={SANITIZED}", "C_CALLS=", made)
     return made
 
 

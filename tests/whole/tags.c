@@ -1,11 +1,11 @@
-/* Prints the tag of a piece of data, as `c/tags.c` makes it: the key of the tags and then the piece are the standard input. */
+/* Prints the tag of a piece of data, as `c/minisign/piece_tags.c` makes it: the key of the tags and then the piece are the standard input. */
 #include <inttypes.h>
 #include <stdio.h>
 #include <stdlib.h>
 
 #include <sodium.h>
 
-#include "tags.h"
+#include "minisign/piece_tags.h"
 
 /* In the place of libsodium's. */
 void randombytes_buf(void *const bytes, const size_t len)

@@ -12,6 +12,7 @@ import subprocess
 import tempfile
 
 from permissions import COMMON, WITH_LISTS, permission_cases
+from process import told
 from running import Failure, build_preload, run_cases
 from surviving import SmallDisk
 from whole_running import SECONDS, files_in, put_files, record_of
@@ -107,20 +108,17 @@ class Breaking:
                              preexec_fn=prepare)
         return ran.returncode, ran.stderr
 
+    def broken_at(self, number, task, directory, how):
+        """Runs with one call broken: how it ended, and whether it came to that call."""
+        environment = {"LD_PRELOAD": self.preload, "BREAK_AT": str(number), **{name: str(value) for name, value in how.items()}}
+        return told(lambda says: self.run(directory, task, {**environment, "BREAK_SAYS": str(says)}, [says]))
+
     def break_each(self, task, judge, **how):
         """Breaks each of the calls in turn, and hands to `judge` what each run left: how many calls there were."""
         for number in range(1, MAX_CALLS):
             with tempfile.TemporaryDirectory(dir=self.place) as directory:
                 put_files(directory, task.files)
-                told, says = os.pipe()
-                environment = {"LD_PRELOAD": self.preload, "BREAK_SAYS": str(says), "BREAK_AT": str(number),
-                               **{name: str(value) for name, value in how.items()}}
-                try:
-                    status, said = self.run(directory, task, environment, [says])
-                finally:
-                    os.close(says)
-                with os.fdopen(told, "rb") as pipe:
-                    came = pipe.read(1) != b""
+                (status, said), came = self.broken_at(number, task, directory, how)
                 try:
                     judge(came, status, said, directory)
                 except Failure as why:
@@ -177,14 +175,8 @@ class Breaking:
         for number in range(1, MAX_CALLS):
             with tempfile.TemporaryDirectory(dir=self.place) as directory:
                 put_files(directory, task.files)
-                told, says = os.pipe()
-                try:
-                    status, said = self.run(directory, task, {"LD_PRELOAD": self.rejecting, "REFUSE_AT": str(number),
-                                                           "REFUSE_SAYS": str(says)}, [says])
-                finally:
-                    os.close(says)
-                with os.fdopen(told, "rb") as pipe:
-                    came = pipe.read(1) != b""
+                environment = {"LD_PRELOAD": self.rejecting, "REFUSE_AT": str(number)}
+                (status, said), came = told(lambda says: self.run(directory, task, {**environment, "REFUSE_SAYS": str(says)}, [says]))
                 new = task.check(directory)
                 if (status, new) != (0, count) and (status != 2 or not said or not came):
                     raise Failure(f"request {number}: it ended with {status} and {new} new files, and said {said}")
@@ -314,19 +306,19 @@ def cases(breaking, keys):
     """The names of all cases, and what runs each."""
     found = tasks(keys)
     for task in found:
-        yield f"{task.name}, killed", lambda it=task: breaking.killed(it)
-        yield f"{task.name}, and a call fails", lambda it=task: breaking.failing(it, errno.EIO)
+        yield f"{task.name}, killed", lambda value=task: breaking.killed(value)
+        yield f"{task.name}, and a call fails", lambda value=task: breaking.failing(value, errno.EIO)
         for number in (errno.ENOSPC, errno.EDQUOT):
-            yield f"{task.name}, and a write fails by {errno.errorcode[number]}", lambda it=task, n=number: breaking.failing_writes(it, n)
-        yield f"{task.name}, and a write fails half way", lambda it=task: breaking.failing_writes(it, errno.ENOSPC, BREAK_SHORT=1)
-        yield f"{task.name}, and an allocation fails", lambda it=task: breaking.refused_allocations(it)
-        yield f"{task.name}, on a full disk", lambda it=task: breaking.on_full_disk(it)
-        yield f"{task.name}, with a bound on files", lambda it=task: breaking.within_file_size(it)
-        yield f"{task.name}, through links", lambda it=task: breaking.through_links(it)
+            yield f"{task.name}, and a write fails by {errno.errorcode[number]}", lambda value=task, n=number: breaking.failing_writes(value, n)
+        yield f"{task.name}, and a write fails half way", lambda value=task: breaking.failing_writes(value, errno.ENOSPC, BREAK_SHORT=1)
+        yield f"{task.name}, and an allocation fails", lambda value=task: breaking.refused_allocations(value)
+        yield f"{task.name}, on a full disk", lambda value=task: breaking.on_full_disk(value)
+        yield f"{task.name}, with a bound on files", lambda value=task: breaking.within_file_size(value)
+        yield f"{task.name}, through links", lambda value=task: breaking.through_links(value)
         for number in (signal.SIGTERM, signal.SIGINT, signal.SIGHUP):
-            yield f"{task.name}, and {number.name}", lambda it=task, n=number: breaking.ended_by_signal(it, n)
+            yield f"{task.name}, and {number.name}", lambda value=task, n=number: breaking.ended_by_signal(value, n)
         if set(task.judges) <= set(task.files):
-            yield f"{task.name}, at once", lambda it=task: breaking.at_once(it)
+            yield f"{task.name}, at once", lambda value=task: breaking.at_once(value)
     yield "a new pair, at once", lambda: breaking.first_alone(found[0])
     yield "a signature over an older one keeps its permissions", lambda: breaking.keeps_permissions(found[5], 0o640)
     yield "a key that is changed keeps its permissions", lambda: breaking.keeps_permissions(found[2], 0o400 if os.geteuid() == 0 else 0o600)

@@ -7,7 +7,8 @@ import re
 from dataclasses import dataclass, field
 from typing import Callable, Optional
 
-from whole_running import Step, checksum_of, names_text, record_of, run_steps, sealed, text_of, with_checksum
+from remedies import BY_FLAG, without_remedy
+from whole_running import Ran, Step, checksum_of, names_text, record_of, run_steps, sealed, text_of, with_checksum
 
 # The keys that both make of the fixed random bytes, once Minisign has made them.
 OPEN = "first.key"
@@ -68,6 +69,13 @@ def keys_of(whole):
 
 
 # ---- What may differ ----
+
+WHAT_TO_TYPE = "what to type"
+
+
+def plainly(left):
+    """Ours without what it says to type."""
+    return Left([Ran(ran.status, ran.output if ran.said else without_remedy(ran.output), without_remedy(ran.said)) for ran in left.ran], left.files)
 
 
 def same_but(change):
@@ -288,7 +296,7 @@ def signing(keys):
         yield Case(f"signed {what}", (Step(("-S", *arguments)),), files)
     for what, arguments, words in (("a spoiled public key", ("-P", "x"), b"-P: a public key is 56 characters long, and this is 1"),
                                    ("data as a public key", ("-p", "data"), b"data: this is no public key: it has 1 of 2 lines"),
-                                   ("a secret key as a public key", ("-p", OPEN), b"first.key: this is a secret key, not a public key")):
+                                   ("a secret key as a public key", ("-p", OPEN), b"first.key: this is a secret key, not a public key: " + BY_FLAG["-p"])):
         yield Case(f"signed with {what}", (Step(("-S", *key, *arguments)),), files, row="texts of a wrong kind", theirs=(2,), ours=(2,), judge=names(words))
     yield Case("signed over the secret key", (Step(("-S", *key, "-x", OPEN)),), files, row="equal names", theirs=(0,), ours=(2,), judge=kept(OPEN, keys[OPEN]))
     for name, flags in ((b"caf\xe9", ()), (b"end ", ("-l",))):
@@ -356,7 +364,7 @@ def verifying(keys, signature, legacy):
                                 ("no key", ("-m", "data"))):
             yield Case(f"verified {what} {' '.join(flags)}", (Step(("-V", *arguments, *flags)),), files)
         yield Case(f"verified a signature as a key {' '.join(flags)}", (Step(("-V", "-m", "data", "-p", "data.minisig", *flags)),), files,
-                   row="texts of a wrong kind", theirs=(2,), ours=(2,), judge=names(b"data.minisig: this is a signature, not a public key"))
+                   row="texts of a wrong kind", theirs=(2,), ours=(2,), judge=names(b"data.minisig: this is a signature, not a public key: " + BY_FLAG["-p"]))
     yield Case("verified legacy data of a pipe", (Step(("-Vm", "/dev/stdin", "-x", "legacy.minisig", "-p", PUBLIC), DATA["data"]),), files,
                row="data of a legacy signature from a pipe", theirs=(2,), ours=(0,))
     yield Case("verified other legacy data of a pipe", (Step(("-Vm", "/dev/stdin", "-x", "legacy.minisig", "-p", PUBLIC), DATA["more"]),), files,
@@ -389,11 +397,15 @@ def all_cases(whole):
     yield from verifying(keys, signature, legacy)
 
 
-def run_case(whole, case):
-    """What is wrong with how a case ends, or nothing."""
+def run_case(whole, case, shown):
+    """What is wrong with how a case ends, or nothing; and which row it shows besides its own."""
     theirs, ours = (Left(*run_steps(program, whole.preload, case.files, case.steps)) for program in (whole.theirs, whole.ours))
     if not case.row:
-        return same(theirs, ours)
+        plain = plainly(ours)
+        wrong = same(theirs, plain)
+        if not wrong and plain != ours:
+            shown.add(WHAT_TO_TYPE)
+        return wrong
     for who, left, wanted in (("Minisign", theirs, case.theirs), ("ours", ours, case.ours)):
         if tuple(ran.status for ran in left.ran) != wanted:
             return f"{who}: {left.ran[-1]}, in place of {wanted}"

@@ -214,7 +214,7 @@ class Safety:
         at = AtTerminal(["minisign", "-Vm", "slow", "-x", "data.minisig", "-p", PUBLIC], self.whole.ours, directory, {})
         at.read_until(None)
         writer.join(SECONDS)
-        if at.end() != 0 or not re.search(rb"\rslow: 0 MB\r\x1b\[KSignature and", at.shown):
+        if at.end() != 0 or not re.search(rb"\rslow 0 MiB\r\x1b\[KSignature and", at.shown):
             raise Failure(f"it showed {at.shown!r}")
 
     # ---- What is shown and copied ----
@@ -270,7 +270,7 @@ class Safety:
         """The tags by which two readings of a piece are compared are those of the formula, also where the compiler has no numbers
         of 128 bits."""
         program = os.path.join(self.room, "tags")
-        sources = [os.path.join(HERE, "tags.c"), os.path.join(C_DIRECTORY, "tags.c")]
+        sources = [os.path.join(HERE, "tags.c"), os.path.join(C_DIRECTORY, "minisign", "piece_tags.c")]
         key = os.urandom(4096 + 512)
         for flags in ([], ["-U__SIZEOF_INT128__"]):
             subprocess.run([needs.libsodium(), "-O2", *flags, f"-I{C_DIRECTORY}", "-o", program, *sources], check=True)
@@ -410,7 +410,7 @@ def cases(safety):
     for name, change in (("changed", overwrite), ("changed in its order", swap_blocks), ("changed at its end", turn_last), ("longer", add_zero),
                          ("cut", lambda path: os.truncate(path, 1000000)), ("cut at a zero", lambda path: os.truncate(path, LARGE - 1)),
                          ("emptied", lambda path: os.truncate(path, 0))):
-        yield f"data that is {name} before it is copied", lambda it=change: safety.changed_while_copied(it)
+        yield f"data that is {name} before it is copied", lambda value=change: safety.changed_while_copied(value)
     yield "tags of pieces", safety.tags_of_pieces
     yield "copies of large files", safety.copies_large_files
     yield "a full output", safety.full_output

@@ -22,12 +22,12 @@ from running import NOBODY, Failure, Skip, build_preload, run_cases, set_list
 from whole_breaking import MEMORY, is_public, is_secret, is_signature
 from whole_cases import CLOSED, OPEN, PASSWORD, PUBLIC
 from whole_places import Mounted
-from whole_running import AtTerminal, put_files
+from whole_running import PASSED_THROUGH, AtTerminal, put_files
 
 # A run that does not end within so many seconds waits for somebody.
 SECONDS = 20
 # How often a run opens a file by its name: to look, to write, and no more often than so.
-FEWEST_OPENINGS, MAX_OPENINGS = 3, 20
+FEWEST_OPENINGS, MAX_OPENINGS = 3, 60
 QUESTION = rb"Password: $"
 SETTINGS = ("protected_fifos", "protected_regular", "protected_symlinks")
 
@@ -65,7 +65,7 @@ class Command:
     older: bytes = OLDER
 
     def at(self, place):
-        return tuple(it.replace("it", place) if it == "it" else it for it in self.arguments)
+        return tuple(place if word == "it" else word for word in self.arguments)
 
 
 @dataclass(frozen=True)
@@ -105,7 +105,7 @@ class Strangers:
     def __init__(self, program, room, keys):
         self.keys = keys
         self.kept = tempfile.TemporaryDirectory(dir=MEMORY if os.access(MEMORY, os.W_OK) else None)
-        os.chmod(self.kept.name, 0o711)
+        os.chmod(self.kept.name, PASSED_THROUGH)
         self.program = shutil.copy(program, os.path.join(self.kept.name, "minisign"))
         self.preload = build_preload(room, "break_calls")
         self.commands = commands_with(keys)
@@ -113,7 +113,7 @@ class Strangers:
     def directory(self, user, owner=ROOT, mode=0o1777):
         """A directory with `own`, the user's, and `shared`, of this owner and mode; else it is as `/tmp`."""
         made = tempfile.mkdtemp(dir=self.kept.name)
-        os.chmod(made, 0o711)
+        os.chmod(made, PASSED_THROUGH)
         put_files(made, {"own/data": b"some data\n", "own/k.key": self.keys[OPEN], "own/k.pub": self.keys[PUBLIC],
                          "own/closed.key": self.keys[CLOSED], "shared": None})
         for name in ("own", "own/data", "own/k.key", "own/k.pub", "own/closed.key"):
@@ -210,6 +210,35 @@ class Strangers:
         if ended != 2 or f"shared/it: {NOW_ANOTHERS}".encode() not in at.shown or read(path) != b"his":
             raise Failure(f"it ended with {ended}, and showed {at.shown!r}")
 
+    def stopping(self, directory, number):
+        """A run for a new secret key that is stopped before its call of this number that opens something."""
+        return subprocess.Popen([self.program, "-GWf", "-p", "own/a.pub", "-s", "shared/it"], cwd=directory,
+                                env={"LD_PRELOAD": self.preload, "BREAK_AT": str(number), "BREAK_CALLS": "open openat",
+                                     "BREAK_SIGNAL": str(int(signal.SIGSTOP)), "BREAK_GOES_ON": "1"},
+                                stdin=subprocess.DEVNULL, stdout=subprocess.DEVNULL, stderr=subprocess.PIPE)
+
+    def replaces_own_pipe(self):
+        """In a directory where all may do all: a stranger puts a pipe that is read in the place of root's own, before each call that
+        opens something. No key goes into the stranger's."""
+        for number in range(1, MAX_OPENINGS):
+            directory = self.directory(ROOT, mode=0o777)
+            path = os.path.join(directory, "shared", "it")
+            own = put(path, Standing(PIPE, ROOT), b"")
+            with self.stopping(directory, number) as process:
+                _, status = os.waitpid(process.pid, os.WUNTRACED)
+                if not os.WIFSTOPPED(status):
+                    process.returncode = os.waitstatus_to_exitcode(status)
+                    is_secret(take(own))
+                    return
+                os.rename(path, path + ".own")
+                others = put(path, Standing(PIPE, STRANGER), b"")
+                process.send_signal(signal.SIGCONT)
+                _, said = process.communicate(timeout=SECONDS)
+            got, kept = take(others), take(own)
+            if got or (process.returncode == 0) != (kept != b""):
+                raise Failure(f"at opening {number} a stranger got {got!r}, and root {kept!r}: {said!r}")
+        raise Failure(f"it never ended: {said!r}")
+
     def comes_at_each_opening(self):
         """In a directory where all may do all: a stranger puts a pipe that nobody reads in the place of root's file, before each call
         that opens one. Nothing waits for the pipe, and no key goes into it."""
@@ -217,10 +246,7 @@ class Strangers:
             directory = self.directory(ROOT, mode=0o777)
             path = os.path.join(directory, "shared", "it")
             make(path, Standing(FILE, ROOT), OLDER)
-            process = subprocess.Popen([self.program, "-GWf", "-p", "own/a.pub", "-s", "shared/it"], cwd=directory,
-                                       env={"LD_PRELOAD": self.preload, "BREAK_AT": str(number), "BREAK_CALLS": "open",
-                                            "BREAK_SIGNAL": str(int(signal.SIGSTOP)), "BREAK_GOES_ON": "1"},
-                                       stdin=subprocess.DEVNULL, stdout=subprocess.DEVNULL, stderr=subprocess.PIPE)
+            process = self.stopping(directory, number)
             with process:
                 _, status = os.waitpid(process.pid, os.WUNTRACED)
                 if not os.WIFSTOPPED(status):
@@ -234,8 +260,10 @@ class Strangers:
                 except subprocess.TimeoutExpired as why:
                     process.kill()
                     raise Failure(f"at opening {number} it waits for a stranger") from why
-            if process.returncode == 0 and not stat.S_ISFIFO(os.lstat(path).st_mode):
-                is_secret(read(path))
+            # (the key may have been put in its place before the pipe came)
+            is_taken = stat.S_ISFIFO(os.lstat(path).st_mode)
+            if process.returncode == 0 and (not is_taken or read(path + ".older") != OLDER):
+                is_secret(read(path + ".older" if is_taken else path))
             else:
                 expect_rejected(Ended(process.returncode, said.decode()), "shared/it", TO_ANOTHER)
         if number < FEWEST_OPENINGS or process.returncode != 0:
@@ -316,6 +344,16 @@ class Strangers:
         ended = self.run(directory, ROOT, ("-GWf", "-p", "own/a.pub", "-s", "/dev/stdout"), stdout=writer)
         os.close(writer)
         expect_rejected(Ended(ended.status, ended.said, take(reader)), "/dev/stdout", IN_SHARED)
+
+    def output_is_for_all(self):
+        """A secret key for a standard output that is a file which others may read: it is rejected, and nothing is written."""
+        directory = self.directory(ROOT)
+        path = os.path.join(directory, "own", "out")
+        with open(path, "wb") as out:
+            os.chmod(path, 0o644)
+            ended = self.run(directory, ROOT, ("-GWf", "-p", "own/a.pub", "-s", "/dev/stdout"), stdout=out)
+        if ended.status != 2 or "others may read this file" not in ended.said or read(path) != b"":
+            raise Failure(f"it ended with {ended.status}, said {ended.said!r} and wrote {len(read(path))} bytes")
 
     def output_has_lost_its_name(self):
         """A standard output that is a pipe of which the name, by which it was opened, is gone, and another one is there."""
@@ -534,6 +572,7 @@ def elsewhere(strangers):
         yield (f"a new secret key into a stranger's pipe in a directory {where}",
                partial(strangers.rejected, ROOT, secret, pipe, TO_ANOTHER))
     yield "a stranger's pipe that comes before each opening", strangers.comes_at_each_opening
+    yield "a stranger's pipe in place of an own one before each opening", strangers.replaces_own_pipe
 
 
 def made_meanwhile(strangers):
@@ -593,6 +632,7 @@ def streams(strangers):
     yield "a stranger's terminal, by its name", partial(strangers.onto_strangers_terminal, False)
     yield "a stranger's terminal, by a link", partial(strangers.onto_strangers_terminal, False, "shared/link")
     yield "a stranger's pipe with a name, as standard output", strangers.output_is_strangers_pipe
+    yield "a secret key into a file for all, as standard output", strangers.output_is_for_all
     yield "a pipe that has another name now, as standard output", strangers.output_has_lost_its_name
     yield "a directory without a name", strangers.in_directory_without_name
     yield "what was verified, into a stranger's file as standard output", strangers.copied_into_strangers_file

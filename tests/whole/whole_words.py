@@ -9,6 +9,7 @@ import sys
 import threading
 import time
 
+from remedies import BY_FLAG
 from running import Failure
 from whole_cases import CLOSED, DATA, OPEN, OTHER, PASSWORD, PUBLIC
 from whole_running import FEW_ROWS, HOME, SECONDS, AtTerminal, record_of, sealed_for, text_of
@@ -227,8 +228,41 @@ class Words(Safety):
         at = AtTerminal(["minisign", "-Vm", "slow", "-x", "data.minisig", "-p", PUBLIC, flag], self.whole.ours, directory, {})
         at.read_until(None)
         writer.join(SECONDS)
-        if at.end() != 0 or b"MB" in at.shown or b"\x1b" in at.shown:
+        if at.end() != 0 or b"MiB" in at.shown or b"\x1b" in at.shown:
             raise Failure(f"it showed {at.shown!r}")
+
+    def nothing_at_terminal(self):
+        """At a terminal no control sequence is written where nothing was shown."""
+        directory = self.signed()
+        for arguments in (("-Vm", "data", "-p", PUBLIC), ("-Sm", "data", "-s", OPEN)):
+            at = AtTerminal(["minisign", *arguments], self.whole.ours, directory, {"HOME": HOME})
+            at.read_until(None)
+            if at.end() != 0 or b"\x1b" in at.shown:
+                raise Failure(f"{arguments}: it showed {at.shown!r}")
+
+    def without_error_stream(self, *arguments):
+        """Where nobody can be asked, as the error stream is closed, a command that needs a password fails as Minisign's does, and
+        leaves all files as they were."""
+        came = []
+        for program in (self.whole.theirs, self.whole.ours):
+            directory = self.directory()
+            ran = subprocess.run(["minisign", *arguments], executable=program, cwd=directory, input=PASSWORD + b"\nnew\nnew\n",
+                                 stdout=subprocess.DEVNULL, timeout=SECONDS, preexec_fn=lambda: os.close(2))
+            came.append((ran.returncode, {name: read_file(directory, name) for name in os.listdir(directory) if name != HOME}))
+        if came[0] != came[1] or came[1][0] != 2:
+            raise Failure(f"Minisign ended with {came[0][0]} and ours with {came[1][0]}, with other files: {came[0][1] != came[1][1]}")
+
+    # ---- What to type ----
+
+    def advice(self, words, *arguments, status=2):
+        """After Minisign's own last line comes what to type, and nothing else."""
+        directory = self.signed()
+        self.ours(directory, "-Slm", "data", "-s", OPEN, "-x", "legacy.minisig")
+        ran = self.ours(directory, *arguments)
+        theirs = subprocess.run([self.whole.theirs, *arguments], cwd=directory, env={"HOME": HOME}, stdin=subprocess.DEVNULL,
+                                stderr=subprocess.PIPE, timeout=SECONDS)
+        if (ran.status, ran.said) != (status, theirs.stderr + words + b"\n") or theirs.returncode != status or not theirs.stderr:
+            raise Failure(f"{ran}, where Minisign says {theirs.stderr!r}")
 
     # ---- Names ----
 
@@ -255,7 +289,7 @@ class Words(Safety):
                     break
         directory = self.directory()
         ran = self.ours(directory, "-Sm", b"caf\xe9", "-s", OPEN)
-        if ran.said != b"caf\\xe9: No such file or directory\n":
+        if not ran.said.startswith(b"caf\\xe9: No such file or directory\n"):
             raise Failure(f"a name in Latin-1: {ran}")
 
     def name_while_reading(self):
@@ -267,7 +301,7 @@ class Words(Safety):
         at = AtTerminal(["minisign", "-Vm", odd, "-x", "data.minisig", "-p", PUBLIC], self.whole.ours, directory, {})
         at.read_until(None)
         writer.join(SECONDS)
-        if at.end() != 0 or rb"s\u{1b}low: 0 MB" not in at.shown:
+        if at.end() != 0 or rb"s\u{1b}low 0 MiB" not in at.shown:
             raise Failure(f"it showed {at.shown!r}")
 
 
@@ -283,12 +317,12 @@ def wrong_texts(keys, signature):
     public, secret = keys[PUBLIC], keys[OPEN]
     utf16 = public.decode().encode("utf-16")
     return [
-        ("-p", signature, b"this is a signature, not a public key"),
-        ("-x", public, b"this is a public key, not a signature"),
-        ("-p", secret, b"this is a secret key, not a public key"),
-        ("-x", secret, b"this is a secret key, not a signature"),
-        ("-s", public, b"this is a public key, not a secret key"),
-        ("-s", signature, b"this is a signature, not a secret key"),
+        ("-p", signature, b"this is a signature, not a public key: " + BY_FLAG["-p"]),
+        ("-x", public, b"this is a public key, not a signature: " + BY_FLAG["-x"]),
+        ("-p", secret, b"this is a secret key, not a public key: " + BY_FLAG["-p"]),
+        ("-x", secret, b"this is a secret key, not a signature: " + BY_FLAG["-x"]),
+        ("-s", public, b"this is a public key, not a secret key: " + BY_FLAG["-s"]),
+        ("-s", signature, b"this is a signature, not a secret key: " + BY_FLAG["-s"]),
         ("-p", SSH, b"this is a public key of ssh"),
         ("-s", SSH_SECRET, b"this is a secret key of ssh"),
         ("-p", GPG, b"this is a public key of gpg"),
@@ -330,9 +364,21 @@ def cases(words):
     yield "work that is allowed", words.flag_allows_work
     yield "in the background", lambda: words.in_background("-Sm", "data", "-s", CLOSED)
     for at_terminal in (False, True):
-        yield f"a timer that was set before, at a terminal {at_terminal}", lambda it=at_terminal: words.alarm_before(it)
+        yield f"a timer that was set before, at a terminal {at_terminal}", lambda at_terminal=at_terminal: words.alarm_before(at_terminal)
     for flag in ("-q", "-Q"):
-        yield f"at a terminal with {flag}", lambda it=flag: words.quiet(it)
+        yield f"at a terminal with {flag}", lambda flag=flag: words.quiet(flag)
+    yield "at a terminal, where nothing is shown", words.nothing_at_terminal
+    for arguments in (("-C", "-s", CLOSED), ("-CW", "-s", CLOSED), ("-R", "-p", "made.pub", "-s", CLOSED), ("-Sm", "data", "-s", CLOSED),
+                      ("-G", "-p", "made.pub", "-s", "made.key")):
+        yield f"no error stream with {arguments[0]}", lambda arguments=arguments: words.without_error_stream(*arguments)
+    for what, said, *arguments in (
+        ("no secret key", BY_FLAG["-s"], "-Sm", "data", "-s", "none.key"),
+        ("no public key", BY_FLAG["-p"], "-Vm", "data", "-p", "none.pub"),
+        ("no signature", BY_FLAG["-x"], "-Vm", "more", "-p", PUBLIC),
+        ("another key", b"-p or -P has to give the public key of whoever signed this", "-Vm", "data", "-p", OTHER),
+        ("a legacy signature", b"Without -H it is accepted", "-VHm", "data", "-x", "legacy.minisig", "-p", PUBLIC),
+    ):
+        yield f"what to type: {what}", lambda s=said, a=arguments: words.advice(s, *a, status=1 if s[:1] in b"W" or b" or " in s else 2)
     yield "names with control characters", words.names_are_visible
     yield "a name with control characters while it is read", words.name_while_reading
 

@@ -1,5 +1,5 @@
 /*
- * The three calls for memory that dist/calls.c makes: over those of c/allocation.c where that is built, and with
+ * The three calls for memory that dist/calls.c makes: over those of c/library/allocation.c where that is built, and with
  * -DMINISIGN_MALLOC_ALONE over malloc and free and nothing else of the system. Then too a block may have held a secret,
  * and is cleared before it is given back.
  *
@@ -7,15 +7,7 @@
  */
 #include "machine.h"
 
-/* What a request is answered by: whether it was granted, and the block. */
-struct grant {
-    uint64_t is_granted;
-    void *block;
-};
-
-struct grant rattle_alloc(size_t len, size_t alignment);
-struct grant rattle_realloc(void *block, size_t old_len, size_t len, size_t alignment);
-void rattle_dealloc(void *block);
+#include "allocation.h"
 
 #ifdef MINISIGN_MALLOC_ALONE
 
@@ -46,8 +38,8 @@ static void write_zeros(u8 *block, size_t len)
     memset(block, 0, len);
     __asm__ __volatile__("" : : "r"(block) : "memory");
 #else
-    for (volatile u8 *it = block; len > 0; len--) {
-        *it++ = 0;
+    for (volatile u8 *at = block; len > 0; len--) {
+        *at++ = 0;
     }
 #endif
 }

@@ -10,52 +10,72 @@
 #include "minisign_install.h"
 
 /* A struct that the call may not change: it gets a copy where numbers are turned. */
-#define LENT(kind, it, kept) (IS_LITTLE_ENDIAN || (it) == NULL ? (it) : (*(kept) = *(it), given_##kind(kept), (kept)))
+#define LENT(kind, lent, kept) (IS_LITTLE_ENDIAN || (lent) == NULL ? (lent) : (*(kept) = *(lent), given_##kind(kept), (kept)))
 
 /* ---- Made by tools/header.py ---- */
 
-static inline void given_minisign_questions(minisign_questions *it)
+static inline void given_minisign_signature(minisign_signature *lent)
 {
-    store64(address(&it->message_len), it->message_len);
-    store32(address(&it->legacy), it->legacy);
-    store32(address(&it->reserved), it->reserved);
+    store64(address(&lent->mark), lent->mark);
+    store64(address(&lent->comment_offset), lent->comment_offset);
+    store64(address(&lent->comment_len), lent->comment_len);
+    store32(address(&lent->reserved), lent->reserved);
 }
 
-static inline void got_minisign_questions(minisign_questions *it)
+static inline void got_minisign_signature(minisign_signature *lent)
 {
-    it->message_len = load64(address(&it->message_len));
-    it->legacy = load32(address(&it->legacy));
-    it->reserved = load32(address(&it->reserved));
+    lent->mark = load64(address(&lent->mark));
+    lent->comment_offset = load64(address(&lent->comment_offset));
+    lent->comment_len = load64(address(&lent->comment_len));
+    lent->reserved = load32(address(&lent->reserved));
 }
 
-static inline void given_minisign_unopened_key(minisign_unopened_key *it)
+static inline void given_minisign_questions(minisign_questions *lent)
 {
-    store64(address(&it->mark), it->mark);
-    store32(address(&it->work), it->work);
-    store32(address(&it->reserved), it->reserved);
+    store64(address(&lent->message_len), lent->message_len);
+    store64(address(&lent->comment_offset), lent->comment_offset);
+    store64(address(&lent->comment_len), lent->comment_len);
+    store32(address(&lent->legacy), lent->legacy);
+    store32(address(&lent->reserved), lent->reserved);
 }
 
-static inline void got_minisign_unopened_key(minisign_unopened_key *it)
+static inline void got_minisign_questions(minisign_questions *lent)
 {
-    it->mark = load64(address(&it->mark));
-    it->work = load32(address(&it->work));
-    it->reserved = load32(address(&it->reserved));
+    lent->message_len = load64(address(&lent->message_len));
+    lent->comment_offset = load64(address(&lent->comment_offset));
+    lent->comment_len = load64(address(&lent->comment_len));
+    lent->legacy = load32(address(&lent->legacy));
+    lent->reserved = load32(address(&lent->reserved));
 }
 
-static inline void given_minisign_secret_key(minisign_secret_key *it)
+static inline void given_minisign_unopened_key(minisign_unopened_key *lent)
 {
-    store64(address(&it->mark), it->mark);
+    store64(address(&lent->mark), lent->mark);
+    store32(address(&lent->work), lent->work);
+    store32(address(&lent->reserved), lent->reserved);
 }
 
-static inline void got_minisign_secret_key(minisign_secret_key *it)
+static inline void got_minisign_unopened_key(minisign_unopened_key *lent)
 {
-    it->mark = load64(address(&it->mark));
+    lent->mark = load64(address(&lent->mark));
+    lent->work = load32(address(&lent->work));
+    lent->reserved = load32(address(&lent->reserved));
 }
 
-static inline void given_minisign_sealing(minisign_sealing *it)
+static inline void given_minisign_secret_key(minisign_secret_key *lent)
 {
-    store64(address(&it->operations_limit), it->operations_limit);
-    store64(address(&it->memory_limit), it->memory_limit);
+    store64(address(&lent->mark), lent->mark);
+}
+
+static inline void got_minisign_secret_key(minisign_secret_key *lent)
+{
+    lent->mark = load64(address(&lent->mark));
+}
+
+static inline void given_minisign_sealing(minisign_sealing *lent)
+{
+    store64(address(&lent->operations_limit), lent->operations_limit);
+    store64(address(&lent->memory_limit), lent->memory_limit);
 }
 
 uint64_t machine_minisign_error_text(uint32_t, uint64_t, uint64_t);
@@ -100,15 +120,30 @@ uint32_t portable_minisign_read_bare_public_key(const uint8_t *base64, size_t ba
     return machine_minisign_read_bare_public_key(address(base64), base64_len, address(key));
 }
 
-uint32_t machine_minisign_ask(uint64_t, uint64_t, uint64_t, uint64_t, uint32_t, uint64_t, uint64_t, uint64_t);
+uint32_t machine_minisign_read_signature(uint64_t, uint64_t, uint64_t);
 
-uint32_t portable_minisign_ask(minisign_state *state, const minisign_public_key *key, const uint8_t *sig_text,
-                               size_t sig_text_len, uint32_t allow_legacy, minisign_questions *questions,
-                               uint8_t *message, size_t room)
+uint32_t portable_minisign_read_signature(const uint8_t *sig_text, size_t sig_text_len,
+                                          minisign_signature *signature)
 {
+    given_minisign_signature(signature);
+    const uint32_t result = machine_minisign_read_signature(address(sig_text), sig_text_len, address(signature));
+    got_minisign_signature(signature);
+    return result;
+}
+
+uint32_t machine_minisign_ask(uint64_t, uint64_t, uint64_t, uint64_t, uint64_t, uint32_t, uint64_t, uint64_t,
+                              uint64_t);
+
+uint32_t portable_minisign_ask(minisign_state *state, const minisign_public_key *key,
+                               const minisign_signature *signature, const uint8_t *sig_text, size_t sig_text_len,
+                               uint32_t allow_legacy, minisign_questions *questions, uint8_t *message, size_t room)
+{
+    minisign_signature signature_kept;
+    const minisign_signature *signature_lent = LENT(minisign_signature, signature, &signature_kept);
     given_minisign_questions(questions);
-    const uint32_t result = machine_minisign_ask(address(state), address(key), address(sig_text), sig_text_len,
-                                                 allow_legacy, address(questions), address(message), room);
+    const uint32_t result = machine_minisign_ask(address(state), address(key), address(signature_lent),
+                                                 address(sig_text), sig_text_len, allow_legacy, address(questions),
+                                                 address(message), room);
     got_minisign_questions(questions);
     return result;
 }
@@ -286,11 +321,15 @@ uint32_t portable_minisign_public_key_text(const minisign_secret_key *key, const
     return result;
 }
 
-uint32_t machine_minisign_install_init(uint64_t, uint32_t, uint32_t);
+uint32_t machine_minisign_install_init(uint64_t, uint64_t, uint64_t, uint32_t, uint32_t, uint32_t, uint32_t,
+                                       uint32_t);
 
-uint32_t portable_minisign_install_init(minisign_installation *installation, uint32_t is_first, uint32_t numbering)
+uint32_t portable_minisign_install_init(minisign_installation *installation, const minisign_public_key *key,
+                                        const minisign_public_key *other, uint32_t is_first, uint32_t again,
+                                        uint32_t is_check, uint32_t is_waiting, uint32_t numbering)
 {
-    return machine_minisign_install_init(address(installation), is_first, numbering);
+    return machine_minisign_install_init(address(installation), address(key), address(other), is_first, again,
+                                         is_check, is_waiting, numbering);
 }
 
 uint32_t machine_minisign_install_due(uint64_t);
@@ -344,18 +383,24 @@ uint32_t portable_minisign_install_piece(minisign_installation *installation, co
     return machine_minisign_install_piece(address(installation), address(piece), piece_len);
 }
 
-uint32_t machine_minisign_install_ask(uint64_t, uint64_t, uint64_t, uint64_t, uint64_t, uint64_t, uint64_t,
-                                      uint64_t, uint64_t, uint64_t);
+uint32_t machine_minisign_install_no_target(uint64_t);
 
-uint32_t portable_minisign_install_ask(minisign_installation *installation, const minisign_public_key *key,
-                                       const uint8_t *sig_text, size_t sig_text_len, const uint8_t *file,
-                                       size_t file_len, uint64_t now, minisign_questions *questions,
-                                       uint8_t *message, size_t room)
+uint32_t portable_minisign_install_no_target(minisign_installation *installation)
+{
+    return machine_minisign_install_no_target(address(installation));
+}
+
+uint32_t machine_minisign_install_ask(uint64_t, uint64_t, uint64_t, uint64_t, uint64_t, uint64_t, uint64_t,
+                                      uint64_t, uint64_t);
+
+uint32_t portable_minisign_install_ask(minisign_installation *installation, const uint8_t *sig_text,
+                                       size_t sig_text_len, const uint8_t *file, size_t file_len, uint64_t now,
+                                       minisign_questions *questions, uint8_t *message, size_t room)
 {
     given_minisign_questions(questions);
-    const uint32_t result = machine_minisign_install_ask(address(installation), address(key), address(sig_text),
-                                                         sig_text_len, address(file), file_len, now,
-                                                         address(questions), address(message), room);
+    const uint32_t result = machine_minisign_install_ask(address(installation), address(sig_text), sig_text_len,
+                                                         address(file), file_len, now, address(questions),
+                                                         address(message), room);
     got_minisign_questions(questions);
     return result;
 }
@@ -367,11 +412,18 @@ uint32_t portable_minisign_install_answer(minisign_installation *installation, u
     return machine_minisign_install_answer(address(installation), first, second);
 }
 
-uint64_t machine_minisign_install_number_text(uint64_t, uint64_t, uint64_t);
+uint64_t machine_minisign_install_number(uint64_t);
 
-size_t portable_minisign_install_number_text(const minisign_installation *installation, uint8_t *text, size_t room)
+uint64_t portable_minisign_install_number(const minisign_installation *installation)
 {
-    return (size_t) machine_minisign_install_number_text(address(installation), address(text), room);
+    return machine_minisign_install_number(address(installation));
+}
+
+uint64_t machine_minisign_install_record_text(uint64_t, uint64_t, uint64_t);
+
+size_t portable_minisign_install_record_text(const minisign_installation *installation, uint8_t *text, size_t room)
+{
+    return (size_t) machine_minisign_install_record_text(address(installation), address(text), room);
 }
 
 uint32_t machine_minisign_install_error(uint64_t);
@@ -392,45 +444,6 @@ uint32_t portable_minisign_judge_comment(const uint8_t *comment, size_t comment_
     store64(address(&number_kept), *number);
     const uint32_t result = machine_minisign_judge_comment(address(comment), comment_len, address(file), file_len,
                                                            numbering, now, kept, address(&number_kept));
-    *number = (uint64_t) load64(address(&number_kept));
-    return result;
-}
-
-uint32_t machine_minisign_check_comment(uint64_t, uint64_t, uint64_t, uint64_t, uint32_t, uint64_t, uint32_t,
-                                        uint64_t, uint64_t, uint64_t, uint64_t);
-
-uint32_t portable_minisign_check_comment(const uint8_t *comment, size_t comment_len, const uint8_t *file,
-                                         size_t file_len, uint32_t numbering, uint64_t now, uint32_t is_first,
-                                         const uint8_t *record, size_t record_len, uint32_t *offer,
-                                         uint64_t *number)
-{
-    uint64_t offer_kept = 0;
-    uint64_t number_kept = 0;
-    store32(address(&offer_kept), *offer);
-    store64(address(&number_kept), *number);
-    const uint32_t result = machine_minisign_check_comment(address(comment), comment_len, address(file), file_len,
-                                                           numbering, now, is_first, address(record), record_len,
-                                                           address(&offer_kept), address(&number_kept));
-    *offer = (uint32_t) load32(address(&offer_kept));
-    *number = (uint64_t) load64(address(&number_kept));
-    return result;
-}
-
-uint32_t machine_minisign_check_first_comment(uint64_t, uint64_t, uint64_t, uint64_t, uint32_t, uint64_t, uint32_t,
-                                              uint64_t, uint64_t);
-
-uint32_t portable_minisign_check_first_comment(const uint8_t *comment, size_t comment_len, const uint8_t *file,
-                                               size_t file_len, uint32_t numbering, uint64_t now,
-                                               uint32_t is_first, uint32_t *offer, uint64_t *number)
-{
-    uint64_t offer_kept = 0;
-    uint64_t number_kept = 0;
-    store32(address(&offer_kept), *offer);
-    store64(address(&number_kept), *number);
-    const uint32_t result = machine_minisign_check_first_comment(address(comment), comment_len, address(file),
-                                                                 file_len, numbering, now, is_first,
-                                                                 address(&offer_kept), address(&number_kept));
-    *offer = (uint32_t) load32(address(&offer_kept));
     *number = (uint64_t) load64(address(&number_kept));
     return result;
 }

@@ -1,0 +1,165 @@
+/* SPDX-License-Identifier: MIT */
+/* The command line of minisign, and the default files. */
+#define _DEFAULT_SOURCE
+
+#include "options.h"
+
+#include <errno.h>
+#include <stdio.h>
+#include <stdlib.h>
+#include <unistd.h>
+
+#include "files.h"
+#include "minisign.h"
+
+/* The version of Minisign whose flags, questions, files and exit statuses these are, and this implementation. */
+#define VERSION "minisign 0.11\nMinisign in Rattle " MINISIGN_VERSION_TEXT
+
+#define MAX_ROWS 1048576
+
+/* More than any key can ask for. */
+#define MAX_WORK 1073741824
+#define USUAL_WORK 16
+
+static _Noreturn void usage(void)
+{
+    puts("Usage:\n"
+         "minisign -G [-f] [-p pubkey_file] [-s seckey_file] [-W]\n"
+         "minisign -R [-s seckey_file] [-p pubkey_file]\n"
+         "minisign -C [-s seckey_file] [-W]\n"
+         "minisign -S [-l] [-x sig_file] [-s seckey_file] [-c untrusted_comment]\n"
+         "            [-t trusted_comment] -m file [file ...]\n"
+         "minisign -V [-H] [-x sig_file] [-p pubkey_file | -P pubkey] [-o] [-q] -m file\n"
+         "\n"
+         "-G                generate a new key pair\n"
+         "-R                recreate a public key file from a secret key file\n"
+         "-C                change/remove the password of the secret key\n"
+         "-S                sign files\n"
+         "-V                verify that a signature is valid for a given file\n"
+         "-H                require input to be prehashed\n"
+         "-l                sign using the legacy format\n"
+         "-m <file>         file to sign/verify\n"
+         "-o                combined with -V, output the file content after verification\n"
+         "-p <pubkey_file>  public key file (default: ./minisign.pub)\n"
+         "-P <pubkey>       public key, as a base64 string\n"
+         "-s <seckey_file>  secret key file (default: ~/.minisign/minisign.key)\n"
+         "-W                do not encrypt/decrypt the secret key with a password\n"
+         "-k <rows>         keep one of so many rows of the key derivation: 16 takes 66 MiB\n"
+         "                  in place of 1 GiB, and more time\n"
+         "-K <work>         open keys of up to so many times the work of a usual one\n"
+         "                  (default: 16)\n"
+         "-x <sigfile>      signature file (default: <file>.minisig)\n"
+         "-c <comment>      add a one-line untrusted comment\n"
+         "-t <comment>      add a one-line trusted comment\n"
+         "-q                quiet mode, suppress output\n"
+         "-Q                pretty quiet mode, only print the trusted comment\n"
+         "-f                force. Combined with -G, overwrite a previous key pair\n"
+         "-v                display version number\n");
+    flush_file(stdout);
+    exit(TROUBLE);
+}
+
+static _Noreturn void show_version(void)
+{
+    puts(VERSION);
+    flush_file(stdout);
+    exit(GOOD);
+}
+
+/* The default secret key, in the directory of the user's settings. */
+static const char *default_secret_file(void)
+{
+    const char *directory = getenv("MINISIGN_CONFIG_DIR");
+    const char *home = getenv("HOME");
+
+    if (directory != NULL) {
+        return name_beside(directory, "/minisign.key");
+    }
+    return home == NULL ? "minisign.key" : name_beside(home, "/.minisign/minisign.key");
+}
+
+/* Reads a number from 1 up to this one. */
+static uint32_t read_number(const char *text, uint32_t most)
+{
+    char *end;
+    unsigned long number;
+
+    errno = 0;
+    number = strtoul(text, &end, 10);
+    if (errno != 0 || *text < '0' || *text > '9' || *end != 0 || number < 1 || number > most) {
+        usage();
+    }
+    return (uint32_t) number;
+}
+
+static void choose(struct options *options, enum command command)
+{
+    if (options->command != NO_COMMAND && options->command != command) {
+        usage();
+    }
+    options->command = command;
+}
+
+static struct options read_flags(int argc, char *argv[])
+{
+    struct options options = { .rows = 1, .work = USUAL_WORK };
+    int flag;
+
+    while ((flag = getopt(argc, argv, "GSVRCHhc:fk:K:lm:oP:p:qQs:t:vWx:")) != -1) {
+        switch (flag) {
+        case 'G': choose(&options, GENERATE); break;
+        case 'R': choose(&options, RECREATE); break;
+        case 'C': choose(&options, CHANGE); break;
+        case 'S': choose(&options, SIGN); break;
+        case 'V': choose(&options, VERIFY); break;
+        case 'H': options.prehashed_only = true; break;
+        case 'c': options.comment = optarg; break;
+        case 'f': options.force = true; break;
+        case 'k': options.rows = read_number(optarg, MAX_ROWS); break;
+        case 'K': options.work = read_number(optarg, MAX_WORK); break;
+        case 'l': options.legacy = true; break;
+        case 'm': options.data_file = optarg; break;
+        case 'o': options.output = true; break;
+        case 'P': options.public_key = optarg; break;
+        case 'p': options.public_file = optarg; break;
+        case 'q': options.quiet = SAY_NOTHING; break;
+        case 'Q': options.quiet = SAY_COMMENT; break;
+        case 's': options.secret_file = optarg; break;
+        case 't': options.trusted_comment = optarg; break;
+        case 'v': show_version();
+        case 'W': options.unsealed = true; break;
+        case 'x': options.signature_file = optarg; break;
+        default: usage();
+        }
+    }
+    options.further_files = argv + optind;
+    return options;
+}
+
+/* An empty text among the options is as good as none. */
+static const char *unless_empty(const char *text)
+{
+    return text == NULL || *text == 0 ? NULL : text;
+}
+
+struct options read_options(int argc, char *argv[])
+{
+    struct options options = read_flags(argc, argv);
+    bool with_data = options.command == SIGN || options.command == VERIFY;
+
+    if (options.command == NO_COMMAND || (with_data && options.data_file == NULL)
+        || (options.command != SIGN && options.further_files[0] != NULL)) {
+        usage();
+    }
+    options.signature_file = unless_empty(options.signature_file);
+    options.comment = unless_empty(options.comment);
+    options.trusted_comment = unless_empty(options.trusted_comment);
+    if (options.public_file == NULL && options.command != SIGN
+        && (options.command != VERIFY || options.public_key == NULL)) {
+        options.public_file = "minisign.pub";
+    }
+    if (options.secret_file == NULL && options.command != VERIFY) {
+        options.secret_file = default_secret_file();
+    }
+    return options;
+}

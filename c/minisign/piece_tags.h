@@ -1,0 +1,29 @@
+/* SPDX-License-Identifier: MIT */
+/*
+ * Tags of the pieces of data that is read twice. Two readings of a piece have the same tag where they are the same, and
+ * else with a probability of at most 2 to the -63, whoever chose them: the key of the tags is drawn at random, and
+ * neither it nor a tag leaves the process.
+ */
+#ifndef PIECE_TAGS_H
+#define PIECE_TAGS_H
+
+#include <stdbool.h>
+#include <stddef.h>
+#include <stdint.h>
+
+/* A piece has at most so many bytes. */
+#define TAGGED_BYTES 131072
+
+struct tag {
+    uint64_t low, high;
+};
+
+/* Draws the key. Has to be called once, before all else here. */
+void draw_tag_key(void);
+
+struct tag tag_of(const uint8_t *piece, size_t len);
+
+/* Of two pieces of the same length. */
+bool is_same_tag(struct tag one, struct tag other);
+
+#endif

@@ -1,0 +1,431 @@
+/* SPDX-License-Identifier: MIT */
+/* Where a file goes. */
+#define _DEFAULT_SOURCE
+
+#include "places.h"
+
+#include <errno.h>
+#include <fcntl.h>
+#include <stdio.h>
+#include <stdlib.h>
+#include <string.h>
+#include <unistd.h>
+
+#include "files.h"
+#include "shared/streams.h"
+#include "shared/text.h"
+
+/* As many links as the system follows. */
+#define MAX_LINKS 40
+#define TARGET_BYTES 4096
+/* How often a place is looked for that others change meanwhile. */
+#define MAX_TRIES 100
+
+bool is_written_in_place(const struct place *place)
+{
+    return place->name == NULL;
+}
+
+void close_older(struct place *place)
+{
+    close_handle(&place->older);
+    if (place->opened >= 0) {
+        close(place->opened);
+        place->opened = -1;
+    }
+}
+
+static void forget_name(struct place *place)
+{
+    if (place->directory >= 0) {
+        close(place->directory);
+    }
+    free(place->name);
+    place->directory = -1;
+    place->name = NULL;
+}
+
+void leave_place(struct place *place)
+{
+    close_older(place);
+    forget_name(place);
+}
+
+/* ---- Strangers ---- */
+
+static _Noreturn void reject(const struct place *place, const char *why)
+{
+    fprintf(stderr, "%s: %s\n", visible(place->file), why);
+    exit(TROUBLE);
+}
+
+/* Whether this is somebody's whom the user need not trust. */
+static bool is_strangers(const struct stat *file)
+{
+    return file->st_uid != geteuid() && file->st_uid != 0;
+}
+
+/* Whether it is a stranger's and was put into a directory where these may write, and only owners may remove. The owner
+ * of the directory is no stranger there, but to a secret. */
+static bool is_put_by_stranger(const struct place *place, const struct stat *file, const struct stat *around, mode_t writers)
+{
+    return (around->st_mode & S_ISVTX) != 0 && (around->st_mode & writers) != 0 && is_strangers(file)
+           && (place->is_secret || file->st_uid != around->st_uid);
+}
+
+/* Whether it is what the program was started with as a standard stream. */
+static bool is_stream(const struct stat *file)
+{
+    struct stat stream;
+
+    for (int fd = STDIN_FILENO; fd <= STDERR_FILENO; fd++) {
+        if (fstat(fd, &stream) == 0 && is_same_file(&stream, file)) {
+            return true;
+        }
+    }
+    return false;
+}
+
+/* Ends the program where a stranger's file or pipe has this name, as the system does by its settings protected_regular
+ * and protected_fifos for a file that may be made. */
+static void expect_no_strangers(const struct place *place)
+{
+    struct stat around;
+
+    if (fstat(place->directory, &around) != 0) {
+        fail_at(place->file);
+    }
+    if (is_put_by_stranger(place, &place->older.found, &around, S_IWOTH | S_IWGRP)) {
+        reject(place, "this is another user's, in a directory where others may write");
+    }
+}
+
+/* ---- Links ---- */
+
+/* Whether the system would follow this link of the directory; errno says why not. Ends the program where it is a
+ * stranger's, which the system does not follow either by its setting protected_symlinks. */
+static bool may_follow(const struct place *place, const struct stat *link)
+{
+    struct stat around;
+
+    if (fstat(place->directory, &around) != 0) {
+        return false;
+    }
+    if (forbids_links(place->directory)) {
+        errno = ELOOP;
+        return false;
+    }
+    if (is_put_by_stranger(place, link, &around, S_IWOTH)) {
+        reject(place, "another user's link leads there, in a directory where others may write");
+    }
+    return true;
+}
+
+/* What a name in the directory is: a link, of which the text is copied to the target, or none; or errno says why it is
+ * not known. */
+enum step { IS_LINK, IS_NO_LINK, IS_UNKNOWN };
+
+static enum step read_link(const struct place *place, const char *name, char target[TARGET_BYTES])
+{
+    enum step step = IS_UNKNOWN;
+    struct handle link;
+    ssize_t len;
+
+    if (!look_up(&link, place->directory, name, false)) {
+        return errno == ENOENT ? IS_NO_LINK : IS_UNKNOWN;
+    }
+    if (!S_ISLNK(link.found.st_mode)) {
+        step = IS_NO_LINK;
+    } else if (may_follow(place, &link.found)) {
+        len = read_handle(&link, place->directory, name, target, TARGET_BYTES);
+        if (len == TARGET_BYTES) {
+            errno = ENAMETOOLONG;
+        } else if (len >= 0) {
+            target[len] = 0;
+            step = IS_LINK;
+        }
+    }
+    close_handle(&link);
+    return step;
+}
+
+/* Goes from the directory of the place, or first from the one that the program runs in, to a directory in it. Links to
+ * directories in /proc lead where the system knows, whatever their text says. */
+static bool enter(struct place *place, const char *name, bool by_system)
+{
+    int directory = enter_directory(place->directory < 0 ? AT_FDCWD : place->directory, name, by_system);
+
+    if (directory < 0) {
+        return false;
+    }
+    if (place->directory >= 0) {
+        close(place->directory);
+    }
+    place->directory = directory;
+    return true;
+}
+
+/* A path, and after it what stood after the link that leads there, where anything did. */
+static char *path_by(const char *target, const char *rest, const char *file)
+{
+    size_t room = strlen(target) + (rest == NULL ? 0 : strlen(rest)) + sizeof "/";
+    char *path = malloc(room);
+
+    if (path == NULL) {
+        fail_at(file);
+    }
+    snprintf(path, room, "%s%s%s", target, rest == NULL ? "" : "/", rest == NULL ? "" : rest);
+    return path;
+}
+
+/* Goes along the path, which is in memory of malloc, name by name, and follows each link. */
+static bool go_along(struct place *place, char **path)
+{
+    static char target[TARGET_BYTES];
+    char *rest = *path;
+    int links = 0;
+
+    if (!enter(place, *rest == '/' ? "/" : ".", false)) {
+        return false;
+    }
+    for (;;) {
+        char *name = strsep(&rest, "/"), *longer;
+        bool by_system = rest != NULL && is_in_proc(place->directory);
+
+        if (*name == 0 && rest != NULL) {
+            continue;
+        }
+        switch (*name == 0 || by_system ? IS_NO_LINK : read_link(place, name, target)) {
+        case IS_LINK:
+            if (++links > MAX_LINKS) {
+                errno = ELOOP;
+                return false;
+            }
+            longer = path_by(target, rest, place->file);
+            free(*path);
+            *path = rest = longer;
+            if (*rest == '/' && !enter(place, "/", false)) {
+                return false;
+            }
+            break;
+        case IS_NO_LINK:
+            if (rest == NULL) {
+                place->name = path_by(name, NULL, place->file);
+                return true;
+            }
+            if (!enter(place, name, by_system)) {
+                return false;
+            }
+            break;
+        case IS_UNKNOWN:
+            return false;
+        }
+    }
+}
+
+/* Finds the directory and the name, with all links followed, or errno says why not. */
+static bool follow_links(struct place *place)
+{
+    char *path = path_by(place->file, NULL, place->file);
+    bool is_there = go_along(place, &path);
+    int number = errno;
+
+    free(path);
+    errno = number;
+    if (is_there && *place->name == 0) {
+        errno = ENOENT;
+        return false;
+    }
+    return is_there;
+}
+
+/* ---- Descriptors ---- */
+
+/* The number of the descriptor that a name is of, or -1. */
+static int descriptor_of(const char *file)
+{
+    static const char *const streams[] = { "/dev/stdin", "/dev/stdout", "/dev/stderr" };
+    static const char *const fronts[] = { "/dev/fd/", "/proc/self/fd/" };
+
+    for (int fd = STDIN_FILENO; fd <= STDERR_FILENO; fd++) {
+        if (strcmp(file, streams[fd]) == 0) {
+            return fd;
+        }
+    }
+    for (size_t i = 0; i < sizeof fronts / sizeof fronts[0]; i++) {
+        size_t len = strlen(fronts[i]);
+
+        if (strncmp(file, fronts[i], len) == 0 && strlen(file + len) < 10 && file[len] != 0
+            && strspn(file + len, "0123456789") == strlen(file + len)) {
+            return atoi(file + len);
+        }
+    }
+    return -1;
+}
+
+bool may_keep_secret(const struct stat *found)
+{
+    return !is_strangers(found) && (found->st_mode & (S_IRWXG | S_IRWXO)) == 0;
+}
+
+/* Whether the name is that of a descriptor by which a regular file is open for writing: then that is written through it. */
+static bool is_descriptor(struct place *place)
+{
+    int fd = descriptor_of(place->file), flags;
+
+    if (fd < 0) {
+        return false;
+    }
+    if (is_held(fd)) {
+        reject(place, "this is closed");
+    }
+    flags = fcntl(fd, F_GETFL);
+    if (flags < 0 || (flags & O_ACCMODE) == O_RDONLY || fstat(fd, &place->older.found) != 0
+        || !S_ISREG(place->older.found.st_mode)) {
+        return false;
+    }
+    if (place->is_secret && !may_keep_secret(&place->older.found)) {
+        reject(place, "others may read this file, into which no secret key is written");
+    }
+    place->opened = fcntl(fd, F_DUPFD_CLOEXEC, 0);
+    if (place->opened < 0) {
+        fail_at(place->file);
+    }
+    place->has_older = place->is_descriptor = true;
+    return true;
+}
+
+/* ---- Places ---- */
+
+/* Whether what stands there has to have a name: a regular file, and a pipe that was made by one. */
+static bool has_name(const struct handle *older)
+{
+    return older->found.st_nlink > 0
+           && (S_ISREG(older->found.st_mode) || (S_ISFIFO(older->found.st_mode) && !is_nameless_pipe(older)));
+}
+
+/* Whether the name that was found is that of what the system has found, or of nothing where it has found nothing. */
+static bool is_found(const struct place *place)
+{
+    struct stat named;
+
+    if (fstatat(place->directory, place->name, &named, AT_SYMLINK_NOFOLLOW) != 0) {
+        return !place->has_older && errno == ENOENT;
+    }
+    return place->has_older && is_same_file(&named, &place->older.found);
+}
+
+/* The place of what is written where it is, which no secret is where it is a stranger's. */
+static struct place in_place(struct place place)
+{
+    const struct stat *found = &place.older.found;
+
+    forget_name(&place);
+    if (place.is_secret && is_strangers(found) && !S_ISDIR(found->st_mode) && !is_stream(found)) {
+        reject(&place, "this is another user's, to whom no secret key is written");
+    }
+    return place;
+}
+
+/* Ends the program where the system finds nothing, as errno says, and says so of a stranger's link that it does not
+ * follow. */
+static _Noreturn void fail_to_find(struct place *place)
+{
+    int number = errno;
+
+    if (number == EACCES) {
+        follow_links(place);
+    }
+    errno = number;
+    fail_at(place->file);
+}
+
+struct place find_place(const char *file, bool is_secret)
+{
+    for (int i = 0; i < MAX_TRIES; i++) {
+        struct place place = { .file = file, .is_secret = is_secret, .directory = -1, .older.fd = -1, .opened = -1 };
+        bool is_there, is_pipe;
+
+        if (is_descriptor(&place)) {
+            return in_place(place);
+        }
+        place.has_older = look_up(&place.older, AT_FDCWD, file, true);
+        if (!place.has_older && errno != ENOENT) {
+            fail_to_find(&place);
+        }
+        if (place.has_older && !has_name(&place.older)) {
+            return in_place(place);
+        }
+        is_pipe = place.has_older && S_ISFIFO(place.older.found.st_mode);
+        is_there = follow_links(&place);
+        if (is_there && is_found(&place)) {
+            if (place.has_older) {
+                expect_no_strangers(&place);
+            }
+            return is_pipe ? in_place(place) : place;
+        }
+        if (is_pipe && (is_stream(&place.older.found) || descriptor_of(file) >= 0)) {
+            /* (it has no name, or whoever started the program may know its name elsewhere) */
+            return in_place(place);
+        }
+        if (!is_there) {
+            fail_at(file);
+        }
+        leave_place(&place);
+    }
+    errno = EBUSY;
+    fail_at(file);
+}
+
+/* Ends the program where the older file is another's in a directory where only owners may remove. */
+static void expect_replaceable(const struct place *place)
+{
+    struct stat around;
+    uid_t user = geteuid();
+
+    if (fstat(place->directory, &around) != 0) {
+        fail_at(place->file);
+    }
+    if ((around.st_mode & S_ISVTX) != 0 && user != 0 && user != place->older.found.st_uid && user != around.st_uid) {
+        errno = EPERM;
+        fail_at(place->file);
+    }
+}
+
+void open_older(struct place *place)
+{
+    for (int i = 0; place->has_older && place->opened < 0; i++) {
+        place->opened = open_handle(&place->older, place->file, O_WRONLY | O_NOCTTY | O_CLOEXEC);
+        if (place->opened < 0 && errno == EBUSY && i < MAX_TRIES) {
+            /* (another run has replaced it meanwhile) */
+            leave_place(place);
+            *place = find_place(place->file, place->is_secret);
+        } else if (place->opened < 0) {
+            fail_at(place->file);
+        }
+    }
+    if (!place->has_older || place->is_descriptor) {
+        return;
+    }
+    if (fstat(place->opened, &place->older.found) != 0) {
+        fail_at(place->file);
+    }
+    close_handle(&place->older);
+    if (!is_written_in_place(place)) {
+        expect_replaceable(place);
+    }
+}
+
+bool is_same_place(const struct place *one, const struct place *other)
+{
+    struct stat around, others;
+
+    if (one->name == NULL || other->name == NULL) {
+        return false;
+    }
+    if (one->has_older && other->has_older) {
+        return is_same_file(&one->older.found, &other->older.found);
+    }
+    return strcmp(one->name, other->name) == 0
+           && fstat(one->directory, &around) == 0 && fstat(other->directory, &others) == 0 && is_same_file(&around, &others);
+}

@@ -1,0 +1,583 @@
+/* SPDX-License-Identifier: MIT */
+/* Files that are replaced in one step. */
+#define _DEFAULT_SOURCE
+
+#include "replacing.h"
+
+#include <errno.h>
+#include <fcntl.h>
+#include <signal.h>
+#include <stdio.h>
+#include <stdlib.h>
+#include <string.h>
+#include <sys/stat.h>
+#include <unistd.h>
+
+#include <sodium.h>
+
+#include "cleanup.h"
+#include "files.h"
+#include "leftovers.h"
+#include "places.h"
+#include "shared/permissions.h"
+#include "shared/stages.h"
+#include "shared/streams.h"
+#include "shared/text.h"
+
+/* How often a stage is made anew that other runs remove before it is locked. */
+#define MAX_TRIES 100
+/* So many bytes are read at once, as far as a person can tell. */
+#define QUICK_BYTES (1 << 20)
+/* A file that waits has two descriptors open; so many are left for all else. */
+#define WAITING_DESCRIPTORS 2
+#define SPARE_DESCRIPTORS 10
+#define COUNTED_DESCRIPTORS 256
+
+struct replacement {
+    /* Where it goes; no file's where the stage is free. */
+    struct place place;
+    /* Open and locked until it is in its place; -1 where that itself was written. */
+    int fd;
+    /* Its name beside its place, and whether it has one or is about to get it. */
+    char name[STAGE_NAME_BYTES];
+    volatile sig_atomic_t is_named;
+    bool is_key;
+    /* Whether it may take the place of an older file. */
+    bool over_older;
+    /* Whether it is synced, or need not be. */
+    bool is_synced;
+    /* Whether it is whole and waits for others. */
+    bool waits;
+    /* The one that has to get its place as well, or else this one loses its own; and how it loses that. */
+    struct replacement *volatile partner;
+    volatile sig_atomic_t is_exchanged;
+};
+
+/* So many files wait for each other, as all are synced in little more time than one. One is staged beside
+ * them; a pair of keys has two stages, and none waits then. */
+enum { MAX_WAITING = 32, MAX_STAGES = MAX_WAITING + 1 };
+static struct replacement stages[MAX_STAGES];
+static int waiting;
+
+/* ---- Names ---- */
+
+/* Gives a stage without a name one beside its place. */
+static bool name_stage(struct replacement *stage)
+{
+    stage->is_named = draw_stage_name(stage->name);
+    if (stage->is_named && !link_unnamed(stage->fd, stage->place.directory, stage->name)) {
+        stage->is_named = 0;
+    }
+    return stage->is_named;
+}
+
+/* Whether what stands in its place is this stage, or it was written there. May be called while a signal is handled. */
+static bool is_placed(const struct replacement *stage)
+{
+    struct stat own, named;
+
+    return stage->fd < 0
+           || (fstat(stage->fd, &own) == 0
+               && fstatat(stage->place.directory, stage->place.name, &named, AT_SYMLINK_NOFOLLOW) == 0
+               && is_same_file(&own, &named));
+}
+
+/* ---- Stages go with the program ---- */
+
+/* Takes a stage out of its place where its partner has not got its own. May be called while a signal is handled. */
+static void undo_stage(struct replacement *stage)
+{
+    const struct place *place = &stage->place;
+
+    if (stage->partner == NULL || stage->fd < 0 || is_placed(stage->partner) || !is_placed(stage)) {
+        return;
+    }
+    if (stage->is_exchanged) {
+        /* Where that fails, the older file keeps the stage's name. */
+        stage->is_named = exchange_names(place->directory, stage->name, place->name);
+    } else {
+        unlinkat(place->directory, place->name, 0);
+    }
+}
+
+/* May be called while a signal is handled. */
+static void drop_stages(void)
+{
+    for (struct replacement *stage = stages; stage < stages + MAX_STAGES; stage++) {
+        undo_stage(stage);
+        if (stage->is_named) {
+            unlinkat(stage->place.directory, stage->name, 0);
+        }
+    }
+}
+
+static void finish_stages(void);
+
+/* From the first stage on. A file that grows beyond the system's bound is a failed write, and no signal. */
+static void watch_stages(void)
+{
+    static bool watched;
+
+    if (!watched) {
+        watched = true;
+        clean_at_end(drop_stages);
+        signal(SIGXFSZ, SIG_IGN);
+        if (atexit(finish_stages) != 0) {
+            fail("atexit()");
+        }
+    }
+}
+
+static struct replacement *free_stage(void)
+{
+    for (struct replacement *stage = stages; stage < stages + MAX_STAGES; stage++) {
+        if (stage->place.file == NULL) {
+            stage->fd = -1;
+            return stage;
+        }
+    }
+    fail("too many files at once");
+}
+
+/* Closes what a stage has open; where it has a name beside its place still, it loses that, or else when the program
+ * ends. */
+static void forget(struct replacement *stage)
+{
+    stage->partner = NULL;
+    if (stage->is_named && unlinkat(stage->place.directory, stage->name, 0) != 0 && errno != ENOENT) {
+        return;
+    }
+    if (stage->fd >= 0) {
+        close(stage->fd);
+    }
+    leave_place(&stage->place);
+    *stage = (struct replacement) { .fd = -1 };
+}
+
+/* ---- Writing ---- */
+
+/* Opens and locks a new file without a name, or where there is none one beside the place, of a name that nothing has.
+ * Another run may remove that before it is locked. */
+static bool open_stage(struct replacement *stage, mode_t mode)
+{
+    stage->fd = open_unnamed(stage->place.directory, mode);
+    if (stage->fd >= 0) {
+        return lock_stage(stage->fd);
+    }
+    for (int i = 0; i < MAX_TRIES && draw_stage_name(stage->name); i++) {
+        struct stat made;
+
+        stage->is_named = 1;
+        stage->fd = open_named(stage->place.directory, stage->name, mode);
+        if (stage->fd >= 0 && lock_stage(stage->fd) && fstat(stage->fd, &made) == 0 && made.st_nlink > 0) {
+            return true;
+        }
+        stage->is_named = 0;
+        if (stage->fd < 0) {
+            return false;
+        }
+        unlinkat(stage->place.directory, stage->name, 0);
+        close(stage->fd);
+        stage->fd = -1;
+        errno = EBUSY;
+    }
+    return false;
+}
+
+/* Gives a stage the owner, the mode and the access list of the older file, or of its mode what its owner may do. */
+static void take_over(const struct replacement *stage, bool for_owner_alone)
+{
+    static struct permissions older;
+
+    if (!read_permissions_of(&older, stage->place.opened)) {
+        fail_at(stage->place.file);
+    }
+    if (for_owner_alone) {
+        replace_mode(&older, older.mode & S_IRWXU);
+    }
+    if (!give_permissions(stage->fd, &older)) {
+        fail_at(stage->place.file);
+    }
+}
+
+/* Writes what is no regular file, has no name or is written through a descriptor: another file is emptied first. */
+static void write_in_place(struct place *place, const uint8_t *bytes, size_t len)
+{
+    int fd = place->opened;
+
+    if ((S_ISREG(place->older.found.st_mode) && !place->is_descriptor && ftruncate(fd, 0) != 0)
+        || !write_whole(fd, bytes, len)) {
+        fail_at(place->file);
+    }
+    place->opened = -1;
+    if (close(fd) != 0) {
+        fail_at(place->file);
+    }
+}
+
+/* Has the system say whether what was written can be kept, as it does where a file is closed. */
+static void flush_stage(const struct replacement *stage)
+{
+    int fd = dup(stage->fd);
+
+    if (fd >= 0 && close(fd) != 0) {
+        fail_at(stage->place.file);
+    }
+}
+
+static bool is_secret(enum kind kind)
+{
+    return kind == NEW_SECRET_KEY || kind == CHANGED_SECRET_KEY || kind == UNSEALED_SECRET_KEY;
+}
+
+void expect_no_stranger(const char *file, enum kind kind)
+{
+    struct stat found;
+    struct place place;
+
+    if (stat(file, &found) == 0 || errno == EACCES) {
+        place = find_place(file, is_secret(kind));
+        leave_place(&place);
+    }
+}
+
+/* A stage for a file, with the older one open, or NULL where that is to stay. */
+static struct replacement *begin_stage(const char *file, enum kind kind, bool over_older)
+{
+    struct replacement *stage = free_stage();
+
+    watch_stages();
+    stage->place = find_place(file, is_secret(kind));
+    stage->over_older = over_older;
+    if (stage->place.has_older && !over_older) {
+        forget(stage);
+        return NULL;
+    }
+    open_older(&stage->place);
+    return stage;
+}
+
+/* Writes it whole, beside its place or in that itself. */
+static void write_replacement(struct replacement *stage, enum kind kind, const uint8_t *bytes, size_t len)
+{
+    const char *file = stage->place.file;
+    mode_t mode;
+
+    if (is_written_in_place(&stage->place)) {
+        write_in_place(&stage->place, bytes, len);
+        return;
+    }
+    stage->is_key = kind != SIGNATURE;
+    stage->is_synced = !stage->is_key && !stage->place.has_older;
+    mode = is_secret(kind) || stage->place.has_older ? 0600 : 0666;
+    remove_unlocked_stages(stage->place.directory);
+    if (!open_stage(stage, mode)) {
+        fail_at(file);
+    }
+    if (stage->place.has_older && kind != NEW_SECRET_KEY) {
+        take_over(stage, kind == UNSEALED_SECRET_KEY || (is_secret(kind) && !knows_access_lists));
+    }
+    if (!write_whole(stage->fd, bytes, len)) {
+        fail_at(file);
+    }
+    if (stage->is_synced) {
+        flush_stage(stage);
+    } else {
+        /* The disk begins, so that less is left to wait for. */
+        begin_sync(stage->fd, 0, 0);
+    }
+}
+
+struct replacement *stage_file(const char *file, enum kind kind, bool over_older, const uint8_t *bytes, size_t len)
+{
+    struct replacement *stage = begin_stage(file, kind, over_older);
+
+    if (stage != NULL) {
+        write_replacement(stage, kind, bytes, len);
+    }
+    return stage;
+}
+
+bool is_one_place(const struct replacement *one, const struct replacement *other)
+{
+    return is_same_place(&one->place, &other->place);
+}
+
+/* Waits until all stages are synced that have to be. */
+static void sync_stages(void)
+{
+    for (struct replacement *stage = stages; stage < stages + MAX_STAGES; stage++) {
+        if (stage->place.file != NULL && stage->fd >= 0 && !stage->is_synced) {
+            bool waits = stage->waits;
+
+            /* One that cannot be synced is not put in its place when the program ends. */
+            stage->waits = false;
+            if (fsync(stage->fd) != 0) {
+                fail_at(stage->place.file);
+            }
+            stage->is_synced = true;
+            stage->waits = waits;
+        }
+    }
+}
+
+/* ---- Putting in place ---- */
+
+/* A stage was put in its place, or an older file is there that is to stay, or it cannot be put there: errno says
+ * why. */
+enum put { PUT, TAKEN, NOT_PUT };
+
+/* Writes what stage holds over the older file, which has to stay where it is as it is mounted by itself. A secret key is not
+ * written into one that others may read. */
+static bool write_over(struct replacement *stage)
+{
+    struct stat *found = &stage->place.older.found;
+    struct handle handle = { .fd = -1, .found = *found };
+    uint8_t bytes[TEXT_ROOM];
+    bool is_written;
+    ssize_t len;
+    int fd;
+
+    if (stage->place.is_secret && !may_keep_secret(found)) {
+        errno = EBUSY;
+        return false;
+    }
+    if (stage->place.opened < 0) {
+        stage->place.opened = open_by_path(&handle, stage->place.file, O_WRONLY | O_CLOEXEC);
+    }
+    fd = stage->place.opened;
+    len = fd >= 0 && lseek(stage->fd, 0, SEEK_SET) == 0 ? read_whole(stage->fd, bytes, sizeof bytes) : -1;
+    is_written = len >= 0 && ftruncate(fd, 0) == 0 && write_whole(fd, bytes, (size_t) len) && fsync(fd) == 0;
+    sodium_memzero(bytes, sizeof bytes);
+    return is_written;
+}
+
+/* Renames a stage that has a name. */
+static enum put rename_replacement(struct replacement *stage)
+{
+    const struct place *place = &stage->place;
+
+    if (stage->over_older ? renameat(place->directory, stage->name, place->directory, place->name) == 0
+                          : rename_to_free(place->directory, stage->name, place->name)) {
+        stage->is_named = 0;
+        return PUT;
+    }
+    if (!stage->over_older && errno == EEXIST) {
+        return TAKEN;
+    }
+    return errno == EBUSY && stage->place.has_older && write_over(stage) ? PUT : NOT_PUT;
+}
+
+static enum put put_stage(struct replacement *stage)
+{
+    if (stage->fd < 0) {
+        return PUT;
+    }
+    if (!stage->is_named) {
+        if (!stage->place.has_older) {
+            if (link_unnamed(stage->fd, stage->place.directory, stage->place.name)) {
+                return PUT;
+            }
+            if (errno != EEXIST || !stage->over_older) {
+                return errno == EEXIST ? TAKEN : NOT_PUT;
+            }
+        }
+        if (!name_stage(stage)) {
+            return NOT_PUT;
+        }
+    }
+    return rename_replacement(stage);
+}
+
+/* Syncs the new name of a file, where the system can do that for a directory. */
+static void keep_name(const struct replacement *stage)
+{
+    int fd;
+
+    if (stage->fd < 0) {
+        return;
+    }
+    /* A file that was brought there without a name has one now. */
+    if (fsync(stage->fd) != 0) {
+        fail_at(stage->place.file);
+    }
+    fd = openat(stage->place.directory, ".", O_RDONLY | O_DIRECTORY | O_CLOEXEC);
+    if (fd >= 0) {
+        if (fsync(fd) != 0 && errno != EINVAL) {
+            fail_at(stage->place.file);
+        }
+        close(fd);
+    }
+}
+
+bool put_in_place(struct replacement *stage)
+{
+    enum put put;
+
+    if (stage->fd >= 0 && !stage->is_synced) {
+        sync_stages();
+    }
+    put = put_stage(stage);
+    if (put == NOT_PUT) {
+        fail_at(stage->place.file);
+    }
+    if (put == PUT && stage->is_key) {
+        keep_name(stage);
+    }
+    forget(stage);
+    return put == PUT;
+}
+
+void replace_key(const char *file, enum kind kind, uid_t owner, const uint8_t *bytes, size_t len)
+{
+    struct replacement *stage = begin_stage(file, kind, true);
+
+    if (stage->place.has_older && stage->place.older.found.st_uid != owner) {
+        fprintf(stderr, "%s: another user's file stands there now, in place of the key that was read\n", visible(file));
+        exit(TROUBLE);
+    }
+    write_replacement(stage, kind, bytes, len);
+    put_in_place(stage);
+}
+
+/* ---- Two that belong together ---- */
+
+/* Puts a stage in the place of an older file, which gets the stage's name until its partner is in its own place. It is
+ * locked as stages are. False where the file system does not exchange names. */
+static bool exchange_stage(struct replacement *stage)
+{
+    const struct place *place = &stage->place;
+
+    if (!stage->is_named && !name_stage(stage)) {
+        return false;
+    }
+    lock_stage(place->opened);
+    stage->is_exchanged = 1;
+    if (exchange_names(place->directory, stage->name, place->name)) {
+        return true;
+    }
+    stage->is_exchanged = 0;
+    return false;
+}
+
+/* Puts a stage in its place in such a way that it loses that again where the program ends before its partner has its
+ * own. */
+static enum put put_with_partner(struct replacement *stage, struct replacement *partner)
+{
+    if (stage->fd < 0) {
+        return PUT;
+    }
+    stage->partner = partner;
+    if (stage->place.has_older) {
+        if (exchange_stage(stage)) {
+            return PUT;
+        }
+        stage->partner = NULL;
+    }
+    return put_stage(stage);
+}
+
+const char *put_both_in_place(struct replacement *first, struct replacement *last)
+{
+    const char *taken = NULL;
+    enum put put;
+
+    sync_stages();
+    put = put_with_partner(first, last);
+    if (put == NOT_PUT) {
+        fail_at(first->place.file);
+    }
+    if (put == TAKEN) {
+        taken = first->place.file;
+    } else {
+        keep_name(first);
+        put = put_stage(last);
+        if (put == NOT_PUT) {
+            fail_at(last->place.file);
+        }
+        if (put == TAKEN) {
+            taken = last->place.file;
+            undo_stage(first);
+        } else {
+            first->partner = NULL;
+            keep_name(last);
+        }
+    }
+    forget(first);
+    forget(last);
+    return taken;
+}
+
+/* ---- Many files ---- */
+
+/* Where the program ends early, what was whole before still gets its place. */
+static void finish_stages(void)
+{
+    for (struct replacement *stage = stages; stage < stages + MAX_STAGES; stage++) {
+        if (stage->waits && ((!stage->is_synced && fsync(stage->fd) != 0) || put_stage(stage) != PUT)) {
+            say_at(stage->place.file);
+        }
+    }
+}
+
+/* How many files may wait, so that descriptors are left for all else: counted once. */
+static int most_waiting(void)
+{
+    static int most;
+    long bound = sysconf(_SC_OPEN_MAX);
+    int free_ones = 0;
+
+    if (most == 0) {
+        for (int fd = 0; fd < COUNTED_DESCRIPTORS && (bound < 0 || fd < bound); fd++) {
+            free_ones += fcntl(fd, F_GETFD) < 0;
+        }
+        most = (free_ones - SPARE_DESCRIPTORS) / WAITING_DESCRIPTORS;
+        most = most < 1 ? 1 : most > MAX_WAITING ? MAX_WAITING : most;
+    }
+    return most;
+}
+
+void replace_soon(const char *file, enum kind kind, const uint8_t *bytes, size_t len)
+{
+    struct replacement *stage = stage_file(file, kind, true, bytes, len);
+
+    if (stage->fd < 0 || stage->is_synced) {
+        put_in_place(stage);
+        return;
+    }
+    close_older(&stage->place);
+    stage->waits = true;
+    waiting++;
+    if (waiting >= most_waiting()) {
+        replace_waiting();
+    }
+}
+
+void replace_waiting(void)
+{
+    sync_stages();
+    for (struct replacement *stage = stages; stage < stages + MAX_STAGES; stage++) {
+        if (stage->waits) {
+            stage->waits = false;
+            put_in_place(stage);
+        }
+    }
+    waiting = 0;
+}
+
+void replace_before_reading(const char *file)
+{
+    struct stat found;
+    bool is_quick;
+
+    if (waiting == 0) {
+        return;
+    }
+    is_quick = stat(file, &found) == 0 && S_ISREG(found.st_mode) && found.st_size < QUICK_BYTES;
+    for (struct replacement *stage = stages; stage < stages + MAX_STAGES && is_quick; stage++) {
+        is_quick = !stage->waits || !is_same_file(&stage->place.older.found, &found);
+    }
+    if (!is_quick) {
+        replace_waiting();
+    }
+}

@@ -1,0 +1,203 @@
+/* SPDX-License-Identifier: MIT */
+/*
+ * minisign -S. The library hashes the data, says what has to be signed and writes the text of the signature; libsodium
+ * signs with Ed25519, and nothing else. The key is opened once, and the first text that it makes is verified as others
+ * will verify it. Each is written in one step, so that an older signature stays whole until then.
+ */
+#define _POSIX_C_SOURCE 200809L
+
+#include "signing.h"
+
+#include <inttypes.h>
+#include <stdio.h>
+#include <stdlib.h>
+#include <string.h>
+#include <time.h>
+
+#include <sodium.h>
+
+#include "library/clearing.h"
+#include "files.h"
+#include "keys.h"
+#include "reading.h"
+#include "replacing.h"
+#include "verifying.h"
+#include "shared/text.h"
+
+#define DEFAULT_COMMENT "signature from minisign secret key"
+#define COMMENT_BYTES 8192
+
+/* The default trusted comment: the time, and the last part of the file's name. */
+static const char *default_comment(const char *data_file, bool legacy)
+{
+    static char comment[COMMENT_BYTES];
+    const char *slash = strrchr(data_file, '/');
+
+    snprintf(comment, sizeof comment, "timestamp:%lld\tfile:%s%s", (long long) time(NULL),
+             slash == NULL ? data_file : slash + 1, legacy ? "" : "\thashed");
+    return comment;
+}
+
+/* Ends the program where the last part of the file's name cannot stand in the default trusted comment: it is no
+ * comment that the user has given. */
+static void expect_comment(const char *data_file, bool legacy)
+{
+    const char *slash = strrchr(data_file, '/'), *name = slash == NULL ? data_file : slash + 1, *why = NULL;
+    const uint8_t *text = (const uint8_t *) name;
+    size_t len = strlen(name);
+
+    if (!is_utf8(text, len)) {
+        why = "is not UTF-8";
+    } else if (strpbrk(name, "\r\n") != NULL) {
+        why = "has a line end in it";
+    } else if (legacy && ends_with_space(text, len)) {
+        why = "ends with white space";
+    }
+    if (why != NULL) {
+        fprintf(stderr, "%s: a name that %s cannot stand in the trusted comment: choose one by -t\n", visible(data_file), why);
+        exit(TROUBLE);
+    }
+}
+
+static minisign_signed_parts comments_of(const struct options *options, const char *data_file)
+{
+    const char *untrusted = options->comment != NULL ? options->comment : DEFAULT_COMMENT;
+    const char *trusted = options->trusted_comment != NULL ? options->trusted_comment
+                                                           : default_comment(data_file, options->legacy);
+    minisign_signed_parts parts = {
+        .trusted_comment = (const uint8_t *) trusted, .trusted_comment_len = strlen(trusted),
+        .untrusted_comment = (const uint8_t *) untrusted, .untrusted_comment_len = strlen(untrusted)
+    };
+
+    return parts;
+}
+
+static void stop_at(enum minisign_error error)
+{
+    if (error != MINISIGN_OK) {
+        fail(error == MINISIGN_NOT_UTF8 ? "The comment is not UTF-8" : message_of(error));
+    }
+}
+
+/* The signature of Ed25519 on bytes that the library asked about. */
+static void sign(uint8_t signature[64], const uint8_t *bytes, size_t len)
+{
+    crypto_sign_detached(signature, NULL, bytes, len, secrets->open.secret);
+    minisign_clear_used();
+}
+
+/*
+ * Makes the text of a legacy signature of one that is not: they differ in the second letter of the algorithm, and so in
+ * the second letter of the second line. The library makes none, so that no promise on what it signs has to except them;
+ * it verifies such a text.
+ */
+static void turn_legacy(struct text *made)
+{
+    uint8_t *end = memchr(made->bytes, '\n', made->len);
+    end[2] = 'W';
+}
+
+/* Signs the data that the state was fed, and makes the text of the signature. */
+static void make_signature(struct text *made, minisign_state *state, const struct data *data, const struct options *options,
+                           minisign_signed_parts *parts)
+{
+    static uint8_t message[64 + TEXT_ROOM];
+    uint8_t digest[64];
+
+    stop_at(minisign_digest(state, digest));
+    if (options->legacy) {
+        sign(parts->signature, data->held.bytes, data->held.len);
+    } else {
+        sign(parts->signature, digest, sizeof digest);
+    }
+    stop_at(minisign_comment_message(parts->signature, parts->trusted_comment, parts->trusted_comment_len, message,
+                                     sizeof message));
+    sign(parts->comment_signature, message, 64 + parts->trusted_comment_len);
+    stop_at(minisign_signed_text(&secrets->open, parts, made->bytes, sizeof made->bytes, &made->len));
+    if (options->legacy) {
+        turn_legacy(made);
+    }
+}
+
+/* Ends the program where the text does not vouch under the public key for the data that the state was fed, and says
+ * which key is to blame. */
+static void verify_signature(const struct options *options, const minisign_state *fed, const struct text *made,
+                             const struct data *data, const minisign_public_key *public)
+{
+    minisign_state state = *fed;
+    enum minisign_error error = ask(&state, public, made, true);
+
+    if (error == MINISIGN_OK) {
+        error = judge(&state, &data->held);
+    }
+    if (error == MINISIGN_OK) {
+        return;
+    }
+    fputs("Verification would fail with the given public key\n", stderr);
+    if (!has_own_halves()) {
+        fprintf(stderr, "%s: this secret key is damaged: its two halves do not belong together\n",
+                visible(options->secret_file));
+    } else if (name_of_public_key(options) != NULL) {
+        fprintf(stderr, "%s: this is not the public key of %s\n", visible(name_of_public_key(options)),
+                visible(options->secret_file));
+    }
+    exit(TROUBLE);
+}
+
+/* Signs a file, and verifies the signature with a public key where there is one. */
+static void sign_file(const struct options *options, const char *data_file, const char *signature_file,
+                      const minisign_public_key *public)
+{
+    static struct text made;
+    minisign_signed_parts parts = comments_of(options, data_file);
+    struct data data;
+    minisign_state state, fed;
+
+    reject_over_key(options, signature_file);
+    replace_before_reading(data_file);
+    data = open_data(data_file);
+    if (options->trusted_comment == NULL) {
+        expect_comment(data_file, options->legacy);
+    }
+    minisign_init(&state);
+    feed_data(&data, &state, options->legacy ? ALL_BYTES : DIGEST_ALONE);
+    fed = state;
+    make_signature(&made, &state, &data, options, &parts);
+    if (public != NULL) {
+        verify_signature(options, &fed, &made, &data, public);
+    }
+    replace_soon(signature_file, SIGNATURE, made.bytes, made.len);
+    close_data(&data);
+}
+
+/* The public key with which the first signature is verified: the one among the options, or else the secret key's
+ * own. */
+static minisign_public_key public_key_for(const struct options *options)
+{
+    minisign_public_key public;
+
+    if (options->public_key != NULL || options->public_file != NULL) {
+        return load_public_key(options);
+    }
+    stop_at(minisign_public_key_of(&secrets->open, &public));
+    return public;
+}
+
+int sign_files(const struct options *options)
+{
+    const char *first = options->signature_file;
+    minisign_public_key public;
+
+    if ((options->trusted_comment != NULL && strpbrk(options->trusted_comment, "\r\n") != NULL)
+        || (options->comment != NULL && strpbrk(options->comment, "\r\n") != NULL)) {
+        fail("A comment is one line");
+    }
+    open_key(options);
+    public = public_key_for(options);
+    sign_file(options, options->data_file, first != NULL ? first : name_beside(options->data_file, ".minisig"), &public);
+    for (char *const *file = options->further_files; *file != NULL; file++) {
+        sign_file(options, *file, name_beside(*file, ".minisig"), NULL);
+    }
+    replace_waiting();
+    return GOOD;
+}

@@ -1,0 +1,218 @@
+/* SPDX-License-Identifier: MIT */
+/* The permissions of a file that takes the place of an older one. */
+#define _DEFAULT_SOURCE
+
+#include "permissions.h"
+
+#include <errno.h>
+#include <fcntl.h>
+#include <sys/stat.h>
+#include <unistd.h>
+
+#include "again.h"
+#include "handles.h"
+
+#define ALL_BITS (S_IRWXU | S_IRWXG | S_IRWXO)
+
+/* ---- Access control lists ---- */
+
+#if defined __linux__ && !defined POSIX_ONLY
+
+#include <sys/xattr.h>
+
+const bool knows_access_lists = true;
+enum { NO_LIST = ENODATA };
+
+#else
+
+const bool knows_access_lists = false;
+enum { NO_LIST = EOPNOTSUPP };
+
+#define fgetxattr(fd, name, list, room) ((void) (fd), errno = NO_LIST, -1)
+#define getxattr(path, name, list, room) (errno = NO_LIST, -1)
+#define fsetxattr(fd, name, list, len, flags) ((void) (fd), (void) (list), errno = NO_LIST, -1)
+#define fremovexattr(fd, name) ((void) (fd), errno = NO_LIST, -1)
+
+#endif
+
+#define ACCESS_LIST "system.posix_acl_access"
+
+/* A list begins with its version, and each of its entries has whom it is for, what they may do, and which user or group
+ * they are: in 2, 2 and 4 bytes, of which the lowest comes first. */
+#define VERSION_BYTES 4
+#define ENTRY_BYTES 8
+
+/* Whom an entry is for. The other ones are for the owner and all others, whose bits the mode has, and the mask. */
+enum { NAMED_USER = 0x02, OWNING_GROUP = 0x04, NAMED_GROUP = 0x08 };
+
+/* Whether the system says that there is no list, or that the file system has none. */
+static bool is_none(int number)
+{
+    return number == NO_LIST || number == EOPNOTSUPP;
+}
+
+/* Reads the list of a file, which may be open as a path alone: whether that is known now, or errno says why not. */
+static bool read_list(struct permissions *older, int fd)
+{
+    ssize_t n;
+
+    AGAIN(n, fgetxattr(fd, ACCESS_LIST, older->list, sizeof older->list));
+    if (n < 0 && errno == EBADF) {
+        AGAIN(n, getxattr(own_path_of(fd).bytes, ACCESS_LIST, older->list, sizeof older->list));
+        older->is_list_known = !(n < 0 && errno == ENOENT);
+    }
+    older->list_length = n < 0 ? 0 : (size_t) n;
+    return n >= 0 || is_none(errno) || !older->is_list_known;
+}
+
+static bool give_list(int fd, const struct permissions *older)
+{
+    int answer;
+
+    AGAIN(answer, fsetxattr(fd, ACCESS_LIST, older->list, older->list_length, 0));
+    return answer == 0;
+}
+
+/* Takes the list off that a file has inherited. */
+static bool remove_list(int fd)
+{
+    int answer;
+
+    AGAIN(answer, fremovexattr(fd, ACCESS_LIST));
+    return answer == 0 || is_none(errno);
+}
+
+/* What of these bits each may do who is named in the list, and the owning group. */
+static mode_t common_in_list(const struct permissions *older, mode_t common)
+{
+    for (size_t at = VERSION_BYTES; at + ENTRY_BYTES <= older->list_length; at += ENTRY_BYTES) {
+        const uint8_t *entry = older->list + at;
+        int whom = entry[0] | entry[1] << 8;
+
+        if (whom == NAMED_USER || whom == OWNING_GROUP || whom == NAMED_GROUP) {
+            common &= entry[2];
+        }
+    }
+    return common;
+}
+
+/* ---- Those of an older file ---- */
+
+/* Takes what the system says of a file: false where it is no regular one. */
+static bool take_found(struct permissions *older, const struct stat *found)
+{
+    if (!S_ISREG(found->st_mode)) {
+        errno = EINVAL;
+        return false;
+    }
+    older->owner = found->st_uid;
+    older->group = found->st_gid;
+    older->mode = found->st_mode & ALL_BITS;
+    older->is_list_known = true;
+    older->list_length = 0;
+    return true;
+}
+
+bool read_permissions_of(struct permissions *older, int fd)
+{
+    struct stat found;
+    int answer;
+
+    AGAIN(answer, fstat(fd, &found));
+    return answer == 0 && take_found(older, &found) && read_list(older, fd);
+}
+
+/* Reads those of a file that may not be opened. */
+static bool read_unopened(struct permissions *older, int directory, const char *name)
+{
+    struct handle handle;
+    bool is_read;
+
+    if (!look_up(&handle, directory, name, false)) {
+        return false;
+    }
+    is_read = take_found(older, &handle.found) && (handle.fd < 0 || read_list(older, handle.fd));
+    close_handle(&handle);
+    return is_read;
+}
+
+bool read_permissions(struct permissions *older, int directory, const char *name)
+{
+    bool is_read;
+    int fd, number;
+
+    AGAIN(fd, openat(directory, name, O_RDONLY | O_NONBLOCK | O_NOFOLLOW | O_CLOEXEC));
+    if (fd < 0) {
+        return errno == EACCES && read_unopened(older, directory, name);
+    }
+    is_read = read_permissions_of(older, fd);
+    number = errno;
+    close(fd);
+    errno = number;
+    return is_read;
+}
+
+void replace_mode(struct permissions *older, mode_t mode)
+{
+    older->mode = mode & ALL_BITS;
+    older->is_list_known = true;
+    older->list_length = 0;
+}
+
+/* What each may do whom the older file does not hold for its owner: the group, all others, and those in the list. The
+ * group's bits are an upper bound on what a list gives. */
+static mode_t common_permissions(const struct permissions *older)
+{
+    return common_in_list(older, older->mode & (older->mode >> 3) & S_IRWXO);
+}
+
+/* ---- Those of a new file ---- */
+
+bool give_owner(int fd, uid_t owner, gid_t group, bool *is_given)
+{
+    int answer;
+
+    AGAIN(answer, fchown(fd, owner, group));
+    *is_given = answer == 0;
+    /* (an owner that the system does not have is one that it does not allow) */
+    return answer == 0 || errno == EPERM || errno == EINVAL;
+}
+
+/* Gives a file an owner and a group, as far as that is allowed, and tells whether it has the group now. */
+static bool give_group(int fd, const struct stat *own, const struct permissions *older, bool *has_group)
+{
+    *has_group = own->st_uid == older->owner && own->st_gid == older->group;
+    return *has_group || (give_owner(fd, older->owner, older->group, has_group)
+                          && (*has_group || give_owner(fd, (uid_t) -1, older->group, has_group)));
+}
+
+bool give_mode(int fd, mode_t mode)
+{
+    int answer;
+
+    if (!remove_list(fd)) {
+        return false;
+    }
+    AGAIN(answer, fchmod(fd, mode));
+    return answer == 0;
+}
+
+bool give_permissions(int fd, const struct permissions *older)
+{
+    struct stat own;
+    bool has_group;
+    int answer;
+
+    AGAIN(answer, fstat(fd, &own));
+    if (answer != 0 || !give_group(fd, &own, older, &has_group)) {
+        return false;
+    }
+    if (!has_group || !older->is_list_known) {
+        return give_mode(fd, (older->mode & S_IRWXU) | common_permissions(older));
+    }
+    /* The list has the bits of the mode. */
+    if (older->list_length > 0) {
+        return give_list(fd, older) || give_mode(fd, (older->mode & S_IRWXU) | common_permissions(older));
+    }
+    return give_mode(fd, older->mode);
+}

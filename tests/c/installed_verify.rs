@@ -1,0 +1,180 @@
+//! Verifying from Rust, by calls that this program declares itself: `tests/c/installed.py` builds it over what
+//! `make -C c install` installs. `installed_verify PUBLIC_KEY DATA SIGNATURE` ends as the example in C does: with status 0
+//! where the texts vouch for the data, and it prints the trusted comment; else with 1, or 2 where a file could not be read.
+
+use std::fs::{self, File};
+use std::io::{self, Read, Write};
+use std::process::ExitCode;
+
+/// What minisign.h declares.
+mod minisign {
+    pub const OK: u32 = 0;
+    pub const ANSWER_YES: u32 = 0x796573;
+    pub const ANSWER_NO: u32 = 0x6e6f;
+    pub const ERROR_TEXT_BYTES: usize = 128;
+
+    #[repr(C)]
+    pub struct State {
+        opaque: [u64; 64],
+    }
+
+    impl State {
+        /// A state that was fed nothing.
+        pub fn new() -> State {
+            let mut state = State { opaque: [0; 64] };
+            unsafe { minisign_init(&mut state) };
+            state
+        }
+    }
+
+    /// What is written to a state is fed to it.
+    impl std::io::Write for State {
+        fn write(&mut self, data: &[u8]) -> std::io::Result<usize> {
+            match unsafe { minisign_update(self, data.as_ptr(), data.len()) } {
+                OK => Ok(data.len()),
+                _ => Err(std::io::Error::new(std::io::ErrorKind::Other, "the data could not be fed")),
+            }
+        }
+
+        fn flush(&mut self) -> std::io::Result<()> {
+            Ok(())
+        }
+    }
+
+    #[derive(Default)]
+    #[repr(C)]
+    pub struct PublicKey {
+        key: [u8; 32],
+        key_id: [u8; 8],
+    }
+
+    #[repr(C)]
+    pub struct Signature {
+        pub mark: u64,
+        pub key_id: [u8; 8],
+        pub signature: [u8; 64],
+        pub comment_signature: [u8; 64],
+        pub comment_offset: u64,
+        pub comment_len: u64,
+        pub text_digest: [u8; 32],
+        pub algorithm: [u8; 2],
+        pub legacy: u8,
+        pub whole: u8,
+        pub reserved: u32,
+    }
+
+    #[repr(C)]
+    pub struct Questions {
+        pub public_key: [u8; 32],
+        pub digest: [u8; 64],
+        pub signature: [u8; 64],
+        pub comment_signature: [u8; 64],
+        pub message_len: u64,
+        pub comment_offset: u64,
+        pub comment_len: u64,
+        pub legacy: u32,
+        pub reserved: u32,
+    }
+
+    extern "C" {
+        pub fn minisign_init(state: *mut State);
+        pub fn minisign_update(state: *mut State, data: *const u8, len: usize) -> u32;
+        pub fn minisign_digest(state: *mut State, digest: *mut u8) -> u32;
+        pub fn minisign_read_public_key(pk_text: *const u8, pk_text_len: usize, key: *mut PublicKey) -> u32;
+        pub fn minisign_read_signature(sig_text: *const u8, sig_text_len: usize, signature: *mut Signature) -> u32;
+        #[rustfmt::skip]
+        pub fn minisign_ask(state: *mut State, key: *const PublicKey, signature: *const Signature,
+            sig_text: *const u8, sig_text_len: usize, allow_legacy: u32,
+            questions: *mut Questions, message: *mut u8, room: usize) -> u32;
+        pub fn minisign_verdict(state: *mut State, first: u32, second: u32) -> u32;
+        pub fn minisign_error_text(error: u32, text: *mut u8, room: usize) -> usize;
+    }
+}
+
+extern "C" {
+    fn crypto_sign_verify_detached(signature: *const u8, message: *const u8, len: u64, key: *const u8) -> i32;
+}
+
+/// Whether libsodium accepts a signature of 64 bytes under a key of 32, as the library wants it told.
+fn accepts(signature: &[u8; 64], message: &[u8], public_key: &[u8; 32]) -> u32 {
+    let rejected = unsafe {
+        crypto_sign_verify_detached(signature.as_ptr(), message.as_ptr(), message.len() as u64, public_key.as_ptr())
+    };
+    if rejected == 0 { minisign::ANSWER_YES } else { minisign::ANSWER_NO }
+}
+
+/// Why the texts do not vouch for the data: the number of the first error, or that the data could not be read.
+enum Rejection {
+    Number(u32),
+    Unread(io::Error),
+}
+
+/// What a call answered.
+fn expect(error: u32) -> Result<(), Rejection> {
+    if error == minisign::OK { Ok(()) } else { Err(Rejection::Number(error)) }
+}
+
+/// The trusted comment where the texts vouch for all of the data. What the texts are rejected for is known before any data is read.
+fn verify(pk_text: &[u8], sig_text: &[u8], data: &mut impl Read) -> Result<Vec<u8>, Rejection> {
+    let mut key = minisign::PublicKey::default();
+    let mut state = minisign::State::new();
+    let mut signature = unsafe { std::mem::zeroed::<minisign::Signature>() };
+    let mut questions = unsafe { std::mem::zeroed::<minisign::Questions>() };
+    expect(unsafe { minisign::minisign_read_public_key(pk_text.as_ptr(), pk_text.len(), &mut key) })?;
+    expect(unsafe { minisign::minisign_read_signature(sig_text.as_ptr(), sig_text.len(), &mut signature) })?;
+    let mut message = vec![0; 64 + signature.comment_len as usize];
+    expect(unsafe {
+        minisign::minisign_ask(
+            &mut state,
+            &key,
+            &signature,
+            sig_text.as_ptr(), sig_text.len(),
+            0,
+            &mut questions,
+            message.as_mut_ptr(), message.len(),
+        )
+    })?;
+    io::copy(data, &mut state).map_err(Rejection::Unread)?;
+    expect(unsafe { minisign::minisign_digest(&mut state, questions.digest.as_mut_ptr()) })?;
+    let first = accepts(&questions.signature, &questions.digest, &questions.public_key);
+    let second = accepts(&questions.comment_signature, &message, &questions.public_key);
+    expect(unsafe { minisign::minisign_verdict(&mut state, first, second) })?;
+    Ok(message.split_off(questions.comment_offset as usize))
+}
+
+/// What an error means.
+fn error_text(error: u32) -> String {
+    let mut text = vec![0; minisign::ERROR_TEXT_BYTES];
+    let len = unsafe { minisign::minisign_error_text(error, text.as_mut_ptr(), text.len()) };
+    text.truncate(len);
+    String::from_utf8_lossy(&text).into_owned()
+}
+
+fn run(arguments: &[String]) -> io::Result<ExitCode> {
+    let (pk, data, sig) = match arguments {
+        [_, pk, data, sig] => (pk, data, sig),
+        _ => {
+            eprintln!("usage: installed_verify PUBLIC_KEY DATA SIGNATURE");
+            return Ok(ExitCode::from(2));
+        }
+    };
+    match verify(&fs::read(pk)?, &fs::read(sig)?, &mut File::open(data)?) {
+        Ok(trusted_comment) => {
+            io::stdout().write_all(&[&trusted_comment[..], b"\n"].concat())?;
+            Ok(ExitCode::SUCCESS)
+        }
+        Err(Rejection::Number(error)) => {
+            eprintln!("{}", error_text(error));
+            Ok(ExitCode::from(1))
+        }
+        Err(Rejection::Unread(error)) => Err(error),
+    }
+}
+
+fn main() -> ExitCode {
+    let arguments: Vec<String> = std::env::args().collect();
+    run(&arguments).unwrap_or_else(|error| {
+        eprintln!("{error}");
+        ExitCode::from(2)
+    })
+}

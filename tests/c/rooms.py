@@ -1,0 +1,151 @@
+#!/usr/bin/env python3
+"""The C of `c/` as it stands in its rooms, and what is built of it.
+
+    tests/c/rooms.py
+
+No name means two things in the rooms of the programs and in what they share; no room takes from another but as docs/ARCHITECTURE.md
+says; what only Linux has stands in one file each; one function tests UTF-8 and one struct answers a request for memory; no function has
+more than 50 lines, and what is written by hand no more than it may have. The manual pages have a date, and mandoc finds nothing. What is
+built needs nothing that glibc 2.31 has not. Without libsodium's header make says so in one sentence. It prints a line for each failure;
+the last line is `N passed, M failed`.
+
+Needs Python 3.9 or later, make, gcc, binutils, mandoc and libsodium with its header, and installs what is not there where it may.
+"""
+
+import collections
+import glob
+import os
+import re
+import subprocess
+import sys
+
+HERE = os.path.dirname(os.path.realpath(__file__))
+sys.path.append(os.path.join(HERE, "..", "shared"))
+
+import ending
+import needs
+import static_library
+
+C = static_library.DIRECTORY
+# All but boundary.c, which is made, and what the calls as C need besides.
+BY_HAND = ("minisign/*.[ch]", "install/*.[ch]", "shared/*.[ch]", "library/allocation.[ch]", "library/clearing.[ch]")
+MAX_LINES, MAX_FUNCTION = 7300, 50
+# Of which rooms each room takes headers besides its own.
+TAKES = {"minisign": {"shared", "library"}, "install": {"shared"}, "shared": set(), "library": set()}
+# What only Linux has, in which file alone, and with which words the names of a place that is written through.
+OF_LINUX = {
+    "O_PATH": "handles.c", "fstatfs": "handles.c", "ST_NOSYMFOLLOW": "handles.c", "O_TMPFILE": "stages.c", "renameat2": "stages.c",
+    "RENAME_NOREPLACE": "stages.c", "sync_file_range": "stages.c", "xattr": "permissions.c", "getrandom": "stages.c",
+    '"/proc/self/fd/%d"': "handles.c",
+}
+MOST_GLIBC = (2, 31)
+# What the headers of an older glibc have in place of a name of its own.
+BY_HEADERS = {"fstat", "fstatat", "lstat", "stat"}
+
+
+def read(path):
+    with open(path, encoding="utf-8") as file:
+        return file.read()
+
+
+def code_of(path):
+    """A file without its comments."""
+    return re.sub(r"/\*.*?\*/", lambda found: re.sub(r"[^\n]", " ", found[0]), read(path), flags=re.S)
+
+
+def names_of(text):
+    """What a file defines or declares for itself or others: functions, types, constants and variables."""
+    kind = r"(?:(?:static|extern|_Noreturn|const|volatile|struct|enum|unsigned) )*[a-z_0-9]+[ *]+"
+    found = set(re.findall(rf"^{kind}\**([a-z_][a-z0-9_]*)\(", text, re.M))
+    found |= {" ".join(words) for words in re.findall(r"\b(struct|enum|union) ([a-z_0-9]+) \{", text)}
+    found |= set(re.findall(r"^#define ([A-Z_0-9]+)", text, re.M))
+    found |= set(re.findall(r"^static [^(=;{]*?\b([a-z_]+)(?:\[[^\]]*\])?(?: = |;)", text, re.M))
+    for body in re.findall(r"\benum(?: [a-z_]+)? \{([^}]*)\}", text):
+        found |= set(re.findall(r"\b([A-Z][A-Z_0-9]+)\b", re.sub(r"=[^,}]*", "", body)))
+    return found - {"main", "_DEFAULT_SOURCE", "_GNU_SOURCE", "_POSIX_C_SOURCE"}
+
+
+def check_names(checks):
+    rooms = {room: {path: names_of(code_of(path)) for path in glob.glob(f"{C}/{room}/*.[ch]")} for room in ("minisign", "install", "shared")}
+    checks.check(all(len(files) > 5 and set().union(*files.values()) for files in rooms.values()), "a room is empty")
+    for one, other in (("minisign", "install"), ("minisign", "shared"), ("install", "shared")):
+        doubled = set().union(*rooms[one].values()) & set().union(*rooms[other].values())
+        checks.check(not doubled, f"names mean one thing in {one} and another in {other}: {sorted(doubled)}")
+
+
+def check_includes(checks):
+    for room, others in TAKES.items():
+        for path in glob.glob(f"{C}/{room}/*.[ch]"):
+            for taken in re.findall(r'#include "([a-z]+)/', read(path)):
+                checks.check(taken in others, f"{path} takes a header of {taken}")
+
+
+def check_sources(checks):
+    """What stands once, and how long functions are."""
+    files = {path: code_of(path) for room in ("minisign", "install", "shared", "library", "library/portable") for path in glob.glob(f"{C}/{room}/*.[ch]")}
+    for name, file in OF_LINUX.items():
+        found = {os.path.basename(path) for path, text in files.items() if name in text}
+        checks.check(found == {file}, f"{name} stands in {sorted(found)}, and not in {file} alone")
+    for what, pattern in (("a test of UTF-8", r"0xd800"), ("what answers a request for memory", r"struct grant \{")):
+        checks.check(sum(len(re.findall(pattern, text)) for text in files.values()) == 1, f"{what} stands twice or nowhere")
+    for path, text in files.items():
+        for found in re.finditer(r"^[a-z_].*\n(?:.*\n)??\{\n((?:.*\n)*?)\}\n", text, re.M):
+            length = found[0].count("\n")
+            checks.check(length <= MAX_FUNCTION or path.endswith("boundary.c"), f"{path}: {found[0].splitlines()[0]} has {length} lines")
+    count = sum(read(path).count("\n") for pattern in BY_HAND for path in glob.glob(f"{C}/{pattern}"))
+    print(f"lines of C that are written by hand: {count}")
+    checks.check(count <= MAX_LINES, f"{count} lines of C are written by hand, of at most {MAX_LINES}")
+
+
+def check_pages(checks):
+    pages = sorted(glob.glob(f"{C}/man/*.[13]"))
+    ran = subprocess.run([needs.program("mandoc", "mandoc"), "-T", "lint", *pages], stdout=subprocess.PIPE, stderr=subprocess.STDOUT)
+    checks.check(len(pages) == 4 and ran.returncode == 0 and not ran.stdout, f"mandoc: {ran.stdout.decode()[-800:]}")
+    for page in pages:
+        checks.check(re.search(r"^\.TH \S+ [13] \d{4}-\d\d-\d\d\b", read(page), re.M), f"{page} has no date")
+
+
+def versions(path, *flags):
+    """The names that a file takes of glibc, or with `--defined-only` has, each with its versions."""
+    found = collections.defaultdict(set)
+    said = subprocess.run(["nm", "-D", "--with-symbol-versions", *flags, path], stdout=subprocess.PIPE, check=True).stdout.decode()
+    for name, version in re.findall(r" (\w+)@+GLIBC_([\d.]+)$", said, re.M):
+        found[name].add(tuple(map(int, version.split("."))))
+    return found
+
+
+def check_glibc(checks, compiler, files):
+    """A name that a newer glibc calls anew, as it does with those of threads, has an older version too; one that is newer has none."""
+    said = subprocess.run([compiler, "-print-file-name=libc.so.6"], stdout=subprocess.PIPE, check=True).stdout.decode().strip()
+    has = versions(said, "--defined-only")
+    checks.check(min(has["malloc"], default=MOST_GLIBC) < MOST_GLIBC, f"{said} has no versions")
+    for file in files:
+        taken = versions(file, "--undefined-only")
+        newer = sorted(name for name, found in taken.items() if name not in BY_HEADERS and min(found | has[name]) > MOST_GLIBC)
+        checks.check(taken and not newer, f"{file} needs what glibc 2.31 has not: {newer}")
+
+
+def check_built(checks, room):
+    compiler = needs.libsodium()
+    out = os.path.join(room, "c")
+    static_library.run_make(f"OUT={out}", f"CC={compiler}", "C_CALLS=", "-j4", "all", f"{out}/libminisign-installing.so")
+    check_glibc(checks, compiler, [f"{out}/{name}" for name in ("minisign", "minisign-install", "libminisign.so", "libminisign-installing.so")])
+    header = os.path.join(room, "header")
+    os.mkdir(header)
+    with open(os.path.join(header, "sodium.h"), "w", encoding="ascii") as file:
+        file.write("#error it is not there\n")
+    ran = subprocess.run([needs.program("make", "make"), "-s", "-C", C, f"OUT={room}/none", "C_CALLS=", f"CC={compiler} -isystem {header}"],
+                         stdout=subprocess.PIPE, stderr=subprocess.STDOUT)
+    lines = [line for line in ran.stdout.decode().splitlines() if not line.startswith("make: ***")]
+    checks.check(ran.returncode != 0 and len(lines) == 1 and "there is no sodium.h" in lines[0] and "libsodium-dev" in lines[0],
+                 f"without libsodium's header: {lines}")
+
+
+def run_all(checks, room):
+    for check in (check_names, check_includes, check_sources, check_pages):
+        check(checks)
+    check_built(checks, room)
+
+
+if __name__ == "__main__":
+    sys.exit(ending.check("rooms", run_all))

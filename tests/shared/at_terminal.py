@@ -1,0 +1,85 @@
+"""How a program is run at a terminal of its own, with a person at it."""
+
+import fcntl
+import os
+import pty
+import re
+import select
+import subprocess
+import termios
+import time
+
+SECONDS = 120
+
+
+class AtTerminal:
+    """A program at a terminal of its own, and a person at it."""
+
+    def __init__(self, command, program, directory, environment):
+        self.person, side = pty.openpty()
+        self.process = subprocess.Popen(command, executable=program, cwd=directory, env=environment, stdin=side, stdout=side,
+                                        stderr=side, umask=0o022, start_new_session=True,
+                                        preexec_fn=lambda: own_terminal(side))
+        self.side = side
+        self.shown = b""
+
+    def read_until(self, pattern):
+        """Reads what is shown until it ends with a match, or until the program has ended: whether there was one."""
+        end = time.monotonic() + SECONDS
+        while time.monotonic() < end:
+            if pattern is not None and re.search(pattern, self.shown):
+                return True
+            if select.select([self.person], [], [], 0.02)[0]:
+                try:
+                    self.shown += os.read(self.person, 65536)
+                    continue
+                except OSError:
+                    break
+            if self.process.poll() is not None and not select.select([self.person], [], [], 0.02)[0]:
+                break
+        return pattern is not None and re.search(pattern, self.shown) is not None
+
+    def type(self, line):
+        os.write(self.person, line)
+
+    def shows_typed(self):
+        """Whether the terminal shows what is typed."""
+        return bool(termios.tcgetattr(self.side)[3] & termios.ECHO)
+
+    def wait_for_hiding(self):
+        """Waits until the terminal no longer shows what is typed: Minisign drops what comes between that and its question."""
+        end = time.monotonic() + SECONDS / 10
+        while self.shows_typed() and time.monotonic() < end:
+            time.sleep(0.002)
+
+    def end(self):
+        """Lets go of the terminal: the exit status."""
+        if self.process.poll() is None:
+            try:
+                self.process.wait(SECONDS)
+            except subprocess.TimeoutExpired:
+                self.process.kill()
+                self.process.wait()
+        os.close(self.side)
+        os.close(self.person)
+        return self.process.returncode
+
+
+def own_terminal(side):
+    """Makes a terminal that of the process, which has just begun a session."""
+    fcntl.ioctl(side, termios.TIOCSCTTY, 0)
+
+
+def type_at_terminal(command, program, directory, environment, lines):
+    """Runs a program at a terminal at which a person types a line at each question for a password: its status, and what was
+    shown."""
+    at = AtTerminal(command, program, directory, environment)
+    questions = 0
+    for line in lines:
+        questions += 1
+        if not at.read_until(rb"(?:Password(?: \(one more time\))?: [^P]*){%d}$" % questions):
+            break
+        at.wait_for_hiding()
+        at.type(line)
+    at.read_until(None)
+    return at.end(), at.shown
