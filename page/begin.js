@@ -7,13 +7,10 @@ const SHORTEST = Uint8Array.of(0, 97, 115, 109, 1, 0, 0, 0, 1, 5, 1, 96, 1, 126,
 
 const FROM_DISK = "Save the page and open it from disk, or open it by https.";
 
-function hasWebAssembly() {
-  return typeof WebAssembly === "object" && WebAssembly.validate(SHORTEST);
-}
-
 // What the browser lacks, in words.
 async function lackingParts() {
-  const parts = hasWebAssembly() ? [] : ["WebAssembly"];
+  const hasWebAssembly = typeof WebAssembly === "object" && WebAssembly.validate(SHORTEST);
+  const parts = hasWebAssembly ? [] : ["WebAssembly"];
   if (!await hasEd25519()) {
     parts.push(isSecureContext ? "Ed25519 in WebCrypto"
       : "Ed25519 here, since this page was not opened from disk or by https");
@@ -34,7 +31,7 @@ async function begin(script) {
       (isSecureContext ? "A newer browser may have what is missing." : FROM_DISK));
     return;
   }
-  const module = moduleBytes();
+  const module = bytesOfBase64(MODULE);
   try {
     library = await Library.load(module);
   } catch (why) {
@@ -44,18 +41,25 @@ async function begin(script) {
     return;
   }
   engineBegun = beginEngine(script);
-  showBuiltIn();
+  takeCarried();
+  hideAnswered();
   listen();
   at("lacking").hidden = true;
   at("controls").hidden = false;
   document.documentElement.dataset.ready = "yes";
-  inTurn(takeFirstKey);
 }
 
-// A key that is built in is shown, and no other can be given.
-function showBuiltIn() {
-  at("key-places").hidden = BUILT_IN_KEY !== "";
-  at("of-the-key").hidden = BUILT_IN_KEY !== "";
+// Nothing is asked, or told of, that the page has: a key that is built in, and signatures. Where a download alone is wanted, there
+// are no steps, and the key stands below.
+function hideAnswered() {
+  const has = {key: BUILT_IN_KEY !== "", signature: carried.length > 0};
+  has.steps = has.key || key !== null && has.signature;
+  for (const part of document.querySelectorAll("[data-unless]")) {
+    part.hidden = has[part.dataset.unless];
+  }
+  if (has.steps) {
+    at("controls").append(at("key"));
+  }
 }
 
 function listen() {
@@ -66,23 +70,25 @@ function listen() {
       inTurn(() => take(typed));
     });
   }
-  at("key-file").addEventListener("change", () => takeEach(at("key-file"), files => takeKeyFile(files[0], "chosen")));
+  // What was chosen leaves its place empty, so that the same file can be chosen again.
+  for (const [name, take] of [["key-file", files => takeKeyFile(files[0], "chosen")], ["files", takeFiles]]) {
+    at(name).addEventListener("change", () => {
+      const files = [...at(name).files];
+      at(name).value = "";
+      inTurn(() => take(files));
+    });
+  }
   at("key-remove").addEventListener("click", () => inTurn(removeKey));
-  at("files").addEventListener("change", () => takeEach(at("files"), takeFiles));
   at("clear").addEventListener("click", () => inTurn(clearList));
   // Whoever opened this page can change what stands after # of its address: then all begins anew.
   addEventListener("hashchange", () => location.reload());
-  for (const name of ["dragenter", "dragover"]) {
+  for (const name of ["dragenter", "dragover", "dragleave", "drop"]) {
     addEventListener(name, event => {
       event.preventDefault();
-      document.body.classList.add("dropping");
+      document.body.classList.toggle("dropping", ["dragenter", "dragover"].includes(name));
     });
   }
-  for (const name of ["dragleave", "drop"]) {
-    addEventListener(name, () => document.body.classList.remove("dropping"));
-  }
   addEventListener("drop", event => {
-    event.preventDefault();
     const {files, hasDirectories} = droppedFiles(event.dataTransfer);
     const section = [...document.querySelectorAll("section")].find(it => it.contains(event.target));
     if (files.length === 0 && !hasDirectories) {
@@ -108,15 +114,6 @@ function droppedFiles(transfer) {
   const isDirectory = item => item.webkitGetAsEntry()?.isDirectory === true;
   const files = items.filter(item => !isDirectory(item)).map(item => item.getAsFile()).filter(file => file !== null);
   return {files, hasDirectories: items.some(isDirectory)};
-}
-
-// Passes on what was chosen, and leaves the place empty, so that the same file can be chosen again.
-function takeEach(input, take) {
-  const files = [...input.files];
-  if (files.length > 0) {
-    inTurn(() => take(files));
-    input.value = "";
-  }
 }
 
 if (typeof document === "undefined") {

@@ -4,15 +4,15 @@
 it, which each browser of the last years runs, and writes the page that verifies a download: one file, with the module in
 it, that loads nothing.
 
-    page/build.py [--key LETTERS] [--title TITLE] [--from PAGE] [OUT]
-    page/build.py --sources
-    page/build.py --package [OUT]
+    page/build.py [OUT] [--key LETTERS [--signature FILE.minisig ..]] [--title TITLE] [--from PAGE]
+    page/build.py [OUT] --package [--from PAGE]
 
 OUT is the page, `page/minisign.html` where none is named. It has the script, the style and the module in it, and a policy
-that allows exactly these. With --key it has this public key, a line of 56 letters and digits, and takes no other; --title is its
-heading. With --from the module is that of a page which was built before, and neither the kit nor wasm-opt is needed. The
-same sources give the same bytes, whose SHA-256 sum is printed. The page names its version and the sum of the sources that
-it is made from: the SHA-256 sum of the lines that --sources prints, as of `sha256sum`.
+that allows exactly these. With --key it has this public key, a line of 56 letters and digits, and takes no other; with
+--signature it has these signatures, too, and takes a download alone; --title is its heading. With --from the module is that of
+a page which was built before, and neither the kit nor wasm-opt is needed. The same sources give the same bytes, whose SHA-256
+sum is printed. The page names its version; and the sum of its sources, which `tools/sources.sh page` prints, where
+`dist/PROVED` names that sum and the module, and otherwise says that it is not what that names.
 
 `rt` proves the crate for this processor, as `rt ci` takes none for WebAssembly, so the prover is called for it here.
 Libraries below it that stand proved are taken as they are, and the others proved first (`tests/shared/proved.py`).
@@ -50,6 +50,14 @@ SCRIPTS = (*(f"{PACKAGE}/{name}" for name in ("calls.js", "ed25519.js", "verific
 TITLE = "Verify a download"
 KEY_LETTERS = 56
 KEY_BYTES = 42
+# The two lines of a signature that are base64, by their places: how they begin, and how many bytes they have.
+RECORDS = {1: ((b"ED", b"Ed"), 74), 3: (b"", 64)}
+SIGNATURE_ENDING = ".minisig"
+# How its other two lines begin.
+COMMENTS = {0: "untrusted comment:", 2: "trusted comment:"}
+
+# What dist/PROVED says of the page: by what its lines begin, which tools/dist.py writes.
+SOURCES_SUM, MODULE_SUM = "sources of the page", "its module has the SHA-256 sum"
 
 # What wasm-opt is told: which parts of WebAssembly the proved module may use, and to make its addresses numbers of 32 bits.
 FEATURES = ("memory64", "bulk-memory", "mutable-globals", "sign-ext", "nontrapping-float-to-int")
@@ -70,30 +78,37 @@ def read(path):
 
 
 def script_of(path):
-    """A script as it stands in the page, where all are one: a module without what it takes in, and without `export`."""
-    return re.sub(r"(?m)^export ", "", re.sub(r"(?m)^import .*;\n", "", read(path)))
+    """
+    A script as it stands in the page, where all are one: a module without what it takes in, and without `export`. The comments
+    are for whoever reads the sources, whose sum the page names.
+    """
+    return re.sub(r"(?m)^export ", "", re.sub(r"(?m)^(import .*;| *//.*)\n", "", read(path)))
 
 
-def sources():
-    """The paths of all that the page is made from, in their order: page/, and the crates of its library."""
-    crates = [*proved.crates()[CRATE].below, CRATE]
-    found = ["LICENSE", "crates.txt", "include/minisign.h", "page/build.py", "page/page.css", "page/page.html"]
-    found += SCRIPTS
-    for crate in crates:
-        for part in ("src", "specs"):
-            for directory, _, names in os.walk(os.path.join(TOP, "crates", crate, part)):
-                named = [name for name in names if name.endswith((".rt", ".antt"))]
-                found += [os.path.relpath(os.path.join(directory, name), TOP) for name in named]
-    return sorted(found)
+def style():
+    """The style as it stands in the page, without comments."""
+    return re.sub(r"(?m)^ */\*.*\*/\n", "", read("page/page.css"))
 
 
-def source_lines():
-    """A line for each source, as sha256sum writes it."""
-    lines = []
-    for path in sources():
-        with open(os.path.join(TOP, path), "rb") as file:
-            lines.append(f"{hashlib.sha256(file.read()).hexdigest()}  {path}\n")
-    return "".join(lines)
+def sources_sum():
+    """The sum of all that the page is made from, as dist/PROVED has it."""
+    command = ["sh", os.path.join(TOP, "tools", "sources.sh"), "page"]
+    return subprocess.run(command, stdin=subprocess.DEVNULL, stdout=subprocess.PIPE, check=True).stdout.decode().strip()
+
+
+def named_sums():
+    """The sums of the page's module and of its sources that dist/PROVED names, or nothing where it is not there."""
+    try:
+        said = read("dist/PROVED")
+    except OSError:
+        return None
+    found = [re.search(f"^{name}: (.*)$", said, re.M) for name in (MODULE_SUM, SOURCES_SUM)]
+    return tuple(it[1] for it in found) if all(found) else None
+
+
+def sum_of(module):
+    """The SHA-256 sum of a module."""
+    return hashlib.sha256(module).hexdigest()
 
 
 def version():
@@ -182,18 +197,63 @@ def checked_key(letters):
     return letters
 
 
-def page(module, by, key="", title=TITLE):
-    """The page around a module for 32 bits that was made by this program, with this key built in, if there is one."""
-    scripts = "\n".join(map(script_of, SCRIPTS))
-    constants = [f'const MODULE = "{base64.b64encode(module).decode()}";', f"const LOWERED_BY = {json.dumps(by)};",
-                 f'const BUILT_IN_KEY = "{key and checked_key(key)}";']
-    script = "\n".join(['"use strict";', *constants, scripts])
-    style = read("page/page.css")
-    with open(os.path.join(TOP, "LICENSE"), encoding="utf-8") as file:
-        licence = file.read().strip()
-    parts = {"policy": policy(script, style), "style": style, "script": script, "title": html.escape(title),
-             "licence": licence, "version": version(), "sources": hashlib.sha256(source_lines().encode()).hexdigest(),
-             "lowering": html.escape(by)}
+def checked_signatures(paths, key):
+    """The names and texts of signatures that can be built in beside a key."""
+    found = {}
+    for path in paths:
+        name = os.path.basename(path)
+        if not name.endswith(SIGNATURE_ENDING) or name == SIGNATURE_ENDING:
+            raise NotPossible(f"{path} is not named as a signature, FILE{SIGNATURE_ENDING}: the page that is written is named first")
+        if name in found:
+            raise NotPossible(f"two signatures are named {name}, and so would be of the same file")
+        found[name] = checked_signature(path, key)
+    return list(found.items())
+
+
+def checked_signature(path, key):
+    """The text of a signature that can be built in beside a key. (The page verifies it; here it has to look like one.)"""
+    try:
+        with open(path, encoding="utf-8", newline="") as file:
+            text = file.read()
+    except (OSError, UnicodeDecodeError) as why:
+        raise NotPossible(f"{path} cannot be read: {why}") from None
+    lines = [line.rstrip("\r") for line in text.split("\n")]
+    try:
+        records = {at: base64.b64decode(lines[at], validate=True) for at in RECORDS}
+    except (IndexError, binascii.Error, ValueError):
+        raise NotPossible(f"{path} is no signature") from None
+    is_one = all(records[at].startswith(begin) and len(records[at]) == length for at, (begin, length) in RECORDS.items())
+    if not is_one or not all(lines[at].startswith(begin) for at, begin in COMMENTS.items()):
+        raise NotPossible(f"{path} is no signature")
+    if records[1][2:10] != base64.b64decode(key)[2:10]:
+        raise NotPossible(f"{path} was made with another key")
+    return text
+
+
+def constant(name, value):
+    """A line of the script with a constant, in which nothing can be taken for markup."""
+    return f"const {name} = {json.dumps(value)};".replace("<", "\\u003c")
+
+
+def made_from(module, by, sums):
+    """What the page says of the sources and the proof of its module, where that and they have these sums; or that nobody says so."""
+    if sums != (sum_of(module), sources_sum()):
+        return "This page and the library inside are not those that dist/PROVED of the sources names, so nothing is said of their proof."
+    return (f'Made from the sources with the SHA-256 sum <span class="letters" translate="no">{sums[1]}</span>. The library inside is '
+            f"proved as it was built for 64-bit WebAssembly; {html.escape(by)} made the module for 32 bits of it, and this and the page "
+            "around it are tested.")
+
+
+def page(module, by, key="", title=TITLE, signatures=(), sums=None):
+    """
+    The page around a module for 32 bits that was made by this program, with this key, and these signatures by their names,
+    built in. The sums are those of dist/PROVED where none are named.
+    """
+    constants = [constant("MODULE", base64.b64encode(module).decode()), constant("LOWERED_BY", by),
+                 constant("BUILT_IN_KEY", key and checked_key(key)), constant("BUILT_IN_SIGNATURES", signatures)]
+    script = "\n".join(['"use strict";', *constants, *map(script_of, SCRIPTS)])
+    parts = {"policy": policy(script, style()), "style": style(), "script": script, "title": html.escape(title),
+             "licence": read("LICENSE").strip(), "version": version(), "made": made_from(module, by, sums or named_sums())}
     return re.sub(r"\{\{(\w+)\}\}", lambda found: parts[found[1]], read("page/page.html"))
 
 
@@ -217,9 +277,10 @@ def options(words):
     """What is asked for."""
     parser = argparse.ArgumentParser(prog="page/build.py", description="Writes the page that verifies a download.")
     parser.add_argument("--key", default="", metavar="LETTERS", help="the key that is built in: its line of 56 letters and digits")
+    parser.add_argument("--signature", default=[], nargs="+", action="extend", metavar="FILE.minisig",
+                        help="signatures that are built in beside the key, so that a download is taken alone")
     parser.add_argument("--title", default=TITLE, metavar="TITLE", help="the page's heading")
     parser.add_argument("--from", dest="built", metavar="PAGE", help="a page that was built before, whose module is taken")
-    parser.add_argument("--sources", action="store_true", help="print the sums of the sources, and write no page")
     parser.add_argument("--package", action="store_true", help="write the module of the package for JavaScript, and no page")
     parser.add_argument("out", nargs="?", metavar="OUT", help="the page that is written, or the module")
     return parser.parse_args(words)
@@ -227,17 +288,17 @@ def options(words):
 
 def main(words):
     asked = options(words)
-    if asked.sources:
-        sys.stdout.write(source_lines())
-        return 0
     try:
         if asked.package:
             module, by = taken_from(asked.built or os.path.join(TOP, "dist", "minisign.html"))
             write(os.path.abspath(asked.out or os.path.join(TOP, PACKAGE, "module.js")), package_module(module, by))
             return 0
         key = asked.key and checked_key(asked.key)
+        if asked.signature and not key:
+            raise NotPossible("a page with signatures has a key, too: name it by --key")
+        signatures = checked_signatures(asked.signature, key)
         module, by = taken_from(asked.built) if asked.built else (lowered(proved_module()), lowering())
-        write(os.path.abspath(asked.out or os.path.join(HERE, "minisign.html")), page(module, by, key, asked.title))
+        write(os.path.abspath(asked.out or os.path.join(HERE, "minisign.html")), page(module, by, key, asked.title, signatures))
     except (NotPossible, needs.Missing, proved.NotBuilt, OSError) as why:
         print(f"page/build.py: {why}", file=sys.stderr)
         return 1

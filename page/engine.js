@@ -4,12 +4,14 @@
 // long, and the state goes from one to the next.
 // Where the browser, or whoever serves the page, allows no such threads, all is done in the page's own.
 
-// How long a thread may take to say that it is there, in milliseconds.
+// How long a thread may take to say that it is there, or a text to be read, in milliseconds.
 const MAX_MILLISECONDS = 10000;
 const THREADS = 3;
 // How many bytes of the file a thread reads and hashes at a time. Of a slice there are two copies for a moment, and the page is
 // to take at most 32 MiB more than an empty one.
 const SLICE_BYTES = 3 * 1048576;
+// A file that is no longer is hashed in the page's own thread, before another one would have answered.
+const MAX_NEAR_BYTES = 1048576;
 // What a thread hashes before there is a file, and how often, so that the browser makes its better code of the module meanwhile.
 const WARMING_BYTES = 262144;
 const WARMING_TIMES = 8;
@@ -51,7 +53,7 @@ function placeSlice(own, file, begin, end) {
 // Answers the page: a file and where its slice begins is read; a state is fed that slice and goes back, or nothing where the
 // slice was not read, and then the thread's next slice is read.
 async function serve() {
-  const own = await Library.load(moduleBytes());
+  const own = await Library.load(bytesOfBase64(MODULE));
   const slice = Math.min(own.pieceBytes, SLICE_BYTES);
   for (let times = 0; times < WARMING_TIMES; times += 1) {
     own.feed(own.begin(), new Uint8Array(WARMING_BYTES));
@@ -76,14 +78,14 @@ async function serve() {
 
 // ---- In the page ----
 
-function moduleBytes() {
-  return Uint8Array.from(atob(MODULE), letter => letter.charCodeAt(0));
+function bytesOfBase64(letters) {
+  return Uint8Array.from(atob(letters), letter => letter.charCodeAt(0));
 }
 
 // The bytes of a part of a file, or null where it cannot be read.
 async function bytesOfFile(file, begin, end) {
   try {
-    const bytes = new Uint8Array(await file.slice(begin, end).arrayBuffer());
+    const bytes = new Uint8Array(await (begin === 0 && end >= file.size ? file : file.slice(begin, end)).arrayBuffer());
     return bytes.length === Math.min(end, file.size) - begin ? bytes : null;
   } catch {
     return null;
@@ -101,7 +103,7 @@ class NearEngine {
       if (bytes === null || !goesOn(begin)) {
         return false;
       }
-      next = bytesOfFile(file, begin + slice, begin + 2 * slice);
+      next = begin + slice < file.size ? bytesOfFile(file, begin + slice, begin + 2 * slice) : null;
       verification.feed(bytes);
     }
     return true;
@@ -110,9 +112,8 @@ class NearEngine {
 
 // Hashing in threads.
 class FarEngine {
-  constructor(threads, slice) {
+  constructor(threads) {
     this.threads = threads;
-    this.slice = slice;
   }
 
   async feedFile(file, verification, goesOn) {
@@ -132,13 +133,13 @@ class FarEngine {
   }
 
   static async begin(address) {
-    const threads = Array.from({length: THREADS}, () => new Worker(address));
+    const engine = new FarEngine(Array.from({length: THREADS}, () => new Worker(address)));
     try {
       const late = new Promise((_, reject) => setTimeout(reject, MAX_MILLISECONDS));
-      const [slice] = await Promise.race([Promise.all(threads.map(thread => answerOf(thread))), late]);
-      return new FarEngine(threads, slice);
+      [engine.slice] = await Promise.race([Promise.all(engine.threads.map(thread => answerOf(thread))), late]);
+      return engine;
     } catch (why) {
-      threads.forEach(thread => thread.terminate());
+      engine.end();
       throw why;
     }
   }

@@ -19,12 +19,15 @@ let engineBegun;
 // The public key: its bytes as the library has read them, its identifier, its 56 letters, and its source, which is a kind of
 // SOURCES and the name of a file; or nothing while there is none.
 let key = null;
+// The signatures that are built into the page or that its address has, as files, each with the names that its file may have.
+const carried = [];
 // A file, its signature and its row, by the file's name and in the order in which they came.
 const downloads = new Map();
+// Those of them that were changed, and have not been looked at since.
+const changed = new Set();
 let isWorking = false;
 // What a person does is taken in its order, also where a file has to be read to know what it is.
 let lastTurn = Promise.resolve();
-let pendingTurns = 0;
 // The person's last act, and whether a verdict that it brought was shown.
 let lastAct = {isAnswered: false};
 
@@ -35,11 +38,11 @@ function inTurn(act) {
     return act();
   };
   const showPending = change => {
-    pendingTurns += change;
-    document.documentElement.dataset.pending = pendingTurns;
+    const {dataset} = document.documentElement;
+    dataset.pending = Number(dataset.pending ?? 0) + change;
   };
   showPending(1);
-  lastTurn = lastTurn.then(begin).catch(() => sayOfFiles([WENT_WRONG])).finally(() => {
+  lastTurn = lastTurn.then(begin).catch(() => sayOfFiles(WENT_WRONG)).finally(() => {
     showPending(-1);
     reviewAll();
   });
@@ -50,14 +53,14 @@ function inTurn(act) {
 function setKey(text, isBare, source) {
   dropKey();
   if (text.length >= TEXT_BYTES) {
-    sayOfKey("bad", TOO_LONG_A_KEY, ...beside(source));
+    sayOfKey(TOO_LONG_A_KEY, ...beside(source));
     return;
   }
   const {number, keyId, key: bytes} = library.readKey(text, isBare);
   const words = new TextDecoder().decode(text);
   if (number === 0) {
     key = {bytes, keyId, letters: lettersOf(bytes), source};
-    sayOfKey("good", "Key ", lettersBox(keyId), ", ", ...sourceOf(source), ".");
+    sayOfKey("Key ", lettersBox(keyId), ", ", ...sourceOf(source), ".");
     at("key-whole").replaceChildren("In full: ", lettersBox(key.letters));
     at("key-whole").hidden = false;
     at("key-remove").hidden = source.kind === "page";
@@ -65,7 +68,7 @@ function setKey(text, isBare, source) {
     // (8: it is no text)
     const hint = number === 8 ? "" : hintOf(words);
     const isShown = HINTS_WITH_KEY.includes(hint) && SOURCES.get(source.kind).isGiven;
-    sayOfKey("bad", `No public key: ${HINTS.get(hint) ?? whyNoKey(number)}`, ...(isShown ? [" ", lettersBox(keyIn(words))] : []),
+    sayOfKey(`No public key: ${HINTS.get(hint) ?? WHY_NO_KEY.get(number) ?? WENT_WRONG}`, ...(isShown ? [" ", lettersBox(keyIn(words))] : []),
       ...beside(source));
   }
   at("key-said").dataset.number = number;
@@ -78,7 +81,7 @@ function beside({name}) {
 
 function clearKey() {
   dropKey();
-  sayOfKey("");
+  sayOfKey();
 }
 
 // What was found with the key is found no more.
@@ -92,8 +95,7 @@ function dropKey() {
   }
 }
 
-function sayOfKey(verdict, ...words) {
-  at("key-said").dataset.verdict = verdict;
+function sayOfKey(...words) {
   at("key-said").replaceChildren(...words);
 }
 
@@ -113,7 +115,7 @@ async function takeKeyFile(file, kind) {
   at("key-text").value = "";
   const bytes = await textOfFile(file);
   if (bytes === null) {
-    sayOfKey("bad", TOO_LONG_A_KEY, ...beside(file));
+    sayOfKey(TOO_LONG_A_KEY, ...beside(file));
   } else {
     setKey(bytes, false, {kind, name: file.name});
   }
@@ -125,21 +127,39 @@ function removeKey() {
   at("key-text").focus();
 }
 
-// The key that is built into the page, or that its address has.
-function takeFirstKey() {
-  const letters = BUILT_IN_KEY || lettersOfAddress(location.hash.slice(1));
-  if (letters) {
-    setKey(new TextEncoder().encode(letters), true, {kind: BUILT_IN_KEY ? "page" : "link"});
-  } else if (location.hash.length > 1) {
-    sayOfKey("bad", NO_KEY_IN_ADDRESS);
+// Takes what is built into the page, and what its address has; no key of that where the page has its own.
+function takeCarried() {
+  const {keys, letters, signatures} = partsOfLink(location.hash.slice(1));
+  const linked = signatures.map(it => [(namesIn(it)[0] ?? "link") + SIGNATURE_ENDING, it]);
+  for (const [name, text] of [...linked, ...BUILT_IN_SIGNATURES]) {
+    if (kindOfText(text) === "signature") {
+      carried.push({file: new File([text], name), names: [nameOfSigned(name), ...namesIn(text)]});
+    } else {
+      sayOfFiles(NO_SIGNATURE_IN_ADDRESS);
+    }
   }
+  if (BUILT_IN_KEY || letters) {
+    setKey(new TextEncoder().encode(BUILT_IN_KEY || letters), true, {kind: BUILT_IN_KEY ? "page" : "link"});
+  } else if (keys.length > 0) {
+    sayOfKey(NO_KEY_IN_ADDRESS);
+  }
+  if (BUILT_IN_KEY && keys.some(it => it !== BUILT_IN_KEY)) {
+    at("key-said").append(" ", OTHER_KEY_IN_ADDRESS);
+  }
+}
+
+// The signatures that a download is verified by: its own, or those that the page carries for its name, or else all of these.
+function signaturesOf({name, signature}) {
+  const named = carried.filter(it => it.names.some(other => isAlikeName(other, name)));
+  return signature ? [signature] : (named.length > 0 ? named : carried).map(it => it.file);
 }
 
 // ---- The files ----
 
-// The bytes of a text, which is not long.
+// The bytes of a text, which is not long, or null where it cannot be read, or hangs for MAX_MILLISECONDS.
 async function textOfFile(file) {
-  return file.size < TEXT_BYTES ? await bytesOfFile(file, 0, file.size) : null;
+  const late = new Promise(resolve => setTimeout(resolve, MAX_MILLISECONDS, null));
+  return file.size < TEXT_BYTES ? await Promise.race([bytesOfFile(file, 0, file.size), late]) : null;
 }
 
 // What a file is by its text, or by the ending of its name where the text is of no kind.
@@ -148,6 +168,9 @@ async function kindOfFile(file) {
   const kind = bytes === null ? "" : kindOfText(new TextDecoder().decode(bytes));
   if (kind) {
     return kind;
+  }
+  if (bytes?.[0] > MAX_ASCII && PGP_NAME.test(file.name)) {
+    return "PGP";
   }
   const isKey = file.name.endsWith(KEY_ENDING) && file.size < TEXT_BYTES;
   return file.name.endsWith(SIGNATURE_ENDING) ? "signature" : isKey ? "key" : "data";
@@ -162,15 +185,14 @@ function nameOfSigned(name) {
 // Takes files that were chosen or dropped together: each is a public key, a signature or data. One file and one signature
 // belong together whatever their names are.
 async function takeFiles(files, hasDirectories = false) {
-  emptyLog();
-  sayOfFiles([]);
+  emptySaid();
   if (hasDirectories) {
-    sayOfFiles([HAS_DIRECTORIES]);
+    sayOfFiles(HAS_DIRECTORIES);
   }
   const names = new Set(files.map(file => file.name));
   // A file that was taken for a download before, or comes with its signature, is one whatever is in it.
-  const isDownload = ({name}) =>
-    !name.endsWith(SIGNATURE_ENDING) && (names.has(name + SIGNATURE_ENDING) || downloads.has(name));
+  const isDownload = ({name}) => !name.endsWith(SIGNATURE_ENDING) &&
+    (names.has(name + SIGNATURE_ENDING) || downloads.has(name) || carried.some(it => it.names.includes(name)));
   const kindOf = async file => isDownload(file) ? "data" : await kindOfFile(file);
   const given = await Promise.all(files.map(async file => ({file, kind: await kindOf(file)})));
   const of = kind => given.filter(it => it.kind === kind).map(it => it.file);
@@ -185,7 +207,7 @@ async function takeFiles(files, hasDirectories = false) {
   }
   for (const kind of ["secret key", "PGP"]) {
     for (const file of of(kind)) {
-      sayOfFiles([nameOf(file.name), ` ${HINTS.get(kind)}`]);
+      sayOfFiles(nameOf(file.name), ` ${HINTS.get(kind)}`);
     }
   }
   joinLone();
@@ -194,25 +216,27 @@ async function takeFiles(files, hasDirectories = false) {
 
 // A text that was pasted as a signature: of the only file that has none, or in the place of the last one.
 function takeSignatureText(typed) {
-  emptyLog();
-  sayOfFiles([]);
-  const text = typed.trim().replace(/^[ \t]+/gm, "");
+  emptySaid();
+  const text = typed.trim().replace(/\n\s+/g, "\n");
   const kind = kindOfText(text);
   if (kind === "signature") {
     const [alone, other] = lacking("signature");
     const before = [...downloads.values()].find(({signature}) => signature?.name === PASTED);
     takeDownload(new File([text], PASTED), (alone && !other ? alone : before)?.name ?? "pasted", "signature");
   } else if (text !== "") {
-    sayOfFiles([HINTS.get(kind) ?? NO_SIGNATURE]);
+    sayOfFiles(HINTS.get(kind) ?? NO_SIGNATURE);
   }
 }
 
-// A file and a signature that are the only ones that stand alone belong together whatever their names are.
+// A file and a signature that stand alone belong together where their names are alike, or where they are the only ones.
 function joinLone() {
-  const [file, otherFile] = lacking("signature"), [signature, otherSignature] = lacking("data");
-  if (file && signature && !otherFile && !otherSignature) {
-    takeDownload(signature.signature, file.name, "signature");
-    remove(signature);
+  const files = lacking("signature"), signatures = lacking("data"), isPair = files.length === 1 && signatures.length === 1;
+  for (const signature of signatures) {
+    const file = files.find(it => !it.signature && (isPair || isAlikeName(it.name, signature.name)));
+    if (file) {
+      takeDownload(signature.signature, file.name, "signature");
+      remove(signature);
+    }
   }
 }
 
@@ -223,31 +247,34 @@ function lacking(part) {
 // Of keys that came among files one is taken where there is no key, and nothing in its field. What is there stays.
 async function takeKeysAmongFiles(files) {
   if (key || at("key-text").value.trim() !== "") {
+    // (it stands below where a download alone is wanted)
+    const side = at("key").nextElementSibling ? "above" : "below";
     for (const file of files) {
-      const stays = key ? ["the key above stays, ", lettersBox(key.keyId), "."] : [NO_KEY_IN_FIELD];
-      sayOfFiles([nameOf(file.name), " came with the files and was not taken: ", ...stays]);
+      const stays = key ? [`the key ${side} stays, `, lettersBox(key.keyId), "."] : [`what stands in the field ${side} ${NO_KEY_IN_FIELD}`];
+      sayOfFiles(nameOf(file.name), " came with the files and was not taken: ", ...stays);
     }
   } else if (files.length > 1) {
     clearKey();
-    sayOfKey("bad", SEVERAL_KEYS);
+    sayOfKey(SEVERAL_KEYS);
   } else if (files.length === 1) {
     await takeKeyFile(files[0], "files");
   }
 }
 
-// Says something of what was chosen or dropped, in a line below what was said before; no words take all of it away.
-function sayOfFiles(words) {
-  if (words.length === 0) {
-    at("files-said").replaceChildren();
-  } else {
-    at("files-said").append(element("p", "", ...words));
-  }
+// Says something of what was chosen or dropped, in a line below what was said before.
+function sayOfFiles(...words) {
+  at("files-said").append(element("p", "", ...words));
+}
+
+function emptySaid() {
+  emptyLog();
+  at("files-said").replaceChildren();
 }
 
 // Takes a file as the data or the signature of a download.
 function takeDownload(file, name, part) {
   if (!downloads.has(name)) {
-    downloads.set(name, {name, data: null, signature: null, row: element("li", ""), run: null, state: "", act: null});
+    downloads.set(name, {name, data: null, signature: null, tried: null, row: element("li", ""), run: null, act: null});
     at("verdicts").append(downloads.get(name).row);
   }
   const download = downloads.get(name);
@@ -258,13 +285,13 @@ function takeDownload(file, name, part) {
 // Has a download verified anew, by what the person did last.
 function renew(download) {
   stop(download);
-  download.state = "";
+  changed.add(download);
   download.act = lastAct;
 }
 
 function remove(download) {
   stop(download);
-  count(download.row.dataset.verdict, -1);
+  changed.delete(download);
   download.row.remove();
   downloads.delete(download.name);
 }
@@ -273,8 +300,7 @@ function clearList() {
   for (const download of [...downloads.values()]) {
     remove(download);
   }
-  emptyLog();
-  sayOfFiles([]);
+  emptySaid();
   at("files").focus();
 }
 
@@ -294,19 +320,9 @@ function beginRun() {
   return run;
 }
 
-// Has other threads hash from now on: those before may still answer about a file that was given up.
-function renewEngine() {
-  engineBegun.then(engine => engine.end?.());
-  engineBegun = beginEngine();
-}
-
 // Shows what waits, and has it verified.
 function reviewAll() {
-  for (const download of downloads.values()) {
-    if (download.state === "") {
-      showWaiting(download);
-    }
-  }
+  changed.forEach(showWaiting);
   at("nothing").hidden = downloads.size > 0;
   at("clear").hidden = downloads.size === 0;
   showBand();
@@ -319,45 +335,72 @@ async function work() {
     return;
   }
   isWorking = true;
-  const isDue = it => key && it.state === "" && it.data && it.signature;
-  for (let due; (due = [...downloads.values()].find(isDue));) {
-    const download = due;
-    const run = beginRun();
-    download.run = run;
-    download.state = "begun";
+  // (one that is changed meanwhile comes once more)
+  for (const download of changed) {
+    changed.delete(download);
+    if (!key || !download.data || signaturesOf(download).length === 0) {
+      continue;
+    }
+    const run = download.run = beginRun();
     const verdict = await Promise.race([verdictOn(download, run), run.ended]).catch(() => ({isGood: false, why: WENT_WRONG}));
+    // Other threads hash from now on: those before may still answer about a file that was given up.
     if (run.isStopped || verdict.why === WENT_WRONG) {
-      renewEngine();
+      engineBegun.then(engine => engine.end?.());
+      engineBegun = beginEngine();
     }
     if (!run.isStopped) {
-      download.state = "shown";
       draw(download, () => showVerdict(download, verdict, run.key.source));
     }
   }
   isWorking = false;
 }
 
-function rejected(number, questions) {
-  return {isGood: false, why: whyNot(number), number, questions};
+function rejected(number, keyIds) {
+  return {isGood: false, why: WHY_NOT.get(number) ?? WENT_WRONG, number, keyIds};
 }
 
-// The verdict on a download, unless the run is stopped meanwhile.
+// The verdict on a download by its signature, or by the first of several that fits, unless the run is stopped meanwhile.
 async function verdictOn(download, run) {
-  const {data, signature} = download;
-  draw(download, () => showProgress(download, 0), SHOWN_MILLISECONDS);
+  const signatures = signaturesOf(download);
+  for (const signature of signatures) {
+    download.tried = signature;
+    const verdict = await verdictBy(signature, download, run);
+    // (32: of this file, but with another comment)
+    const isOfOther = verdict?.number !== undefined && ![0, 32].includes(verdict.number);
+    if (signatures.length === 1 || !isOfOther) {
+      return verdict;
+    }
+  }
+  download.tried = null;
+  return {isGood: false, why: NONE_FITS};
+}
+
+async function verdictBy(signature, download, run) {
+  const {data} = download;
+  // Shows how many bytes were read, and answers whether the run goes on.
+  const goesOn = done => {
+    if (!run.isStopped) {
+      draw(download, () => showProgress(download, done), SHOWN_MILLISECONDS);
+    }
+    return !run.isStopped;
+  };
+  goesOn(0);
   const text = await textOfFile(signature);
   if (text === null) {
     return {isGood: false, why: "The signature cannot be read, or is longer than a signature."};
   }
   // What is wrong with the texts is known before any data is read.
-  const verification = new Verification(library, run.key.bytes, text, data.size <= MAX_LEGACY_BYTES);
-  const {questions} = verification;
-  if (verification.number !== 0) {
-    return rejected(verification.number, questions);
+  const read = library.readSignature(text), keyIds = {publicKeyId: run.key.keyId, signatureKeyId: read.keyId};
+  if (read.number !== 0) {
+    return rejected(read.number, keyIds);
   }
-  const engine = questions.isLegacy ? new NearEngine() : await engineBegun;
+  const verification = new Verification(library, run.key.bytes, read, data.size <= MAX_LEGACY_BYTES);
+  if (verification.number !== 0) {
+    return rejected(verification.number, keyIds);
+  }
+  const engine = read.isLegacy || data.size <= MAX_NEAR_BYTES ? new NearEngine() : await engineBegun;
   // (one that was stopped would take the next one's threads)
-  const isRead = !run.isStopped && await engine.feedFile(data, verification, progressOf(download, run));
+  const isRead = !run.isStopped && await engine.feedFile(data, verification, goesOn);
   if (run.isStopped) {
     return null;
   }
@@ -366,30 +409,17 @@ async function verdictOn(download, run) {
   }
   const {number, first} = await verification.end();
   if (number === 0) {
-    return {isGood: true, number, questions, comment: verification.comment()};
+    return {isGood: true, number, keyIds, comment: verification.comment()};
   }
-  const verdict = rejected(number, questions);
+  const verdict = rejected(number, keyIds);
   return first && await isOfOtherEnds(new TextDecoder().decode(text), verification) ? {...verdict, why: WHY_NOT_ENDS} : verdict;
-}
-
-// Shows how many bytes were read, and answers whether the run goes on.
-function progressOf(download, run) {
-  return done => {
-    if (!run.isStopped) {
-      draw(download, () => showProgress(download, done), SHOWN_MILLISECONDS);
-    }
-    return !run.isStopped;
-  };
 }
 
 // Whether the trusted comment, which is not the one that was signed, differs from that by white space at its ends alone.
 async function isOfOtherEnds(signatureText, verification) {
   const {questions} = verification;
-  for (const comment of commentsWithEnds(signatureText, verification.comment())) {
-    const message = Uint8Array.of(...questions.signature, ...new TextEncoder().encode(comment));
-    if (await accepts(questions.publicKey, questions.commentSignature, message)) {
-      return true;
-    }
-  }
-  return false;
+  const comments = commentsWithEnds(signatureText, verification.comment());
+  const messages = comments.map(it => Uint8Array.of(...questions.signature, ...new TextEncoder().encode(it)));
+  const answers = await Promise.all(messages.map(it => accepts(questions.publicKey, questions.commentSignature, it)));
+  return answers.includes(true);
 }

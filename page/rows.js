@@ -3,16 +3,8 @@
 
 function button(words, call) {
   const made = element("button", "", words);
-  made.type = "button";
   made.addEventListener("click", call);
   return made;
-}
-
-// How many rows have each verdict.
-const counts = new Map();
-
-function count(verdict, change) {
-  counts.set(verdict, (counts.get(verdict) ?? 0) + change);
 }
 
 // A verdict as its sign, its words, and what is said after them.
@@ -23,22 +15,25 @@ function signed(verdict, more) {
   return element("span", "verdict", picture, words + more);
 }
 
-// Shows the worst verdict of all at the top of the window, of how many files it is, and what to do next.
+// Shows the worst verdict of all at the top of the window, of how many files it is, and what to do next: where a file is
+// verified under a name that is not the signer's, to read the warning of that.
 function showBand() {
-  const verdict = [...VERDICTS.keys()].find(it => counts.get(it) > 0);
+  const found = Array.from(downloads.values(), it => it.row.dataset.verdict);
+  const verdict = [...VERDICTS.keys()].find(it => found.includes(it));
   at("band").hidden = verdict === undefined;
   if (verdict !== undefined) {
-    const of = downloads.size > 1 ? `: ${counts.get(verdict)} of ${downloads.size} files` : "";
+    const of = found.length > 1 ? `: ${found.filter(it => it === verdict).length} of ${found.length} files` : "";
     at("band").dataset.verdict = verdict;
-    at("band").replaceChildren(element("p", "", signed(verdict, of)), element("p", "", VERDICTS.get(verdict)[2]));
+    const isWarned = verdict === "good" && at("verdicts").querySelector(".caution") !== null;
+    at("band").replaceChildren(element("p", "", signed(verdict, of)), element("p", "", isWarned ? READ_WARNING : VERDICTS.get(verdict)[2]));
   }
 }
 
 // How long the file is, and the name of its signature where that is not the file's with its ending.
-function partsLine({name, data, signature}) {
-  const size = data ? sizeOf(data.size) : "";
-  const isOther = signature && signature.name !== name + SIGNATURE_ENDING;
-  const other = isOther ? ["with the signature ", nameOf(signature.name)] : [];
+function partsLine({name, data, signature, tried}) {
+  const size = data ? sizeOf(data.size) : "", its = signature ?? tried;
+  const isOther = its && its.name !== name + SIGNATURE_ENDING;
+  const other = isOther ? ["with the signature ", nameOf(its.name)] : [];
   return element("p", "aside", size, size && other.length > 0 ? ", " : "", ...other);
 }
 
@@ -57,6 +52,7 @@ function drawAll() {
   const shows = [...undrawn.values()];
   undrawn.clear();
   shows.forEach(show => show());
+  showBand();
   drawnAt = performance.now();
 }
 
@@ -64,12 +60,9 @@ function drawAll() {
 function fill(download, verdict, ...inside) {
   const {row} = download;
   const hadFocus = row.contains(document.activeElement);
-  count(row.dataset.verdict, -1);
-  count(verdict, 1);
   row.dataset.verdict = verdict;
   delete row.dataset.number;
   row.replaceChildren(element("h3", "", signed(verdict, ""), " ", nameOf(download.name)), ...inside);
-  showBand();
   if (hadFocus) {
     row.tabIndex = -1;
     (row.querySelector("button") ?? row).focus();
@@ -77,9 +70,9 @@ function fill(download, verdict, ...inside) {
 }
 
 function showWaiting(download) {
-  const {name, data, signature} = download;
+  const {name, data} = download;
   const why = !data ? ["The file itself is missing: choose or drop it, or both at once."]
-    : !signature ? ["Its signature is missing: choose or drop ", nameOf(name + SIGNATURE_ENDING), ", or both at once."]
+    : signaturesOf(download).length === 0 ? ["Its signature is missing: choose or drop ", nameOf(name + SIGNATURE_ENDING), ", or both at once."]
       : [key ? "It waits for those before it." : "The public key is missing."];
   fill(download, "waiting", partsLine(download), element("p", "", ...why));
 }
@@ -98,34 +91,34 @@ function showProgress(download, done) {
 
 function stopByHand(download) {
   stop(download);
-  download.state = "stopped";
   fill(download, "stopped", partsLine(download), button("Verify it again", () => {
-    download.state = "";
+    renew(download);
     reviewAll();
   }));
+  showBand();
   say(download, "Stopped, nothing is known of this file");
 }
 
 // Shows a verdict, which is never the best one under a key that nobody gave. The first that an act brings comes into view.
-function showVerdict(download, {isGood, why, number, questions, comment}, source) {
+function showVerdict(download, {isGood, why, number, keyIds, comment}, source) {
   const {isGiven, fits, fails} = SOURCES.get(source.kind);
   const verdict = !isGood ? "bad" : isGiven ? "good" : "unchecked";
   const ofKey = isGood ? fits : fails;
   fill(download, verdict, ...(ofKey ? [element("p", isGiven ? "" : "caution", ofKey)] : []), partsLine(download),
-    ...(isGood ? goodLines(download, questions, comment, source) : badLines(why, number, questions)));
+    ...(isGood ? goodLines(download, keyIds, comment, source) : badLines(why, number, keyIds)));
   if (number !== undefined) {
     download.row.dataset.number = number;
   }
   const [, words] = VERDICTS.get(verdict);
-  say(download, `${words}. ${isGood ? `The key is ${questions.publicKeyId}.` : why} ${ofKey}`);
+  say(download, `${words}. ${isGood ? `The key is ${keyIds.publicKeyId}.` : why} ${ofKey}`);
   if (!download.act.isAnswered) {
     download.act.isAnswered = true;
     download.row.scrollIntoView({block: "nearest"});
   }
 }
 
-function goodLines(download, questions, comment, source) {
-  const first = element("p", "", "This file is exactly what was signed with the key ", lettersBox(questions.publicKeyId), ", ",
+function goodLines(download, keyIds, comment, source) {
+  const first = element("p", "", "This file is exactly what was signed with the key ", lettersBox(keyIds.publicKeyId), ", ",
     ...sourceOf(source), ".");
   if (comment === "") {
     return [first, element("p", "", "The trusted comment, which was signed with it, is empty.")];
@@ -135,7 +128,8 @@ function goodLines(download, questions, comment, source) {
   box.role = "group";
   box.ariaLabel = "Trusted comment";
   const {names, time} = toldByComment(comment);
-  const otherNames = names.filter(name => !isSameName(name, download.data.name));
+  // (but for how letters with marks are written)
+  const otherNames = names.filter(name => name.normalize() !== download.data.name.normalize());
   return [
     first,
     ...otherNames.map(name => isAlikeName(name, download.data.name)
@@ -147,10 +141,10 @@ function goodLines(download, questions, comment, source) {
   ];
 }
 
-function badLines(why, number, questions) {
+function badLines(why, number, keyIds) {
   const lines = [element("p", "why", why)];
   if (number === 29) {
-    const {signatureKeyId, publicKeyId} = questions;
+    const {signatureKeyId, publicKeyId} = keyIds;
     lines.push(element("p", "", "The signature's key is ", lettersBox(signatureKeyId), ", and the public key is ",
       lettersBox(publicKeyId), "."));
   }

@@ -8,6 +8,9 @@ const KEY_LINE = /^RW[A-Za-z0-9+/]{54}$/;
 const SIGNATURE_LINE = /^R[UW][A-Za-z0-9+/]{97}=$/;
 const SECRET_KEY_LINE = /RW(RTY0Iy|QAAEIy)[A-Za-z0-9+/]{100}/;
 const PGP_LINE = /^-----BEGIN PGP /;
+// How a file of PGP is named that is no text: its first byte is greater than this.
+const PGP_NAME = /\.(asc|gpg|pgp|sig)$/i;
+const MAX_ASCII = 0x7f;
 const COMMAND = /\bminisign(-verify)?(\.exe)?["']?\s+-|(^|\s)-P\s*["']?RW/;
 
 function linesOf(text) {
@@ -49,7 +52,7 @@ function hintOf(text) {
   if (lines.some(line => SIGNATURE_LINE.test(line))) {
     return "signature";
   }
-  if (text.includes("#") && lettersOfAddress(text.trim().replace(/^.*?#/s, ""))) {
+  if (text.includes("#") && partsOfLink(text.trim().replace(/^.*?#/s, "")).letters) {
     return "link";
   }
   if (COMMAND.test(text)) {
@@ -65,18 +68,30 @@ function lettersOf(key) {
   return btoa(String.fromCharCode(0x45, 0x64, ...key.subarray(32), ...key.subarray(0, 32)));
 }
 
-// The 56 letters after # of an address, as they stand or as key=, or nothing where it has no key, or more than one. Other
-// words are never taken.
-function lettersOfAddress(after) {
-  const parts = after.split("&");
-  const named = parts.filter(part => part.startsWith("key=")).map(part => part.slice(4));
-  const found = named.length === 0 ? parts : named;
+// What stands in a part of a link, percent-encoded, or the text whose base64 stands there; or nothing where it is neither.
+function decoded(part, isText) {
   try {
-    const letters = decodeURIComponent(found[0]);
-    return found.length === 1 && KEY_LETTERS.test(letters) ? letters : "";
+    const words = decodeURIComponent(part);
+    return isText && !words.includes(":") ? new TextDecoder().decode(bytesOfBase64(words)) : words;
   } catch {
     return "";
   }
+}
+
+// What a link has after #: the texts of signatures, as sig=; what it has as a key, as key=, or everything else where there is none
+// of that; and the 56 letters of that, or nothing where they are none, or there are more. Other words are never taken.
+function partsOfLink(after) {
+  const parts = after.split("&").filter(it => it !== "");
+  const valuesOf = (name, isText) => parts.filter(it => it.startsWith(name)).map(it => decoded(it.slice(name.length), isText));
+  const named = valuesOf("key=", false);
+  const keys = named.length > 0 ? named : parts.filter(it => !it.startsWith("sig=")).map(it => decoded(it, false));
+  const letters = keys.length === 1 && KEY_LETTERS.test(keys[0]) ? keys[0] : "";
+  return {keys, letters, signatures: valuesOf("sig=", true)};
+}
+
+// The names that the trusted comment of a signature's text gives the file, before anybody knows who wrote them.
+function namesIn(signatureText) {
+  return toldByComment((linesOf(signatureText)[2] ?? "").replace("trusted comment: ", "")).names;
 }
 
 // What Minisign writes into a signed comment where the signer names none: the file's names and the time, as far as they are
@@ -93,12 +108,7 @@ function toldByComment(comment) {
   return told;
 }
 
-// Whether two names are the same, but for how letters with marks are written.
-function isSameName(name, other) {
-  return name.normalize() === other.normalize();
-}
-
-// Whether they differ at most in directories, in large and small letters, and in the number of a second download.
+// Whether two names differ at most in directories, in large and small letters, and in the number of a second download.
 function isAlikeName(name, other) {
   const [bare, otherBare] = [name, other].map(it =>
     it.replace(/^.*[\\/]/s, "").replace(/\s?\(\d+\)(?=(\.[^.\s]+)*$)/, "").normalize().toLowerCase());

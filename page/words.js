@@ -27,7 +27,7 @@ const WHY_NOT = new Map([
   [26, `A line of the signature has a letter that no signature has. ${DAMAGED}`],
   [27, `The third line of the signature does not begin as that of a Minisign signature. ${DAMAGED}`],
   [28, `The signature is of a kind that Minisign does not know. ${DAMAGED}`],
-  [29, "The signature was made with another key than the public key above."],
+  [29, "The signature was made with another key than the public key here."],
   [30, "The signature is of Minisign's older kind, which this page verifies only for files of up to 64 MiB."],
   [31, "This file is not the one that was signed, or the signature was not made with this key. Do not use the file."],
   [32, "The trusted comment is not the one that was signed with the file. Do not use the file."],
@@ -45,8 +45,8 @@ const TOO_LONG_A_KEY = "No public key: this cannot be read, or is longer than th
 const HINTS = new Map([
   ["secret key", "This is a secret key. Nobody but its owner may ever see it, and no page needs it. " +
     "The public key is the other file, mostly minisign.pub."],
-  ["signature", "This is a signature, and not a key. Paste, choose or drop it below, together with its file."],
-  ["key", "This is a public key, and not a signature. Paste it above."],
+  ["signature", "This is a signature, and not a key. Choose or drop it together with its file."],
+  ["key", `This is a public key, and not a signature.${BUILT_IN_KEY ? "" : " Paste it into the key's field."}`],
   ["PGP", "This is of PGP, which this page does not verify. A Minisign signature ends in .minisig, and a key begins with RW."],
   ["link", "This is a link to a page like this, and who made the link chose the key in it. Paste the key that the project publishes."],
   ["command", "This is a command line. Paste only the key in it, 56 letters and digits after -P, which begin with RW."],
@@ -58,18 +58,22 @@ const HINTS = new Map([
 const HINTS_WITH_KEY = ["command", "words", "broken", "alone"];
 const NO_SIGNATURE = "This is not the text of a signature, whose four lines begin with “untrusted comment:”.";
 
-const HAS_DIRECTORIES = "A directory cannot be verified: open it, and drop the file and its signature themselves.";
+const HAS_DIRECTORIES = "A directory cannot be verified: open it, and drop what is in it.";
 const SEVERAL_KEYS = "No public key: these are several keys. Choose or drop one of them.";
 const NO_KEY_IN_ADDRESS = "No public key: the link to this page has something else after # than the 56 letters and digits of a key.";
-const NO_KEY_IN_FIELD = "what stands in the field above stays, and is no key. Put it right, or empty the field.";
+const OTHER_KEY_IN_ADDRESS = "The link to this page names another key, or something else, which is not taken.";
+const NO_SIGNATURE_IN_ADDRESS = "The link to this page has no whole signature after sig=, or was cut short.";
+const NONE_FITS = "This file is none of those that the signatures here are of. Do not use the file.";
+const NO_KEY_IN_FIELD = "stays, and is no key. Put it right, or empty the field.";
 const WHOSE = "This page cannot know whose key it is. Compare its 56 letters and digits with those that the project publishes.";
 const WITH_FILES = "The key came with the files: who made the files may have made the key.";
 const BY_LINK = "The key came with the link to this page: who made the link chose it.";
+const READ_WARNING = "Before you use the file, read the warning below.";
 const PASTE = "Before you use the file, get the key from where the project publishes it, and paste it into its field.";
 
 // The verdicts and what stands in the place of one, the worst first: the sign, the words, and what to do next.
 const VERDICTS = new Map([
-  ["bad", ["✗", "NOT verified", "Do not use the file: get it, its signature and the key again from the project."]],
+  ["bad", ["✗", "NOT verified", `Do not use the file: get it${BUILT_IN_KEY ? "" : ", its signature and the key"} again from the project.`]],
   ["unchecked", ["?", "Signed, by a key that you have not checked", PASTE]],
   ["stopped", ["–", "Stopped: nothing is known of this file", "Have it verified again, below."]],
   ["waiting", ["…", "Not verified yet", "Add what is missing, below."]],
@@ -91,14 +95,6 @@ const SOURCES = new Map([
     fails: "",
   }],
 ]);
-
-function whyNoKey(number) {
-  return WHY_NO_KEY.get(number) ?? WENT_WRONG;
-}
-
-function whyNot(number) {
-  return WHY_NOT.get(number) ?? WENT_WRONG;
-}
 
 // A character that is not shown as one in its place: a control character other than a tab, one that is ignored where it
 // cannot be shown, one that turns the direction or joins, a line's or a paragraph's end, a letter without ink, and one that

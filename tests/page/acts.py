@@ -23,8 +23,8 @@ class Model:
 
     def take_files(self, files):
         """Files of one drop: (name, kind, what), where a key is of kind "key", and a signature is (signer, data)."""
-        data = [it for it in files if it[1] == "data"]
-        signatures = [it for it in files if it[1] == "signature"]
+        data = [file for file in files if file[1] == "data"]
+        signatures = [file for file in files if file[1] == "signature"]
         is_pair = len(data) == 1 and len(signatures) == 1
         for name, kind, what in files:
             if kind != "key":

@@ -1,5 +1,6 @@
-// What a module of the page answers: each number, all that the questions hold and the state, for texts that are passed in. It
-// runs in Node, and tests/page/modules.py runs `answersOf` in Chromium too, which takes the module with a memory of 64 bits.
+// What a module of the page answers: each number, all that a signature and the questions hold and the state, for texts that are
+// passed in, and for a signature with another text or another place in it. It runs in Node, and tests/page/modules.py runs
+// `answersOf` in Chromium too, which takes the module with a memory of 64 bits.
 //
 //     node answers.mjs LIBRARY MODULE CASES
 //
@@ -23,11 +24,16 @@ function textOf(answer) {
 function answersAbout(library, {key, signature, data}) {
   const [keyText, signatureText, bytes] = [key, signature, data].map(bytesOf);
   const found = [library.readKey(keyText, false), library.readKey(keyText, true)];
-  const read = found.find(it => it.number === 0)?.key ?? new Uint8Array(40);
+  const read = found.find(one => one.number === 0)?.key ?? new Uint8Array(40), signatureRead = library.readSignature(signatureText);
+  found.push(signatureRead);
+  for (const change of [{text: signatureText.subarray(1)}, {value: signatureRead.value.map((byte, at) => at === 147 ? 9 : byte)}]) {
+    const state = library.begin();
+    found.push({asked: library.ask(state, read, {...signatureRead, ...change}, true), state});
+  }
   for (const allowsLegacy of [false, true]) {
     for (const [first, second] of [[true, true], [true, false], [false, true], [false, false]]) {
       const state = library.begin();
-      const asked = library.ask(state, read, signatureText, allowsLegacy);
+      const asked = library.ask(state, read, signatureRead, allowsLegacy);
       const fed = library.feed(state, bytes);
       if (asked.number !== 0) {
         found.push({asked, fed, state});
@@ -45,7 +51,7 @@ function answersAbout(library, {key, signature, data}) {
 async function answersOf(Library, module, cases) {
   const library = await Library.load(bytesOf(module));
   const numbers = Array.from({length: 256}, (_, number) => library.errorText(number));
-  return [textOf(numbers), ...cases.map(it => textOf(answersAbout(library, it)))];
+  return [textOf(numbers), ...cases.map(one => textOf(answersAbout(library, one)))];
 }
 
 if (typeof process === "object") {

@@ -18,14 +18,14 @@ TEXTS = 500
 FLAGS = (0, 1, 2, 3, 2**31, 2**32 - 1)
 # The errors of the header: none, a state that was never begun, and a number that is no flag.
 OK, NOT_BEGUN, BAD_LEGACY_FLAG = 0, 1, 6
-STATE_BYTES, QUESTIONS_BYTES, MESSAGE_BYTES, KEY_BYTES = 512, 256, 65536, 40
+STATE_BYTES, SIGNATURE_BYTES, QUESTIONS_BYTES, MESSAGE_BYTES, KEY_BYTES = 512, 200, 256, 65536, 40
 # Has the module ask with any number as `allow_legacy`, where the page passes 0 or 1: what it says, and if the state stays.
 ASK = """const [key, signature, flag, isBegun] = arguments;
   const state = isBegun ? library.begin() : new Uint8Array(STATE_BYTES), before = state.slice();
-  const read = library.readKey(Uint8Array.from(key), false).key;
+  const read = library.readKey(Uint8Array.from(key), false).key, {text, value} = library.readSignature(Uint8Array.from(signature));
   const number = library.onState(state, place => library.calls.page_ask(
-    place, library.put(library.key, KEY_BYTES, read)[0], ...library.put(library.text, TEXT_BYTES, Uint8Array.from(signature)),
-    flag, BigInt(library.questions), BigInt(library.message), BigInt(TEXT_BYTES)));
+    place, library.put(library.key, KEY_BYTES, read)[0], library.put(library.signature, SIGNATURE_BYTES, value)[0],
+    ...library.put(library.text, TEXT_BYTES, text), flag, BigInt(library.questions), BigInt(library.message), BigInt(TEXT_BYTES)));
   return [number, state.every((byte, at) => byte === before[at])];"""
 
 
@@ -94,9 +94,9 @@ class Programs:
         self.program = os.path.join(room, "c", "minisign")
         source = os.path.join(room, "words_of.c")
         with open(source, "w", encoding="utf-8") as file:
-            file.write('#include <stdio.h>\n#include "words.h"\n'
-                       "int main(void) { for (unsigned n = 0; n < 64; n++) puts(words_of((enum minisign_error) n)); return 0; }\n")
-        subprocess.run([compiler, f"-I{TOP}/include", f"-I{TOP}/c", "-o", f"{room}/words_of", source, f"{TOP}/c/words.c", f"{room}/c/libminisign.a"], check=True)
+            file.write('#include <stdio.h>\n#include "minisign/messages.h"\n'
+                       "int main(void) { for (unsigned n = 0; n < 64; n++) puts(message_of((enum minisign_error) n)); return 0; }\n")
+        subprocess.run([compiler, f"-I{TOP}/include", f"-I{TOP}/c", "-o", f"{room}/words_of", source, f"{TOP}/c/minisign/messages.c", f"{TOP}/c/shared/text.c", f"{room}/c/libminisign.a"], check=True)
         self.words = subprocess.run([f"{room}/words_of"], check=True, stdout=subprocess.PIPE).stdout.decode().splitlines()
         self.library = ctypes.CDLL(os.path.join(room, "c", "libminisign.so"))
 
@@ -106,13 +106,15 @@ class Programs:
 
     def ask(self, key, sig, flag, is_begun):
         """Has the library ask with any number as `allow_legacy`: its answer, and whether the state stays."""
-        state, read, questions, message = (ctypes.create_string_buffer(size) for size in (STATE_BYTES, KEY_BYTES, QUESTIONS_BYTES, MESSAGE_BYTES))
+        state, read, signature, questions, message = (ctypes.create_string_buffer(size) for size in (
+            STATE_BYTES, KEY_BYTES, SIGNATURE_BYTES, QUESTIONS_BYTES, MESSAGE_BYTES))
         self.library.minisign_read_public_key(key, ctypes.c_size_t(len(key)), read)
+        self.library.minisign_read_signature(sig, ctypes.c_size_t(len(sig)), signature)
         if is_begun:
             self.library.minisign_init(state)
         before = state.raw
-        number = self.library.minisign_ask(state, read, sig, ctypes.c_size_t(len(sig)), ctypes.c_uint32(flag), questions, message,
-                                           ctypes.c_size_t(MESSAGE_BYTES))
+        number = self.library.minisign_ask(state, read, signature, sig, ctypes.c_size_t(len(sig)), ctypes.c_uint32(flag), questions,
+                                           message, ctypes.c_size_t(MESSAGE_BYTES))
         return [number, state.raw == before]
 
     def meaning(self, number):

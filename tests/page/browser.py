@@ -14,26 +14,45 @@ from selenium.webdriver.common.action_chains import ActionChains
 from selenium.webdriver.common.keys import Keys
 
 SECONDS = 120
+# A name of this machine that browsers do not know as one: what it serves without TLS is not secure for them.
+ELSEWHERE = "page.test"
 FLAGS = ("--headless=new", "--no-sandbox", "--disable-gpu", "--disable-dev-shm-usage", "--disable-background-networking",
-         "--disable-component-update", "--no-first-run", "--force-prefers-reduced-motion")
+         "--disable-component-update", "--no-first-run", "--force-prefers-reduced-motion", f"--host-resolver-rules=MAP {ELSEWHERE} 127.0.0.1")
 # Each row as it stands: its verdict, its number, if it has one, and its parts.
 ROWS = """return Array.from(document.querySelectorAll("#verdicts > li"), row => ({
   verdict: row.dataset.verdict, number: row.dataset.number === undefined ? null : Number(row.dataset.number),
   head: row.querySelector(".verdict").textContent, name: row.querySelector(".name").textContent, text: row.innerText,
   why: row.querySelector(".why")?.textContent ?? "", comment: row.querySelector(".comment")?.textContent ?? null,
-  cautions: Array.from(row.querySelectorAll(".caution"), it => it.innerText),
-  bold: Array.from(row.querySelectorAll("*")).filter(it => getComputedStyle(it).fontWeight >= 600 && !it.parentElement.closest(".verdict, .caution"))
-    .map(it => it.innerText.trim())}))"""
-# Whether something that a person did is still taken in, or a row is being verified or waits for others.
-IS_BUSY = """return Number(document.documentElement.dataset.pending) > 0
-  || document.querySelector('#verdicts > li[data-verdict="reading"]') !== null
-  || Array.from(document.querySelectorAll("#verdicts > li"), row => row.innerText).some(text => text.includes("It waits for those before it."))"""
-IS_READY = "return document.documentElement.dataset.ready !== undefined"
+  cautions: Array.from(row.querySelectorAll(".caution"), caution => caution.innerText),
+  bold: Array.from(row.querySelectorAll("*")).filter(part => getComputedStyle(part).fontWeight >= 600 && !part.parentElement.closest(".verdict, .caution"))
+    .map(part => part.innerText.trim())}))"""
+# How far it is, where something that a person did is still taken in, or a row is being verified or waits for others; else nothing.
+AT_WORK = """const {pending} = document.documentElement.dataset, rows = [...document.querySelectorAll("#verdicts > li")];
+  const waiting = rows.filter(row => row.innerText.includes("It waits for those before it.")).length;
+  const reading = document.querySelector('#verdicts > li[data-verdict="reading"]');
+  return Number(pending) > 0 || waiting > 0 || reading ? [pending, rows.length, waiting, reading?.innerText] : null"""
+# (a page that is loaded anew has no element for a moment)
+IS_READY = "return document.documentElement?.dataset.ready !== undefined"
+
+
+class Patience:
+    """How long is waited: while something changes, and so many seconds more."""
+
+    def __init__(self, what, seconds=SECONDS):
+        self.what, self.seconds, self.seen, self.since = what, seconds, None, time.monotonic()
+
+    def see(self, seen):
+        """Notes how far it is now, and fails where it has been so far for too long."""
+        if seen != self.seen:
+            self.seen, self.since = seen, time.monotonic()
+        elif time.monotonic() > self.since + self.seconds:
+            raise TimeoutError(f"{self.what} stands still for {self.seconds} s: {seen!r:.500}")
+        time.sleep(0.02)
 
 
 class Browser:
-    """What is the same in each browser. It has `run`, `run_later`, `go`, `send`, `press`, `drop`, `drop_text`, `resize`,
-    `force_colours`, `processes`, `quit` and `picture`."""
+    """What is the same in each browser. It has `run`, `run_later`, `go`, `send`, `press`, `tab_back`, `drop`, `drop_text`,
+    `resize`, `force_colours`, `processes`, `quit` and `picture`."""
 
     # Whether it is Chromium, whose own protocol shows and changes what a page cannot.
     is_chromium = False
@@ -58,6 +77,12 @@ class Browser:
     def taken(self):
         """Waits until the page has taken in what a person did."""
         self.wait(lambda: self.run("return !(Number(document.documentElement.dataset.pending) > 0)"))
+
+    def shows_page(self):
+        """Whether the process that shows the page is there."""
+        with contextlib.suppress(Exception):
+            return self.run("return true")
+        return False
 
     def text_of(self, name):
         return self.run("return document.getElementById(arguments[0]).innerText", name)
@@ -96,9 +121,11 @@ class Browser:
 
     # What a person sees.
 
-    def settle(self, seconds=SECONDS):
-        """Waits until nothing is verified any more: the rows."""
-        self.wait(lambda: not self.run(IS_BUSY), seconds)
+    def settle(self):
+        """Waits until nothing is verified any more, as long as that goes on: the rows."""
+        patience = Patience("the page")
+        while (seen := self.run(AT_WORK)) is not None:
+            patience.see(seen)
         return self.rows()
 
     def rows(self):
@@ -107,14 +134,18 @@ class Browser:
     def band(self):
         """The verdict at the top of the window, and what it says; nothing where there is none."""
         return self.run("""const band = document.getElementById("band");
-          return band?.checkVisibility() ? [band.dataset.verdict, ...Array.from(band.children, it => it.innerText)] : null""")
+          return band?.checkVisibility() ? [band.dataset.verdict, ...Array.from(band.children, line => line.innerText)] : null""")
+
+    def focus(self):
+        """What has the focus."""
+        return self.run("const active = document.activeElement; return active.id || active.className || active.textContent")
 
     def row(self, name):
         return next(row for row in self.rows() if row["name"] == name)
 
     def log(self):
         """What a screen reader was told."""
-        return self.run("return Array.from(document.querySelectorAll('#log p'), it => it.textContent)")
+        return self.run("return Array.from(document.querySelectorAll('#log p'), line => line.textContent)")
 
     # What it takes.
 
@@ -226,7 +257,12 @@ class Chromium(Browser):
     def tab(self):
         """Moves the focus on by the keyboard: what has it then."""
         self.press(Keys.TAB)
-        return self.run("const it = document.activeElement; return it.id || it.className || it.textContent")
+        return self.focus()
+
+    def tab_back(self):
+        """Moves the focus back by the keyboard: what has it then."""
+        ActionChains(self.driver).key_down(Keys.SHIFT).send_keys(Keys.TAB).key_up(Keys.SHIFT).perform()
+        return self.focus()
 
     def said(self):
         """What the browser's console has: errors, and what the policy rejected."""

@@ -11,7 +11,7 @@ import socket
 import subprocess
 import time
 
-from browser import SECONDS, Browser
+from browser import ELSEWHERE, SECONDS, Browser, Keys
 
 # What keeps it from asking for anything from outside, and from showing anything but the page.
 PREFERENCES = {
@@ -20,7 +20,7 @@ PREFERENCES = {
     "startup.homepage_welcome_url": "about:blank", "network.captive-portal-service.enabled": False,
     "network.connectivity-service.enabled": False, "app.normandy.enabled": False,
     "services.settings.server": "http://127.0.0.1:1/", "extensions.update.enabled": False,
-    "browser.safebrowsing.update.enabled": False, "browser.safebrowsing.malware.enabled": False,
+    "browser.safebrowsing.update.enabled": False, "browser.safebrowsing.malware.enabled": False, "network.dns.localDomains": ELSEWHERE,
     "browser.safebrowsing.phishing.enabled": False, "network.proxy.type": 0,
 }
 
@@ -33,7 +33,7 @@ class Firefox(Browser):
 
     def __init__(self, program, directory, width=800, height=1000):
         profile = os.path.join(directory, "firefox")
-        os.makedirs(profile)
+        os.makedirs(profile, exist_ok=True)
         with open(os.path.join(profile, "user.js"), "w", encoding="utf-8") as file:
             for name, value in PREFERENCES.items():
                 file.write(f"user_pref({json.dumps(name)}, {json.dumps(value)});\n")
@@ -158,7 +158,16 @@ class Firefox(Browser):
 
     def press(self, *keys):
         """Presses keys, one after another, wherever the focus is."""
-        steps = [{"type": kind, "value": key} for key in "".join(keys) for kind in ("keyDown", "keyUp")]
+        self.act_on_keys((kind, key) for key in "".join(keys) for kind in ("keyDown", "keyUp"))
+
+    def tab_back(self):
+        """Moves the focus back by the keyboard: what has it then."""
+        self.act_on_keys((("keyDown", Keys.SHIFT), ("keyDown", Keys.TAB), ("keyUp", Keys.TAB), ("keyUp", Keys.SHIFT)))
+        return self.focus()
+
+    def act_on_keys(self, acts):
+        """Presses keys and lets them go."""
+        steps = [{"type": kind, "value": key} for kind, key in acts]
         self.order("WebDriver:PerformActions", actions=[{"type": "key", "id": "keyboard", "actions": steps}])
         self.taken()
 

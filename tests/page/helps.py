@@ -17,7 +17,7 @@ def check_helps(person, minisign):
     browser.open(person.address)
     introduction = browser.text_of("introduction")
     parts = ("signature", ".minisig", "lies where the download lies", "RW", "website")
-    checks.check(introduction.count(". ") == 1 and all(it in introduction for it in parts),
+    checks.check(introduction.count(". ") == 1 and all(part in introduction for part in parts),
                  f"the first words are {introduction!r}")
     is_before = browser.run("""const first = document.getElementById("introduction");
       return first.compareDocumentPosition(document.getElementById("key-text"))""")
@@ -41,6 +41,7 @@ def check_helps(person, minisign):
             ("a key that was broken", f"{line[:31]}\n{line[31:]}", "broken over several lines"),
             ("a key with its comment that was broken", pk.decode()[:-9] + "\n" + pk.decode()[-9:], "broken over several lines"),
             ("the page's link", f"{person.address}#{line}", "who made the link chose the key"),
+            ("a link with a signature", f"{person.address}#sig=dW50&key={line}", "who made the link chose the key"),
             ("another link", f"https://example.org/minisign.html#later=x&key={line}", "who made the link chose the key"),
             ("a key of PGP", PGP_KEY, "of PGP, which this page does not verify"),
             ("a signature of PGP", PGP_SIGNATURE, "of PGP, which this page does not verify")):
@@ -73,6 +74,10 @@ def check_helps(person, minisign):
         browser.drop("downloads", person.put("update.zip.asc", text.encode()))
         said = browser.text_of("files-said")
         checks.check("update.zip.asc This is of PGP" in said and not browser.rows(), f"PGP among the files: {said!r}")
+    for name in ("update.zip.sig", "update.zip.gpg", "key.ASC"):
+        browser.drop("downloads", person.put(name, b"\x88\x75\x04\x00\x16"))
+        said = browser.text_of("files-said")
+        checks.check(f"{name} This is of PGP" in said and not browser.rows(), f"PGP that is no text among the files: {said!r}")
     browser.drop("downloads", person.put("first.key", secret))
     checks.check("first.key This is a secret key" in browser.text_of("files-said") and not browser.rows(),
                  "a secret key among the files is taken")
@@ -116,6 +121,7 @@ def check_pasted(person, minisign, line):
     browser, checks = person.browser, person.checks
     sign = lambda data: minisign.sign("first", data, trusted="t").decode()
     for what, texts, wanted in (("as it is", [sign(b"data")], 0), ("with blanks", [sign(b"data").replace("\n", "\n    ")], 0),
+                                ("with empty lines", ["\n" + sign(b"data").replace("\n", "\n\n\u00a0 ")], 0),
                                 ("without its end", [sign(b"data").rstrip()], 0), ("of other data", [sign(b"x")], 31),
                                 ("again", [sign(b"x"), sign(b"data")], 0)):
         choose = lambda: browser.choose(person.put("update.zip", b"data"))
@@ -154,6 +160,13 @@ def check_known(person, minisign):
         browser.choose(data, person.put_beside(os.path.dirname(data), name, sign(b"data")))
         person.expect(person.only(person.settled(name), name), 0, f"the signature {name}", "t")
     browser.clear()
+    # One after the other, by names that are alike, also where others stand alone.
+    for name in ("a (1).zip", "B.ZIP", "c"):
+        browser.choose(person.put(name, name[0].lower().encode()))
+    for name in ("b.zip", "a.zip"):
+        browser.choose(person.put(f"{name}.minisig", sign(name[0].encode())))
+    checks.same({row["name"]: row["number"] for row in person.settled("alike")}, {"a (1).zip": 0, "B.ZIP": 0, "c": None}, "names that are alike")
+    browser.clear()
     directory = os.path.dirname(person.put("a.zip", b"a"))
     paths = [os.path.join(directory, "a.zip"), *(person.put_beside(directory, name, data) for name, data in (
         ("a.zip.sig", sign(b"a")), ("b.zip", b"b"), ("b.zip.minisig.txt", sign(b"b"))))]
@@ -176,7 +189,7 @@ def check_not_started(person, page):
         is_seen = "return [performance.now(), getComputedStyle(document.getElementById('lacking')).visibility === 'visible']"
         milliseconds, is_early = browser.run(is_seen)
         checks.check(not is_early or milliseconds > 1400, f"after {milliseconds} ms the page says that it has not started")
-        browser.wait(lambda: browser.run(is_seen)[1], 10)
+        browser.wait(lambda: browser.run(is_seen)[1])
         said = browser.text_of("lacking")
         checks.check("has not started" in said and browser.is_shown("lacking") and not browser.is_shown("controls"),
                      f"a script that cannot run: {said!r}")
@@ -189,7 +202,7 @@ def check_not_started(person, page):
     # No thread of its own: it verifies all the same.
     with Served(page, {"Content-Security-Policy": "worker-src 'none'"}) as served:
         browser.open(served.address)
-        engine = browser.run_later("const done = arguments[0]; beginEngine('').then(it => done(it.constructor.name));")
+        engine = browser.run_later("const done = arguments[0]; beginEngine('').then(engine => done(engine.constructor.name));")
         checks.same(engine, "NearEngine", "the engine where no thread is allowed")
         browser.choose_key(person.put("published.pub", cases.read_kept("published.pub")))
         browser.choose(*person.pair("test", cases.read_kept("test"), cases.read_kept("published.minisig")))

@@ -57,7 +57,7 @@ def check_plain(person, what):
     browser, checks = person.browser, person.checks
     checks.check(browser.run("return document.title") == "Verify a download", f"{what}: a script ran")
     checks.same(browser.run("return document.querySelectorAll('#verdicts :is(img, script, a, iframe, style, b)').length"), 0, f"{what}: markup")
-    checks.same(browser.run("""return Array.from(document.querySelectorAll(".comment *, .name *"), it => it.className).filter(it => it !== "unseeable")"""),
+    checks.same(browser.run("""return Array.from(document.querySelectorAll(".comment *, .name *"), part => part.className).filter(name => name !== "unseeable")"""),
                 [], f"{what}: elements in a stranger's text")
     checks.check(browser.run(looks.FITS), f"{what}: something stands outside of its place")
     if browser.is_chromium:

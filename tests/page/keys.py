@@ -75,7 +75,7 @@ def check_keys(person, minisign):
     browser.choose_key(person.put("my.pub", own))
     rows = {row["name"]: row for row in person.settled("another key")}
     person.expect(rows["update.zip"], 31, "the project's key instead")
-    checks.check(all(it.startswith("NOT verified") for it in browser.log()) and len(browser.log()) == 2,
+    checks.check(all(line.startswith("NOT verified") for line in browser.log()) and len(browser.log()) == 2,
                  f"a screen reader is told {browser.log()}")
     browser.click("key-remove")
     checks.same({row["verdict"] for row in browser.rows()}, {"waiting"}, "a key that was removed: the verdicts")
@@ -127,7 +127,7 @@ def check_unchecked(checks, row, words, what):
 
 def check_caution(checks, row, words, what):
     """A warning stands in a row's first lines, after its verdict and the name alone."""
-    heads = [it for it in row["text"].split("\n") if it]
+    heads = [line for line in row["text"].split("\n") if line]
     checks.check(words in heads[2] and row["cautions"][0] == heads[2], f"{what}: the first lines are {heads[:3]!r}")
 
 
@@ -161,7 +161,7 @@ def check_links(person, minisign):
     browser.choose(*paths)
     person.expect(person.only(person.settled("before"), "before"), 0, "before the address changes")
     browser.run("document.documentElement.dataset.older = 'yes'; location.hash = arguments[0]", second)
-    browser.wait(lambda: browser.run("return document.documentElement.dataset.older === undefined"))
+    browser.wait(lambda: browser.run("return document.documentElement?.dataset.older === undefined"))
     browser.wait_ready()
     checks.same(browser.rows(), [], "an address that changes: the rows")
     checks.check("which the link to this page had" in browser.text_of("key-said"),
@@ -219,7 +219,7 @@ def check_comments(person, minisign):
         browser.choose(*person.pair(name, data, minisign.sign("first", data, trusted=comment)))
         rows[name] = next(row for row in person.settled(name) if row["name"] == name)
         person.expect(rows[name], 0, f"the comment {comment!r}")
-    differs = {name: [it for it in row["cautions"] if it.startswith("The signer's name of this file is another one: ")]
+    differs = {name: [caution for caution in row["cautions"] if caution.startswith("The signer's name of this file is another one: ")]
                for name, row in rows.items()}
     checks.same({name for name, found in differs.items() if found}, {"b.zip", "c.zip", "l (1).zip", "n.zip", "o1.zip", "p.zip"},
                 "files whose signer named them otherwise")

@@ -13,9 +13,9 @@ const light = color => {
   return 0.2126 * channel(r / 255) + 0.7152 * channel(g / 255) + 0.0722 * channel(b / 255);
 };
 const isClear = color => color === "transparent" || /, 0\\)$/.test(color);
-const ground = it => {
-  for (; it; it = it.parentElement) {
-    const color = getComputedStyle(it).backgroundColor;
+const ground = part => {
+  for (; part; part = part.parentElement) {
+    const color = getComputedStyle(part).backgroundColor;
     if (!isClear(color)) return color;
   }
   return "rgb(255, 255, 255)";
@@ -23,9 +23,9 @@ const ground = it => {
 const found = [];
 const walker = document.createTreeWalker(document.body, NodeFilter.SHOW_TEXT);
 for (let text; (text = walker.nextNode());) {
-  const it = text.parentElement;
-  if (text.data.trim() && it.checkVisibility() && !it.closest("script, .unseen")) {
-    const [one, other] = [light(getComputedStyle(it).color), light(ground(it))];
+  const part = text.parentElement;
+  if (text.data.trim() && part.checkVisibility() && !part.closest("script, .unseen")) {
+    const [one, other] = [light(getComputedStyle(part).color), light(ground(part))];
     found.push([(Math.max(one, other) + 0.05) / (Math.min(one, other) + 0.05), text.data.trim().slice(0, 40)]);
   }
 }
@@ -34,19 +34,19 @@ return found;"""
 # Whether the page is no wider than the window, and nothing of a row stands outside of it.
 FITS = """
 const rows = Array.from(document.querySelectorAll("#verdicts > li"));
-const within = (it, row) => {
-  const a = it.getBoundingClientRect(), b = row.getBoundingClientRect();
+const within = (part, row) => {
+  const a = part.getBoundingClientRect(), b = row.getBoundingClientRect();
   return a.left >= b.left - 1 && a.right <= b.right + 1 && a.top >= b.top - 1 && a.bottom <= b.bottom + 1;
 };
 return document.documentElement.scrollWidth <= document.documentElement.clientWidth
-  && rows.every(row => Array.from(row.querySelectorAll(".verdict, .name, .comment, .why, button, progress")).every(it => within(it, row)));"""
+  && rows.every(row => Array.from(row.querySelectorAll(".verdict, .name, .comment, .why, button, progress")).every(part => within(part, row)));"""
 
 
 # What is cut at its right, or goes out of its place there.
 CUT = """
 return Array.from(document.querySelectorAll("main, main *, footer, footer *"))
-  .filter(it => it.checkVisibility() && !it.closest(".unseen") && it.clientWidth > 0 && it.scrollWidth > it.clientWidth + 1)
-  .map(it => `${it.tagName} ${it.className}: ${it.innerText.slice(0, 40)}`)"""
+  .filter(part => part.checkVisibility() && !part.closest(".unseen") && part.clientWidth > 0 && part.scrollWidth > part.clientWidth + 1)
+  .map(part => `${part.tagName} ${part.className}: ${part.innerText.slice(0, 40)}`)"""
 
 
 def contrasts_wrong(browser):
@@ -68,7 +68,7 @@ def forced_contrasts_wrong(browser):
     browser.force_colours(True)
     wrong = [] if browser.run("return matchMedia('(forced-colors: active)').matches") else ["no colours are forced"]
     wrong += [f"forced: {text!r} has contrast {value:.1f}" for value, text in browser.run(CONTRASTS) if value < MIN_CONTRAST]
-    widths = browser.run("return Array.from(document.querySelectorAll('#verdicts > li, .caution'), it => getComputedStyle(it).borderLeftWidth)")
+    widths = browser.run("return Array.from(document.querySelectorAll('#verdicts > li, .caution'), part => getComputedStyle(part).borderLeftWidth)")
     wrong += [f"forced: a border is {width} wide" for width in widths if width == "0px"]
     browser.force_colours(False)
     return wrong
@@ -93,7 +93,7 @@ def nodes(browser):
     found = []
     for node in browser.command("Accessibility.getFullAXTree")["nodes"]:
         if not node.get("ignored"):
-            properties = {it["name"]: it["value"].get("value") for it in node.get("properties", [])}
+            properties = {one["name"]: one["value"].get("value") for one in node.get("properties", [])}
             found.append((node["role"]["value"], node.get("name", {}).get("value", ""), properties))
     return found
 

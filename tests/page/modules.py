@@ -33,8 +33,8 @@ def check_modules(person, minisign, wide, narrow):
         for case, (ours, theirs) in enumerate(zip(in_node, found)):
             checks.check(ours == theirs,
                          f"{what} answers {theirs:.300} about text {case}, and the one for 32 bits in Node {ours:.300}")
-    numbers = {it["asked"]["number"] for answer in in_node[1:] for it in json.loads(answer)[2:]}
-    checks.check({0, 8, 20, 21, 22, 23, 24, 25, 26, 27, 28, 29, 30} <= numbers,
+    numbers = {answered.get("asked", answered)["number"] for answer in in_node[1:] for answered in json.loads(answer)[2:]}
+    checks.check({0, 8, 20, 21, 22, 23, 24, 25, 26, 27, 28, 29, 30, 61, 62} <= numbers,
                  f"the modules are asked about texts of the numbers {sorted(numbers)}")
 
 
@@ -47,7 +47,7 @@ def texts_of(minisign):
     found = [*kept, *random_cases(kept, TEXTS)]
     pk, sig = minisign.read("first.pub"), minisign.sign("first", b"data", trusted="t")
     other = minisign.sign("second", b"data")
-    triples = [(it.pk, it.sig, it.data) for it in found]
+    triples = [(case.pk, case.sig, case.data) for case in found]
     triples += [(error.text, sig, b"data") for error in (*cases.key_errors(pk), *cases.typed_key_errors(pk))]
     triples += [(pk, error.text, b"data") for error in cases.signature_errors(sig, other)]
     triples += [(pk, sig, bytes(length)) for length in (0, 1, 127, 128, 129, 255, 256, 257, 1048575, 1048576, 1048577)]

@@ -5,15 +5,16 @@
 
 The module's calls have the contracts of those from C, word for word but for what a number means. PAGE is the one of `dist/`
 where none is named, as `page/build.py` builds it; `tools/dist.py --check` compares. MODULE is the proved module, for a
-memory of 64 bits, which is proved and built where no PAGE is named. The module that wasm-opt made of it for the page has to
+memory of 64 bits, which is proved and built where no PAGE is named, if the kit is there. The module that wasm-opt made of it for the page has to
 answer the same on all texts, in Node and in Chromium, which takes both. Firefox and Chromium, without a window, are given
-the kept corpus of Minisign's own program, keys and signatures that are made now, each error, the vectors of Ed25519 that
+the kept corpus of Minisign's own program, keys and signatures that are made now, the download alone on a project's page and by links, each error, the vectors of Ed25519 that
 browsers answer differently, keys of other people, things in another's place, hostile comments and names, files that are
-dropped and stopped, what comes to a stop, a small screen and forced colours, 2,000 files, 2 GB, and 500 changed texts (150 in
-Firefox), of which the verdicts and their reasons are compared with those of `c/minisign`. In Chromium numbers that are no flag are passed to the module itself, beside the library for
-C; it looks also at what is asked for from outside, at the names for a screen reader, the order of the keyboard, the
-contrast of colours, large letters and a narrow screen, and at what is said where the browser lacks something. It prints a
-line for each failure; the last line is `N passed, M failed`.
+dropped and stopped, a page that is served by `http:`, what comes to a stop, a small screen, the focus there and forced colours,
+10,000 files, 2 GB, and 500 changed texts (150 in Firefox), of which the verdicts and their reasons are compared with those of `c/minisign`.
+In Chromium numbers that are no flag are passed to the module itself, beside the library for C; it looks also at what is asked
+for from outside, at the names for a screen reader, the order of the keyboard, the contrast of colours, large letters and a
+narrow screen, and at what is said where the browser lacks something. It prints a line for each failure; the last line is
+`N passed, M failed`.
 
 Needs Python 3.9 or later, chromium, chromium-driver, python3-selenium, firefox-esr, nodejs, binaryen, a C compiler, make,
 libsodium with its header and minisign 0.11, and installs what is not there where it may.
@@ -37,6 +38,7 @@ except needs.Missing as why:
 if PYTHON != sys.executable:
     os.execv(PYTHON, [PYTHON, os.path.realpath(__file__), *sys.argv[1:]])
 
+import shutil
 import tempfile
 import time
 import traceback
@@ -53,13 +55,14 @@ from keys import check_comments, check_field, check_keys, check_links, check_own
 from long_files import check_big, check_stopping
 from minisign_cases import Minisign
 from modules import check_modules
-from page_sources import check_building, check_contracts, check_file, check_numbers, check_same_bytes
+from only_download import check_only_download
+from page_sources import check_building, check_contracts, check_file, check_numbers, check_same_bytes, check_sums
 from person import Checks, Person
-from standing import check_changed, check_late, check_many, check_stops
-from surroundings import check_alone, check_lacking, check_looks, check_use
+from standing import check_changed, check_hangs, check_late, check_many, check_stops
+from surroundings import check_alone, check_insecure, check_lacking, check_looks, check_use
 from vectors import check_vectors
 from verdicts import check_corpus, check_errors, check_made, check_several
-from views import check_band, check_marks, check_view, check_words
+from views import check_band, check_focus, check_marks, check_view, check_words
 
 # How many changed texts Firefox is given.
 TEXTS_IN_FIREFOX = 150
@@ -71,11 +74,12 @@ def page_path():
 
 
 def wide_module():
-    """The module for 64 bits that is named, or that is proved and built now; nothing beside a page that is named alone."""
+    """The module for 64 bits that is named, or that is proved and built now; nothing beside a page that is named alone, and where
+    the kit is not there."""
     if len(sys.argv) > 2:
         with open(sys.argv[2], "rb") as file:
             return file.read()
-    return None if len(sys.argv) > 1 else build.proved_module()
+    return None if len(sys.argv) > 1 or not shutil.which("rt") else build.proved_module()
 
 
 def steps_in(person, minisign, programs, page):
@@ -86,12 +90,14 @@ def steps_in(person, minisign, programs, page):
         "several files": lambda: check_several(person, minisign), "errors": lambda: check_errors(person, minisign, programs.meaning),
         "vectors": lambda: check_vectors(person), "whose key": lambda: check_keys(person, minisign), "the key's field": lambda: check_field(person, minisign),
         "links": lambda: check_links(person, minisign), "in view": lambda: check_view(person, minisign), "looks of verdicts": lambda: check_marks(person, minisign), "the band": lambda: check_band(person, minisign),
+        "the focus": lambda: check_focus(person, minisign),
         "words": lambda: check_words(person, minisign),
         "comments": lambda: check_comments(person, minisign), "random acts": lambda: check_acts(person, minisign), "a page of its own": lambda: check_own_page(person, minisign, page),
-        "helping": lambda: check_helps(person, minisign), "not started": lambda: check_not_started(person, page),
+        "only the download": lambda: check_only_download(person, minisign, page),
+        "helping": lambda: check_helps(person, minisign), "not started": lambda: check_not_started(person, page), "served by http": lambda: check_insecure(person, page),
         "hostile texts": lambda: check_hostile(person, minisign),
         "changed texts": lambda: check_texts(person, TEXTS_IN_FIREFOX) if not person.browser.is_chromium else check_texts(person),
-        "stops": lambda: check_stops(person, minisign), "late": lambda: check_late(person, minisign), "many files": lambda: check_many(person, minisign),
+        "stops": lambda: check_stops(person, minisign), "late": lambda: check_late(person, minisign), "hangs": lambda: check_hangs(person, minisign), "many files": lambda: check_many(person, minisign),
         "changed files": lambda: check_changed(person, minisign),
         "long files": lambda: check_big(person, check_stopping(person, minisign)),
     }
@@ -102,23 +108,42 @@ def steps_in(person, minisign, programs, page):
     return steps
 
 
-def run_in(browser, checks, room, made):
-    """Runs everything in a browser."""
+def run_step(person, step, begin):
+    """
+    Runs a step. A machine without memory ends the process that shows the page before any other: then it is run once more, in a new
+    browser. (A page that ends it ends it again.)
+    """
+    try:
+        step()
+    except Exception:
+        if person.browser.shows_page():
+            raise
+        print(f"page: {person.browser.name} shows no page any more, and is begun anew", flush=True)
+        person.browser.quit()
+        person.browser = begin()
+        step()
+
+
+def run_in(begin, checks, room, made):
+    """Runs everything in a browser, which this begins."""
     minisign, programs, page = made
-    directory = os.path.join(room, browser.name)
-    os.mkdir(directory)
-    person = Person(checks, browser, f"file://{page}", directory, programs)
-    for what, step in steps_in(person, minisign, programs, page).items():
-        begun = time.monotonic()
-        try:
-            step()
-        except Exception as why:
-            traceback.print_exc()
-            checks.check(False, f"{browser.name}, {what}: ended early: {why!r:.300}")
-        if browser.is_chromium:
-            errors = [it for it in browser.said() if "Uncaught" in it]
-            checks.check(not errors, f"the page's console has {errors}")
-        print(f"page: {browser.name}, {what}, {time.monotonic() - begun:.1f} s", flush=True)
+    person = Person(checks, begin(), f"file://{page}", None, programs)
+    name, person.directory = person.browser.name, os.path.join(room, person.browser.name)
+    os.mkdir(person.directory)
+    try:
+        for what, step in steps_in(person, minisign, programs, page).items():
+            begun = time.monotonic()
+            try:
+                run_step(person, step, begin)
+            except Exception as why:
+                traceback.print_exc()
+                checks.check(False, f"{name}, {what}: ended early: {why!r:.300}")
+            if person.browser.is_chromium:
+                errors = [line for line in person.browser.said() if "Uncaught" in line]
+                checks.check(not errors, f"the page's console has {errors}")
+            print(f"page: {name}, {what}, {time.monotonic() - begun:.1f} s", flush=True)
+    finally:
+        person.browser.quit()
 
 
 def run_all(checks, room):
@@ -128,6 +153,7 @@ def run_all(checks, room):
     page = page_path()
     check_file(checks, page)
     check_same_bytes(checks, page)
+    check_sums(checks, page)
     check_building(checks, page, room)
     programs = Programs(room)
     keys = os.path.join(room, "keys")
@@ -136,11 +162,7 @@ def run_all(checks, room):
     for name in ("first", "second"):
         minisign.make_pair(name)
     for begin in (lambda: Firefox(needs.firefox(), room), lambda: Chromium(*needs.chromium(), room)):
-        browser = begin()
-        try:
-            run_in(browser, checks, room, (minisign, programs, page))
-        finally:
-            browser.quit()
+        run_in(begin, checks, room, (minisign, programs, page))
 
 
 def main():

@@ -11,6 +11,8 @@ import cases
 import exports
 
 TOP = os.path.join(os.path.dirname(os.path.realpath(__file__)), "..", "..")
+# How many bytes the built page may have with no signature in it, and how many lines its sources that are not this program's.
+MAX_PAGE_BYTES, MAX_LINES = 106_000, 1500
 
 
 def check_contracts(checks):
@@ -23,7 +25,7 @@ def check_contracts(checks):
         with open(os.path.join(TOP, "crates", crate, "src", "lib.rt"), encoding="utf-8") as file:
             found = re.findall(r'^pub extern "C" fn ' + prefix + r"(\w+)(\(.*?)^\{$", file.read(), re.M | re.S)
         texts[crate] = {name: re.sub(r"\s+", " ", re.sub(r"(?m)^\s*//.*$", "", text)) for name, text in found}
-    checks.same(len(texts["minisign_page"]), 8, "the number of exports of minisign_page")
+    checks.same(len(texts["minisign_page"]), 9, "the number of exports of minisign_page")
     for name, text in texts["minisign_page"].items():
         for_c = text.replace("IsMeaning", "IsHostMeaning")
         checks.check(for_c == texts["minisign_c"].get(name), f"page_{name} has another contract than minisign_{name}")
@@ -38,13 +40,15 @@ def check_numbers(checks):
     for name in ("YES", "NO"):
         number = re.search(rf"MINISIGN_ANSWER_{name} = (0x\w+)", header)[1]
         checks.check(f"const ANSWER_{name} = {number};" in script, f"calls.js has another number for {name}")
-    offsets = dict(re.findall(r"IS_AT\(minisign_questions, (\w+), (\d+),", layout))
-    parts = dict(re.findall(r"(\w+): (\d+)", re.search(r"const QUESTIONS = \{(.*?)\};", script, re.S)[1]))
-    checks.check(parts and offsets, "no offsets of the questions are read")
-    for name, at in parts.items():
-        checks.same(at, offsets.get(name), f"calls.js: where {name} begins")
+    for struct in ("SIGNATURE", "QUESTIONS"):
+        offsets = dict(re.findall(rf"IS_AT\(minisign_{struct.lower()}, (\w+), (\d+),", layout))
+        parts = dict(re.findall(r"(\w+): (\d+)", re.search(rf"const {struct} = \{{(.*?)\}};", script, re.S)[1]))
+        checks.check(parts and offsets, f"no offsets of {struct} are read")
+        for name, at in parts.items():
+            checks.same(at, offsets.get(name), f"calls.js: where {name} of {struct} begins")
     sizes = dict(re.findall(r"IS_LAID_OUT\((\w+), (\d+),", layout))
-    for name, struct in (("STATE_BYTES", "minisign_state"), ("QUESTIONS_BYTES", "minisign_questions"), ("KEY_BYTES", "minisign_public_key")):
+    for name, struct in (("STATE_BYTES", "minisign_state"), ("SIGNATURE_BYTES", "minisign_signature"),
+                         ("QUESTIONS_BYTES", "minisign_questions"), ("KEY_BYTES", "minisign_public_key")):
         checks.same(re.search(rf"const {name} = (\d+)", script)[1], sizes.get(struct), f"calls.js: {name}")
     words = build.read("page/words.js")
     told = {name: {int(number) for number in re.findall(r"^  \[(\d+), ", re.search(rf"{name} = new Map\(\[(.*?)\]\);",
@@ -70,22 +74,46 @@ def check_file(checks, path):
 
 
 def check_same_bytes(checks, path):
-    """The same module and sources give the same bytes, which name the version, the licence, and the sum that `--sources` stands for."""
+    """The same module and sources give the same bytes, which name the version and the licence."""
     with open(path, encoding="utf-8", newline="") as file:
         text = file.read()
     checks.check(build.page(*build.taken_from(path)) == text,
                  "the page's module and sources give other bytes than the page has")
-    lines = build.source_lines()
-    for line in lines.splitlines():
-        digest, name = line.split("  ")
-        with open(os.path.join(TOP, name), "rb") as file:
-            checks.check(hashlib.sha256(file.read()).hexdigest() == digest, f"--sources has another sum of {name}")
-    for words in (f"Minisign in Rattle {build.version()}, under the MIT License",
-                  hashlib.sha256(lines.encode()).hexdigest(), "Permission is hereby granted"):
+    for words in (f"Minisign in Rattle {build.version()}, under the MIT License", "Permission is hereby granted"):
         checks.check(words in text, f"the page does not name {words!r}")
-    for name in ("bindings/javascript/calls.js", "crates/minisign/src/", "crates/minisign_hash/specs/", "crates/minisign_page/src/lib.rt", "page/page.js",
-                 "include/minisign.h"):
-        checks.check(name in lines, f"{name} is not among the sources")
+    checks.check(len(text.encode()) <= MAX_PAGE_BYTES, f"the page has {len(text.encode())} bytes, and may have {MAX_PAGE_BYTES}")
+    lengths = {name: build.read(f"page/{name}").count("\n") for name in os.listdir(build.HERE) if name.endswith((".js", ".css")) or name == "page.html"}
+    checks.check(len(lengths) == 8 and sum(lengths.values()) <= MAX_LINES, f"the page's sources have {sum(lengths.values())} lines: {lengths}")
+
+
+def sum_on(text):
+    """The sums of sources that a page names."""
+    return re.findall(r"\b[0-9a-f]{64}\b", re.sub(r"(?s)<script>.*</script>", "", text))
+
+
+def check_sums(checks, path):
+    """
+    A page names one sum, that of tools/sources.sh, which dist/PROVED names with the page's module; and over another module, or of
+    other sources, none, and no proof.
+    """
+    module, by = build.taken_from(path)
+    ours = subprocess.run(["sh", "tools/sources.sh", "page"], cwd=TOP, stdout=subprocess.PIPE, check=True, text=True).stdout.strip()
+    digest = hashlib.sha256(module).hexdigest()
+    proof = "proved as it was built for 64-bit WebAssembly"
+    page = build.page(module, by, sums=(digest, ours))
+    checks.check(sum_on(page) == [ours] and proof in page, f"over what dist/PROVED names the page has the sums {sum_on(page)}")
+    for what, taken, sums in (("another module", module + b"\0", (digest, ours)), ("another module in dist/PROVED", module, ("0" * 64, ours)),
+                              ("other sources", module, (digest, "0" * 64)), ("another order", module, (ours, digest))):
+        page = build.page(taken, by, sums=sums)
+        checks.check(sum_on(page) == [] and proof not in page and "not those that dist/PROVED" in page,
+                     f"{what}: the page has the sums {sum_on(page)}")
+    # What dist/PROVED names is what stands in dist/.
+    with open(os.path.join(TOP, "dist", "PROVED"), encoding="utf-8") as file:
+        said = dict(line.split(": ", 1) for line in file.read().partition("\n\n")[2].splitlines())
+    kept = os.path.join(TOP, "dist", "minisign.html")
+    checks.same(build.named_sums(), (hashlib.sha256(build.taken_from(kept)[0]).hexdigest(), said["sources of the page"]), "what dist/PROVED names")
+    with open(kept, encoding="utf-8") as file:
+        checks.same(sum_on(file.read()), [said["sources of the page"]], "the sums that the page of dist/ names")
 
 
 def check_building(checks, page, room):
@@ -102,7 +130,6 @@ def check_building(checks, page, room):
         checks.check(data == named.read(), "a page that is made of a page has other bytes")
     checks.check(ran.returncode == 0 and ran.stdout.split()[-1] == hashlib.sha256(data).hexdigest(),
                  f"build.py --from: {ran.stdout!r} {ran.stderr!r}")
-    checks.same(run("--sources").stdout, build.source_lines(), "build.py --sources")
     os.remove(out)
     for words, path, part in (((out,), "", "the kit of Rattle"), (("--from", page, "--key", "RWQ", out), "",
                                                                   "one line of 56 letters and digits"),

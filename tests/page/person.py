@@ -1,6 +1,7 @@
 """Who uses the page in the tests, and what was seen to hold."""
 
 import os
+import re
 
 import checks
 
@@ -29,7 +30,7 @@ def is_right(row):
     key. Nothing of it is bold but its verdict and its warnings.
     """
     is_fit, lines = row["number"] == 0, row["text"].split("\n")
-    on_key = [it for it in lines if it.startswith(ON_KEY.get(row["verdict"], "-"))]
+    on_key = [line for line in lines if line.startswith(ON_KEY.get(row["verdict"], "-"))]
     return (row["head"] == lines[0] == STANDS[row["verdict"]] and is_fit == (row["verdict"] in ON_KEY) == (len(on_key) == 1)
             and (not is_fit or (on_key[0] in row["cautions"]) == (row["verdict"] == "unchecked"))
             and (row["comment"] is None or is_fit) and row["bold"] == [row["head"], *row["cautions"]])
@@ -80,13 +81,15 @@ class Person:
         self.checks.check(len(rows) == 1, f"{what}: {len(rows)} rows")
         return rows[0]
 
-    def settled(self, what, seconds=60):
+    def settled(self, what):
         """The rows when nothing is verified any more. Each says what its verdict is, and nothing good that is not."""
-        rows = self.browser.settle(seconds)
+        rows = self.browser.settle()
         for row in rows:
             self.checks.check(is_right(row), f"{what}: a row stands for {row}")
         band = self.browser.band()
         self.checks.same(band and band[:2], band_of(rows), f"{what}: what stands at the top of the window")
+        if band:
+            self.checks.check(len(band) == 3 and re.fullmatch(r"[^.]+\.", band[2]), f"{what}: what to do next is not one sentence: {band[2:]}")
         return rows
 
     def expect(self, row, number, what, comment=None):

@@ -1,24 +1,30 @@
 """Nothing stands still: a thread that ends and a read that hangs can be stopped, many files take no longer for each than a few, and a
 file that changes is told where the browser tells it."""
 
+import contextlib
 import os
+import time
 
+from browser import Patience
 from minisign_cases import lines
+from person import STANDS
 
-FEW, MANY = 500, 2000
-# So many times as long many files may take, of which there are four times as many. (A quiet machine takes some four times.)
-MOST_TIMES = 8
+FEW, MANY, MOST = 500, 2000, 10_000
+# So many times as much of the processor each of many files may take as each of a few. (It is time of the processes that show the
+# page, which a machine that does much else does not lengthen as it does the clock's. So nothing here asks the page often, or for
+# much, as that would count by the clock.)
+MOST_TIMES = 2
+ASKED_EACH_SECONDS = 2
 
-# Verifies so many files of the page's own making, and tells how many milliseconds that takes.
-VERIFY = """const [count, text, data, done] = arguments, begun = performance.now();
+# Verifies so many files of the page's own making, and counts how many it has verified.
+VERIFY = """const [count, text, data] = arguments, real = window.showVerdict;
 const files = Array.from({length: count}, (_, at) => [new File([data], `f${at}`), new File([text], `f${at}.minisig`)]).flat();
-inTurn(() => takeFiles(files));
-const timer = setInterval(() => {
-  if (document.querySelectorAll('#verdicts > li[data-verdict="good"]').length === count) {
-    clearInterval(timer);
-    done(performance.now() - begun);
-  }
-}, 50);"""
+window.verified = 0;
+window.showVerdict = (download, verdict, source) => {
+  real(download, verdict, source);
+  window.verified += verdict.isGood ? 1 : 0;
+};
+inTurn(() => takeFiles(files));"""
 
 # How a file comes to a stop: what is done before it is chosen.
 STOPS = {"threads that end": """const done = arguments[0], {prototype} = Worker, real = prototype.postMessage;
@@ -42,7 +48,7 @@ def check_stops(person, minisign):
         browser.type_key(lines(pk)[1].decode())
         browser.wait(lambda: browser.row("a")["verdict"] == "reading")
         browser.run("document.querySelector('#verdicts button').click()")
-        browser.wait(lambda: browser.row("b")["verdict"] != "waiting", 20)
+        browser.wait(lambda: browser.row("b")["verdict"] != "waiting")
         rows = {row["name"]: row["verdict"] for row in person.settled(what)}
         checks.same(rows, {"a": "stopped", "b": "good"}, what)
         browser.run("document.querySelector('#verdicts button').click()")
@@ -50,16 +56,49 @@ def check_stops(person, minisign):
         checks.same(rows, {"a": "good", "b": "good"}, f"{what}, and once more")
 
 
+def seconds_of(processes):
+    """How many seconds of the processor these processes have taken so far."""
+    found = 0
+    for number in processes:
+        with contextlib.suppress(OSError), open(f"/proc/{number}/stat", encoding="ascii", errors="replace") as file:
+            found += sum(map(int, file.read().rpartition(")")[2].split()[11:13])) / os.sysconf("SC_CLK_TCK")
+    return found
+
+
 def check_many(person, minisign):
-    """Many files take as long for each as a few."""
+    """Many files take as long for each as a few, and ten thousand end."""
     browser, checks = person.browser, person.checks
-    took = {}
-    for count in (FEW, MANY):
+    took, clock = {}, {}
+    for count in (FEW, MANY, MOST):
         browser.open(person.address)
         browser.type_key(lines(minisign.read("first.pub"))[1].decode())
-        took[count] = browser.run_later(VERIFY, count, minisign.sign("first", b"x").decode(), "x")
-    checks.check(took[MANY] < MOST_TIMES * took[FEW], f"files take so many milliseconds: {took}")
-    print(f"page: {browser.name}, {FEW} files in {took[FEW] / 1000:.1f} s, and {MANY} in {took[MANY] / 1000:.1f} s", flush=True)
+        before, begun, patience = seconds_of(browser.page_processes()), time.monotonic(), Patience(f"a list of {count} files")
+        browser.run(VERIFY, count, minisign.sign("first", b"x").decode(), "x")
+        while (verified := browser.run("return window.verified")) < count:
+            patience.see(verified)
+            time.sleep(ASKED_EACH_SECONDS)
+        took[count], clock[count] = (seconds_of(browser.page_processes()) - before) / count, round(time.monotonic() - begun, 1)
+    for count in (MANY, MOST):
+        checks.check(took[count] < MOST_TIMES * took[FEW], f"each of so many files takes so many seconds of the processor: {took}")
+    checks.same(browser.band()[1], f"{STANDS['good']}: {MOST} of {MOST} files", "the band of many files")
+    print(f"page: {browser.name}, files by seconds: {clock}, for each {({count: f'{1000 * seconds:.1f} ms' for count, seconds in took.items()})}", flush=True)
+
+
+# Has the reading of each text hang from now on.
+HANGS = "window.bytesOfFile = () => new Promise(() => {});"
+
+
+def check_hangs(person, minisign):
+    """A file whose kind cannot be read in some seconds is taken by its name, and holds up nothing that is done after it."""
+    browser, checks = person.browser, person.checks
+    paths = person.pair("a", b"a", minisign.sign("first", b"a"))
+    browser.open(person.address)
+    browser.run("window.kept = window.bytesOfFile;" + HANGS)
+    browser.choose(person.put("hanging", b"x"), *paths)
+    browser.run("window.bytesOfFile = window.kept;")
+    browser.type_key(lines(minisign.read("first.pub"))[1].decode())
+    rows = {row["name"]: row["verdict"] for row in person.settled("hangs")}
+    checks.same(rows, {"a": "good", "hanging": "waiting"}, "texts whose reading hung")
 
 
 def check_changed(person, minisign):
@@ -81,11 +120,20 @@ def check_changed(person, minisign):
             checks.same(row["number"], number, "a file that changed")
 
 
-# Has the first text that is read wait until it is let go.
+# Has the first text that is read wait until a part of the next file has been read.
 LATE = """const done = arguments[0], real = window.textOfFile;
 window.textOfFile = async file => {
   window.textOfFile = real;
-  await new Promise(resolve => addEventListener("let-go", resolve, {once: true}));
+  await new Promise(resolve => {
+    const isRead = () => (document.querySelector("progress")?.value ?? 0) > 0;
+    new MutationObserver((_, observer) => {
+      if (isRead()) {
+        observer.disconnect();
+        resolve();
+      }
+    }).observe(document.getElementById("verdicts"), {attributes: true, childList: true, subtree: true});
+  });
+  window.hasCome = true;
   return real(file);
 };
 done();"""
@@ -104,7 +152,6 @@ def check_late(person, minisign):
     browser.type_key(lines(minisign.read("first.pub"))[1].decode())
     browser.wait(lambda: browser.row("a")["verdict"] == "reading")
     browser.run("document.querySelector('#verdicts button').click()")
-    browser.wait(lambda: browser.run("return (document.querySelector('progress')?.value ?? 0) > 0"))
-    browser.run("dispatchEvent(new Event('let-go'))")
+    browser.wait(lambda: browser.run("return window.hasCome === true"))
     rows = {row["name"]: row["verdict"] for row in person.settled("late")}
     checks.same(rows, {"a": "stopped", "long": "good"}, "a text that comes late, of a file that was stopped")

@@ -4,7 +4,7 @@ import http.server
 import threading
 
 import looks
-from browser import Keys
+from browser import ELSEWHERE, Keys
 from minisign_cases import lines
 
 
@@ -18,7 +18,7 @@ def check_alone(person, minisign, page):
     browser.requests()
     person.expect(person.verdict("offline", key, *paths), 0, "offline", "t")
     browser.command("Network.emulateNetworkConditions", offline=False, latency=0, downloadThroughput=-1, uploadThroughput=-1)
-    asked = [it for it in browser.requests() if not it.startswith(("about:", "blob:", "data:"))]
+    asked = [address for address in browser.requests() if not address.startswith(("about:", "blob:", "data:"))]
     checks.same(asked, [person.address], "what the page asks for, from disk")
     with Served(page) as served:
         person.address, kept = served.address, person.address
@@ -29,7 +29,7 @@ def check_alone(person, minisign, page):
             const picture = new Image(); picture.onload = picture.onerror = () => done(tried); picture.src = arguments[0] + "?picture"; })""", served.address)
         checks.same(rejected, [], "what the policy lets through")
         checks.same(served.asked, ["/minisign.html"], "what the page asks for, served")
-    rejections = [it for it in browser.said() if "Content Security Policy" in it or "Refused" in it]
+    rejections = [line for line in browser.said() if "Content Security Policy" in line or "Refused" in line]
     checks.check(len(rejections) >= 2, f"the browser tells of {rejections} that the policy rejected")
 
 
@@ -55,7 +55,7 @@ class Served:
                 pass
 
         self.server = http.server.ThreadingHTTPServer(("127.0.0.1", 0), Handler)
-        self.address = f"http://127.0.0.1:{self.server.server_address[1]}/minisign.html"
+        self.address, self.elsewhere = (f"http://{name}:{self.server.server_address[1]}/minisign.html" for name in ("127.0.0.1", ELSEWHERE))
 
     def __enter__(self):
         threading.Thread(target=self.server.serve_forever, daemon=True).start()
@@ -91,6 +91,17 @@ def check_lacking(person):
         checks.check(wanted in said and unwanted not in said, f"after {script}: {said!r}")
         checks.check(not browser.is_shown("controls") and browser.is_shown("lacking") and not browser.rows(), f"after {script}: the page can be used")
         browser.command("Page.removeScriptToEvaluateOnNewDocument", identifier=number)
+
+
+def check_insecure(person, page):
+    """Where the page is served by `http:` it says that this is the reason why it verifies nothing, and what to do."""
+    browser, checks = person.browser, person.checks
+    with Served(page) as served:
+        browser.open(served.elsewhere)
+        said = browser.text_of("lacking")
+        checks.same((browser.run("return isSecureContext"), browser.is_shown("lacking"), browser.is_shown("controls")), (False, True, False), "a page served by http:")
+        checks.check("was not opened from disk or by https" in said and "Save the page and open it from disk" in said and "newer browser" not in said,
+                     f"a page served by http: {said!r}")
 
 
 def check_looks(person, minisign):
@@ -150,7 +161,7 @@ def check_use(person, minisign):
     log = browser.log()
     checks.check(len(log) == 2 and log[0].startswith("Verified. The key is ") and log[0].endswith(" The file's name: data")
                  and log[1].startswith("NOT verified. This file is not the one") and log[1].endswith(" The file's name: bad"), f"a screen reader is told {log}")
-    checks.same(browser.run("return Array.from(document.querySelectorAll('#verdicts > li'), it => it.firstElementChild.tagName)"), ["H3", "H3"],
+    checks.same(browser.run("return Array.from(document.querySelectorAll('#verdicts > li'), row => row.firstElementChild.tagName)"), ["H3", "H3"],
                 "what the rows begin with")
     browser.press(Keys.ENTER)
     checks.same(browser.rows(), [], "a list that was cleared by the keyboard")

@@ -11,21 +11,21 @@ def check_vectors(person):
     vectors = edges.vectors()
     answers = browser.run_later("""const [vectors, done] = arguments;
       const bytes = digits => digits === "" ? new Uint8Array(0) : bytesOf(digits);
-      const answers = vectors.map(it => accepts(bytes(it.A), bytes(it.sig), bytes(it.msg)));
+      const answers = vectors.map(vector => accepts(bytes(vector.A), bytes(vector.sig), bytes(vector.msg)));
       Promise.all(answers).then(done, why => done(String(why)));""", vectors)
     checks.same(len(answers), len(vectors), "the number of answers")
     for vector, answer in zip(vectors, answers):
         checks.check(answer == vector["sodium"],
                      f"the vector {vector['name']}: the page answers {answer}, and libsodium {vector['sodium']}")
     bare = browser.run_later("""const [vectors, done] = arguments;
-      const ask = async it => {
+      const ask = async vector => {
         try {
-          const key = await crypto.subtle.importKey("raw", bytesOf(it.A), {name: "Ed25519"}, false, ["verify"]);
-          return await crypto.subtle.verify({name: "Ed25519"}, key, bytesOf(it.sig), bytesOf(it.msg));
+          const key = await crypto.subtle.importKey("raw", bytesOf(vector.A), {name: "Ed25519"}, false, ["verify"]);
+          return await crypto.subtle.verify({name: "Ed25519"}, key, bytesOf(vector.sig), bytesOf(vector.msg));
         } catch { return false; }
       };
-      Promise.all(vectors.map(ask)).then(done, why => done(String(why)));""", [it for it in vectors if it["msg"]])
-    others = sum(answer != it["sodium"] for answer, it in zip(bare, [it for it in vectors if it["msg"]]))
+      Promise.all(vectors.map(ask)).then(done, why => done(String(why)));""", [vector for vector in vectors if vector["msg"]])
+    others = sum(answer != vector["sodium"] for answer, vector in zip(bare, [vector for vector in vectors if vector["msg"]]))
     print(f"page: {browser.name} {browser.version()} itself answers {others} of {len(bare)} vectors otherwise than libsodium",
           flush=True)
     key, signature = edges.texts_for_every_file()

@@ -10,9 +10,9 @@ MANY = 12
 
 # Whether the verdict of the row of this name, and all of its warnings, are in the window below the band.
 IS_IN_VIEW = """
-const row = Array.from(document.querySelectorAll("#verdicts > li")).find(it => it.querySelector(".name").textContent === arguments[0]);
-return Array.from(row.querySelectorAll(".verdict, .caution")).every(it => {
-  const {top, bottom} = it.getBoundingClientRect();
+const row = Array.from(document.querySelectorAll("#verdicts > li")).find(one => one.querySelector(".name").textContent === arguments[0]);
+return Array.from(row.querySelectorAll(".verdict, .caution")).every(part => {
+  const {top, bottom} = part.getBoundingClientRect();
   return top >= (document.getElementById("band")?.getBoundingClientRect().bottom ?? 0) && bottom <= innerHeight;
 });"""
 
@@ -30,7 +30,8 @@ const band = document.getElementById("band"), {left, top, width, height} = band.
 return [left, top, width === document.documentElement.clientWidth, height < innerHeight / 3,
         band.contains(document.elementFromPoint(left + width / 2, top + height / 2))];"""
 WINDOWS = ((360, 640), (390, 844), (1366, 657))
-# What to do next, by the verdict.
+# What to do next where a file is verified under another name than the signer's, and else by the verdict.
+WARNED = "Before you use the file, read the warning below."
 NEXT = {"good": "You can use the file, if the key is the project's own.",
         "unchecked": "Before you use the file, get the key from where the project publishes it, and paste it into its field.",
         "bad": "Do not use the file: get it, its signature and the key again from the project.", "waiting": "Add what is missing, below."}
@@ -87,7 +88,7 @@ def check_marks(person, minisign):
         what = f"{place[0]}, {'forced colours' if is_forced else 'its own colours'}"
         checks.same(set(looks), {"good", "unchecked", "bad"}, f"{what}: the verdicts")
         for part in ("line", "words") if is_forced else ("colours", "line", "words"):
-            seen = {it for look in looks.values() for it in (look[part] if part == "colours" else [look[part]])}
+            seen = {value for look in looks.values() for value in (look[part] if part == "colours" else [look[part]])}
             checks.same(len(seen), 3, f"{what}: the {part} of the verdicts: {looks}")
         checks.same(len({look["words"][0] for look in looks.values()}), 3, f"{what}: the signs")
 
@@ -100,8 +101,8 @@ def check_band(person, minisign):
     """The worst verdict stands at the top of the window, wherever that is scrolled to, with what to do next."""
     browser, checks = person.browser, person.checks
     line = lines(minisign.read("first.pub"))[1].decode()
-    fits = person.pair("fits", b"x", minisign.sign("first", b"x"))
-    fails = person.pair("fails", b"y", minisign.sign("first", b"x"))
+    fits = person.pair("fits", b"x", minisign.sign("first", b"x", trusted="t"))
+    fails = person.pair("fails", b"y", minisign.sign("first", b"x", trusted="t"))
     browser.open(person.address)
     checks.same(browser.band(), None, "the band before there is a file")
     browser.choose(*fits)
@@ -125,6 +126,34 @@ def check_band(person, minisign):
         browser.resize()
 
 
+# Whether what has the focus, or the place that is shown for it, begins behind the band.
+IS_BEHIND = """const it = document.activeElement, place = it.classList.contains("unseen") ? it.nextElementSibling : it;
+return place.getBoundingClientRect().top < document.getElementById("band").getBoundingClientRect().bottom;"""
+# What the keyboard comes to, backwards from the end of the list: at most so often.
+MOST_BACK = 20
+
+
+def check_focus(person, minisign):
+    """What has the focus stands below the band, also where the keyboard goes backwards."""
+    browser, checks = person.browser, person.checks
+    paths = [path for name in "abcd" for path in person.pair(name, b"x", minisign.sign("first", b"x"))]
+    try:
+        for size in WINDOWS:
+            browser.resize(*size)
+            browser.open(person.address)
+            browser.type_key(lines(minisign.read("first.pub"))[1].decode())
+            browser.choose(*paths)
+            person.settled("the focus")
+            browser.run("document.getElementById('clear').focus()")
+            found = []
+            while len(found) < MOST_BACK and "key-text" not in found:
+                found.append(browser.tab_back())
+                checks.check(not browser.run(IS_BEHIND), f"the focus at {size}, after {found}: it is behind the band")
+            checks.same([it for it in found if it != "comment"], ["signature-text", "files", "key-remove", "key-file", "key-text"], f"the keyboard backwards at {size}")
+    finally:
+        browser.resize()
+
+
 # The texts in which one of these words stands, and which a browser may translate.
 TRANSLATED = """
 const words = arguments[0], found = [], walker = document.createTreeWalker(document.querySelector("main"), NodeFilter.SHOW_TEXT);
@@ -135,11 +164,11 @@ return found;"""
 
 # What makes a button of a part of the page for the eye.
 BUTTONS = """
-const look = it => {
-  const {backgroundColor, borderTopWidth, borderTopStyle, borderTopColor, paddingLeft, display} = getComputedStyle(it);
+const look = part => {
+  const {backgroundColor, borderTopWidth, borderTopStyle, borderTopColor, paddingLeft, display} = getComputedStyle(part);
   return [backgroundColor, borderTopWidth, borderTopStyle, borderTopColor, paddingLeft, display].join(" ");
 };
-return [look(document.getElementById("clear")), ...Array.from(document.querySelectorAll(".place"), it => look(it.querySelector(".button")))];"""
+return [look(document.getElementById("clear")), ...Array.from(document.querySelectorAll(".place"), place => look(place.querySelector(".button")))];"""
 
 
 def check_words(person, minisign):
