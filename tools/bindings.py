@@ -70,9 +70,7 @@ def role_of(call, it, after, header):
         is_message = any(one.name == "questions" for one in call.parameters)
         return ("short text" if call.answer == "size_t" else "message" if is_message else "joined"), 2
     if it.star and it.kind in structs:
-        if it.name == "questions":
-            return "questions", 1
-        is_new = not it.const and not after and (len(call.parameters) > 1 or call.answer == "void")
+        is_new = it.name == "questions" or not it.const and not after and (len(call.parameters) > 1 or call.answer == "void")
         return "struct" if not is_new else "secret" if is_secret(it.kind) else "new struct", 1
     return "new number" if it.star else "answer" if it.kind == "enum minisign_answer" else "number", 1
 
@@ -103,8 +101,10 @@ def in_words(call, header, table, kind_of, length_of):
 
     def filled(role, it):
         return {"name": it.name, "of": kind_of(it.kind, header), "count": it.count, "mut": "" if it.const else "mut ",
-                "room": " + ".join([*size, *map(length_of, lengths)]), "parts": ", ".join(parts_of(it)),
-                "size": call.name.removeprefix("minisign_").removeprefix("install_").upper() + "_BYTES"}
+                "room": " + ".join([*size, *map(length_of, lengths)]), "parts": table["between parts"].join(parts_of(it)),
+                "size": call.name.removeprefix("minisign_").removeprefix("install_").upper() + "_BYTES",
+                # (the comment is shorter than the text that has it)
+                "longest": "signature.comment_len" if any(part.name == "signature" for part in call.parameters) else "len(sig_text)"}
 
     def parts_of(it):
         for role, part in roles(call, header, header.structs[it.kind] if it.kind in header.in_parts else ()):
@@ -129,13 +129,11 @@ PYTHON_ROLES = {
     "array": ("{name}: Octets", "", "{name}", "", ""),
     "new array": ("", "{name} = create_string_buffer({count})", "{name}", "bytes", "{name}.raw"),
     "bytes": ("{name}: bytes", "", "{name}, len({name})", "", ""),
-    "text": ("", "length = c_size_t()\n        {name} = create_string_buffer({room})", "{name}, len({name}), length",
-             "bytes", "{name}.raw[:length.value]"),
+    "text": ("", "length = c_size_t()\n{name} = create_string_buffer({room})", "{name}, len({name}), length",
+             "bytes", "{name}.raw[: length.value]"),
     "short text": ("", "{name} = create_string_buffer({size})", "{name}, len({name})", "bytes", "{name}.raw[:length]"),
-    "message": ("", "{name} = create_string_buffer(len(sig_text) + 1)", "{name}, len({name})",
-                "bytes", "{name}.raw[:questions.message_len]"),
+    "message": ("", "{name} = create_string_buffer(64 + {longest})", "{name}, len({name})", "bytes", "{name}.raw"),
     "joined": ("", "{name} = create_string_buffer({room})", "{name}, len({name})", "bytes", "{name}.raw"),
-    "questions": ("", "{name} = {of}()", "{name}", "{of}", "{name}"),
     "struct": ("{name}: {of}", "", "{name}", "", ""),
     "new struct": ("", "{name} = {of}()", "{name}", "{of}", "{name}"),
     "secret": ("", "{name} = {of}()", "{name}", "{of}", "{name}"),
@@ -143,6 +141,7 @@ PYTHON_ROLES = {
     "answer": ("{name}: bool", "", "ANSWER_YES if {name} is True else ANSWER_NO", "", ""),
     "number": ("{name}: int", "", "{name}", "", ""),
     "parts": ("", "", "{of}({parts})", "", ""),
+    "between parts": ", ",
     "new array among parts": ("{name}: Octets", "(c_ubyte * {count})(*{name})"),
     "bytes among parts": ("{name}: bytes", "{name}, len({name})"),
 }
@@ -162,17 +161,58 @@ def argument(it, header):
     return f"POINTER({ctype(it.kind, header)})" if it.star else ctype(it.kind, header)
 
 
+# How long a line of Python is at most (the default of black).
+PYTHON_WIDTH = 88
+
+
+def items_of(words):
+    """What commas are between, but for those in brackets."""
+    items, depth = [""], 0
+    for letter in words:
+        depth += (letter in "([{") - (letter in ")]}")
+        items += [""] if letter == "," and depth == 0 else []
+        items[-1] += "" if letter == "," and depth == 0 else letter
+    return [it.strip() for it in items if it.strip()]
+
+
+def in_brackets(begin, words, end, is_list=False):
+    """A line that has words in brackets, as black lays it out: in one line, or these in one line, or a line for each of them. A list
+    that is not handed over has a line for each at once."""
+    items, indent = items_of(words), begin[:len(begin) - len(begin.lstrip())]
+    if len(begin + words + end) <= PYTHON_WIDTH:
+        return begin + words + end
+    if not is_list and len(indent) + 4 + len(words) <= PYTHON_WIDTH:
+        return f"{begin}\n{indent}    {words}\n{indent}{end}"
+    inside = "".join(f"{python_line(f'{indent}    {it},')}\n" for it in items)
+    return f"{begin}\n{inside}{indent}{end}"
+
+
+def python_line(line):
+    """A line, or the lines, where it is too long for one and ends with a call."""
+    begin, _, rest = line.partition("(")
+    words, _, end = rest.rpartition(")")
+    return line if len(line) <= PYTHON_WIDTH else in_brackets(f"{begin}(", words, f"){end}")
+
+
+def docstring(text, indent):
+    """A text as a docstring."""
+    lines = textwrap.wrap(f'"""{text}', PYTHON_WIDTH - len(indent), break_on_hyphens=False)
+    ending = '"""' if len(lines[-1]) + 3 <= PYTHON_WIDTH - len(indent) else f'\n{indent}"""'
+    return "".join(f"{indent}{line}\n" for line in lines)[:-1] + ending + "\n"
+
+
 def python_errors(header):
     made = kept(PYTHON_ERRORS, "# SPDX", "    number = 0\n\n\n")
     for comment, name, number in header.errors:
-        made += f'class {name_of(name)}(MinisignError):\n    """{comment}"""\n\n    number = {number}\n\n\n'
+        made += f"class {name_of(name)}(MinisignError):\n{docstring(comment, '    ')}\n    number = {number}\n\n\n"
     made += "BY_NUMBER: \"dict[int, type[MinisignError]]\" = {\n"
     made += "".join(f"    {it.number}: {name_of(it.name)},\n" for it in header.errors) + "}\n\n__all__ = [\n    \"MinisignError\",\n"
     return made + "".join(f'    "{name_of(it.name)}",\n' for it in header.errors) + "]\n"
 
 
 def python_header(header):
-    made = kept(PYTHON, "# SPDX", "Union\n\n") + "".join(f"{name} = {value}\n" for name, value in header.numbers + header.texts)
+    numbers = [(name, value.upper().replace("0X", "0x")) for name, value in header.numbers]
+    made = kept(PYTHON, "# SPDX", "Union\n\n") + "".join(f"{name} = {value}\n" for name, value in numbers + header.texts)
     made += "# Sizes to which the length of what is put in is added.\n"
     made += "".join(f"{it.name} = {it.number}\n" for it in header.sizes)
     for members in (it for enum, it in header.enums.items() if enum != "error"):
@@ -185,7 +225,8 @@ def python_header(header):
     for call in header.calls:
         taken = ", ".join(argument(it, header) for it in call.parameters) + "," * (len(call.parameters) == 1)
         result = "error" if call.answer == "enum minisign_error" else ctype(call.answer, header)
-        made += f"        library.{call.name}.restype = {result}\n        library.{call.name}.argtypes = ({taken})\n"
+        made += f"        library.{call.name}.restype = {result}\n"
+        made += in_brackets(f"        library.{call.name}.argtypes = (", taken, ")", is_list=True) + "\n"
     return made + "".join(python_call(it, header) for it in header.calls if it.name not in DECLARED_ALONE)
 
 
@@ -198,8 +239,9 @@ def python_call(call, header):
     elif call.answer == "uint32_t" or call.answer == "enum minisign_due":
         lines[0], types, told = f"number: int = {lines[0]}", ["int"], ["return number"]
     result = f"Tuple[{', '.join(types)}]" if len(types) > 1 else "".join(types) or "None"
-    inside = "".join(f"        {line}\n" for line in before + lines + told)
-    return f"\n    def {call.name[9:]}({', '.join(['self', *taken])}) -> {result}:\n{inside}"
+    lines = "\n".join(before + lines + told).split("\n")
+    inside = "".join(f"{python_line(f'        {line}')}\n" for line in lines)
+    return "\n" + in_brackets(f"    def {call.name[9:]}(", ", ".join(["self", *taken]), f") -> {result}:") + f"\n{inside}"
 
 
 def go_errors(header):
@@ -215,27 +257,30 @@ def go_errors(header):
 RUST_TYPES = {"uint8_t": "u8", "char": "u8", "uint32_t": "u32", "uint64_t": "u64", "size_t": "usize"}
 
 RUST_ROLES = {
-    "password": ("{name}: Option<&[u8]>", "let (with_{name}, {name}) = ({name}.is_some().into(), {name}.unwrap_or_default());",
-                 "with_{name}, {name}.as_ptr(), {name}.len()", "", ""),
+    "password": ("{name}: Option<&[u8]>",
+                 "let (with_{name}, {name}) = ({name}.is_some().into(), {name}.unwrap_or_default());", "with_{name}, {name}.as_ptr(), {name}.len()",
+                 "", ""),
     "array": ("{name}: &[{of}; {count}]", "", "{name}", "", ""),
     "new array": ("", "let mut {name} = [0; {count}];", "&mut {name}", "[{of}; {count}]", "{name}"),
     "bytes": ("{name}: &[u8]", "", "{name}.as_ptr(), {name}.len()", "", ""),
-    "text": ("", "let (mut {name}, mut len) = (vec![0; {room}], 0);", "{name}.as_mut_ptr(), {name}.len(), &mut len",
-             "String", "text_of({name}, len)"),
+    "text": ("", "let mut {name} = vec![0; {room}];\n    let mut len = 0;",
+             "{name}.as_mut_ptr(), {name}.len(), &mut len", "String", "text_of({name}, len)"),
     "short text": ("", "let mut {name} = vec![0; {size}];", "{name}.as_mut_ptr(), {name}.len()",
                    "String", "text_of({name}, len)"),
-    "message": ("{name}: &mut [u8]", "", "{name}.as_mut_ptr(), {name}.len()", "", ""),
+    "message": ("", "let mut {name} = vec![0; 64 + signature.comment_len as usize];", "{name}.as_mut_ptr(), {name}.len()",
+                "Vec<u8>", "{name}"),
     "joined": ("", "let mut {name} = vec![0; {room}];", "{name}.as_mut_ptr(), {name}.len()", "Vec<u8>", "{name}"),
-    "questions": ("{name}: &mut {of}", "", "{name}", "", ""),
     "struct": ("{name}: &{mut}{of}", "", "{name}", "", ""),
     "new struct": ("", "let mut {name} = {of}::ZEROS;", "&mut {name}", "{of}", "{name}"),
     # (a secret key stays in one place)
     "secret": ("", "let mut {name} = Box::new({of}::ZEROS);", "&mut *{name}", "Box<{of}>", "{name}"),
     "answer": ("{name}: bool", "", "if {name} {{ ANSWER_YES }} else {{ ANSWER_NO }}", "", ""),
     "number": ("{name}: {of}", "", "{name}", "", ""),
-    "parts": ("", "", "&{of} {{ {parts} }}", "", ""),
+    "parts": ("", "", "&{of} {{\n                {parts},\n            }}", "", ""),
+    "between parts": ",\n                ",
     "new array among parts": ("{name}: &[{of}; {count}]", "{name}: *{name}"),
-    "bytes among parts": ("{name}: &[u8]", "{name}: {name}.as_ptr(), {name}_len: {name}.len()"),
+    "bytes among parts": ("{name}: &[u8]",
+                          "{name}: {name}.as_ptr(),\n                {name}_len: {name}.len()"),
 }
 RUST_CLEARED = """
 /// It is cleared at its end.
@@ -250,31 +295,73 @@ def rust_type(kind, header):
     return name_of(kind) if kind in header.structs else RUST_TYPES.get(kind, "u32")
 
 
+def in_one(values):
+    """Values, of which several are a tuple."""
+    return f"({', '.join(values)})" if len(values) > 1 else "".join(values)
+
+
+# How long a line of Rust is at most, and what is handed over in one line (the defaults of rustfmt).
+RUST_WIDTH, RUST_HANDED = 100, 60
+
+
+def in_lines(indent, begin, items, end, handed=RUST_WIDTH):
+    """A list in brackets in one line, or where that is too long, with a line for each item: as rustfmt lays it out."""
+    words = ", ".join(items)
+    one = f"{indent}{begin}{words}{end}"
+    before, result, after = end.partition(" -> ")
+    # (of a call that is declared alone rustfmt puts the type there)
+    if len(one) == RUST_WIDTH and result and after.endswith(";"):
+        return f"{indent}{begin}{words}{before}\n{indent}    -> {after}"
+    if len(one) <= RUST_WIDTH and len(words) <= handed and "\n" not in words:
+        return one
+    return f"{indent}{begin}\n" + "".join(f"{indent}    {it},\n" for it in items) + indent + end
+
+
+def rust_unsafe(before, name, handed, after):
+    """A line that makes a call in C, or the lines, where it is too long for one."""
+    made = in_lines(" " * 4, f"{before}unsafe {{ {name}(", handed, f") }}{after}", RUST_HANDED)
+    if "\n" in made:
+        call = in_lines(" " * 8, f"{name}(", handed, ")", RUST_HANDED)
+        made = f"    {before}unsafe {{\n{call}\n    }}{after}"
+    return made[4:]
+
+
 def rust_call(call, header):
     """A function that makes a call and answers what that writes."""
     taken, before, handed, types, told = in_words(call, header, RUST_ROLES, rust_type, "{}.len()".format)
-    made, result, value = f"unsafe {{ {call.name}({', '.join(handed)}) }}", "".join(types) or "()", "".join(told)
+    handed = [it for words in handed for it in ([words] if "\n" in words else words.split(", "))]
+    made = lambda before, after: rust_unsafe(before, call.name, handed, after)
+    result, value = in_one(types) or "()", in_one(told)
     answers = {"void": result, "uint32_t": "u32"}.get(call.answer, f"Result<{result}, Reason>")
     if call.answer == "enum minisign_error":
         given = value if result == "String" else f"Ok({value})"
-        lines = [f"done({made})?;", given] if value else [f"done({made})"]
+        lines = [made("done(", ")?;"), given] if value else [made("done(", ")")]
+    elif call.answer == "size_t":
+        lines = [made("let len = ", ";"), value]
     else:
-        lines = {"size_t": [f"let len = {made};", value], "void": [f"{made};", value]}.get(call.answer, [made])
+        lines = [made("", ";"), value] if call.answer == "void" else [made("", "")]
     inside = "".join(f"    {line}\n" for line in before + lines)
-    return f"\npub fn {call.name[9:]}({', '.join(taken)}) -> {answers} {{\n{inside}}}\n"
+    return "\n" + in_lines("", f"pub fn {call.name[9:]}(", taken, f") -> {answers} {{") + f"\n{inside}}}\n"
+
+
+# What a caller does with values of the structs beside passing them on.
+RUST_DERIVED = {"minisign_public_key": "Clone, Debug, Eq, PartialEq, Ord, PartialOrd, Hash",
+                "minisign_signature": "Clone, Debug, Eq, PartialEq, Ord, PartialOrd, Hash",
+                "minisign_state": "Clone, Debug", "minisign_questions": "Clone, Debug"}
 
 
 def rust_struct(struct, fields, header):
     """A struct with its zeros; one that holds a secret key is cleared at its end."""
-    made = "\n#[derive(Clone, Debug, Eq, PartialEq, Ord, PartialOrd, Hash)]" if struct == "minisign_public_key" else ""
+    made = f"\n#[derive({RUST_DERIVED[struct]})]" if struct in RUST_DERIVED else ""
     kinds = [f"[{rust_type(it.kind, header)}; {it.count}]" if it.count else "*const " * bool(it.star) + rust_type(it.kind, header)
              for it in fields]
     inside = "".join(f"    pub {it.name}: {kind},\n" for it, kind in zip(fields, kinds))
-    zeros = ", ".join(f"{it.name}: {f'[0; {it.count}]' if it.count else '0'}" for it in fields)
+    zeros = [f"{it.name}: {f'[0; {it.count}]' if it.count else '0'}" for it in fields]
     made += f"\n#[repr(C)]\npub struct {name_of(struct)} {{\n{inside}}}\n"
     if struct in header.in_parts:
         return made
-    made += f"\nimpl {name_of(struct)} {{\n    pub const ZEROS: Self = Self {{ {zeros} }};\n}}\n"
+    of_zeros = f" {zeros[0]} " if len(zeros) == 1 else "\n" + "".join(f"        {it},\n" for it in zeros) + "    "
+    made += f"\nimpl {name_of(struct)} {{\n    pub const ZEROS: Self = Self {{{of_zeros}}};\n}}\n"
     if is_secret(struct):
         cleared = "".join(f"        clear(&mut self.{it.name});\n" for it in fields if it.count and it.name != "key_id")
         made += RUST_CLEARED.format(struct=name_of(struct), cleared=cleared)
@@ -287,15 +374,19 @@ def rust_declaration(call, header):
     for it in call.parameters:
         of, array, pointer = rust_type(it.kind, header), "&" if it.const else "&mut ", "*const " if it.const else "*mut "
         told.append(f"{it.name}: " + (f"{array}[{of}; {it.count}]" if it.count else f"{pointer}{of}" if it.star else of))
-    return f"    fn {call.name}({', '.join(told)})" + {"void": ";\n", "size_t": " -> usize;\n"}.get(call.answer, " -> u32;\n")
+    answer = {"void": ");", "size_t": ") -> usize;"}.get(call.answer, ") -> u32;")
+    return in_lines(" " * 4, f"fn {call.name}(", told, answer) + "\n"
 
 
 def rust_header(header):
     made = kept(RUST, "// SPDX", "use crate::Reason;\n")
     made += "\nimpl Reason {\n    /// No error.\n    pub const OK: Reason = Reason(0);\n"
     for comment, name, number in header.errors:
-        made += "".join(f"    /// {line}\n" for line in textwrap.wrap(comment, 112))
+        made += "".join(f"    /// {line}\n" for line in textwrap.wrap(comment, RUST_WIDTH - 8))
         made += f"    pub const {name}: Reason = Reason({number});\n"
+    made += "\n    /// The name that it has in `minisign.h`, without `MINISIGN_`: of another number \"\".\n"
+    made += "    pub fn name(self) -> &'static str {\n        match self.0 {\n            0 => \"OK\",\n"
+    made += "".join(f'            {it.number} => "{it.name}",\n' for it in header.errors) + '            _ => "",\n        }\n    }\n'
     kinds = [(name, "u64" if value.startswith("0x") else "usize", value) for name, value in header.numbers]
     kinds += [*((it.name, "usize", it.number) for it in header.sizes), *((name, "&str", text) for name, text in header.texts)]
     kinds += [(it.name, "u32", it.number) for enum, members in header.enums.items() if enum != "error" for it in members]

@@ -1,6 +1,6 @@
 // SPDX-License-Identifier: MIT
 
-//go:build cgo && linux && (amd64 || arm64)
+//go:build cgo
 
 package minisign
 

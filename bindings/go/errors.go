@@ -1,6 +1,6 @@
 // SPDX-License-Identifier: MIT
 
-//go:build cgo && linux && (amd64 || arm64)
+//go:build cgo
 
 package minisign
 
@@ -66,6 +66,8 @@ const (
 	ErrExpired                  = Error(C.MINISIGN_EXPIRED)
 	ErrBadExpiry                = Error(C.MINISIGN_BAD_EXPIRY)
 	ErrSameNumber               = Error(C.MINISIGN_SAME_NUMBER)
+	ErrOtherSignatureText       = Error(C.MINISIGN_OTHER_SIGNATURE_TEXT)
+	ErrSignatureNotRead         = Error(C.MINISIGN_SIGNATURE_NOT_READ)
 	ErrKeyNotRead               = Error(C.MINISIGN_KEY_NOT_READ)
 	ErrReadingFailed            = Error(C.MINISIGN_READING_FAILED)
 	ErrWritingFailed            = Error(C.MINISIGN_WRITING_FAILED)
@@ -131,6 +133,8 @@ var names = map[Error]string{
 	ErrExpired:                  "EXPIRED",
 	ErrBadExpiry:                "BAD_EXPIRY",
 	ErrSameNumber:               "SAME_NUMBER",
+	ErrOtherSignatureText:       "OTHER_SIGNATURE_TEXT",
+	ErrSignatureNotRead:         "SIGNATURE_NOT_READ",
 	ErrKeyNotRead:               "KEY_NOT_READ",
 	ErrReadingFailed:            "READING_FAILED",
 	ErrWritingFailed:            "WRITING_FAILED",

@@ -1,6 +1,6 @@
 // SPDX-License-Identifier: MIT
 
-//go:build cgo && linux && (amd64 || arm64)
+//go:build cgo
 
 // Package minisign verifies Minisign signatures over proved calls, with the names that go-minisign has.
 package minisign
@@ -8,6 +8,7 @@ package minisign
 import (
 	"bytes"
 	"encoding/base64"
+	"errors"
 	"io"
 	"os"
 	"strings"
@@ -66,34 +67,11 @@ func NewPublicKeyFromFile(file string) (PublicKey, error) {
 
 // DecodeSignature reads the four lines of a file such as data.minisig.
 func DecodeSignature(in string) (Signature, error) {
-	// A key of no identifier, and then one of the signature's, show what is in the text.
-	var key PublicKey
-	asked, err := newState().ask(&key, in, true)
-	if err == ErrDifferentKeyIds {
-		key.KeyId = asked.keyID()
-		asked, err = newState().ask(&key, in, true)
-	}
+	signature, err := read(in)
 	if err != nil {
 		return Signature{}, err
 	}
-	return asked.signature(in), nil
-}
-
-// signature tells what was read of a text. The questions have all of it but the first line.
-func (asked *questions) signature(text string) Signature {
-	algorithm := [2]byte{'E', 'D'}
-	if asked.isLegacy() {
-		algorithm[1] = 'd'
-	}
-	untrusted, _, _ := strings.Cut(text, "\n")
-	return Signature{
-		UntrustedComment:   strings.TrimRight(untrusted, "\r"),
-		SignatureAlgorithm: algorithm,
-		KeyId:              asked.keyID(),
-		Signature:          asked.first(),
-		TrustedComment:     "trusted comment: " + string(asked.message[64:]),
-		GlobalSignature:    asked.second(),
-	}
+	return signature.signature(), nil
 }
 
 // NewSignatureFromFile reads a file such as data.minisig.
@@ -144,6 +122,9 @@ func (publicKey *PublicKey) VerifyFromFile(file string, signature Signature) (bo
 // VerifyReader says whether a signature vouches for all that a reader gives until its end. One that is over the data
 // itself is rejected.
 func (publicKey *PublicKey) VerifyReader(reader io.Reader, signature Signature) (bool, error) {
+	if reader == nil {
+		return false, errors.New("minisign: reader is nil")
+	}
 	verifier, err := NewVerifier(publicKey, signature)
 	if err == nil {
 		_, err = io.Copy(verifier, reader)
@@ -168,16 +149,23 @@ func NewVerifier(publicKey *PublicKey, signature Signature) (*Verifier, error) {
 }
 
 func begin(publicKey *PublicKey, signature Signature, allowLegacy bool) (*Verifier, error) {
+	if publicKey == nil {
+		return nil, errors.New("minisign: publicKey is nil")
+	}
 	if publicKey.SignatureAlgorithm != [2]byte{'E', 'd'} {
 		return nil, ErrUnsupportedAlgorithm
 	}
-	state, text := newState(), signature.text()
-	asked, err := state.ask(publicKey, text, allowLegacy)
+	read, err := read(signature.text())
+	if err != nil {
+		return nil, err
+	}
+	state := newState()
+	asked, err := state.ask(publicKey, read, allowLegacy)
 	if err != nil {
 		return nil, err
 	}
 	// (of a comment with a line feed the library reads other fields than the caller has)
-	if asked.signature(text) != signature {
+	if read.signature() != signature {
 		return nil, ErrBadComment
 	}
 	return &Verifier{publicKey.PublicKey, state, asked}, nil

@@ -1,6 +1,6 @@
 // SPDX-License-Identifier: MIT
 
-//go:build cgo && linux && (amd64 || arm64)
+//go:build cgo
 
 package minisign
 
@@ -128,6 +128,23 @@ func TestChangedFields(t *testing.T) {
 	key.SignatureAlgorithm = [2]byte{}
 	if _, err := NewVerifier(&key, signature); err != ErrUnsupportedAlgorithm {
 		t.Fatal(err)
+	}
+}
+
+// What is nil is an error that names it.
+func TestNil(t *testing.T) {
+	key, _ := NewPublicKey(aKey)
+	signature, _ := DecodeSignature(aSignature)
+	var none *PublicKey
+	_, err := NewVerifier(none, signature)
+	if good, again := none.Verify([]byte("test"), signature); good || again.Error() != err.Error() {
+		t.Fatal(good, again)
+	}
+	if err.Error() != "minisign: publicKey is nil" {
+		t.Fatal(err)
+	}
+	if good, err := key.VerifyReader(nil, signature); good || err.Error() != "minisign: reader is nil" {
+		t.Fatal(good, err)
 	}
 }
 

@@ -1,19 +1,24 @@
 // SPDX-License-Identifier: MIT
 
-//go:build cgo && linux && (amd64 || arm64)
+//go:build cgo
 
 package minisign
 
 /*
-#cgo CFLAGS: -I${SRCDIR} -I${SRCDIR}/../../include
-#cgo LDFLAGS: -L${SRCDIR} -L${SRCDIR}/../../dist
-#cgo amd64,!amd64.v3 LDFLAGS: -l:calls-x86-64-v2.a
-#cgo amd64,amd64.v3 LDFLAGS: -l:calls-x86-64-v3.a
-#cgo arm64 LDFLAGS: -l:calls-aarch64.a
+#cgo CFLAGS: -I${SRCDIR}
+#cgo portable !linux !amd64,!arm64 CFLAGS: -DMINISIGN_PORTABLE
+#cgo !linux 386 arm mips mipsle CFLAGS: -DMINISIGN_MALLOC_ALONE
+#cgo linux,!portable LDFLAGS: -L${SRCDIR}
+#cgo linux,!portable,amd64,!amd64.v3 LDFLAGS: -l:calls-x86-64-v2.a
+#cgo linux,!portable,amd64,amd64.v3 LDFLAGS: -l:calls-x86-64-v3.a
+#cgo linux,!portable,arm64 LDFLAGS: -l:calls-aarch64.a
 #include <minisign.h>
 */
 import "C"
-import "unsafe"
+import (
+	"strings"
+	"unsafe"
+)
 
 // An Error says why a text, a signature or a call was rejected: a number of minisign.h, in the words of
 // minisign_error_text.
@@ -55,14 +60,38 @@ func newState() *state {
 	return it
 }
 
+// A reading is the text of a signature, and what the library has read of it.
+type reading struct {
+	text string
+	of   C.minisign_signature
+}
+
+func read(text string) (*reading, error) {
+	it := &reading{text: text}
+	at, length := front([]byte(text))
+	return it, done(C.minisign_read_signature(at, length, &it.of))
+}
+
+// The library tells all of a signature but its first line.
+func (it *reading) signature() Signature {
+	untrusted, _, _ := strings.Cut(it.text, "\n")
+	return Signature{
+		UntrustedComment:   strings.TrimRight(untrusted, "\r"),
+		SignatureAlgorithm: *(*[2]byte)(unsafe.Pointer(&it.of.algorithm)),
+		KeyId:              *(*[8]byte)(unsafe.Pointer(&it.of.key_id)),
+		Signature:          *(*[64]byte)(unsafe.Pointer(&it.of.signature)),
+		TrustedComment:     "trusted comment: " + it.text[it.of.comment_offset:][:it.of.comment_len],
+		GlobalSignature:    *(*[64]byte)(unsafe.Pointer(&it.of.comment_signature)),
+	}
+}
+
 // Questions are what Ed25519 has to answer, and the message of the second one.
 type questions struct {
 	of      C.minisign_questions
 	message []byte
 }
 
-// The questions are filled in as far as the header says, also where they were not asked.
-func (it *state) ask(publicKey *PublicKey, signature string, allowLegacy bool) (*questions, error) {
+func (it *state) ask(publicKey *PublicKey, signature *reading, allowLegacy bool) (*questions, error) {
 	var key C.minisign_public_key
 	*(*[32]byte)(unsafe.Pointer(&key.key)) = publicKey.PublicKey
 	*(*[8]byte)(unsafe.Pointer(&key.key_id)) = publicKey.KeyId
@@ -70,19 +99,13 @@ func (it *state) ask(publicKey *PublicKey, signature string, allowLegacy bool) (
 	if allowLegacy {
 		legacy = 1
 	}
-	asked := &questions{message: make([]byte, len(signature))}
-	text, length := front([]byte(signature))
+	asked := &questions{message: make([]byte, 64+signature.of.comment_len)}
+	text, length := front([]byte(signature.text))
 	message, room := front(asked.message)
-	err := done(C.minisign_ask(&it.of, &key, text, length, legacy, &asked.of, message, room))
-	asked.message = asked.message[:asked.of.message_len]
-	return asked, err
+	return asked, done(C.minisign_ask(&it.of, &key, &signature.of, text, length, legacy, &asked.of, message, room))
 }
 
 func (asked *questions) isLegacy() bool { return asked.of.legacy == 1 }
-
-func (asked *questions) keyID() [8]byte {
-	return *(*[8]byte)(unsafe.Pointer(&asked.of.signature_key_id))
-}
 
 func (asked *questions) first() [64]byte { return *(*[64]byte)(unsafe.Pointer(&asked.of.signature)) }
 

@@ -1,30 +1,46 @@
 // SPDX-License-Identifier: MIT
-// The proved library, built from the crate minisign_page: all calls of its module, which no other file knows. They are proved
-// and built for 64-bit WebAssembly; what is carried is the module that wasm-opt made of that for a memory of 32 bits, whose
-// calls still take each address and length as a number of 64 bits. Both modules can be loaded here. What a caller owes the
-// calls is in include/minisign.h, "Requirements". Each method copies in what it passes and copies out what was written: the
-// caller holds the state, and nothing lasts in the module from one call to the next but what `place` puts there.
+// The proved library, built from the crate minisign_page: all calls of its
+// module, which no other file knows. They are proved and built for 64-bit
+// WebAssembly; what is carried is the module that wasm-opt made of that for a
+// memory of 32 bits, whose calls still take each address and length as a number
+// of 64 bits. Both modules can be loaded here. What a caller owes the calls is
+// in include/minisign.h, "Requirements". Each method copies in what it passes
+// and copies out what was written: the caller holds the state, and nothing
+// lasts in the module from one call to the next but what `place` puts there.
 
 const ANSWER_YES = 0x796573;
 const ANSWER_NO = 0x6e6f;
 
 // A text of a key or of a signature is shorter than this.
 export const TEXT_BYTES = 65536;
-// Data is fed in pieces that are not longer, and not longer than the room that the module's memory has for one.
+// Data is fed in pieces that are not longer, and not longer than the room that
+// the module's memory has for one.
 const MAX_PIECE_BYTES = 4 * 1048576;
 
-// The structs of include/minisign.h: how long each is, and where in the questions each part begins.
+// The structs of include/minisign.h: how long each is, and where each part
+// begins that is read here.
 const STATE_BYTES = 512;
 const KEY_BYTES = 40;
+const SIGNATURE_BYTES = 200;
+const SIGNATURE = { key_id: 8, legacy: 194 };
 const QUESTIONS_BYTES = 256;
 const QUESTIONS = {
-  public_key: 0, digest: 32, signature: 96, comment_signature: 160, message_len: 224,
-  public_key_id: 232, signature_key_id: 240, legacy: 248,
+  public_key: 0,
+  digest: 32,
+  signature: 96,
+  comment_signature: 160,
+  message_len: 224,
+  comment_offset: 232,
+  comment_len: 240,
+  legacy: 248,
 };
 
 // Eight bytes as minisign shows an identifier: one little endian number.
 function identifierOf(bytes) {
-  return Array.from(bytes, byte => byte.toString(16).padStart(2, "0")).reverse().join("").toUpperCase();
+  const digits = Array.from(bytes, (byte) =>
+    byte.toString(16).padStart(2, "0"),
+  );
+  return digits.reverse().join("").toUpperCase();
 }
 
 export class Library {
@@ -32,29 +48,33 @@ export class Library {
     this.calls = calls;
     this.memory = new Uint8Array(calls.memory.buffer);
     let at = Math.ceil(Number(calls.__heap_base.value) / 16) * 16;
-    const room = length => {
+    const room = (length) => {
       const begin = at;
       at += length;
       return begin;
     };
     this.state = room(STATE_BYTES);
     this.questions = room(QUESTIONS_BYTES);
+    this.signature = room(208);
     this.key = room(48);
     this.words = room(128);
     this.text = room(TEXT_BYTES);
     this.message = room(TEXT_BYTES);
     this.piece = at;
-    this.pieceBytes = Math.min(MAX_PIECE_BYTES, Math.floor((this.memory.length - at) / TEXT_BYTES) * TEXT_BYTES);
+    const texts = Math.floor((this.memory.length - at) / TEXT_BYTES);
+    this.pieceBytes = Math.min(MAX_PIECE_BYTES, texts * TEXT_BYTES);
     if (this.pieceBytes < TEXT_BYTES) {
       throw new Error("the module has too little memory");
     }
   }
 
   static async load(bytes) {
-    return new Library((await WebAssembly.instantiate(bytes, {})).instance.exports);
+    const { instance } = await WebAssembly.instantiate(bytes, {});
+    return new Library(instance.exports);
   }
 
-  // Copies bytes to a place that has this much room; the pointer and the length that a call is passed.
+  // Copies bytes to a place that has this much room; the pointer and the length
+  // that a call is passed.
   put(place, room, bytes) {
     if (bytes.length > room) {
       throw new Error("too many bytes for the place that they are put in");
@@ -76,80 +96,124 @@ export class Library {
 
   // What a number of an error means.
   errorText(number) {
-    const length = Number(this.calls.page_error_text(number, BigInt(this.words), 128n));
+    const place = BigInt(this.words);
+    const length = Number(this.calls.page_error_text(number, place, 128n));
     return new TextDecoder().decode(this.bytesAt(this.words, length));
   }
 
-  // Reads a public key, of two lines or of its base64 alone: its identifier, and the 32 bytes of the key with the 8 of its
-  // identifier after them; or the number of why there is none.
+  // Reads a public key, of two lines or of its base64 alone: its identifier,
+  // and the 32 bytes of the key with the 8 of its identifier after them; or the
+  // number of why there is none.
   readKey(text, isBare) {
-    const read = isBare ? this.calls.page_read_bare_public_key : this.calls.page_read_public_key;
-    const number = read(...this.put(this.text, TEXT_BYTES, text), BigInt(this.key)) >>> 0;
+    const read = isBare
+      ? this.calls.page_read_bare_public_key
+      : this.calls.page_read_public_key;
+    const given = this.put(this.text, TEXT_BYTES, text);
+    const number = read(...given, BigInt(this.key)) >>> 0;
     const key = this.bytesAt(this.key, number === 0 ? KEY_BYTES : 0);
-    return {number, keyId: identifierOf(key.subarray(32)), key};
+    return { number, keyId: identifierOf(key.subarray(32)), key };
   }
 
   // Begins: a state that was fed nothing.
   begin() {
     const state = new Uint8Array(STATE_BYTES);
-    this.onState(state, place => this.calls.page_init(place));
+    this.onState(state, (place) => this.calls.page_init(place));
     return state;
   }
 
-  // What Ed25519 has to answer about a signature under a key that was read, and about the data that will be fed: 0 and the
-  // questions, but for the digest; or the number of why the texts are rejected. The identifiers are told where the text reads.
-  ask(state, key, signatureText, allowsLegacy) {
+  // Reads the text of a signature: what `ask` takes, the identifier of the key
+  // that it names, and whether it is over the data itself; or the number of why
+  // there is none.
+  readSignature(text) {
+    this.memory.fill(0, this.signature, this.signature + SIGNATURE_BYTES);
+    const given = this.put(this.text, TEXT_BYTES, text);
+    const to = BigInt(this.signature);
+    const number = this.calls.page_read_signature(...given, to) >>> 0;
+    const value = this.bytesAt(this.signature, SIGNATURE_BYTES);
+    const id = value.subarray(SIGNATURE.key_id, SIGNATURE.key_id + 8);
+    return {
+      number,
+      text: text.slice(),
+      value,
+      keyId: identifierOf(id),
+      isLegacy: value[SIGNATURE.legacy] === 1,
+    };
+  }
+
+  // What Ed25519 has to answer about a signature under a key, both of which
+  // were read, and about the data that will be fed: 0 and the questions, but
+  // for the digest; or the number of why they are not asked.
+  ask(state, key, signature, allowsLegacy) {
     this.memory.fill(0, this.questions, this.questions + QUESTIONS_BYTES);
-    const number = this.onState(state, place => this.calls.page_ask(
-      place, this.put(this.key, KEY_BYTES, key)[0], ...this.put(this.text, TEXT_BYTES, signatureText), allowsLegacy ? 1 : 0,
-      BigInt(this.questions), BigInt(this.message), BigInt(TEXT_BYTES)));
-    const part = (name, length) => this.bytesAt(this.questions + QUESTIONS[name], length);
-    const numberAt = (name, length) => part(name, length).reduceRight((value, byte) => 256 * value + byte, 0);
+    const number = this.onState(state, (place) =>
+      this.calls.page_ask(
+        place,
+        this.put(this.key, KEY_BYTES, key)[0],
+        this.put(this.signature, SIGNATURE_BYTES, signature.value)[0],
+        ...this.put(this.text, TEXT_BYTES, signature.text),
+        allowsLegacy ? 1 : 0,
+        BigInt(this.questions),
+        BigInt(this.message),
+        BigInt(TEXT_BYTES),
+      ),
+    );
+    const part = (name, length) =>
+      this.bytesAt(this.questions + QUESTIONS[name], length);
+    const numberAt = (name, length) =>
+      part(name, length).reduceRight((value, byte) => 256 * value + byte, 0);
+    const comment = this.message + numberAt("comment_offset", 8);
     return {
       number,
       publicKey: part("public_key", 32),
-      digest: part("digest", 64),
       signature: part("signature", 64),
       commentSignature: part("comment_signature", 64),
-      message: number === 0 ? this.bytesAt(this.message, numberAt("message_len", 8)) : new Uint8Array(0),
-      publicKeyId: identifierOf(part("public_key_id", 8)),
-      signatureKeyId: identifierOf(part("signature_key_id", 8)),
+      message: this.bytesAt(this.message, numberAt("message_len", 8)),
+      comment: this.bytesAt(comment, numberAt("comment_len", 8)),
       isLegacy: numberAt("legacy", 4) === 1,
     };
   }
 
-  // Puts a piece of the data, of at most pieceBytes, where `feedPlaced` takes it from.
+  // Puts a piece of the data, of at most pieceBytes, where `feedPlaced` takes
+  // it from.
   place(bytes) {
     this.placed = this.put(this.piece, this.pieceBytes, bytes);
   }
 
   // Feeds the piece that was placed last: 0, or the number of a usage error.
   feedPlaced(state) {
-    return this.onState(state, place => this.calls.page_update(place, ...this.placed));
+    return this.onState(state, (place) =>
+      this.calls.page_update(place, ...this.placed),
+    );
   }
 
-  // Feeds the next bytes of the data, however many: 0, or the number of a usage error.
+  // Feeds the next bytes of the data, however many: 0, or the number of a usage
+  // error.
   feed(state, bytes) {
     let number = 0;
-    for (let begin = 0; begin < bytes.length && number === 0; begin += this.pieceBytes) {
-      this.place(bytes.subarray(begin, begin + this.pieceBytes));
+    for (let at = 0; at < bytes.length && number === 0; at += this.pieceBytes) {
+      this.place(bytes.subarray(at, at + this.pieceBytes));
       number = this.feedPlaced(state);
     }
     return number;
   }
 
-  // Tells the questions the digest of all that was fed, after which no more is: 0, or the number of a usage error.
+  // Tells the questions the digest of all that was fed, after which no more is:
+  // 0, or the number of a usage error.
   digest(state, questions) {
     const at = this.questions + QUESTIONS.digest;
-    const number = this.onState(state, place => this.calls.page_digest(place, BigInt(at)));
+    const number = this.onState(state, (place) =>
+      this.calls.page_digest(place, BigInt(at)),
+    );
     questions.digest = this.bytesAt(at, 64);
     return number;
   }
 
-  // The verdict from two answers, yes or no: 0 exactly where the texts vouch for what was fed, or the number of the first
-  // reason why not.
+  // The verdict from two answers, yes or no: 0 exactly where the texts vouch
+  // for what was fed, or the number of the first reason why not.
   verdict(state, first, second) {
-    const answers = [first, second].map(it => it ? ANSWER_YES : ANSWER_NO);
-    return this.onState(state, place => this.calls.page_verdict(place, ...answers));
+    const answers = [first, second].map((it) => (it ? ANSWER_YES : ANSWER_NO));
+    return this.onState(state, (place) =>
+      this.calls.page_verdict(place, ...answers),
+    );
   }
 }

@@ -1,44 +1,182 @@
 // SPDX-License-Identifier: MIT
+// The types of the package, of the language alone: they need neither those of
+// the web nor those of Node.
 
-/** Bytes, a Blob or a File, a stream of bytes, or what gives pieces of bytes one after another, as a stream of Node. */
-export type Data = ArrayBuffer | ArrayBufferView | Blob | ReadableStream<Uint8Array>
-  | AsyncIterable<Uint8Array> | Iterable<Uint8Array>;
+/** Bytes: a buffer, of any realm, or a view of one. */
+export type Bytes = ArrayBuffer | ArrayBufferView;
 
-/** The text of a file, as its bytes or as a string, of fewer than 65,536 bytes. */
-export type Text = string | ArrayBuffer | ArrayBufferView;
+/** What is read of a stream of bytes: a `ReadableStream` is one. */
+export interface ByteStream {
+  getReader(): {
+    read(): Promise<{ done: boolean; value?: Uint8Array }>;
+    cancel(reason?: any): Promise<void>;
+    releaseLock(): void;
+  };
+  cancel(reason?: any): Promise<void>;
+}
 
-export interface Options {
-  /** Whether signatures of the older kind are accepted, whose data is kept in memory as a whole. They are not by default. */
+/** What has a stream of bytes: a `Blob` or a `File`. */
+export interface ByteFile {
+  readonly size: number;
+  stream(): ByteStream;
+}
+
+/**
+ * Bytes, a Blob or a File, a stream of bytes, or what gives pieces of bytes one
+ * after another, as a stream of Node.
+ */
+export type Data =
+  | Bytes
+  | ByteFile
+  | ByteStream
+  | AsyncIterable<Bytes>
+  | Iterable<Bytes>;
+
+/** The text of a file, as its bytes or a string, of fewer than 65,536 bytes. */
+export type Text = string | Bytes;
+
+/** What says that nobody waits any longer: an `AbortSignal`. */
+export interface Signal {
+  readonly aborted: boolean;
+  readonly reason?: any;
+  addEventListener(type: "abort", listener: () => void): void;
+  removeEventListener(type: "abort", listener: () => void): void;
+}
+
+export interface VerifierOptions {
+  /**
+   * Whether signatures of the older kind are accepted, whose data is kept in
+   * memory as a whole. They are not by default.
+   */
   allowLegacy?: boolean;
+}
+
+export interface Options extends VerifierOptions {
+  /**
+   * Is told after each piece how many bytes of the data were read, and of bytes
+   * and a Blob how many there are in all.
+   */
+  progress?: (bytes: number, total?: number) => void;
+  /** Has the promise reject with its reason, and what gives the data closed. */
+  signal?: Signal;
+}
+
+/** What the text of a signature says, for which nobody vouches. */
+export interface Signature {
+  /** The identifier of the key that has to have made it. */
+  readonly keyId: string;
+  /** Whether it is of the older kind. */
+  readonly isLegacy: boolean;
+}
+
+/** A public key that was read. */
+export interface PublicKey {
+  /**
+   * Its identifier, 16 digits as Minisign shows it. Anybody can make a key with
+   * the same one.
+   */
+  readonly keyId: string;
 }
 
 export interface Verified {
   /** The trusted comment, which was signed with the data. It may be empty. */
   trustedComment: string;
-  /** The identifier of the key, 16 digits as Minisign shows it. Anybody can make a key with the same one. */
+  /** The identifier of the key. */
   keyId: string;
   isLegacy: boolean;
 }
 
+/** Verifies data that comes in pieces. */
+export interface Verifier {
+  /** The identifier of the key. */
+  readonly keyId: string;
+  /** Whether the signature is of the older kind. */
+  readonly isLegacy: boolean;
+  /** How many bytes it was fed. */
+  readonly bytes: number;
+  /**
+   * Resolves to the trusted comment where the key has signed it: also before
+   * the data is there, of which this says nothing. Otherwise it rejects with
+   * COMMENT_SIGNATURE_REFUSED, and after `end` with NOT_BEGUN.
+   */
+  trustedComment(): Promise<string>;
+  /**
+   * Takes in the next piece of the data, of any length. It throws a TypeError
+   * of what is no bytes, and NOT_BEGUN after `end`.
+   */
+  update(piece: Bytes): void;
+  /**
+   * Resolves where the signature vouches for all that it was fed, and otherwise
+   * rejects with a MinisignError. It is asked once: after that with NOT_BEGUN.
+   */
+  end(): Promise<Verified>;
+}
+
 /**
- * Resolves exactly where the signature vouches for all of the data under the key. Otherwise it rejects: with a MinisignError
- * for the first reason why not, and before any data is read where that is in the texts; with a TypeError where an argument is
- * of no such type; with what the stream failed with; with an Error where there is no Ed25519 in WebCrypto, as in a page that
- * was loaded by http. Where it rejects, a stream of Node is destroyed, one of the web cancelled, and what gives pieces is told
- * by `return` that no more are taken.
+ * Resolves exactly where the signature vouches for all of the data under the
+ * key. Otherwise it rejects: with a MinisignError for the first reason why not,
+ * and before any data is read where that is in the texts; with a TypeError,
+ * which names it, where an argument or an option is of no such type; with what
+ * the stream failed with; with the reason of the signal; with an Error where
+ * there is no Ed25519 in WebCrypto, as in a page that was loaded by http. Where
+ * it rejects, a stream of Node is destroyed, one of the web cancelled, and what
+ * gives pieces is told by `return` that no more are taken.
  *
- * A key is the text of its file, or as a string of one line its 56 letters alone, after which white space is left out.
+ * A key is the text of its file, or as a string of one line its 56 letters
+ * alone, after which white space is left out; or what `readPublicKey` told.
  */
-export function verify(data: Data, signature: Text, key: Text, options?: Options): Promise<Verified>;
+export function verify(
+  data: Data,
+  signature: Text | Signature,
+  key: Text | PublicKey,
+  options?: Options,
+): Promise<Verified>;
+
+/**
+ * Begins to verify data that comes in pieces. It rejects as `verify` does for
+ * what is wrong with the texts.
+ */
+export function createVerifier(
+  signature: Text | Signature,
+  key: Text | PublicKey,
+  options?: VerifierOptions,
+): Promise<Verifier>;
+
+/**
+ * Reads the text of a signature, before its key is chosen and its data is
+ * there. It rejects with a MinisignError for the first thing that is wrong with
+ * the text, and else as `verify` does.
+ */
+export function readSignature(signature: Text): Promise<Signature>;
+
+/** Reads a public key, as `verify` does. */
+export function readPublicKey(key: Text): Promise<PublicKey>;
 
 /** The errors that verifying has, with the numbers of include/minisign.h. */
 export declare const ERRORS: Readonly<Record<ErrorCode, number>>;
 
-export type ErrorCode = "NOT_UTF8" | "MISSING_PUBLIC_KEY_COMMENT" | "MISSING_PUBLIC_KEY" | "PUBLIC_KEY_LENGTH"
-  | "PUBLIC_KEY_NOT_BASE64" | "RECORD_TOO_SHORT" | "MISSING_UNTRUSTED_COMMENT" | "MISSING_SIGNATURE" | "MISSING_TRUSTED_COMMENT"
-  | "MISSING_COMMENT_SIGNATURE" | "UNTRUSTED_COMMENT_PREFIX" | "SIGNATURE_NOT_BASE64" | "TRUSTED_COMMENT_PREFIX"
-  | "UNSUPPORTED_ALGORITHM" | "DIFFERENT_KEY_IDS" | "LEGACY_NOT_ACCEPTED" | "SIGNATURE_REFUSED" | "COMMENT_SIGNATURE_REFUSED"
-  | "BARE_PUBLIC_KEY_LENGTH" | "BARE_PUBLIC_KEY_NOT_BASE64";
+export type ErrorCode =
+  | "NOT_BEGUN"
+  | "NOT_UTF8"
+  | "MISSING_PUBLIC_KEY_COMMENT"
+  | "MISSING_PUBLIC_KEY"
+  | "PUBLIC_KEY_LENGTH"
+  | "PUBLIC_KEY_NOT_BASE64"
+  | "RECORD_TOO_SHORT"
+  | "MISSING_UNTRUSTED_COMMENT"
+  | "MISSING_SIGNATURE"
+  | "MISSING_TRUSTED_COMMENT"
+  | "MISSING_COMMENT_SIGNATURE"
+  | "UNTRUSTED_COMMENT_PREFIX"
+  | "SIGNATURE_NOT_BASE64"
+  | "TRUSTED_COMMENT_PREFIX"
+  | "UNSUPPORTED_ALGORITHM"
+  | "DIFFERENT_KEY_IDS"
+  | "LEGACY_NOT_ACCEPTED"
+  | "SIGNATURE_REFUSED"
+  | "COMMENT_SIGNATURE_REFUSED"
+  | "BARE_PUBLIC_KEY_LENGTH"
+  | "BARE_PUBLIC_KEY_NOT_BASE64";
 
 /** Why a signature does not vouch for the data. */
 export class MinisignError extends Error {

@@ -5,15 +5,16 @@ network and without the kit, by a program of another module, also where that has
     tests/bindings/go.py
 
 Its own tests and examples run under `go vet` and under the race detector, over each copy of the calls for x86-64, and for AArch64 in
-an emulator. What that program answers to kept keys and signatures, to damaged ones, to data in pieces and in files, and to signatures
+an emulator. Over the calls as C it answers the same here, for ARM with pointers of 32 bits, and for Windows under wine; as a
+dependency by a git path it is built in a path with blanks, with no make in PATH; and where there is no cgo a sentence says so. What that program answers to kept keys and signatures, to damaged ones, to data in pieces and in files, and to signatures
 that implementations of Ed25519 differ in is compared with `c/minisign` and with libsodium; why it rejects, with the numbers of the
 header. 20,000 damaged texts, and keys and signatures that the caller has changed since they were read, or put together, get the verdict of
 go-minisign, which is run beside, but for differences that tables name. Many calls take no more memory, and threads get the same answers, under the race detector too. The program of README.md is
 built. Each of some planted bugs is noticed. It prints a line for each failure; the last line is `N passed, M failed`.
 
 Needs Python 3.9 or later, golang-go, make, a C compiler, binutils and libsodium with its header, and of Debian
-golang-github-jedisct1-go-minisign-dev, gcc-aarch64-linux-gnu, libc6-dev-arm64-cross and qemu-user-static, and installs what is not
-there where it may.
+golang-github-jedisct1-go-minisign-dev, gcc-aarch64-linux-gnu, libc6-dev-arm64-cross, gcc-arm-linux-gnueabihf,
+libc6-dev-armhf-cross, qemu-user-static, gcc-mingw-w64-x86-64, wine64 and git, and installs what is not there where it may.
 """
 
 import base64
@@ -25,11 +26,15 @@ import sys
 import tempfile
 
 HERE = os.path.dirname(os.path.realpath(__file__))
-sys.path += [HERE, os.path.join(HERE, "..", "shared")]
+sys.path += [HERE, *(os.path.join(HERE, "..", it) for it in ("shared", "c")), os.path.join(HERE, "..", "..", "tools")]
 
+import carried
+import emulated
 import needs
+import portable
 import shared_cases
 import static_library
+from emulated import Kind
 from shared_cases import TOP, Checks, run, write
 
 PACKAGE = os.path.join(TOP, "bindings", "go")
@@ -200,6 +205,13 @@ def check_rejections(checks, program):
         checks.check("minisign: base64 conversion failed" in said, f"the key {text!r} alone: {said}")
 
 
+def check_read(checks, program):
+    """The program tells key IDs and algorithms before anything is asked."""
+    lines = shared_cases.lines_of([it.case for it in shared_cases.readings()])
+    form = lambda it: f"{it.key_id.hex()} {it.signature_key_id.hex()} {'Ed' if it.is_legacy else 'ED'}"
+    shared_cases.check_readings(checks, "what is read", run([program, "read"], data=lines)[1], form)
+
+
 def verdicts(program):
     """What a program of go/changed.go says of each change: the verdict, and the error."""
     said = run([program, *(os.path.join(shared_cases.CORPUS, name) for name in ("published.pub", "test", "published.minisig"))])
@@ -243,13 +255,36 @@ def check_errors(checks, program):
         checks.check(line.startswith(wanted) and (name is None or line == wanted), f"the error {number}: {line}")
 
 
+# What stands around the examples of README.md.
+README_PROGRAM = """package main
+
+import (
+	"bytes"
+	"fmt"
+	"io"
+	"log"
+	"os"
+
+	"proved/minisign"
+)
+
+func stream(key minisign.PublicKey, signature minisign.Signature, reader io.Reader, progress io.Writer) error {
+STREAM}
+
+func main() {
+VERIFY	file, _ := os.Open("app")
+	var seen bytes.Buffer
+	fmt.Println(signature.TrustedComment, stream(key, signature, file, &seen), seen.Len())
+}
+"""
+
+
 def check_readme(checks, go, room, package):
-    """The program of README.md accepts a file that its key has signed, and no other one."""
+    """The examples of README.md accept a file that its key has signed, and no other one."""
     directory = os.path.join(room, "readme")
     os.makedirs(directory)
-    block = re.search(r"```go\n(.*?)```", shared_cases.read(os.path.join(package, "README.md")).decode(), re.S)[1]
-    write(directory, "verify.go", block.encode())
-    write(directory, "main.go", b'package main\n\nimport "fmt"\n\nfunc main() {\n\tfmt.Println(verify("app"), verify("other"))\n}\n')
+    verify, stream = re.findall(r"```go\n(.*?)```", shared_cases.read(os.path.join(package, "README.md")).decode(), re.S)
+    write(directory, "main.go", README_PROGRAM.replace("VERIFY", verify).replace("STREAM", stream).encode())
     go.begin(directory, package)
     # (it is built of what Go has put into its directory `vendor`, as if nothing else were there)
     go.run(directory, "mod", "vendor")
@@ -257,10 +292,16 @@ def check_readme(checks, go, room, package):
     os.rename(package, away)
     go.run(directory, "build", "-mod=vendor", "-o", "readme")
     os.rename(away, package)
-    for name, of in (("app", "test"), ("app.minisig", "published.minisig"), ("other", "hello"), ("other.minisig", "published.minisig")):
-        shutil.copy(os.path.join(shared_cases.CORPUS, of), os.path.join(directory, name))
-    said = run([os.path.join(directory, "readme")], directory)[1]
-    checks.check(said == b"<nil> minisign: Signature verification failed\n", f"the program of README.md: {said!r}")
+    refused, none = "Signature verification failed", "no such file or directory"
+    for app, minisig, wanted, why in (("test", "published.minisig", "trusted comment: timestamp:1556193335\tfile:test <nil> 4\n", ""),
+                                      ("hello", "published.minisig", "", refused), ("test", None, "", none)):
+        shutil.copy(os.path.join(shared_cases.CORPUS, app), os.path.join(directory, "app"))
+        if minisig is None:
+            os.remove(os.path.join(directory, "app.minisig"))
+        else:
+            shutil.copy(os.path.join(shared_cases.CORPUS, minisig), os.path.join(directory, "app.minisig"))
+        status, said, told = run([os.path.join(directory, "readme")], directory)
+        checks.check((status, said.decode()) == (int(why != ""), wanted) and why in told, f"the examples of README.md, {app}: {status} {said!r} {told}")
 
 
 def check_arm(checks, go, package):
@@ -271,6 +312,93 @@ def check_arm(checks, go, package):
     said = go.run(package, "test", "-count=1", "-v", "-exec", f"{emulator} -L {root}", "./...",
                   environment={"GOARCH": "arm64", "CC": compiler})
     checks.check(said.count("--- PASS: ") >= 6, f"go test for AArch64: {said[-500:]}")
+
+
+# ---- Where it is built ----
+
+# All that Debian's Go runs to build the module and a program over it: no make.
+NEEDED = ("go", "gcc", "ld", "as", "git")
+NO_CGO = "minisign calls C: set CGO_ENABLED=1, and CC to a C compiler for this system"
+
+
+def verdicts_of(command, cases):
+    """Whether a program accepts each case."""
+    said = run([*command, "verify"], environment={"WINEDEBUG": "-all"}, data=shared_cases.lines_of(cases))
+    return said[1].replace(b"\r", b"")
+
+
+def check_as_c(checks, go, room, package, minisign):
+    """Over the calls as C: here, for ARM with pointers of 32 bits, and for Windows, under wine."""
+    cases = shared_cases.corpus()
+    wanted = shared_cases.answers_of(minisign, room, cases)
+    windows, arm = portable.Windows(room), Kind("armhf", "arm-linux-gnueabihf", "armhf", "arm", "ARM", has_32_bits=True)
+    kinds = {
+        "as C": ([], ["-tags", "portable"], {}),
+        "for ARM": (emulated.emulator(arm), [], {"GOOS": "linux", "GOARCH": "arm", "CC": emulated.compiler(arm)}),
+        "for Windows": ([windows.program], [], {"GOOS": "windows", "CC": needs.program("x86_64-w64-mingw32-gcc", "gcc-mingw-w64-x86-64")}),
+    }
+    for what, (before, words, environment) in kinds.items():
+        directory = os.path.join(room, what.replace(" ", "-"))
+        os.makedirs(directory)
+        go.begin(directory, package)
+        shutil.copy(os.path.join(HERE, "go", "answers.go"), directory)
+        go.run(directory, "build", "-o", "program", *words, environment=environment)
+        os.environ["WINEPREFIX"] = f"{room}/wine"
+        shared_cases.compare(checks, what, cases, verdicts_of([*before, os.path.join(directory, "program")], cases), wanted)
+        names = run([needs.program("nm", "binutils"), os.path.join(directory, "program")])[1]
+        checks.check(what == "for Windows" or b"machine_minisign_update" in names, f"{what}: it is not built of dist/calls.c")
+    windows.end()
+
+
+class Bare(Go):
+    """Go with few programs in PATH, and a directory that a git path of `example.com` leads to."""
+
+    def __init__(self, room):
+        super().__init__(room)
+        programs = os.path.join(room, "programs")
+        os.mkdir(programs)
+        for it in NEEDED:
+            os.symlink(os.path.join(needs.DEBIAN, it), os.path.join(programs, it))
+        config = write(room, "gitconfig", f'[url "file://{room}/"]\n\tinsteadOf = https://example.com/\n'.encode())
+        self.environment = {**self.environment, "PATH": programs, "GIT_CONFIG_GLOBAL": config, "GOSUMDB": "off", "GOFLAGS": "-mod=mod -modcacherw"}
+
+
+def check_by_git(checks, room):
+    """As a dependency by a git path, in a path with blanks, with no make; over the archives."""
+    needs.git()
+    go, own, directory = Bare(room), os.path.join(room, "repository.git"), os.path.join(room, "a user's module")
+    run(["git", "clone", "-q", "--bare", TOP, own])
+    commit = run(["git", "-C", own, "rev-parse", "HEAD"])[1].decode().strip()
+    os.makedirs(directory)
+    shutil.copy(os.path.join(HERE, "go", "answers.go"), directory)
+    go.run(directory, "mod", "init", "user")
+    go.run(directory, "mod", "edit", "-require=proved/minisign@v0.0.0", f"-replace=proved/minisign=example.com/repository.git/bindings/go@{commit}")
+    go.run(directory, "build", "-o", "program", environment={"GOPROXY": "direct"})
+    program = os.path.join(directory, "program")
+    said = verdicts_of([program], shared_cases.corpus()[:1])
+    names = run([needs.program("nm", "binutils"), program])[1]
+    checks.check(said.startswith(b"accepted") and b"machine_minisign_update" not in names, f"by a git path: {said!r}")
+
+
+def without_cgo(go, package):
+    """What the compiler says where there is no cgo."""
+    return run([go.go, "build", "."], package, {**go.environment, "CGO_ENABLED": "0"})[2]
+
+
+def check_without_cgo(checks, go, room, package):
+    """Without cgo a sentence says so first; where it is taken away, that is noticed."""
+    said = without_cgo(go, package)
+    checks.check(NO_CGO in (said.splitlines() + ["", ""])[1], f"without cgo: {said}")
+    bare = os.path.join(room, "without-sentence")
+    shutil.copytree(package, bare)
+    os.remove(os.path.join(bare, "cgo_needed.go"))
+    checks.check(NO_CGO not in without_cgo(go, bare), "without cgo: the sentence is in another file")
+
+
+def check_copies(checks, package):
+    """What is packed is what dist/, c/ and include/ have."""
+    for name, of in carried.COPIES.items():
+        checks.check(shared_cases.read(os.path.join(package, name)) == carried.copy(*of), f"{name} is no copy of {of[0]}: run tools/carried.py")
 
 
 def check_many(checks, program, racing):
@@ -298,6 +426,7 @@ def check_all(checks, room):
     check_answers(checks, program, room, minisign)
     check_vectors(checks, program)
     check_rejections(checks, program)
+    check_read(checks, program)
     check_errors(checks, program)
     check_changed(checks, go.build("changed.go", os.path.join(room, "changed"), package))
     check_go_minisign(checks, go, room, program)
@@ -305,6 +434,10 @@ def check_all(checks, room):
     check_readme(checks, go, room, package)
     check_planted(checks, go, package, room, minisign)
     check_arm(checks, go, package)
+    check_copies(checks, package)
+    check_without_cgo(checks, go, room, package)
+    check_as_c(checks, go, room, package, minisign)
+    check_by_git(checks, room)
 
 
 # The file, and what is changed in it.
@@ -316,7 +449,9 @@ BUGS = [
     ("minisign.go", "verdict(first, verifier.acceptsComment())", "verdict(first, first)"),
     ("minisign.go", "return begin(publicKey, signature, false)", "return begin(publicKey, signature, true)"),
     ("minisign.go", "verifier.end(held.Bytes())", "verifier.end(nil)"),
-    ("minisign.go", "if asked.signature(text) != signature {", "if false {"),
+    ("minisign.go", "if read.signature() != signature {", "if false {"),
+    ("raw.go", "unsafe.Pointer(&it.of.key_id)", "unsafe.Pointer(&it.of.signature)"),
+    ("raw.go", "it.text[it.of.comment_offset:]", "it.text[it.of.comment_offset-1:]"),
     ("minisign.go", "if publicKey.SignatureAlgorithm != [2]byte{'E', 'd'} {", "if false {"),
     ("minisign.go", "signature.KeyId[:], signature.Signature[:]}", "signature.KeyId[:], signature.GlobalSignature[:]}"),
     ("raw.go", "\t\treturn C.MINISIGN_ANSWER_YES", "\t\treturn C.MINISIGN_ANSWER_YES + 1"),
@@ -339,6 +474,7 @@ def check_planted(checks, go, package, room, minisign):
         shared_cases.compare(found, "in pieces", cases, run([program, "pieces", "7"], data=lines)[1], strict)
         check_vectors(found, program)
         check_rejections(found, program)
+        check_read(found, program)
         check_changed(found, go.build("changed.go", os.path.join(directory, "changing"), changed))
         checks.check(old in text and found.failures, f"planted in {file}, and not noticed: {new}")
 

@@ -6,14 +6,14 @@ program in an empty directory; in Node, and in a page and a worker of Chromium a
 
 The module is that of PAGE, the one of `dist/` where none is named. What the package answers to kept keys and signatures, to
 damaged ones, to data in pieces of each kind, and to signatures that implementations of Ed25519 differ in is compared with
-`c/minisign` and with libsodium; why it rejects, the list of errors and the sizes of structs, with the header. The example of
-README.md runs, also over what npm installs. A stream is closed where the promise is rejected, and its errors reject the promise,
+`c/minisign` and with libsodium; why it rejects, the list of errors and the sizes of structs, with the header. The types need
+neither those of the web nor those of Node. The examples of README.md run, also over what npm installs. A stream is closed where the promise is rejected, and its errors reject the promise,
 whenever they come. It runs where there is nothing but the language and a few globals that browsers, Node,
 Deno and workers all have, and needs each of these. Many calls take no more memory, and threads get the same answers. Each of some
 planted bugs is noticed. Where there is no npm, the files that package.json names are taken. It prints a line for each failure;
 the last line is `N passed, M failed`.
 
-Needs Python 3.9 or later, nodejs (the one that the environment names NODE, if any), make, a C compiler, libsodium with its
+Needs Python 3.9 or later, nodejs (the one that the environment names NODE, if any), node-typescript, make, a C compiler, libsodium with its
 header, and for the browsers chromium, chromium-driver, python3-selenium and firefox-esr, and installs what is not there where
 it may.
 """
@@ -41,15 +41,18 @@ BUILD = os.path.join(TOP, "page", "build.py")
 PROGRAMS = [os.path.join(HERE, "javascript", name) for name in ("answers.mjs", "streams.mjs")]
 BROWSERS = os.path.join(HERE, "javascript_browsers.py")
 MODULE = "module.js"
-LINES = 300
+LINES = 600
 # The globals that the package uses besides those of the language. All are of the web, and of the list that all of these have
 # (the "Minimum common web platform API").
-GLOBALS = ("Blob", "TextDecoder", "TextEncoder", "WebAssembly", "atob", "crypto")
+GLOBALS = ("TextDecoder", "TextEncoder", "WebAssembly", "atob", "crypto")
 CALLS = 100_000
 # How many bytes may be in memory after all calls that were not after a tenth of them.
 GROWTH = 16 * 1048576
+README_KEY = "RWQf6LRCGA9i53mlYecO4IzT51TGPpvWucNSCh1CBM0QTaLn73Y7GFO3"
 # The errors of the header that verifying has besides usage errors.
 VERIFYING = {8, *range(16, 33), 44, 45}
+# A verifier has another one, once it has ended.
+ENDED = 1
 
 
 def npm_path():
@@ -96,22 +99,24 @@ def check_sources(checks, user):
     for name in sorted(names - {MODULE}):
         text = text_of(name)
         bare = re.sub(r"/\*.*?\*/", "", text, flags=re.S)
-        lines += sum(1 for line in bare.splitlines() if line.strip() and not line.strip().startswith("//"))
+        lines += 0 if name.endswith(".d.ts") else sum(1 for line in bare.splitlines() if line.strip() and not line.strip().startswith("//"))
         checks.check(name == "calls.js" or not re.search(r"page_|WebAssembly\.|\.memory\b|\.calls\b", bare), f"{name}: it calls the module")
     checks.check(lines <= LINES, f"the package has {lines} lines")
-    wanted = {name: number for name, number in shared_cases.error_numbers().items() if number in VERIFYING}
+    wanted = {name: number for name, number in shared_cases.error_numbers().items() if number in VERIFYING | {ENDED}}
     found = re.search(r"ERRORS = Object\.freeze\(\{(.*?)\}\)", text_of("index.js"), re.S)[1]
     errors = {name: int(number) for name, number in re.findall(r"(\w+): (\d+)", found)}
     checks.check(errors == wanted, f"index.js has other errors than the header: {set(errors.items()) ^ set(wanted.items())}")
-    sizes = dict(re.findall(r"const (STATE|KEY|QUESTIONS)_BYTES = (\d+);", text_of("calls.js")))
+    sizes = dict(re.findall(r"const (STATE|KEY|SIGNATURE|QUESTIONS)_BYTES = (\d+);", text_of("calls.js")))
     places = shared_cases.layout(user)
-    structs = {name: places[f"minisign_{of}"] for name, of in (("STATE", "state"), ("KEY", "public_key"), ("QUESTIONS", "questions"))}
+    structs = {name: places[f"minisign_{of}"] for name, of in (("STATE", "state"), ("KEY", "public_key"), ("SIGNATURE", "signature"),
+                                                               ("QUESTIONS", "questions"))}
     checks.check({name: int(size) for name, size in sizes.items()} == structs, f"calls.js has other sizes than the header: {sizes}")
-    told = re.search(r"const QUESTIONS = \{(.*?)\};", text_of("calls.js"), re.S)[1]
-    found = {name: int(at) for name, at in re.findall(r"(\w+): (\d+)", told)}
-    wanted_at = {name: places[f"minisign_questions.{name}"] for name in found}
-    checks.check(len(found) >= 8 and found == wanted_at, f"calls.js has the questions at {found}, and the header at {wanted_at}")
-    typed = set(re.findall(r'"([A-Z0-9_]+)"', re.search(r"type ErrorCode = (.*?);", text_of("index.d.ts"), re.S)[1]))
+    for struct, count in (("SIGNATURE", 2), ("QUESTIONS", 8)):
+        told = re.search(rf"const {struct} = \{{(.*?)\}};", text_of("calls.js"), re.S)[1]
+        found = {name: int(at) for name, at in re.findall(r"(\w+): (\d+)", told)}
+        wanted_at = {name: places[f"minisign_{struct.lower()}.{name}"] for name in found}
+        checks.check(len(found) >= count and found == wanted_at, f"calls.js has {struct} at {found}, and the header at {wanted_at}")
+    typed = set(re.findall(r'"([A-Z0-9_]+)"', re.search(r"type ErrorCode =(.*?);", text_of("index.d.ts"), re.S)[1]))
     checks.check(typed == set(wanted), f"index.d.ts has other errors than the header: {typed ^ set(wanted)}")
 
 
@@ -150,8 +155,34 @@ def check_rejections(checks, program):
     said = program.said(shared_cases.lines_of(cases), "cases").decode().split("\n")
     for case, name, line in zip(cases, names, said):
         checks.check(line == f"rejected {name}", f"{case.name}: {line} in place of {name}")
+    said = program.said(shared_cases.lines_of(cases), "comment").decode().split("\n")
+    for case, name, line in zip(cases, names, said):
+        wanted = shared_cases.line_of_comment() if name == "SIGNATURE_REFUSED" else f"rejected {name}"
+        checks.check(line == wanted, f"the comment, {case.name}: {line} in place of {wanted}")
     checks.check(set(names) | {"BARE_PUBLIC_KEY_LENGTH", "BARE_PUBLIC_KEY_NOT_BASE64"} ==
                  {name for name, number in shared_cases.error_numbers().items() if number in VERIFYING}, "an error is not tried")
+
+
+def check_read(checks, program, room, minisign):
+    """It tells which key a signature names, and whether it is legacy, before anything is asked; and verifies with what was read."""
+    told = shared_cases.readings()
+    cases = [it.case for it in told]
+    for words, allowed in ((["read"], False), (["read", "legacy"], True)):
+        answers = dict(zip(cases, shared_cases.answers_of(minisign, room, cases, allowed)))
+        said = program.said(shared_cases.lines_of(cases), *words)
+        # (of what is rejected otherwise, the white space behind a comment was signed)
+        why = lambda it: ("DIFFERENT_KEY_IDS" if it.key_id != it.signature_key_id else "LEGACY_NOT_ACCEPTED" if it.is_legacy
+                          else "COMMENT_SIGNATURE_REFUSED")
+        verdict = lambda it: f"accepted {answers[it.case].hex() or '-'}" if answers[it.case] is not None else f"rejected {why(it)}"
+        shown = lambda it: f"{shared_cases.shown_id(it):0>16}"
+        form = lambda it: f"{shown(it.key_id)} {shown(it.signature_key_id)} {str(it.is_legacy).lower()} {verdict(it)}"
+        shared_cases.check_readings(checks, f"{words}", said, form)
+    of_texts = [(case, name) for case, name in shared_cases.rejections() if case.key == cases[0].key and "signature" in case.name]
+    said = program.said(shared_cases.lines_of([case for case, _ in of_texts]), "read").decode().splitlines()
+    for (case, name), line in zip(of_texts, said):
+        wanted = re.fullmatch(rf"rejected {name}|[0-9A-F]{{16}} [0-9A-F]{{16}} (true|false) rejected {name}", line)
+        checks.check(wanted is not None, f"reading, {case.name}: {line} in place of {name}")
+    checks.check(len(said) == len(of_texts) >= 5, f"{len(said)} answers to {len(of_texts)} rejections")
 
 
 def check_vectors(checks, program, room, minisign):
@@ -173,8 +204,12 @@ def check_keys(checks, program):
     """A string of one line is a key's letters alone; arguments of other types are rejected."""
     key, data, signature = (read(os.path.join(shared_cases.CORPUS, name)) for name in ("published.pub", "test", "published.minisig"))
     good = shared_cases.lines_of([Case("published", key, data, signature)])
-    said = program.said(good, "wrong").decode().split()
-    checks.check(said == ["TypeError"] * 11, f"arguments of other types: {said}")
+    said = program.said(good, "wrong").decode().splitlines()
+    checks.check(len(said) == len(WRONG), f"{len(said)} answers to arguments of other types")
+    for line, wanted in zip(said, WRONG):
+        checks.check(line.startswith(f"TypeError: {wanted}"), f"arguments of other types: {line} in place of {wanted}")
+    said = program.said(good, "verifier").decode().splitlines()
+    checks.check(said == VERIFIER, f"a verifier: {said}")
     letters = key.split(b"\n")[1].decode()
     texts = {letters: "accepted", f"{letters}\n": "accepted", f"{letters}\r\n": "accepted", key.decode(): "accepted",
              letters[:-1]: "BARE_PUBLIC_KEY_LENGTH", "": "BARE_PUBLIC_KEY_LENGTH", f"-{letters[1:]}": "BARE_PUBLIC_KEY_NOT_BASE64",
@@ -190,6 +225,27 @@ def check_keys(checks, program):
         checks.check(answer == wanted, f"the key {text!r}: {answer} in place of {wanted}")
 
 
+# How it begins what it says of arguments of other types, in the order of `answers.mjs`: each time it names one.
+WRONG = [
+    *["data has to be bytes, a Blob, a stream or pieces of bytes, and not "] * 5, "a piece of data has to be bytes, and not string",
+    "signature has to be a text, as a string or bytes, and not number", "signature has to be a text, as a string or bytes, and not null",
+    "key has to be a text, as a string or bytes, and not undefined", "signature has 65536 bytes or more", "key has 65536 bytes or more",
+    "signature has to be a text, as a string or bytes, and not object",
+    *(f"signature has to be a text, as a string or bytes, and not {it}" for it in ("number", "null", "undefined", "object")),
+    "signature has 65536 bytes or more", "signature has to be a text, as a string or bytes, and not object",
+    *(f"key has to be a text, as a string or bytes, and not {it}" for it in ("number", "null", "object", "object")),
+    "options has to be an object, and not null", "options has to be an object, and not number", "options has no allowlegacy",
+    "options has no toString", *["allowLegacy has to be true or false, and not "] * 2, "progress has to be a function, and not number",
+    *["signal has to be an AbortSignal, and not "] * 2, "options has no signal",
+]
+
+# What a verifier tells of the published texts, whose data has four bytes.
+VERIFIER = [
+    "E7620F1842B4E81F false 0", "TypeError", "0",
+    json.dumps({"trustedComment": "timestamp:1556193335\tfile:test", "keyId": "E7620F1842B4E81F", "isLegacy": False}, separators=(",", ":")),
+    *["NOT_BEGUN"] * 3, "TypeError", "[[4,4],[4,4],[1,null],[2,null],[3,null],[4,null]]", "RangeError",
+]
+
 # What becomes of streams, in the words of `streams.mjs`.
 STREAMS = {
     "descriptors": ["MISSING_SIGNATURE 0", "BARE_PUBLIC_KEY_LENGTH 0", *["TypeError 0"] * 3], "opening": ["MISSING_SIGNATURE 0"],
@@ -198,6 +254,8 @@ STREAMS = {
     "absent": ["ENOENT"], "both": ["rejected"], "begun": ["BEGUN"], "between": ["BETWEEN"], "event": ["EVENT"],
     "late": ["MISSING_SIGNATURE true"], "web": ["start", "pull", "MISSING_SIGNATURE ERR_INVALID_STATE"],
     "accepted": ["accepted,accepted 0 false"],
+    "aborted": [f"{when} {kind} GONE {closed}" for when in ("before", "meanwhile")
+                for kind, closed in (("web", "GONE"), ("node", "true"), ("own", "undefined"))] + ["between GONE 1 0"],
 }
 
 
@@ -210,18 +268,34 @@ def check_streams(checks, program):
 
 
 def check_readme(checks, program):
-    """The example of the README accepts data that its key has signed, and says why it rejects other data."""
-    example = re.search(r"^```js\n(.*?)^```$", text_of("README.md"), re.M | re.S)[1]
+    """The examples of the README accept data that its key has signed, and reject other data."""
+    examples = re.findall(r"^```js\n(.*?)^```$", text_of("README.md"), re.M | re.S)
     given = 'import {readFileSync} from "node:fs";\nconst [data, signature] = process.argv.slice(-2).map(it => readFileSync(it));\n'
-    path = os.path.join(program.user, "readme.mjs")
-    with open(path, "w", encoding="utf-8") as file:
-        file.write(given + example)
-    comment = b"verified, and signed with it: timestamp:1556193335\tfile:test\n"
-    for name, wanted, rejected in (("test", comment, ""), ("hello", b"", "SIGNATURE_REFUSED: ")):
-        named = [os.path.join(shared_cases.CORPUS, it) for it in (name, "published.minisig")]
-        # (Node 18 warns that its Ed25519 is experimental)
-        status, said, why = run([program.node, path, *named], directory=program.user, environment={"NODE_NO_WARNINGS": "1"})
-        checks.check((status, said) == (0, wanted) and why.startswith(rejected) and bool(why) == bool(rejected), f"the README's example of {name}: {said} {why}")
+    for name, example in zip(("readme.mjs", "streamed.mjs"), examples):
+        with open(os.path.join(program.user, name), "w", encoding="utf-8") as file:
+            file.write(given + (f'const key = "{README_KEY}", pieces = [data];\n' if "pieces" in example else "") + example)
+    comments = b"verified, and signed with it: timestamp:1556193335\tfile:test\n", b"E7620F1842B4E81F timestamp:1556193335\tfile:test\n"
+    for program_name, comment, early in zip(("readme.mjs", "streamed.mjs"), comments, (b"", comments[1])):
+        for name, wanted in (("test", comment), ("hello", early)):
+            named = [os.path.join(shared_cases.CORPUS, it) for it in (name, "published.minisig")]
+            # (Node 18 warns that its Ed25519 is experimental)
+            status, said, why = run([program.node, os.path.join(program.user, program_name), *named], directory=program.user,
+                                    environment={"NODE_NO_WARNINGS": "1"})
+            is_told = "SIGNATURE_REFUSED" in why if name == "hello" else why == ""
+            checks.check(is_told and (status, said) == (int(name == "hello"), wanted), f"the README's {program_name} of {name}: {status} {said} {why}")
+    checks.check(len(examples) == 2, f"the README has {len(examples)} examples")
+
+
+def check_types(checks, program):
+    """The types need neither those of the web nor those of Node, and take what the web has."""
+    compiler = needs.program("tsc", "node-typescript")
+    for what, libraries in (("language", ["es2020"]), ("web", ["es2020", "dom", "dom.iterable"])):
+        shutil.copy(os.path.join(HERE, "javascript", f"{what}.ts"), program.user)
+        options = {"noEmit": True, "strict": True, "lib": libraries, "types": [], "module": "es2020", "target": "es2020",
+                   "moduleResolution": "node"}
+        described = json.dumps({"compilerOptions": options, "files": [f"{what}.ts"]}).encode()
+        status, said, why = run([compiler, "-p", shared_cases.write(program.user, "tsconfig.json", described)], directory=program.user)
+        checks.check(status == 0, f"types, {what}: {said.decode()[-1500:]}{why}")
 
 
 def check_bare(checks, program):
@@ -301,14 +375,25 @@ def check_browsers(checks, program, room, minisign):
 
 # The file, and what is changed in it.
 BUGS = [
-    ("ed25519.js", "isRejectedPoint(publicKey) || isRejectedPoint", "isRejectedPoint"),
+    ("ed25519.js", "[publicKey, signature.subarray(0, 32)]", "[signature.subarray(0, 32)]"),
     ("ed25519.js", "second >= PRIME || ", ""),
-    ("verification.js", "questions.commentSignature, questions.message)", "questions.signature, data)"),
+    ("verification.js", "accepts(publicKey, commentSignature, message)", "accepts(publicKey, this.questions.signature, this.questions.digest ?? message)"),
+    ("verification.js", "library.verdict(state, true, await this.acceptsComment())", "library.verdict(state, true, true)"),
     ("verification.js", "    hold(this.library.feed(this.state, bytes));", "    hold(this.library.feed(this.state, bytes.subarray(0, 65536)));"),
     ("verification.js", "this.kept.push(bytes.slice());", "this.kept = [bytes.slice()];"),
     ("calls.js", "it ? ANSWER_YES : ANSWER_NO", "it ? ANSWER_YES : ANSWER_YES"),
+    ("index.js", "new Uint8Array(it, 0, lengthOfBuffer.call(it))", "new Uint8Array(it instanceof ArrayBuffer ? it : null.it)"),
+    ("index.js", "throw signal.reason;", ""),
+    ("index.js", "reader.cancel(signal.reason)", "Promise.resolve()"),
+    ("index.js", "      throw new TypeError(`options has no ${name}`);", "      continue;"),
+    ("index.js", "this.#isEnded = true;", ""),
+    ("index.js", "progress?.(verifier.bytes, total);", "progress?.(verifier.bytes);"),
     ("calls.js", "allowsLegacy ? 1 : 0", "1"),
-    ("index.js", "UNSUPPORTED_ALGORITHM: 28, DIFFERENT_KEY_IDS: 29", "UNSUPPORTED_ALGORITHM: 29, DIFFERENT_KEY_IDS: 28"),
+    ("calls.js", "text: text.slice(),", "text: this.memory.subarray(this.text, this.text + text.length),"),
+    ("calls.js", "value[SIGNATURE.legacy] === 1", "number === 1"),
+    ("calls.js", "SIGNATURE.key_id, SIGNATURE.key_id + 8", "SIGNATURE.key_id + 8, SIGNATURE.key_id + 16"),
+    ("calls.js", 'numberAt("comment_offset", 8)', '0'),
+    ("index.js", "UNSUPPORTED_ALGORITHM: 28,\n  DIFFERENT_KEY_IDS: 29", "UNSUPPORTED_ALGORITHM: 29,\n  DIFFERENT_KEY_IDS: 28"),
     ("index.js", "source.destroy()", "null"),
     ("index.js", "source.cancel(why)", "null"),
     ("index.js", "source?.return?.()", "null"),
@@ -335,7 +420,9 @@ def check_planted(checks, program, room, minisign):
         shared_cases.compare(found, "without them", cases, other.said(lines, "cases"), strict)
         found.check(b" and " not in other.said(shared_cases.lines_of(kept), "pieces", "legacy"), "in pieces")
         check_rejections(found, other)
+        check_read(found, other, room, minisign)
         check_streams(found, other)
+        check_keys(found, other)
         answers = other.said(json.dumps(vectors).encode(), "vectors").decode().split()
         found.check(answers == [str(it["sodium"]).lower() for it in vectors], "vectors")
         checks.check(old in text and found.failures, f"planted in {file}, and not noticed: {new}")
@@ -360,10 +447,12 @@ def main():
             check_sources(checks, user)
             check_answers(checks, program, room, minisign)
             check_rejections(checks, program)
+            check_read(checks, program, room, minisign)
             check_vectors(checks, program, room, minisign)
             check_keys(checks, program)
             check_streams(checks, program)
             check_readme(checks, program)
+            check_types(checks, program)
             check_bare(checks, program)
             check_npm(checks, program, room)
             check_browsers(checks, program, room, minisign)

@@ -4,14 +4,15 @@ without a network, and uses it as its user would, by libsodium and by the packag
 
     tests/bindings/python.py
 
-Its answers are compared with those of `c/minisign`: the kept corpus, 500 damaged texts, data in pieces; and with those of libsodium:
+The archive is also built where no archive of calls is for the system (`python_builds.py`). Its answers are compared with those of `c/minisign`: the kept corpus, 500 damaged texts, data in pieces; and with those of libsodium:
 the signatures of Ed25519 that implementations answer differently. Also: the exceptions and structs are those of the header; the
 types hold; each call names the argument that is of another type or value; calls hold no memory in the end; threads; keys and signatures of Minisign's own program; the examples of the README; the
 cases of tests/installer for `install` and `check`; and each of some planted bugs is noticed. It prints a line for each case that failed or was
 skipped; the last line is `N passed, M failed`.
 
 Needs Debian's Python with pip, venv, setuptools, wheel and cryptography, mypy, make, binutils, a C compiler, libsodium with its
-header, minisign and setfacl, and installs what is not there where it may.
+header, minisign and setfacl, musl-gcc, and of Debian gcc-mingw-w64-x86-64, wine64, gcc-aarch64-linux-gnu, libc6-dev-arm64-cross and
+qemu-user-static, and installs what is not there where it may.
 """
 
 import ast
@@ -29,6 +30,7 @@ HERE = os.path.dirname(os.path.realpath(__file__))
 sys.path.append(os.path.join(HERE, "..", "shared"))
 
 import needs
+import python_builds
 import python_installs
 import shared_cases as shared
 import static_library
@@ -40,6 +42,7 @@ KINDS = ("libsodium", "cryptography")
 # How many lines are written by hand. Docstrings do not count.
 LINES = 800
 MADE = ("errors.py", "_header.py")
+OLDEST = (3, 9)
 # (another test may have the processor for long)
 SECONDS = 1800
 
@@ -66,7 +69,10 @@ def build_wheel(checks, room):
     package = shared.packed("python", own, PYTHON=python())
     archive = glob.glob(os.path.join(own, "packed", "*.tar.gz"))[0]
     command = [python(), "-m", "pip", "wheel", "-q", "--no-index", "--no-build-isolation", "--no-deps", "-w", room, archive]
-    status, _, why = shared.run(command, environment={"PATH": static_library.path_without_kit()}, seconds=SECONDS)
+    building = os.path.join(room, "builds")
+    os.mkdir(building)
+    python_builds.run_all(checks, python(), archive, building)
+    status, _, why = shared.run(command, environment={"PATH": os.path.join(building, "programs")}, seconds=SECONDS)
     wheels = glob.glob(os.path.join(room, "*.whl"))
     if status != 0 or len(wheels) != 1:
         checks.check(False, f"the wheel was not built: {why[-2000:]}")
@@ -131,6 +137,14 @@ def lines_of(path):
     return sum(1 for number, line in enumerate(text.splitlines(), 1) if line.strip() and not line.strip().startswith("#") and number not in told)
 
 
+def is_of(text, version):
+    """Whether a text is a program of a version of Python."""
+    try:
+        return ast.parse(text, feature_version=version) is not None
+    except SyntaxError:
+        return False
+
+
 def check_sources(checks):
     """The package is small, and its README too."""
     shared.check_readme(checks, "python")
@@ -138,6 +152,8 @@ def check_sources(checks):
     lines = {name: lines_of(path) for path in glob.glob(os.path.join(sources, "src", PACKAGE, "*.py")) if (name := os.path.basename(path)) not in MADE}
     count = sum(lines.values()) + lines_of(os.path.join(sources, "setup.py"))
     checks.check(count <= LINES, f"the package has {count} lines: {lines}")
+    for path in glob.glob(os.path.join(sources, "src", PACKAGE, "*.py")):
+        checks.check(is_of(shared.read(path).decode(), OLDEST), f"{os.path.basename(path)} is not for Python {OLDEST}")
 
 
 def check_header(checks, room, python_path):
@@ -168,14 +184,14 @@ for name, struct in vars(_header).items():
 
 
 def check_host(checks, room, python_path):
-    """The structs of the installing host are those of c/installing.h, as far as the package has them."""
+    """The structs of the installing host are those of c/install/installing.h, as far as the package has them."""
     told = f"""
 import ctypes
 from {PACKAGE} import installing
 for struct in (installing.Wanted, installing.Installing):
     for field, _ in struct._fields_:
         print(struct.__name__.lower(), field, getattr(struct, field).offset, getattr(struct, field).size)
-print("wanted", ctypes.sizeof(installing.Wanted), installing.RECEIVING, installing.COPYING, installing.LONGEST)
+print("wanted", ctypes.sizeof(installing.Wanted), installing.LONGEST)
 """
     _, said, why = shared.run([python_path, "-c", told])
     fields = [line.split() for line in said.decode().splitlines()[:-1]]
@@ -185,8 +201,8 @@ print("wanted", ctypes.sizeof(installing.Wanted), installing.RECEIVING, installi
         of = inside.get(field, field) if struct == "installing" else field
         size = f"sizeof(((struct {struct} *) 0)->{of})"
         lines += f'printf("{struct} {field} %zu %zu\\n", offsetof(struct {struct}, {of}), {size});\n'
-    lines += 'printf("wanted %zu %d %d %lld\\n", sizeof(struct wanted), RECEIVING, COPYING, (long long) INT64_MAX);\n'
-    path = shared.write(room, "host.c", f"#include <stdio.h>\n#include \"installing.h\"\nint main(void) {{\n{lines}return 0; }}\n".encode())
+    lines += 'printf("wanted %zu %lld\\n", sizeof(struct wanted), (long long) INT64_MAX);\n'
+    path = shared.write(room, "host.c", f"#include <stdio.h>\n#include \"install/installing.h\"\nint main(void) {{\n{lines}return 0; }}\n".encode())
     directories = [f"-I{os.path.join(shared.TOP, it)}" for it in ("c", "include")]
     status, _, unbuilt = shared.run([needs.c_compiler(), *directories, "-o", f"{room}/host", path])
     checks.check(status == 0 and len(fields) > 15, f"the program of the host's structs: {unbuilt[-500:]}{why[-500:]}")
@@ -228,6 +244,13 @@ def check_answers(checks, user, answered):
     for (case, name), line in zip(rejected, said.decode().splitlines()):
         checks.check(line == f"rejected {class_name(name)}", f"{user.kind}, {case.name}: {line} in place of {name}")
     checks.check(said.count(b"\n") == len(rejected), f"{user.kind}: not an answer to each rejection: {why[-300:]}")
+
+
+def check_read(checks, user):
+    """Key IDs and legacy signatures, before anything is asked."""
+    said = user.run("read", data=shared.lines_of([it.case for it in shared.readings()]))[1]
+    shared.check_readings(checks, f"what is read, {user.kind}", said,
+                          lambda it: f"{shared.shown_id(it.key_id)} {shared.shown_id(it.signature_key_id)} {it.is_legacy}")
 
 
 def check_vectors(checks, user):
@@ -299,16 +322,19 @@ def check_examples(checks, python_path, room):
 
 # The file, what is changed in it, and the checks of the user's program that have to notice it.
 BUGS = [
-    ("_header.py", "verdict(state, ANSWER_YES if first is True else", "verdict(state, ANSWER_YES if first is not None else", "answers"),
-    ("_keys.py", "self._message, bytes(self._asked.public_key))", "self._message, bytes(self._asked.public_key)) or True", "answers"),
+    ("_header.py", "            state,\n            ANSWER_YES if first is True else", "            state,\n            ANSWER_YES if first is not None else", "answers"),
+    ("_keys.py", "accepts(bytes(second), self._message, bytes(key))", "accepts(bytes(second), self._message, bytes(key)) or True", "answers"),
     ("_keys.py", "calls.comment_verdict(self._state, self._accepts_comment())", "pass", "parts"),
     ("_keys.py", "        return f\"<SecretKey {self.public_key.key_id}>\"", "        return repr(bytes(self._opened.secret))", "parts"),
     ("_keys.py", "    def __reduce__(self) -> NoReturn:", "    def reduce(self) -> NoReturn:", "parts"),
-    ("_keys.py", "1 if allow_legacy else 0", "1", "answers"),
+    ("_keys.py", "int(allow_legacy)", "1", "answers"),
+    ("_keys.py", "return bool(self._read.legacy)", "return bool(self._read.whole)", "read"),
+    ("_keys.py", "        return identifier(self._read.key_id)\n\n    @property\n    def is_legacy", "        return identifier(self._read.signature)\n\n    @property\n    def is_legacy", "read"),
+    ("_keys.py", "self._message[begin:]", "self._message[begin - 1 :]", "parts"),
     ("_keys.py", "        Verifier(PublicKey(", "        False and Verifier(PublicKey(", "keys"),
     ("_calls.py", "second >= PRIME or second in SMALL_ORDER", "second in SMALL_ORDER", "vectors"),
     ("_calls.py", "second >= PRIME or second in SMALL_ORDER", "second >= PRIME", "vectors"),
-    ("_calls.py", "is_rejected(key) or is_rejected(signature[:32]) or", "is_rejected(key) or", "vectors"),
+    ("_calls.py", "is_rejected(key) or is_rejected(signature[:32])", "is_rejected(key)", "vectors"),
     ("_keys.py", "                self._held.append(piece)", "                self._held = [piece]", "pieces"),
     ("_keys.py", "        with self._turn:\n            calls.update(self._state, piece)", "        if True:\n            calls.update(self._state, piece)",
      "threads"),
@@ -316,14 +342,16 @@ BUGS = [
     ("_keys.py", "        ctypes.memset(pair, 0, ctypes.sizeof(pair))", "        pass", "keys"),
     ("_keys.py", "        os.replace(os.path.join(room, \"key\"), name)", "        pass", "keys"),
     ("_keys.py", "    name = os.path.realpath(path_text(\"path\", path))", "    name = path_text(\"path\", path)", "keys"),
-    ("_keys.py", "os.O_EXCL | os.O_CLOEXEC, 0o600", "os.O_TRUNC | os.O_CLOEXEC, 0o644", "keys"),
+    ("_keys.py", "os.O_EXCL | getattr(os, \"O_CLOEXEC\", 0)\n    with open(os.open(name, flags, 0o600)", "os.O_TRUNC\n    with open(os.open(name, flags, 0o644)", "keys"),
     ("installing.py", "        library.end_installing(begun)", "        pass", "installing"),
     ("installing.py", "is_first=first,", "is_first=True,", "installing"),
-    ("installing.py", "bytes(key.contents)) else h.ANSWER_NO", "bytes(key.contents)) else h.ANSWER_YES", "installing"),
-    ("installing.py", "    if error != 0:", "    if error > 60:", "installing"),
+    ("installing.py", "            else h.ANSWER_NO", "            else h.ANSWER_YES", "installing"),
+    ("installing.py", "    if run.error != 0:", "    if run.error > 60:", "installing"),
     ("installing.py", "    wanted.most = LONGEST if most is None else min(most, LONGEST)", "    wanted.most = LONGEST", "installing"),
-    ("installing.py", "numbering: str = \"timestamp\", name: Optional[Path] = None, mode", "numbering: str = \"version\", name: Optional[Path] = None, mode", "installing"),
-    ("installing.py", "return Offer(offer.value)", "return Offer.NEWER", "installing"),
+    ("installing.py", "    again: bool = False,\n    numbering: str = \"timestamp\"", "    again: bool = False,\n    numbering: str = \"version\"", "installing"),
+    ("installing.py", "return Offer.THERE if run.call == h.DUE_ALREADY else Offer.NEWER", "return Offer.NEWER", "installing"),
+    ("installing.py", "    wanted.is_check = True\n", "", "installing"),
+    ("installing.py", "return bool(run.call == h.DUE_INSTALLED)", "return True", "installing"),
     ("installing.py", "key_count=len(keys)", "key_count=1", "installing"),
     ("_arguments.py", "        view = memoryview(cast(Any, value))", "        view = bytes(cast(Any, value))", "arguments"),
     ("_arguments.py", "        text = os.fsdecode(cast(Path, value))", "        text = os.fsdecode(cast(Path, value)) if value != 3 else \"/dev/null/3\"", "arguments"),
@@ -350,6 +378,8 @@ def is_noticed(user, word, room):
         return b"differs" in user.run("pieces", data=shared.lines_of(shared.corpus()))[1]
     if word == "vectors":
         check_vectors(checks, user)
+    elif word == "read":
+        check_read(checks, user)
     elif word == "keys":
         check_keys(checks, user, os.path.join(room, "keys"))
     else:
@@ -391,6 +421,7 @@ def main():
                 user, own = User(python_path, kind), os.path.join(room, kind)
                 os.mkdir(own)
                 check_vectors(checks, user)
+                check_read(checks, user)
                 check_answers(checks, user, answered)
                 for word in ("memory", "threads", "installing", "arguments", "parts", *(["passwords", "documentation"] if kind == KINDS[0] else [])):
                     user.checks(checks, word, own)

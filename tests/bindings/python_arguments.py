@@ -73,6 +73,7 @@ KINDS = {
     "rows": Kind((None, True, 1.0, "1", b"1", *OTHERS), bad=(0, -1, 2**64, 2**64 + 1)),
     "mode or none": Kind((True, False, 0o755 + 0.0, "755", "rwx", b"755", *OTHERS), bad=(-1, 0o1000, 755, 0o100755, 2**32 + 0o755), same=(lambda _: 0, lambda _: 0o777)),
     "size or none": Kind((True, False, 1e6, "1M", b"1", *OTHERS), bad=(-1, 2**64), same=(lambda it: 4, lambda _: 2**64 - 1)),
+    "seconds": Kind((None, True, 1.0, "1", b"1", *OTHERS), bad=(-1, 24 * 60 * 60 + 1), same=(lambda _: 0, lambda _: 24 * 60 * 60)),
     "function or none": Kind(("f", b"f", *NUMBERS, *OTHERS)),
     "numbering": Kind((None, b"version", *NUMBERS, *OTHERS), bad=("", "date", "Version", "version ")),
     "Ed25519": Kind((None, b"libsodium", *NUMBERS, *OTHERS), bad=("", "sodium", "Libsodium")),
@@ -148,9 +149,10 @@ def table(room: str) -> List[Row]:
             lambda: (minisign.check, {"key": public, "signature": signature, "target": there(), "first": True, "numbering": "version", "name": "app"})),
         Row("install", {"key": "public keys", "data": "path or file", "signature": "signature", "target": "target", "first": "truth", "again": "truth",
                         "numbering": "numbering", "name": "path or none", "mode": "mode or none", "most": "size or none",
-                        "progress": "function or none"},
+                        "wait": "seconds", "progress": "function or none"},
             lambda: (minisign.install, {"key": public, "data": path, "signature": signature, "target": there(), "first": True, "again": False,
-                                        "numbering": "version", "name": "app", "mode": 0o640, "most": 4, "progress": None})),
+                                        "numbering": "version", "name": "app", "mode": 0o640, "most": 4, "wait": 1,
+                                        "progress": None})),
     ]
 
 

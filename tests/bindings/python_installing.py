@@ -9,7 +9,7 @@ import sys
 import minisign_proved as minisign
 
 FAILED, MISUSED, REJECTED, OLDER, IN_USE, NOT_ON_DISK, UNRECORDED, SAME, EXPIRED, THERE = range(1, 11)
-OFFERS = {minisign.Offer.NEWER: 0, minisign.Offer.SAME: SAME, minisign.Offer.OLDER: OLDER}
+OFFERS = {minisign.Offer.NEWER: 0, minisign.Offer.THERE: THERE, minisign.Offer.OLDER: OLDER}
 UNITS = {"K": 10, "M": 20, "G": 30, "T": 40}
 
 
@@ -42,13 +42,18 @@ def rejection_text(data, signature, place, name, numbering, error):
         at = place
     more = ""
     if isinstance(error, (minisign.NoRecord, minisign.DamagedRecord)):
-        more = " (`--first` installs all the same)"
+        record = os.path.join(os.path.dirname(place) or ".", f".{os.path.basename(place)}.number")
+        more = f"\n{record} is {'missing' if isinstance(error, minisign.NoRecord) else 'damaged'}: --first installs all the same"
     if isinstance(error, minisign.SameNumber):
-        more = " (`--again` installs all the same)"
+        more = "\n--again installs all the same"
     if isinstance(error, minisign.NoNumber):
-        more = f" ({numbering}: is the field that is wanted, by `--numbering` or without it)"
+        more = ("\nits version is wanted: without --numbering version its timestamp is" if numbering == "version"
+                else "\nits timestamp is wanted: --numbering version has it numbered by its version")
     if isinstance(error, minisign.OtherFile):
-        more = f" ({name} is wanted, by the target or `--name`)"
+        more = f"\n{name} is wanted: --name wants another name than that of the target"
+    if isinstance(error, (minisign.KeptByVersion, minisign.KeptByTimestamp)):
+        kept = "version" if isinstance(error, minisign.KeptByVersion) else "timestamp"
+        more = f"\nit was installed by {kept}: add --numbering {kept}"
     return f"error: {at}: {error}{more}"
 
 
@@ -94,7 +99,8 @@ def main():
         text, wanted = read_signature(signature), {"first": "first" in options, "numbering": numbering, "name": options.get("name")}
         if "check" in options:
             return OFFERS[minisign.check(public_keys, text, place, **wanted)]
-        is_new = minisign.install(public_keys, data, text, place, again="again" in options, mode=None if mode is None else int(mode, 8), most=most, **wanted)
+        is_new = minisign.install(public_keys, data, text, place, again="again" in options, mode=None if mode is None else int(mode, 8), most=most,
+                                  wait=int(options.get("wait", 0)), **wanted)
     except minisign.MinisignError as error:
         status = status_of(error)
         if status == FAILED and isinstance(error.__cause__, OSError):

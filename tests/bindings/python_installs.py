@@ -11,6 +11,7 @@ import sys
 HERE = os.path.dirname(os.path.realpath(__file__))
 sys.path += [os.path.join(HERE, "..", it) for it in ("shared", "tool", "installer")]
 
+from cut_off import BEGINNINGS, CUTS
 from installers import RealInstaller
 from installing import Installing, cases, check_cases, word_cases
 from running import Failure, Skip, build_preload
@@ -26,7 +27,8 @@ class PythonInstaller(RealInstaller):
 
 
 # What needs the words or the messages of a program, and not of a function.
-LEFT_OUT = ("progress at a terminal", "a closed error stream", "an allocation that fails")
+LEFT_OUT = ("progress at a terminal", "a closed error stream", "an allocation that fails", "an error stream that nobody reads", "what a check shows", "the script of the document",
+            "a check: the same, that is asked for again", "a mode that is asked for, of what is there already")
 
 
 def installer(python, room):
@@ -51,7 +53,9 @@ def is_of_words(case):
 def chosen_cases(it):
     words = {name for name, _ in word_cases(it)} | {name for name, case in check_cases(it) if is_of_words(case)} | set(LEFT_OUT)
     kept = {"a name that begins with a dash", "another name than the signed one"}
-    return [(name, case) for name, case in cases(it) if name not in words - kept]
+    # (what the host does after a cut over other beginnings, the cases of the program show)
+    cut_off = {f"cut off by {cut}, over {begin}" for begin, *_ in BEGINNINGS[1:] for cut, _ in CUTS}
+    return [(name, case) for name, case in cases(it) if name not in (words - kept) | cut_off]
 
 
 def run_all(check, python, room):

@@ -93,6 +93,13 @@ def pieces() -> None:
         print(found.pop() if len(found) == 1 else f"differs {found}")
 
 
+def read() -> None:
+    """Tells key IDs, and whether signatures are over the data itself, before anything is asked."""
+    for key, _, text in read_cases():
+        signature = Signature(text)
+        print(PublicKey(key).key_id, signature.key_id, signature.is_legacy)
+
+
 def vectors() -> None:
     kind = _calls.ed25519()
     for key, message, signature in read_cases():
@@ -262,6 +269,11 @@ def parts(room: str) -> None:
     check(re.fullmatch(r"timestamp:\d+\thashed", key.public_key.verify(b"", key.sign_data([]))) is not None, "the default comment of data in memory")
     check(len({made, Signature(bytearray(made.text)), key.sign_data(b"other", **comments)}) == 2 and made != made.text, "signatures in a set")
 
+    rejects(minisign.MissingUntrustedComment, lambda: Signature(b"").key_id, "a signature of no text")
+    rejects(minisign.MissingUntrustedComment, lambda: Signature(b"").is_legacy, "a signature of no text")
+    rejects(minisign.NotUtf8, lambda: Signature(b"\xff").key_id, "a signature that is no UTF-8")
+    check((made.key_id, made.is_legacy) == (key.public_key.key_id, False), f"the signature is of {made.key_id}")
+    check(pickle.loads(pickle.dumps(made)) == made and copy.deepcopy(made).key_id == made.key_id, "copies of a signature that was read")
     longer = Signature(made.text.replace(b"trusted comment: one", b"trusted comment: ones"))
     for signature, fed, comment, all_of_it in (
             (made, b"what is signed", "one", "one"), (made, b"other", "one", "rejected SignatureRefused"),
@@ -279,7 +291,7 @@ def parts(room: str) -> None:
     check(eval(repr(made)) == made, f"a signature is shown as {made!r}")
     for call in (copy.copy, copy.deepcopy, pickle.dumps):
         rejects(TypeError, lambda call=call: call(key), f"a secret key, and {call.__name__}")  # type: ignore[misc]
-    for it, name in ((key, "public_key"), (key.public_key, "key"), (key.public_key, "key_id"), (made, "text")):
+    for it, name in ((key, "public_key"), (key.public_key, "key"), (key.public_key, "key_id"), (made, "text"), (made, "key_id"), (made, "is_legacy")):
         rejects(AttributeError, lambda it=it, name=name: setattr(it, name, getattr(other, name, b"")), f"a new {name}")  # type: ignore[misc]
 
 
@@ -324,12 +336,18 @@ def installing(room: str) -> None:
 
     def state() -> Tuple[object, object, List[str]]:
         read = [open(it, "rb").read() if os.path.exists(it) else None for it in (place, os.path.join(directory, ".app.number"))]
-        return read[0], read[1], [it for it in os.listdir(directory) if "stage" in it]
+        return read[0], read[1] and read[1].split(b"\n")[0], [it for it in os.listdir(directory) if "stage" in it]
 
     one, two = signed(b"one", "version:1\tfile:app"), signed(b"two", "version:2\tfile:app")
     seen: List[Tuple[int, int]] = []
     minisign.install(key.public_key, io.BytesIO(b"one"), one, place, first=True, numbering="version", progress=lambda done, size: seen.append((done, size)))
     check(state() == (b"one", b"version:1", []), f"data in memory: {state()}")
+    check(minisign.check(key.public_key, one, place, numbering="version") is minisign.Offer.THERE, "a check of what is there")
+    write(directory, "app", b"changed")
+    check(minisign.check(key.public_key, one, place, numbering="version") is minisign.Offer.NEWER, "a check of a changed file")
+    check(minisign.install(key.public_key, io.BytesIO(b"one"), one, place, numbering="version") is True, "a changed file")
+    other_one = signed(b"another one", "version:1\tfile:app")
+    rejects(minisign.SameNumber, lambda: minisign.check(key.public_key, other_one, place, numbering="version"), "a check of another update of the number")
     check(bool(seen), "progress of an installation")
 
     class Stops(Exception):
@@ -390,7 +408,7 @@ def installing(room: str) -> None:
     check([newer, older] == [minisign.Offer.NEWER, minisign.Offer.OLDER] and state()[0] == b"two", f"a check says {newer} and {older}")
     other = SecretKey.generate().public_key
     for keys in ([other, key.public_key], (key.public_key, other)):
-        check(minisign.check(keys, two, place, numbering="version") is minisign.Offer.SAME, "a check with two keys")
+        check(minisign.check(keys, two, place, numbering="version") is minisign.Offer.THERE, "a check with two keys")
         check(minisign.install(keys, path, two, place, numbering="version") is False, "an installation with two keys")
     rejects(minisign.DifferentKeyIds, lambda: minisign.check([other, other], two, place, numbering="version"), "two keys of others")
     rejects(ValueError, lambda: minisign.check([other] * 3, two, place, numbering="version"), "three keys")
@@ -411,8 +429,8 @@ def main() -> int:
     word, kind, *rest = sys.argv[1:]
     if kind != "default":
         minisign.use_ed25519(kind)
-    if word in ("answers", "pieces", "vectors"):
-        {"answers": lambda: answers(rest == ["allow"]), "pieces": pieces, "vectors": vectors}[word]()
+    if word in ("answers", "pieces", "read", "vectors"):
+        {"answers": lambda: answers(rest == ["allow"]), "pieces": pieces, "read": read, "vectors": vectors}[word]()
         return 0
     {"memory": memory, "threads": threads, "keys": keys, "passwords": passwords, "installing": installing,
      "arguments": arguments, "parts": parts, "documentation": documentation}[word](rest[0])

@@ -4,19 +4,23 @@ network, without a registry and without the kit, by a program of another crate t
 
     tests/bindings/rust.py
 
-The examples of its documentation run. What that program answers to kept keys and signatures, to damaged ones, to data in pieces and
+It is built in a path with blanks, with no make in PATH, as a git dependency, for Windows, where wine runs it, and for AArch64; a
+compiler without GNU's options, or for another target, is an error that says so. The examples of its documentation run. What that program answers to kept keys and signatures, to damaged ones, to data in pieces and
 to signatures that implementations of Ed25519 differ in is compared with `c/minisign` and with libsodium; why it rejects, with the
 names of the header. It makes keys and signatures that `c/minisign` reads, and reads those of `c/minisign`. Many calls take no more
 memory, and threads get the same answers. Structs and calls are declared as the header has them; what is written by hand has at most
-300 lines, and no `unsafe` outside one module; without its feature `sodium` nothing of libsodium is linked. Each of some planted bugs
+650 lines, and no `unsafe` outside one module; without its feature `sodium` nothing of libsodium is linked. Each of some planted bugs
 is noticed. It prints a line for each failure; the last line is `N passed, M failed`.
 
-Needs Python 3.9 or later, cargo, rustc, make, a C compiler, binutils and libsodium with its header, and installs what is not there
-where it may. Where another cargo than Debian's comes first in PATH, both are tried.
+Needs Python 3.9 or later, cargo, rustc, make, a C compiler, binutils and libsodium with its header, git, and of Debian
+libstd-rust-dev-windows, gcc-mingw-w64-x86-64, wine64, gcc-aarch64-linux-gnu, libc6-dev-arm64-cross and qemu-user-static, and installs
+what is not there where it may; Rust's library for AArch64 is fetched by apt-get, once. Where another cargo than Debian's comes first in PATH, both are tried.
 """
 
 import base64
 import copy
+import glob
+import hashlib
 import os
 import re
 import shutil
@@ -25,9 +29,11 @@ import sys
 import tempfile
 
 HERE = os.path.dirname(os.path.realpath(__file__))
-sys.path += [HERE, os.path.join(HERE, "..", "shared")]
+sys.path += [HERE, *(os.path.join(HERE, "..", it) for it in ("shared", "c"))]
 
+import emulated
 import needs
+import portable
 import shared_cases
 import static_library
 from shared_cases import TOP, Checks, run, write
@@ -54,9 +60,9 @@ RENAMED = 'minisign-verify = {{ package = "minisign-proved", path = "{crate}" }}
 ALONE = 'minisign-proved = {{ path = "{crate}", default-features = false }}'
 
 # The structs of the header, as the crate names them.
-STRUCTS = {"minisign_state": "State", "minisign_public_key": "PublicKey", "minisign_questions": "Questions",
-           "minisign_unopened_key": "UnopenedKey", "minisign_secret_key": "SecretKey", "minisign_signed_parts": "SignedParts",
-           "minisign_sealing": "Sealing"}
+STRUCTS = {"minisign_state": "State", "minisign_public_key": "PublicKey", "minisign_signature": "Signature",
+           "minisign_questions": "Questions", "minisign_unopened_key": "UnopenedKey", "minisign_secret_key": "SecretKey",
+           "minisign_signed_parts": "SignedParts", "minisign_sealing": "Sealing"}
 
 # What the crate makes of the header's errors, where it has the name that minisign-verify has.
 KNOWN = {
@@ -136,7 +142,7 @@ def check_declarations(checks):
             return f"&{'' if constant else 'mut '}[{kind}; {array[1:-1]}]"
         return f"*{'const' if constant else 'mut'} {kind}" if star else kind
 
-    declared = re.findall(r"fn (minisign_\w+)\((.*?)\)(?: -> (\w+))?;", raw, re.S)
+    declared = re.findall(r"fn (minisign_\w+)\(([^)]*?),?\s*\)(?:\s*-> (\w+))?;", raw)
     checks.check(len(declared) >= 10, f"the crate declares only {len(declared)} calls")
     for name, parameters, answer in declared:
         found = re.search(rf"(\w+) {name}\((.*?)\)", header, re.S)
@@ -197,6 +203,7 @@ def check_answers(checks, program, room, minisign):
     checks.check(strict[-2:] == [b"large", None], f"c/minisign answers {strict[-2:]} to the large data")
     runs = [("at once", ["verify"], any_kind), ("without legacy signatures", ["strict"], strict)]
     runs += [(f"in pieces of {length}", ["pieces", str(length)], strict) for length in (1, 128, 1000, 0)]
+    runs += [("from a reader", ["reader"], strict)]
     for what, words, wanted in runs:
         status, said, why = run([program, *words], data=shared_cases.lines_of(cases))
         checks.check(status == 0, f"{what}: the program ended with {status}: {why}")
@@ -215,6 +222,30 @@ def check_vectors(checks, program):
         checks.check(answer == str(wanted).lower(), f"the vector {name}: {answer}")
 
 
+def rejection(name, other=()):
+    """The line that tells why something is rejected: the name of minisign-verify, the name and the number of the header, and the text."""
+    known, text = {**KNOWN, **dict(other)}.get(name, "InvalidEncoding"), re.escape(shared_cases.error_texts()[name])
+    detail = {"InvalidEncoding": rf"\({name}\)", "InvalidSignature": rf"\({name}\)", "IoError": r"\(.*\)"}.get(known, "")
+    return f"rejected {known}{detail} {shared_cases.error_numbers()[name]}: {text}"
+
+
+def check_comments(checks, program):
+    """Before there is data the trusted comment is told where its own signature is accepted, and no other one."""
+    cases, wanted = list(shared_cases.rejections()), shared_cases.line_of_comment()
+    said = run([program, "comment"], data=shared_cases.lines_of([case for case, _ in cases]))[1].decode().splitlines()
+    checks.check(len(said) == len(cases), f"{len(said)} comments of {len(cases)} rejections")
+    for (case, name), line in zip(cases, said):
+        told = wanted if name == "SIGNATURE_REFUSED" else rejection(name, {"LEGACY_NOT_ACCEPTED": "UnsupportedLegacyMode"})
+        checks.check(line == told or re.fullmatch(told, line), f"the comment, {case.name}: {line} in place of {told}")
+
+
+def check_shown(checks, program):
+    """Nothing secret is shown, and a reason by its name."""
+    said = run([program, "shown"])[1].decode().split("\n")
+    wanted = ["Signer", "StreamVerifier", "Signer", "Sodium", "WRONG_PASSWORD Reason(77) WRONG_PASSWORD", ""]
+    checks.check(said == wanted, f"what is shown: {said}")
+
+
 def check_rejections(checks, program):
     """What is rejected is so for the reason that the header names."""
     cases = list(shared_cases.rejections())
@@ -222,18 +253,23 @@ def check_rejections(checks, program):
         said = run([program, *words], data=shared_cases.lines_of([case for case, _ in cases]))[1].decode().splitlines()
         checks.check(len(said) == len(cases), f"{len(said)} answers to {len(cases)} rejections")
         for (case, name), line in zip(cases, said):
-            wanted = {**KNOWN, **other}.get(name, "InvalidEncoding")
-            checks.check(re.match(rf"rejected {wanted}\b", line), f"{case.name}: {line} in place of {wanted}")
+            checks.check(re.fullmatch(rejection(name, other), line), f"{case.name}: {line} in place of {rejection(name, other)}")
     bare = shared_cases.read(os.path.join(shared_cases.CORPUS, "published.pub")).decode().split("\n")[1]
-    for text, wanted in ((bare, "Ok(None)"), (bare[:-1], "Err(InvalidEncoding)"), (bare[:-1] + "!", "Err(InvalidEncoding)"),
-                         (f"x\n{bare}", "Err(InvalidEncoding)")):
+    of_length, of_base64 = (f"Err(InvalidEncoding(BARE_PUBLIC_KEY_{it}))" for it in ("LENGTH", "NOT_BASE64"))
+    for text, wanted in ((bare, "Ok(None)"), (bare[:-1], of_length), (bare[:-1] + "!", of_base64), (f"x\n{bare}", of_length)):
         said = run([program, "bare", text])[1].decode().strip()
         checks.check(said == wanted, f"the key {text!r} alone: {said} in place of {wanted}")
 
 
+def check_read(checks, program):
+    """The program tells key IDs and legacy signatures before anything is asked."""
+    lines = shared_cases.lines_of([it.case for it in shared_cases.readings()])
+    form = lambda it: f"{it.key_id.hex()} {it.signature_key_id.hex()} {str(it.is_legacy).lower()}"
+    shared_cases.check_readings(checks, "what is read", run([program, "read"], data=lines)[1], form)
+
+
 def check_signing(checks, program, room, minisign):
     """The program and `c/minisign` read each other's keys and signatures."""
-    numbers = shared_cases.error_numbers()
     data = write(room, "data", b"some data\n" * 500)
     directories = {}
     for name, password in (("open", []), ("sealed", ["pass word"])):
@@ -253,7 +289,7 @@ def check_signing(checks, program, room, minisign):
     os.mkdir(made)
     run([minisign, "-G", "-W", "-s", f"{made}/secret", "-p", f"{made}/public"])
     directories["of c/minisign"] = made
-    rejected = lambda name: f"Err(Rejected(Reason({numbers[name]})))"
+    rejected = lambda name: f"Err(Rejected({name}))"
     cases = [("open", COMMENT, [], "Ok(())"), ("sealed", COMMENT, ["pass word"], "Ok(())"), ("of c/minisign", "", [], "Ok(())"),
              ("open", "a\nb", [], rejected("BAD_COMMENT")), ("open", "a\rb", [], rejected("UNREADABLE_COMMENT")),
              ("open", "a", ["pass word"], rejected("KEY_NOT_SEALED")), ("sealed", "a", [], rejected("KEY_SEALED")),
@@ -276,7 +312,7 @@ def check_signing(checks, program, room, minisign):
     record[126:158] = bytes(32)
     write(room, "damaged", text[0] + b"\n" + base64.b64encode(record) + b"\n")
     said = run([program, "sign", f"{room}/damaged", data, f"{room}/none", "a"])[1].decode().strip()
-    checks.check(said == "Err(InvalidSignature)" and not os.path.exists(f"{room}/none"), f"a key of two halves that do not fit: {said}")
+    checks.check(said == "Err(InvalidSignature(SIGNATURE_REFUSED))" and not os.path.exists(f"{room}/none"), f"a key of two halves that do not fit: {said}")
 
 
 def check_many(checks, program):
@@ -292,33 +328,164 @@ def check_own(checks, cargo, room, crate):
     """A program with an Ed25519 of its own gets its answers, and is linked with no libsodium."""
     program = cargo.program(room, "own", ALONE.format(crate=crate), "own.rs")
     key, signature = (os.path.join(shared_cases.CORPUS, it) for it in ("published.pub", "published.minisig"))
-    for answers, wanted in (("yy", "Ok(())"), ("yn", "Err(InvalidSignature)"), ("ny", "Err(InvalidSignature)")):
+    for answers, why in (("yy", None), ("yn", "COMMENT_SIGNATURE_REFUSED"), ("ny", "SIGNATURE_REFUSED")):
+        wanted = f"Err(InvalidSignature({why}))" if why else "Ok(())"
         said = run([program, answers, key, signature])[1].decode().strip()
         checks.check(said == wanted, f"an Ed25519 that answers {answers}: {said}")
     needed = run([needs.program("readelf", "binutils"), "-d", program])[1]
     checks.check(b"libsodium" not in needed and b"libc" in needed, "a program without libsodium is linked with it")
 
 
+# ---- Where it is built ----
+
+# All that Debian's cargo runs to build the crate and a program over it: no make, and no other compiler.
+NEEDED = ("cargo", "rustc", "gcc", "cc", "ld", "as", "ar", "objcopy", "git", "sh", "sha256sum", "find", "sort", "grep", "xargs", "cut", "dirname")
+WINDOWS, ARM = "x86_64-pc-windows-gnu", "aarch64-unknown-linux-gnu"
+NO_COMPILER = "there is no C compiler with GNU's options, as gcc and clang have them, that builds for "
+# (build.rs, and what is changed in it)
+TARGET_BUG = ("processor && system && has_numbers && has(", "has(")
+
+
+def messages():
+    """What Ed25519 is asked of the published texts: to verify the digest of other data, and the comment behind the signature."""
+    lines = shared_cases.read(os.path.join(shared_cases.CORPUS, "published.minisig")).split(b"\n")
+    second = base64.b64decode(lines[1])[10:] + lines[2].removeprefix(b"trusted comment: ")
+    return f"{hashlib.blake2b(bytes([7]) * 1000).hexdigest()}\n{second.hex()}\nOk(())\n"
+
+
+class Place:
+    """A crate of a user in a directory of its own, over this one, which is built with few programs in PATH."""
+
+    def __init__(self, room, name, dependency):
+        self.directory = os.path.join(room, name)
+        os.makedirs(os.path.join(self.directory, "src"))
+        write(self.directory, "Cargo.toml", PROGRAM.format(name="user", dependency=dependency).encode())
+        shutil.copy(os.path.join(HERE, "rust", "target.rs"), os.path.join(self.directory, "src", "main.rs"))
+        self.programs = os.path.join(room, "programs")
+        self.environment = {"PATH": self.programs, "RUSTC": f"{needs.DEBIAN}/rustc", "CARGO_HOME": os.path.join(room, "home"), "RUSTFLAGS": "",
+                            "CARGO_TARGET_DIR": os.path.join(self.directory, "target")}
+        if not os.path.isdir(self.programs):
+            os.mkdir(self.programs)
+            for it in NEEDED:
+                os.symlink(os.path.join(needs.DEBIAN, it), os.path.join(self.programs, it))
+
+    def build(self, target=None, **environment):
+        """Builds it: how that ended, and the path of the program."""
+        words = [f"{needs.DEBIAN}/cargo", "build", "--release", *(["--target", target] if target else [])]
+        status, _, why = run(words, self.directory, {**self.environment, **environment})
+        return status, why, os.path.join(self.directory, "target", target or "", "release", "user")
+
+    def check(self, checks, what, before=(), target=None, ending="", **environment):
+        """Builds and runs it: the program, where it answers as it has to."""
+        status, why, program = self.build(target, **environment)
+        if not checks.check(status == 0, f"{what}: it was not built: {why[-1000:]}"):
+            return None
+        texts = [os.path.join(shared_cases.CORPUS, it) for it in ("published.pub", "published.minisig")]
+        status, said, why = run([*before, program + ending, *texts], environment={"WINEPREFIX": os.path.join(self.directory, "wine"), "WINEDEBUG": "-all"})
+        checks.check(said.decode().replace("\r", "") == messages(), f"{what}: status {status}, {said.decode()}{why[-500:]}")
+        return program
+
+
+def names_in(program):
+    """The names of a program."""
+    return run([needs.program("nm", "binutils"), program])[1].decode()
+
+
+def rust_for_arm():
+    """A directory with Debian's standard library of Rust for AArch64."""
+    place = os.path.join(TOP, "out", "rust-for-aarch64")
+    if not os.path.isdir(f"{place}/usr/lib/rustlib/{ARM}"):
+        emulated.fetch(emulated.AARCH64, place, "libstd-rust-dev")
+    return place
+
+
+def check_here(checks, crate, room):
+    """In a path with blanks, and without make; over the archives, and as C; and as a git dependency."""
+    place = Place(room, "a user's crate", ALONE.format(crate=crate))
+    for what, wanted, portable in (("the archives", True, ""), ("C alone", False, "1")):
+        program = place.check(checks, f"without make, {what}", MINISIGN_PORTABLE=portable)
+        checks.check(program is None or ("v3_minisign_update" in names_in(program)) == wanted, f"without make: it is not built of {what}")
+    status, why, _ = place.build(CC="cl", MINISIGN_PORTABLE="")
+    checks.check(status != 0 and NO_COMPILER + "x86_64-unknown-linux-gnu: name one in CC_x86_64_unknown_linux_gnu (tried: cl)\n" in why,
+                 f"a compiler without GNU's options: {why[-500:]}")
+    copy_of = os.path.join(room, "repository.git")
+    run([needs.git(), "clone", "-q", "--bare", TOP, copy_of])
+    place = Place(room, "by git", f'minisign-proved = {{ git = "file://{copy_of}", default-features = false }}')
+    place.check(checks, "as a git dependency", CARGO_NET_OFFLINE="false")
+
+
+def check_targets(checks, crate, room):
+    """For Windows, under wine, and for AArch64, under qemu; and not by the compiler for here."""
+    own, arm = portable.Windows(room), emulated.AARCH64
+    needs.need(lambda: True if os.path.isdir(f"/usr/lib/rustlib/{WINDOWS}") else None, "Rust for Windows", "libstd-rust-dev-windows")
+    needs.program("x86_64-w64-mingw32-gcc", "gcc-mingw-w64-x86-64")
+    emulator, compiler, library = emulated.emulator(arm), emulated.compiler(arm), rust_for_arm()
+    place = Place(room, "for others", ALONE.format(crate=crate))
+    for it in ("x86_64-w64-mingw32-gcc", os.path.basename(compiler)):
+        os.symlink(os.path.join(needs.DEBIAN, it), os.path.join(place.programs, it))
+    place.check(checks, "for Windows", [own.program], WINDOWS, ".exe")
+    own.end()
+    linker = f"CARGO_TARGET_{ARM.upper().replace('-', '_')}_LINKER"
+    sysroot = write(room, "sysroot", b"") + "-of-arm"
+    os.makedirs(f"{sysroot}/lib")
+    os.symlink(f"{library}/usr/lib/rustlib", f"{sysroot}/lib/rustlib")
+    program = place.check(checks, "for AArch64", emulator, ARM, **{linker: compiler, "RUSTFLAGS": f"--sysroot {sysroot}"})
+    checks.check(program is None or "aarch64_minisign_update" in names_in(program), "for AArch64: it is not built of the archive")
+    check_other_compiler(checks, place, "the compiler for here")
+    changed = os.path.join(room, "planted-target")
+    shutil.copytree(crate, changed)
+    text = shared_cases.read(os.path.join(changed, "build.rs")).decode()
+    write(changed, "build.rs", text.replace(*TARGET_BUG).encode())
+    found = Checks()
+    check_other_compiler(found, Place(room, "planted", ALONE.format(crate=changed)), "planted")
+    checks.check(TARGET_BUG[0] in text and found.failures, f"planted in build.rs, and not noticed: {TARGET_BUG[1]}")
+
+
+def check_other_compiler(checks, place, what):
+    """Where the named compiler is for another target nothing is built."""
+    status, why, _ = place.build(WINDOWS, CC="gcc")
+    checks.check(status != 0 and NO_COMPILER + WINDOWS in why, f"{what} for Windows: {why[-500:]}")
+
+
 # The file, and what is changed in it.
 BUGS = [
-    ("src/lib.rs", "if questions.legacy == 1 { data } else { &digest }", "&digest"),
-    ("src/lib.rs", "raw::verdict(state, first, second)", "raw::verdict(state, first, first)"),
-    ("src/lib.rs", "lines, true)", "lines, false)"),
-    ("src/lib.rs", "Reason::TRUSTED_COMMENT_PREFIX.0)", "Reason::SIGNATURE_NOT_BASE64.0)"),
-    ("src/raw/sodium.rs", "crypto_sign_verify_detached(signature, message.as_ptr(), message.len() as u64, key) == 0",
-     "crypto_sign_verify_detached(signature, message.as_ptr(), message.len() as u64, key) <= 0"),
+    ("src/lib.rs", "if it.legacy == 1 { data } else { &digest }", "&digest"),
+    ("src/lib.rs", "raw::verdict(&mut self.state, first, second)", "raw::verdict(&mut self.state, first, first)"),
+    ("src/lib.rs", "raw::comment_verdict(&self.state, self.accepts_comment())?", "raw::comment_verdict(&self.state, true)?"),
+    ("src/lib.rs", "progress(taken)", "progress(0)"),
+    ("src/lib.rs", "if error.kind() == io::ErrorKind::Interrupted", "if error.kind() == io::ErrorKind::NotFound"),
+    ("src/lib.rs", "io::Error::new(io::ErrorKind::InvalidData, Reason::NOT_UTF8)", "io::Error::from(io::ErrorKind::InvalidData)"),
+    ("src/lib.rs", "self.read.comment_offset as usize..]", "self.read.comment_offset as usize + 1..]"),
+    ("src/lib.rs", "&self.read.key_id", "&[0; 8]"),
+    ("src/lib.rs", "self.read.legacy == 1", "self.read.whole == 1"),
+    ("src/lib.rs", "Reason(16..=27 | 44..=45)", "Reason(16..=26 | 44..=45)"),
+    ("src/lib.rs", "other => other.reason().map(|it| it as _)", "_ => None"),
+    ("src/raw/sodium.rs", "crypto_sign_verify_detached(signature, from, len, key) == 0",
+     "crypto_sign_verify_detached(signature, from, len, key) <= 0"),
     ("src/signing.rs", "|it| ed25519.accepts(it, message, &key)", "|it| it.len() + key.len() == 96"),
-    ("src/signing.rs", "!ed25519.random(&mut sealing.salt)", "keep_every == 0"),
+    ("src/signing.rs", "!ed25519.random(&mut sealing.salt)", "work.keep_every == 0"),
+    ("src/signing.rs", "signer.update_from(fs::File::open(path)?)?;", "fs::File::open(path)?;"),
     (MADE, "with_password, password) = (password.is_some().into()", "with_password, password) = (0"),
 ]
+
+
+def take_built(cargo, room):
+    """The crates of a directory take the library that was built before: the bugs are in what is Rust."""
+    library = next(iter(glob.glob(f"{cargo.target}/release/build/minisign-proved-*/out/libminisign.a")))
+    names = ["minisign", *(os.path.basename(it)[3:-2] for it in glob.glob(f"{os.path.dirname(library)}/libcalls-*.a"))]
+    host = re.search(r"^host: (.*)$", run([cargo.environment["RUSTC"], "-vV"])[1].decode(), re.M)[1]
+    os.mkdir(os.path.join(room, ".cargo"))
+    words = f'[target.{host}.minisign_proved]\nrustc-link-search = ["native={os.path.dirname(library)}"]\nrustc-link-lib = {[f"static={it}" for it in names]}\n'
+    write(room, ".cargo/config.toml", words.encode())
 
 
 def check_planted(checks, cargo, crate, room, minisign):
     """Each planted bug is noticed by what is asked of a program over the changed crate."""
     kept = shared_cases.corpus()
-    wanted = shared_cases.answers_of(minisign, room, kept)
+    wanted, strict = (shared_cases.answers_of(minisign, room, kept, allow) for allow in (True, False))
     lenient = copy.copy(cargo)
     lenient.environment = {**cargo.environment, "RUSTFLAGS": ""}
+    take_built(cargo, room)
     for number, (file, old, new) in enumerate(BUGS):
         directory = os.path.join(room, f"planted-{number}")
         changed = os.path.join(directory, "crate")
@@ -328,13 +495,17 @@ def check_planted(checks, cargo, crate, room, minisign):
         found = Checks()
         program = lenient.program(directory, f"planted-{number}", RENAMED.format(crate=changed), "answers.rs")
         shared_cases.compare(found, "kept", kept, run([program, "verify"], data=shared_cases.lines_of(kept))[1], wanted)
+        shared_cases.compare(found, "from a reader", kept, run([program, "reader"], data=shared_cases.lines_of(kept))[1], strict)
         check_rejections(found, program)
+        check_comments(found, program)
+        check_read(found, program)
         check_vectors(found, program)
         try:
             check_signing(found, program, directory, minisign)
         except OSError as why:
             found.check(False, f"it did not go on: {why}")
         checks.check(old in text and found.failures, f"planted in {file}, and not noticed: {new}")
+    shutil.rmtree(os.path.join(room, ".cargo"))
 
 
 def check_toolchain(checks, room, toolchain, minisign, plants_bugs):
@@ -348,10 +519,15 @@ def check_toolchain(checks, room, toolchain, minisign, plants_bugs):
     check_answers(checks, program, room, minisign)
     check_vectors(checks, program)
     check_rejections(checks, program)
+    check_comments(checks, program)
+    check_shown(checks, program)
+    check_read(checks, program)
     check_signing(checks, program, room, minisign)
     check_many(checks, program)
     check_own(checks, cargo, room, crate)
     if plants_bugs:
+        check_here(checks, crate, room)
+        check_targets(checks, crate, room)
         check_planted(checks, cargo, crate, room, minisign)
     shutil.rmtree(os.path.join(crate, "library"))
     try:

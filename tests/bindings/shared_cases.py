@@ -7,6 +7,7 @@ language, one on each line (`lines_of`), and compares what comes back with `c/mi
 Needs Python 3.9 or later, make, a C compiler and libsodium with its header, and installs what is not there where it may.
 """
 
+import base64
 import concurrent.futures
 import json
 import os
@@ -28,7 +29,7 @@ from checks import Checks
 CORPUS = os.path.join(TOP, "tests", "corpus")
 HEADER = os.path.join(TOP, "include", "minisign.h")
 INSTALLING = os.path.join(TOP, "include", "minisign_install.h")
-SECONDS = 300
+SECONDS = 1800
 # The damage is the same at each run.
 SEED = 7
 DAMAGED = 500
@@ -87,17 +88,21 @@ def c_minisign(room):
     return os.path.join(room, "c", "minisign")
 
 
-# How long a README may be, and what it has.
-README_LINES = 70
-README_PARTS = ["Install", "Verify", "Sign", "What is proved, and what is not", "Whose calls these are"]
+# How long a README may be, and what it answers, in this order.
+README_LINES = 95
+README_PARTS = ["Install", "Verify", "Sign", "Stream", "Errors", "What is different from", "Systems", "What is proved, and what is not"]
+# How long its example of verifying may be, without what it imports and where it begins and ends.
+README_VERIFYING = 5
 
 
 def check_readme(checks, package):
-    """The README of a package is one screen long and has its parts, and its key and signature are kept ones."""
+    """The README of a package is short and answers in the order of the others, and its key and signature are kept ones."""
     text = read(os.path.join(TOP, "bindings", package, "README.md")).decode()
-    lines, parts = text.splitlines(), re.findall(r"^## (.*)$", text, re.M)
+    lines, parts = text.splitlines(), re.findall(r"^## (What is different from|.*)", text, re.M)
     checks.check(len(lines) <= README_LINES, f"README.md has {len(lines)} lines")
     checks.check([it for it in parts if it in README_PARTS] == README_PARTS, f"README.md has the parts {parts}")
+    example = re.search(r"^## Verify\n.*?^```\w+\n(.*?)^```", text, re.M | re.S)
+    checks.check(example and len(example[1].splitlines()) <= README_VERIFYING, f"README.md verifies in more lines: {example}")
     kept = b"\n".join(read(os.path.join(CORPUS, name)) for name in ("published.pub", "published.minisig")).decode().split("\n")
     for letters in re.findall(r"\bR[UW][A-Za-z0-9+/=]{54,}", text):
         checks.check(letters in kept, f"README.md has other texts than the corpus: {letters}")
@@ -189,6 +194,50 @@ def rejections():
     yield Case("other data", key, data + b"2", signature), "SIGNATURE_REFUSED"
     yield Case("another comment", key, data, with_comment), "COMMENT_SIGNATURE_REFUSED"
     yield Case("a text that is no UTF-8", key, data, signature.replace(b"signature", b"\xff", 1)), "NOT_UTF8"
+
+
+def line_of_comment():
+    """How a program tells the trusted comment of those texts (`compare`)."""
+    text = read(os.path.join(CORPUS, "published.minisig")).split(b"\n")[2]
+    return f"accepted {text.removeprefix(b'trusted comment: ').hex()}"
+
+
+class Reading(NamedTuple):
+    """What a case says before anything is asked: the key IDs of its key and of its signature, and whether that is over the data itself."""
+
+    case: Case
+    key_id: bytes
+    signature_key_id: bytes
+    is_legacy: bool
+
+
+def reading(case):
+    """As Python's base64 decodes it."""
+    key, signature = (base64.b64decode(text.split(b"\n")[1]) for text in (case.key, case.signature))
+    return Reading(case, key[2:10], signature[2:10], signature[:2] == b"Ed")
+
+
+def readings():
+    """What the kept cases say that Minisign's own program accepts, but for the one of no UTF-8, and one whose signature is of
+    another key."""
+    with open(os.path.join(CORPUS, "cases.json"), encoding="utf-8") as file:
+        accepted = [it["status"] == 0 and it["signature"] != "no-utf8.minisig" for it in json.load(file)]
+    cases = [case for case, is_accepted in zip(corpus(), accepted) if is_accepted]
+    other = cases[0]._replace(name="a signature of another key", key=read(os.path.join(CORPUS, "second.pub")))
+    return [reading(case) for case in [*cases, other]]
+
+
+def check_readings(checks, what, said, form):
+    """Checks what a program read of the cases of `readings`: one line each, as `form` writes it of the case."""
+    told, lines = readings(), said.decode(errors="replace").splitlines()
+    checks.check(len(lines) == len(told) > 20 and len({it.is_legacy for it in told}) == 2, f"{what}: {len(lines)} lines of {len(told)} cases")
+    for it, line in zip(told, lines):
+        checks.check(line == form(it), f"{what}, {it.case.name}: {line} in place of {form(it)}")
+
+
+def shown_id(key_id):
+    """A key ID as Minisign shows it."""
+    return f"{int.from_bytes(key_id, 'little'):X}"
 
 
 # ---- What c/minisign answers ----

@@ -8,9 +8,19 @@ mod signing;
 pub use signing::{SecretKey, Signer, Work};
 use std::{fmt, fs, io, path::Path};
 
-/// Why something was rejected, as `minisign.h` numbers it. It is shown in the words of `minisign_error_text`.
-#[derive(Clone, Copy, Debug, Eq, PartialEq, Hash)]
+/// Why something was rejected, as `minisign.h` numbers it. It is shown in the words of
+/// `minisign_error_text`, and with `{:?}` by the name that it has there.
+#[derive(Clone, Copy, Eq, PartialEq, Hash)]
 pub struct Reason(pub u32);
+
+impl fmt::Debug for Reason {
+    fn fmt(&self, f: &mut fmt::Formatter) -> fmt::Result {
+        match self.name() {
+            "" => write!(f, "Reason({})", self.0),
+            name => f.write_str(name),
+        }
+    }
+}
 
 impl fmt::Display for Reason {
     fn fmt(&self, f: &mut fmt::Formatter) -> fmt::Result {
@@ -18,13 +28,16 @@ impl fmt::Display for Reason {
     }
 }
 
-/// Why a call failed: the errors of `minisign-verify`, and one for all else.
+impl std::error::Error for Reason {}
+
+/// Why a call failed: the errors of `minisign-verify`, and one for all else. It is shown in the
+/// words of its reason.
 #[derive(Debug)]
 pub enum Error {
-    /// The text of a public key or of a signature is not well formed.
-    InvalidEncoding,
-    /// The signature of the data, or that of the trusted comment, is not accepted.
-    InvalidSignature,
+    /// The text of a public key or of a signature is not well formed, for this reason.
+    InvalidEncoding(Reason),
+    /// The signature of the data, or that of the trusted comment, is not accepted: which one.
+    InvalidSignature(Reason),
     /// A file could not be read, or is not UTF-8.
     IoError(io::Error),
     /// A signature is over the data itself, which was not allowed.
@@ -39,16 +52,32 @@ pub enum Error {
     Rejected(Reason),
 }
 
+impl Error {
+    /// Why it was, and nothing where the system could not read a file.
+    pub fn reason(&self) -> Option<&Reason> {
+        match self {
+            Error::InvalidEncoding(it) | Error::InvalidSignature(it) | Error::Rejected(it) => {
+                Some(it)
+            }
+            Error::IoError(error) => error.get_ref()?.downcast_ref(),
+            Error::UnexpectedKeyId => Some(&Reason::DIFFERENT_KEY_IDS),
+            Error::UnsupportedAlgorithm => Some(&Reason::UNSUPPORTED_ALGORITHM),
+            _ => Some(&Reason::LEGACY_NOT_ACCEPTED),
+        }
+    }
+}
+
 impl From<Reason> for Error {
     fn from(reason: Reason) -> Error {
-        let is_of_text = (Reason::MISSING_PUBLIC_KEY_COMMENT.0..=Reason::TRUSTED_COMMENT_PREFIX.0).contains(&reason.0);
         match reason {
-            Reason::SIGNATURE_REFUSED | Reason::COMMENT_SIGNATURE_REFUSED => Error::InvalidSignature,
-            Reason::LEGACY_NOT_ACCEPTED => Error::UnexpectedAlgorithm,
-            Reason::DIFFERENT_KEY_IDS => Error::UnexpectedKeyId,
             Reason::UNSUPPORTED_ALGORITHM => Error::UnsupportedAlgorithm,
-            Reason::BARE_PUBLIC_KEY_LENGTH | Reason::BARE_PUBLIC_KEY_NOT_BASE64 => Error::InvalidEncoding,
-            _ if is_of_text => Error::InvalidEncoding,
+            Reason::DIFFERENT_KEY_IDS => Error::UnexpectedKeyId,
+            Reason::LEGACY_NOT_ACCEPTED => Error::UnexpectedAlgorithm,
+            Reason::SIGNATURE_REFUSED | Reason::COMMENT_SIGNATURE_REFUSED => {
+                Error::InvalidSignature(reason)
+            }
+            // (of both texts, and of the base64 of a key alone)
+            Reason(16..=27 | 44..=45) => Error::InvalidEncoding(reason),
             _ => Error::Rejected(reason),
         }
     }
@@ -63,26 +92,30 @@ impl From<io::Error> for Error {
 impl fmt::Display for Error {
     fn fmt(&self, f: &mut fmt::Formatter) -> fmt::Result {
         match self {
-            Error::InvalidEncoding => f.write_str("a public key or a signature is not well formed"),
-            Error::InvalidSignature => Reason::SIGNATURE_REFUSED.fmt(f),
             Error::IoError(error) => error.fmt(f),
-            Error::UnexpectedAlgorithm | Error::UnsupportedLegacyMode => Reason::LEGACY_NOT_ACCEPTED.fmt(f),
-            Error::UnexpectedKeyId => Reason::DIFFERENT_KEY_IDS.fmt(f),
-            Error::UnsupportedAlgorithm => Reason::UNSUPPORTED_ALGORITHM.fmt(f),
-            Error::Rejected(reason) => reason.fmt(f),
+            other => other.reason().map_or(Ok(()), |it| it.fmt(f)),
         }
     }
 }
 
-impl std::error::Error for Error {}
+/// Its source is the `Reason`, or the error of the system.
+impl std::error::Error for Error {
+    fn source(&self) -> Option<&(dyn std::error::Error + 'static)> {
+        match self {
+            Error::IoError(error) => Some(error),
+            other => other.reason().map(|it| it as _),
+        }
+    }
+}
 
-/// An Ed25519, whose answers are taken as they are: one that accepts keys or signatures of small order accepts files
-/// that nobody signed, so it has to reject them, as libsodium does. One that only verifies leaves the other calls as
-/// they stand here.
+/// An Ed25519, whose answers are taken as they are: one that accepts keys or signatures of small
+/// order accepts files that nobody signed, so it has to reject them, as libsodium does. One that
+/// only verifies leaves the other calls as they stand here.
 pub trait Ed25519: Sync {
     /// Whether the signature is one of the message under the public key.
     fn accepts(&self, signature: &[u8; 64], message: &[u8], public_key: &[u8; 32]) -> bool;
-    /// The signature of the message under a secret key: the 32 bytes of the seed, and the 32 of its public key.
+    /// The signature of the message under a secret key: the 32 bytes of the seed, and the 32 of
+    /// its public key.
     fn sign(&self, _message: &[u8], _secret_key: &[u8; 64]) -> Option<[u8; 64]> {
         None
     }
@@ -96,9 +129,39 @@ pub trait Ed25519: Sync {
     }
 }
 
+impl fmt::Debug for dyn Ed25519 + '_ {
+    fn fmt(&self, f: &mut fmt::Formatter) -> fmt::Result {
+        f.write_str("Ed25519")
+    }
+}
+
 /// The Ed25519 of libsodium.
 #[cfg(feature = "sodium")]
+#[derive(Clone, Copy, Debug, Default)]
 pub struct Sodium;
+
+/// The text of a file.
+fn text_of_file(path: &Path) -> io::Result<String> {
+    let not_utf8 = |_| io::Error::new(io::ErrorKind::InvalidData, Reason::NOT_UTF8);
+    String::from_utf8(fs::read(path)?).map_err(not_utf8)
+}
+
+/// Hands over the pieces of what a reader gives until its end, each with how many bytes that were
+/// so far.
+fn read_pieces(mut from: impl io::Read, mut take: impl FnMut(&[u8], u64)) -> io::Result<()> {
+    let (mut piece, mut taken) = (vec![0; 1 << 16], 0);
+    loop {
+        match from.read(&mut piece) {
+            Ok(0) => return Ok(()),
+            Ok(len) => {
+                taken += len as u64;
+                take(&piece[..len], taken);
+            }
+            Err(error) if error.kind() == io::ErrorKind::Interrupted => {}
+            Err(error) => return Err(error),
+        }
+    }
+}
 
 /// A public key.
 #[derive(Clone, Debug, Eq, PartialEq, Ord, PartialOrd, Hash)]
@@ -108,20 +171,28 @@ pub struct PublicKey {
 }
 
 impl PublicKey {
+    fn with(comment: Option<&str>, key: raw::PublicKey) -> Self {
+        PublicKey {
+            untrusted_comment: comment.map(String::from),
+            key,
+        }
+    }
+
     /// Reads both lines of a file such as `minisign.pub`.
     pub fn decode(lines: &str) -> Result<Self, Error> {
         let key = raw::read_public_key(lines.as_bytes())?;
-        Ok(PublicKey { untrusted_comment: lines.lines().next().map(String::from), key })
+        Ok(Self::with(lines.lines().next(), key))
     }
 
     /// Reads the base64 of a public key alone: its 56 letters.
     pub fn from_base64(public_key: &str) -> Result<Self, Error> {
-        Ok(PublicKey { untrusted_comment: None, key: raw::read_bare_public_key(public_key.as_bytes())? })
+        let key = raw::read_bare_public_key(public_key.as_bytes())?;
+        Ok(Self::with(None, key))
     }
 
     /// Reads a file such as `minisign.pub`.
     pub fn from_file<P: AsRef<Path>>(path: P) -> Result<Self, Error> {
-        Self::decode(&fs::read_to_string(path)?)
+        Self::decode(&text_of_file(path.as_ref())?)
     }
 
     /// The first line of the key's text, for which nobody vouches.
@@ -129,85 +200,91 @@ impl PublicKey {
         self.untrusted_comment.as_deref()
     }
 
-    /// Verifies data at once. With `allow_legacy` signatures over the data itself will do, which Minisign made before
-    /// version 0.10.
+    /// The 8 bytes of its key ID, which Minisign shows as one little-endian number. Anybody can
+    /// make a key with the same one.
+    pub fn key_id(&self) -> &[u8; 8] {
+        &self.key.key_id
+    }
+
+    /// Verifies data at once. With `allow_legacy` signatures over the data itself will do, which
+    /// Minisign made before version 0.10.
     #[cfg(feature = "sodium")]
-    pub fn verify(&self, data: &[u8], signature: &Signature, allow_legacy: bool) -> Result<(), Error> {
-        self.verify_with(&Sodium, data, signature, allow_legacy)
+    pub fn verify(&self, data: &[u8], by: &Signature, allow_legacy: bool) -> Result<(), Error> {
+        self.verify_with(&Sodium, data, by, allow_legacy)
     }
 
     /// Verifies data at once, by this Ed25519.
-    pub fn verify_with(&self, by: &dyn Ed25519, data: &[u8], signature: &Signature, allow_legacy: bool) -> Result<(), Error> {
-        let asked = ask(&self.key, &signature.text, allow_legacy).map_err(|(reason, _)| reason)?;
-        let mut verifier = StreamVerifier { ed25519: by, asked };
+    pub fn verify_with(
+        &self,
+        ed25519: &dyn Ed25519,
+        data: &[u8],
+        signature: &Signature,
+        allow_legacy: bool,
+    ) -> Result<(), Error> {
+        let mut verifier = StreamVerifier::begin(&self.key, ed25519, signature, allow_legacy)?;
         verifier.update(data);
         verifier.end(data)
     }
 
-    /// Begins to verify data that comes in pieces. All that is wrong with the signature's text is told here.
+    /// Begins to verify data that comes in pieces. All that is wrong with the signature's text is
+    /// told here.
     #[cfg(feature = "sodium")]
-    pub fn verify_stream<'a>(&'a self, signature: &'a Signature) -> Result<StreamVerifier<'a>, Error> {
+    pub fn verify_stream<'a>(&self, signature: &'a Signature) -> Result<StreamVerifier<'a>, Error> {
         self.verify_stream_with(&Sodium, signature)
     }
 
     /// Begins to verify data that comes in pieces, by this Ed25519.
-    pub fn verify_stream_with<'a>(&'a self, by: &'a dyn Ed25519, signature: &'a Signature) -> Result<StreamVerifier<'a>, Error> {
-        match ask(&self.key, &signature.text, false) {
-            Ok(asked) => Ok(StreamVerifier { ed25519: by, asked }),
-            Err((Reason::LEGACY_NOT_ACCEPTED, _)) => Err(Error::UnsupportedLegacyMode),
-            Err((reason, _)) => Err(reason.into()),
-        }
+    pub fn verify_stream_with<'a>(
+        &self,
+        ed25519: &'a dyn Ed25519,
+        signature: &'a Signature,
+    ) -> Result<StreamVerifier<'a>, Error> {
+        let begun = StreamVerifier::begin(&self.key, ed25519, signature, false);
+        begun.map_err(|reason| match reason {
+            Reason::LEGACY_NOT_ACCEPTED => Error::UnsupportedLegacyMode,
+            _ => reason.into(),
+        })
     }
 }
 
-/// What Ed25519 is asked about a signature under a key, and the message of the second question.
-struct Asked {
-    state: raw::State,
-    questions: raw::Questions,
-    message: Vec<u8>,
-}
-
-/// Asks about the text of a signature. Where it is rejected, its key ID is told with the reason, as far as it reads.
-fn ask(key: &raw::PublicKey, text: &str, allow_legacy: bool) -> Result<Asked, (Reason, [u8; 8])> {
-    let (mut state, mut questions, mut message) = (raw::init(), raw::Questions::ZEROS, vec![0; text.len()]);
-    let asked = raw::ask(&mut state, key, text.as_bytes(), allow_legacy.into(), &mut questions, &mut message);
-    message.truncate(questions.message_len as usize);
-    asked.map_err(|reason| (reason, questions.signature_key_id))?;
-    Ok(Asked { state, questions, message })
-}
-
 /// A signature, which vouches for nothing before it was verified.
-#[derive(Clone, Debug)]
+#[derive(Clone, Debug, Eq, PartialEq, Hash)]
 pub struct Signature {
     text: String,
-    trusted_comment: String,
+    read: raw::Signature,
 }
 
 impl Signature {
     /// Reads the four lines of a file such as `data.minisig`.
     pub fn decode(lines: &str) -> Result<Self, Error> {
-        // Asked under a key of no key ID, and then under one of the signature's, the library tells what is in the text.
-        let asked = match ask(&raw::PublicKey::ZEROS, lines, true) {
-            Err((Reason::DIFFERENT_KEY_IDS, key_id)) => ask(&raw::PublicKey { key: [0; 32], key_id }, lines, true),
-            asked => asked,
-        };
-        let asked = asked.map_err(|(reason, _)| reason)?;
-        Ok(Signature { text: lines.into(), trusted_comment: String::from_utf8_lossy(&asked.message[64..]).into_owned() })
+        let (text, read) = (lines.into(), raw::read_signature(lines.as_bytes())?);
+        Ok(Signature { text, read })
     }
 
     /// Reads a file such as `data.minisig`.
     pub fn from_file<P: AsRef<Path>>(path: P) -> Result<Self, Error> {
-        Self::decode(&fs::read_to_string(path)?)
+        Self::decode(&text_of_file(path.as_ref())?)
     }
 
-    /// The trusted comment, which was signed with the data: trust it only once the signature was verified.
+    /// The trusted comment, which was signed with the data: trust it only once the signature was
+    /// verified, or once `StreamVerifier::trusted_comment` has told it.
     pub fn trusted_comment(&self) -> &str {
-        &self.trusted_comment
+        &self.text[self.read.comment_offset as usize..][..self.read.comment_len as usize]
     }
 
     /// The first line of the text, for which nobody vouches.
     pub fn untrusted_comment(&self) -> &str {
         self.text.lines().next().unwrap_or_default()
+    }
+
+    /// The 8 bytes of the key ID that it names, by which its key can be chosen.
+    pub fn key_id(&self) -> &[u8; 8] {
+        &self.read.key_id
+    }
+
+    /// Whether it is over the data itself, as Minisign made signatures before version 0.10.
+    pub fn is_legacy(&self) -> bool {
+        self.read.legacy == 1
     }
 }
 
@@ -219,28 +296,81 @@ impl fmt::Display for Signature {
 }
 
 /// Verifies data that comes in pieces.
+#[derive(Clone, Debug)]
 pub struct StreamVerifier<'a> {
     ed25519: &'a dyn Ed25519,
-    asked: Asked,
+    signature: &'a Signature,
+    state: raw::State,
+    questions: raw::Questions,
+    message: Vec<u8>,
 }
 
-impl StreamVerifier<'_> {
+impl<'a> StreamVerifier<'a> {
+    /// Asks what Ed25519 has to answer about a signature under a key, and the message of the second
+    /// question.
+    fn begin(
+        key: &raw::PublicKey,
+        ed25519: &'a dyn Ed25519,
+        signature: &'a Signature,
+        allow_legacy: bool,
+    ) -> Result<Self, Reason> {
+        let (text, legacy, mut state) =
+            (signature.text.as_bytes(), allow_legacy.into(), raw::init());
+        let (questions, message) = raw::ask(&mut state, key, &signature.read, text, legacy)?;
+        Ok(StreamVerifier {
+            ed25519,
+            signature,
+            state,
+            questions,
+            message,
+        })
+    }
+
     /// Takes in the next piece of the data, of any length.
     pub fn update(&mut self, piece: &[u8]) {
         // (only once the verdict was asked for is it rejected, and then so is another verdict)
-        let _ = raw::update(&mut self.asked.state, piece);
+        let _ = raw::update(&mut self.state, piece);
     }
 
-    /// Whether the signature vouches for all of the pieces. It is asked once: after that each call rejects.
+    /// Takes in all that a reader gives until its end, and after each piece of it tells how many
+    /// bytes that were so far.
+    pub fn update_from(
+        &mut self,
+        from: impl io::Read,
+        mut progress: impl FnMut(u64),
+    ) -> io::Result<()> {
+        read_pieces(from, |piece, taken| {
+            self.update(piece);
+            progress(taken)
+        })
+    }
+
+    /// The trusted comment, where the key has signed it: also before the data is there, of which
+    /// this says nothing.
+    pub fn trusted_comment(&self) -> Result<&'a str, Error> {
+        raw::comment_verdict(&self.state, self.accepts_comment())?;
+        Ok(self.signature.trusted_comment())
+    }
+
+    /// Whether the signature vouches for all of the pieces. It is asked once: after that each call
+    /// rejects.
     pub fn finalize(&mut self) -> Result<(), Error> {
         self.end(&[])
     }
 
+    fn accepts_comment(&self) -> bool {
+        let (of, key) = (
+            &self.questions.comment_signature,
+            &self.questions.public_key,
+        );
+        self.ed25519.accepts(of, &self.message, key)
+    }
+
     fn end(&mut self, data: &[u8]) -> Result<(), Error> {
-        let Asked { state, questions, message } = &mut self.asked;
-        let (digest, by) = (raw::digest(state)?, &questions.public_key);
-        let first = self.ed25519.accepts(&questions.signature, if questions.legacy == 1 { data } else { &digest }, by);
-        let second = self.ed25519.accepts(&questions.comment_signature, message, by);
-        Ok(raw::verdict(state, first, second)?)
+        let (digest, it) = (raw::digest(&mut self.state)?, &self.questions);
+        let message = if it.legacy == 1 { data } else { &digest };
+        let first = self.ed25519.accepts(&it.signature, message, &it.public_key);
+        let second = self.accepts_comment();
+        Ok(raw::verdict(&mut self.state, first, second)?)
     }
 }

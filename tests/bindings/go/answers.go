@@ -120,6 +120,19 @@ func answer(it line, how way) string {
 	return "accepted " + hex.EncodeToString([]byte(comment))
 }
 
+// reading tells the identifiers of a key and of a signature, and its algorithm: all of it before anything is asked.
+func reading(it line) string {
+	key, err := minisign.DecodePublicKey(string(it.key))
+	if err != nil {
+		return err.Error()
+	}
+	signature, err := minisign.DecodeSignature(string(it.signature))
+	if err != nil {
+		return err.Error()
+	}
+	return fmt.Sprintf("%x %x %s", key.KeyId, signature.KeyId, signature.SignatureAlgorithm)
+}
+
 func pages() int {
 	debug.FreeOSMemory()
 	text, _ := os.ReadFile("/proc/self/statm")
@@ -196,6 +209,10 @@ func main() {
 		return
 	}
 	for _, it := range lines() {
+		if os.Args[1] == "read" {
+			fmt.Println(reading(it))
+			continue
+		}
 		if os.Args[1] == "files" {
 			os.WriteFile(filepath.Join(os.Args[2], "key"), it.key, 0o644)
 			os.WriteFile(filepath.Join(os.Args[2], "signature"), it.signature, 0o644)

@@ -5,7 +5,7 @@
 // Nobody listens here to an error of a stream: one that does not reject the promise ends the program.
 
 import {createReadStream, readdirSync, readFileSync} from "node:fs";
-import {EventEmitter} from "node:events";
+import {EventEmitter, getEventListeners} from "node:events";
 import {Readable} from "node:stream";
 import {setTimeout as wait} from "node:timers/promises";
 
@@ -145,6 +145,26 @@ const TRIED = {
     const locked = new ReadableStream();
     locked.getReader();
     return [...seen, `${await ending(verify(locked, "no signature", key))} ${await ending(verify(locked, signature, key))}`];
+  },
+  // A signal that said so before, one that does so while a stream waits, and one that does so between two pieces.
+  async aborted() {
+    const seen = [], gone = Object.assign(new Error(), {code: "GONE"}), waiting = () => ({
+      web: webStream([]), node: {stream: new Readable({read() {}}), noted: {}}, own: {stream: new Endless(), noted: {}},
+    });
+    for (const when of ["before", "meanwhile"]) {
+      for (const [kind, {stream, noted}] of Object.entries(waiting())) {
+        const controller = new AbortController(), stop = () => controller.abort(gone);
+        const timer = when === "before" ? stop() : setTimeout(stop, 100);
+        const ended = await ending(verify(stream, signature, key, {signal: controller.signal}));
+        await timer, await wait(50);
+        seen.push(`${when} ${kind} ${ended} ${noted.cancelled ?? stream.destroyed}`);
+      }
+    }
+    const controller = new AbortController(), told = [];
+    const progress = bytes => { told.push(bytes); controller.abort(gone); };
+    const ended = await ending(verify([data, data, data], signature, key, {progress, signal: controller.signal}));
+    const listeners = getEventListeners(controller.signal, "abort").length;
+    return [...seen, `between ${ended} ${told.length} ${listeners}`];
   },
   // Streams that are accepted.
   async accepted() {

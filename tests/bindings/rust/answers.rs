@@ -1,8 +1,9 @@
 //! What a program that was written for `minisign-verify` answers to the lines on its standard input, and what the calls beside
 //! those do. `tests/bindings/rust.py` says what each word asks.
 
-use minisign_verify::{Ed25519, Error, PublicKey, SecretKey, Signature, Sodium, Work};
-use std::{env, fs, io, thread};
+use minisign_verify::{Ed25519, Error, PublicKey, Reason, SecretKey, Signature, Sodium, Work};
+use std::error::Error as _;
+use std::{env, fs, io, path::Path, process, thread};
 
 fn bytes(digits: &str) -> Vec<u8> {
     let digits = digits.trim_matches('-');
@@ -18,24 +19,81 @@ fn lines() -> Vec<Vec<Vec<u8>>> {
     io::stdin().lines().map(|line| line.unwrap().split(' ').map(bytes).collect()).collect()
 }
 
-/// As a file is read, whose bytes are no UTF-8.
-fn text(bytes: &[u8]) -> Result<&str, Error> {
-    std::str::from_utf8(bytes).map_err(|_| Error::IoError(io::ErrorKind::InvalidData.into()))
+/// What a text reads as: where it is no UTF-8, from a file.
+fn read<T>(bytes: &[u8], decode: fn(&str) -> Result<T, Error>, from_file: fn(&Path) -> Result<T, Error>) -> Result<T, Error> {
+    std::str::from_utf8(bytes).map(decode).unwrap_or_else(|_| {
+        let path = env::temp_dir().join(format!("text-of-{}", process::id()));
+        fs::write(&path, bytes).unwrap();
+        let read = from_file(&path);
+        fs::remove_file(path).unwrap();
+        read
+    })
+}
+
+fn texts(case: &[Vec<u8>]) -> Result<(PublicKey, Signature), Error> {
+    let key = read(&case[0], PublicKey::decode, |path| PublicKey::from_file(path))?;
+    Ok((key, read(&case[2], Signature::decode, |path| Signature::from_file(path))?))
 }
 
 fn verify(case: &[Vec<u8>], allow_legacy: bool) -> Result<String, Error> {
-    let (key, signature) = (PublicKey::decode(text(&case[0])?)?, Signature::decode(text(&case[2])?)?);
+    let (key, signature) = texts(case)?;
     key.verify(&case[1], &signature, allow_legacy)?;
     Ok(signature.trusted_comment().into())
 }
 
+/// The trusted comment, before there is data.
+fn verify_comment(case: &[Vec<u8>]) -> Result<String, Error> {
+    let (key, signature) = texts(case)?;
+    let mut verifier = key.verify_stream(&signature)?;
+    let told = verifier.trusted_comment().map(String::from);
+    verifier.update(b"data");
+    assert_eq!(told.is_ok(), verifier.trusted_comment().is_ok(), "with data the comment is another one");
+    told
+}
+
+/// Gives a few bytes at a time, and is interrupted before each.
+struct Slow<'a>(&'a [u8], bool);
+
+impl io::Read for Slow<'_> {
+    fn read(&mut self, to: &mut [u8]) -> io::Result<usize> {
+        self.1 = !self.1;
+        let len = to.len().min(1000);
+        if self.1 { Err(io::ErrorKind::Interrupted.into()) } else { self.0.read(&mut to[..len]) }
+    }
+}
+
+/// Fails when it is read.
+struct Failing;
+
+impl io::Read for Failing {
+    fn read(&mut self, _: &mut [u8]) -> io::Result<usize> {
+        Err(io::ErrorKind::BrokenPipe.into())
+    }
+}
+
+/// From a reader, which tells how far it is.
+fn verify_reader(case: &[Vec<u8>]) -> Result<String, Error> {
+    let (key, signature) = texts(case)?;
+    let mut verifier = key.verify_stream(&signature)?;
+    let mut told = vec![0];
+    verifier.update_from(Slow(&case[1], false), |taken| told.push(taken))?;
+    let grows = told.windows(2).all(|it| it[0] < it[1] && it[1] <= it[0] + 1000);
+    assert!(grows && told.last() == Some(&(case[1].len() as u64)), "it is told to be at {told:?}");
+    assert!(verifier.update_from(Failing, |_| ()).is_err(), "a reader that fails");
+    verifier.finalize().map(|()| signature.trusted_comment().into())
+}
+
 /// In pieces of one length, or of lengths that grow.
 fn verify_in_pieces(case: &[Vec<u8>], len: usize) -> Result<String, Error> {
-    let (key, signature) = (PublicKey::decode(text(&case[0])?)?, Signature::decode(text(&case[2])?)?);
+    let (key, signature) = texts(case)?;
     let mut verifier = key.verify_stream(&signature)?;
     let (mut rest, mut next) = (&case[1][..], len.max(1));
     while !rest.is_empty() {
         let (piece, later) = rest.split_at(next.min(rest.len()));
+        // (a copy goes on in its place)
+        let copy = verifier.clone();
+        verifier.update(b"other data");
+        verifier = copy;
         verifier.update(piece);
         rest = later;
         next += usize::from(len == 0);
@@ -46,10 +104,21 @@ fn verify_in_pieces(case: &[Vec<u8>], len: usize) -> Result<String, Error> {
     verdict.map(|()| signature.trusted_comment().into())
 }
 
+/// The key IDs of a key and of a signature, and whether that is over the data itself: all of it before anything is asked.
+fn reading(case: &[Vec<u8>]) -> Result<String, Error> {
+    let (key, signature) = texts(case)?;
+    Ok(format!("{} {} {}", hex(key.key_id()), hex(signature.key_id()), signature.is_legacy()))
+}
+
 fn answer(verdict: Result<String, Error>) -> String {
     match verdict {
         Ok(comment) => format!("accepted {}", hex(comment.as_bytes())),
-        Err(error) => format!("rejected {error:?}: {error}").replace('\n', " "),
+        Err(error) => {
+            let of_source = error.source().and_then(|it| it.downcast_ref::<Reason>());
+            let is_of_file = matches!(&error, Error::IoError(_)) && error.source().map_or(false, |it| it.is::<io::Error>());
+            assert!(is_of_file || error.reason() == of_source, "its source is {of_source:?}");
+            format!("rejected {error:?} {}: {error}", error.reason().map_or(0, |it| it.0)).replace('\n', " ")
+        }
     }
 }
 
@@ -78,8 +147,7 @@ fn growth(cases: &[Vec<Vec<u8>>], count: usize) -> i64 {
 
 /// Has threads answer all cases at once over the same keys and signatures: whether each answers as one alone.
 fn is_same_in_threads(cases: &[Vec<Vec<u8>>]) -> bool {
-    let read = |case: &Vec<Vec<u8>>| Some((PublicKey::decode(text(&case[0]).ok()?).ok()?, Signature::decode(text(&case[2]).ok()?).ok()?));
-    let shared: Vec<_> = cases.iter().filter_map(|case| read(case).map(|(key, signature)| (key, signature, &case[1]))).collect();
+    let shared: Vec<_> = cases.iter().filter_map(|case| texts(case).ok().map(|(key, signature)| (key, signature, &case[1]))).collect();
     let answers = || -> Vec<String> {
         let verdict = |it: &(PublicKey, Signature, &Vec<u8>)| it.0.verify(it.2, &it.1, true).map(|()| it.1.trusted_comment().into());
         shared.iter().map(|it| answer(verdict(it))).collect()
@@ -114,16 +182,33 @@ fn make(directory: &str, password: Option<&str>) -> Result<(), Error> {
 /// Signs a file with a key, and reads back what was written.
 fn sign(key: &str, data: &str, to: &str, comment: &str, password: Option<&str>) -> Result<(), Error> {
     let key = SecretKey::from_file(key, password, &Work { keep_every: 16, ..Work::USUAL })?;
+    let of_file = key.sign_file(&Sodium, data, comment, "from a program in Rust")?;
     let data = fs::read(data)?;
     let mut signer = key.sign_stream(&Sodium);
     data.chunks(1000).for_each(|piece| signer.update(piece));
     let signature = signer.finalize(comment, "from a program in Rust")?;
     let whole = key.sign(&Sodium, &data, comment, "from a program in Rust")?;
-    assert_eq!(signature.to_string(), whole.to_string(), "in pieces another signature is made");
+    assert_eq!(signature, whole, "in pieces another signature is made");
+    assert_eq!(of_file, whole, "of a file another signature is made");
     fs::write(to, signature.to_string())?;
     let read = Signature::from_file(to)?;
     assert_eq!((read.trusted_comment(), read.untrusted_comment()), (comment, "untrusted comment: from a program in Rust"));
     key.public_key()?.verify(&data, &read, false)
+}
+
+/// What is shown of values: nothing secret.
+fn shown() {
+    let key = SecretKey::generate(&Sodium).unwrap();
+    let signature = key.sign(&Sodium, b"data", "c", "u").unwrap();
+    let public_key = key.public_key().unwrap();
+    let id = u64::from_le_bytes(*public_key.key_id());
+    assert_eq!(format!("{key:?}"), format!("SecretKey({id:X})"));
+    let signer = key.sign_stream(&Sodium);
+    let verifier = public_key.verify_stream(&signature).unwrap();
+    for it in [format!("{signer:?}"), format!("{verifier:?}"), format!("{:?}", signer.clone()), format!("{:?}", Sodium.clone())] {
+        println!("{}", it.split(&[' ', '('][..]).next().unwrap());
+    }
+    println!("{:?} {:?} {}", Reason::WRONG_PASSWORD, Reason(77), Reason::WRONG_PASSWORD.name());
 }
 
 fn main() {
@@ -136,6 +221,10 @@ fn main() {
             let len = len.parse().unwrap();
             lines().iter().for_each(|case| println!("{}", answer(verify_in_pieces(case, len))));
         }
+        ["comment"] => lines().iter().for_each(|case| println!("{}", answer(verify_comment(case)))),
+        ["reader"] => lines().iter().for_each(|case| println!("{}", answer(verify_reader(case)))),
+        ["shown"] => shown(),
+        ["read"] => lines().iter().for_each(|case| println!("{}", reading(case).unwrap_or_else(|error| error.to_string()))),
         ["accepts"] => {
             for it in lines() {
                 println!("{}", Sodium.accepts(&it[2][..].try_into().unwrap(), &it[1], &it[0][..].try_into().unwrap()));

@@ -1,13 +1,14 @@
 # SPDX-License-Identifier: MIT
-"""Minisign signatures by the proved calls of include/minisign.h: verifying, signing, keys, and installing updates."""
+"""Minisign signatures by the proved calls of include/minisign.h: verifying, signing,
+keys, and installing updates."""
 
-from . import errors
-from ._arguments import Path, Text
-from ._calls import use_ed25519
-from ._keys import Data, Password, Progress, PublicKey, SecretKey, Signature, TooLong, Verifier, change_password, sign, verify, write_new
-from .errors import *  # noqa: F403
-from .installing import Keys, Offer, check, install
+from . import _keys, errors
+from ._arguments import Path as Path, Text as Text
+from ._calls import use_ed25519 as use_ed25519
+from ._keys import *
+from .errors import *
+from .installing import Keys as Keys, Offer as Offer, check as check, install as install
 
-__all__ = ["Data", "Keys", "Offer", "Password", "Path", "Progress", "PublicKey", "SecretKey", "Signature", "Text", "TooLong", "Verifier", "change_password",
-           "check", "install", "sign", "use_ed25519", "verify", "write_new"]
+__all__ = ["Keys", "Offer", "Path", "Text", "check", "install", "use_ed25519"]
+__all__ += _keys.__all__
 __all__ += errors.__all__

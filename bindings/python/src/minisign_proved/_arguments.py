@@ -1,6 +1,6 @@
 # SPDX-License-Identifier: MIT
-"""What a caller passes is looked at here, before anything is done with it: TypeError names an argument of another type, and ValueError
-one of another value."""
+"""What a caller passes is looked at here, before anything is done with it: TypeError
+names an argument of another type, and ValueError one of another value."""
 
 import os
 from typing import Any, Callable, Dict, TypeVar, Union, cast
@@ -17,7 +17,8 @@ def other_type(name: str, wanted: str, value: object) -> TypeError:
 
 
 def octets(name: str, value: object, wanted: str = "bytes") -> bytes:
-    """The bytes of an object that has some, which nobody else changes. Of a number `bytes` alone would make so many zeros."""
+    """The bytes of an object that has some, which nobody else changes. Of a number
+    `bytes` alone would make so many zeros."""
     if type(value) is bytes:
         return value
     try:
@@ -28,7 +29,8 @@ def octets(name: str, value: object, wanted: str = "bytes") -> bytes:
 
 
 def text_octets(name: str, value: object) -> bytes:
-    """The bytes of a text. Where a `str` is no text, they are not UTF-8, which the library rejects."""
+    """The bytes of a text. Where a `str` is no text, they are not UTF-8, which the
+    library rejects."""
     if not isinstance(value, str):
         return octets(name, value, "str or bytes")
     try:
@@ -38,7 +40,8 @@ def text_octets(name: str, value: object) -> bytes:
 
 
 def path_text(name: str, value: object) -> str:
-    """A path as `str`. A number is none: `open` would take it for a file that is open already."""
+    """A path as `str`. A number is none: `open` would take it for a file that is open
+    already."""
     try:
         text = os.fsdecode(cast(Path, value))
     except TypeError:
@@ -52,21 +55,27 @@ def choice(name: str, value: object, choices: Dict[str, Kind]) -> Kind:
     """What one of some names stands for."""
     check_kind(name, value, str)
     if value not in choices:
-        raise ValueError(f"{name} has to be {' or '.join(map(repr, choices))}, and not {value!r}")
+        wanted = " or ".join(map(repr, choices))
+        raise ValueError(f"{name} has to be {wanted}, and not {value!r}")
     return choices[cast(str, value)]
 
 
 def check_kind(name: str, value: object, kind: type) -> None:
-    """Checks that an argument is of a class. A truth is no number here, and no number or text a truth: "no" would be one."""
+    """Checks that an argument is of a class. A truth is no number here, and no number
+    or text a truth: "no" would be one."""
     if not isinstance(value, kind) or (kind is int and isinstance(value, bool)):
         raise other_type(name, kind.__name__, value)
 
 
-def check_number(name: str, value: object, least: int, most: int, form: Callable[[int], str] = str) -> None:
+def check_number(
+    name: str, value: object, least: int, most: int, form: Callable[[int], str] = str
+) -> None:
     """Checks that an argument is a whole number from `least` to `most`."""
     check_kind(name, value, int)
     if not least <= cast(int, value) <= most:
-        raise ValueError(f"{name} has to be from {form(least)} to {form(most)}, and not {form(cast(int, value))}")
+        told = form(cast(int, value))
+        wanted = f"from {form(least)} to {form(most)}"
+        raise ValueError(f"{name} has to be {wanted}, and not {told}")
 
 
 def check_function(name: str, value: object) -> None:

@@ -4,7 +4,8 @@
 Made by tools/bindings.py from include/minisign.h.
 """
 
-from ctypes import CDLL, POINTER, Array, Structure, c_char_p, c_size_t, c_ubyte, c_uint32, c_uint64, c_void_p, create_string_buffer
+from ctypes import CDLL, POINTER, Array, Structure, create_string_buffer
+from ctypes import c_char_p, c_size_t, c_ubyte, c_uint32, c_uint64, c_void_p
 from typing import Callable, Optional, Tuple, Union
 
 VERSION_MAJOR = 0
@@ -14,10 +15,10 @@ ERROR_TEXT_BYTES = 128
 KEEP_EVERY_ROW = 1
 KEEP_FEW_ROWS = 16
 USUAL_ROWS = 1048576
-ANY_ROWS = 0xffffffffffffffff
+ANY_ROWS = 0xFFFFFFFFFFFFFFFF
 OPERATIONS_LIMIT = 33554432
 MEMORY_LIMIT = 1073741824
-NUMBER_TEXT_BYTES = 30
+RECORD_TEXT_BYTES = 258
 VERSION_TEXT = "0.3.0"
 SECRET_KEY_COMMENT = "minisign encrypted secret key"
 PUBLIC_KEY_COMMENT = "minisign public key "
@@ -31,32 +32,37 @@ ANSWER_NO = 28271
 
 DUE_NOTHING = 0
 DUE_LOCK = 1
-DUE_CLEAR = 2
-DUE_READ_RECORD = 3
-DUE_CREATE = 4
-DUE_COPY = 5
-DUE_READ_BACK = 6
-DUE_ANSWER = 7
-DUE_TAKE_PERMISSIONS = 8
-DUE_SYNC = 9
-DUE_CREATE_RECORD = 10
-DUE_WRITE_RECORD = 11
-DUE_SYNC_RECORD = 12
-DUE_RENAME_RECORD = 13
-DUE_SYNC_RECORD_NAME = 14
-DUE_RENAME = 15
-DUE_SYNC_NAME = 16
-DUE_REMOVE_RECORD = 17
-DUE_REMOVE = 18
-DUE_INSTALLED = 19
-DUE_REFUSED = 20
+DUE_READ_RECORD = 2
+DUE_JUDGE = 3
+DUE_LOOK = 4
+DUE_JUDGE_TARGET = 5
+DUE_SYNC_TARGET = 6
+DUE_SYNC_TARGET_NAME = 7
+DUE_UNLOCK = 8
+DUE_RECEIVE = 9
+DUE_CLEAR = 10
+DUE_CREATE = 11
+DUE_COPY = 12
+DUE_READ_BACK = 13
+DUE_ANSWER = 14
+DUE_TAKE_PERMISSIONS = 15
+DUE_SYNC = 16
+DUE_CREATE_RECORD = 17
+DUE_WRITE_RECORD = 18
+DUE_SYNC_RECORD = 19
+DUE_RENAME_RECORD = 20
+DUE_SYNC_RECORD_NAME = 21
+DUE_RENAME = 22
+DUE_SYNC_NAME = 23
+DUE_REMOVE_RECORD = 24
+DUE_REMOVE = 25
+DUE_INSTALLED = 26
+DUE_ALREADY = 27
+DUE_WOULD_INSTALL = 28
+DUE_REFUSED = 29
 
 NUMBERING_TIMESTAMP = 0
 NUMBERING_VERSION = 1
-
-OFFER_NEWER = 1
-OFFER_SAME = 2
-OFFER_OLDER = 3
 
 
 class State(Structure):
@@ -72,6 +78,22 @@ class PublicKey(Structure):
     ]
 
 
+class Signature(Structure):
+    _fields_ = [
+        ("mark", c_uint64),
+        ("key_id", c_ubyte * 8),
+        ("signature", c_ubyte * 64),
+        ("comment_signature", c_ubyte * 64),
+        ("comment_offset", c_uint64),
+        ("comment_len", c_uint64),
+        ("text_digest", c_ubyte * 32),
+        ("algorithm", c_ubyte * 2),
+        ("legacy", c_ubyte),
+        ("whole", c_ubyte),
+        ("reserved", c_uint32),
+    ]
+
+
 class Questions(Structure):
     _fields_ = [
         ("public_key", c_ubyte * 32),
@@ -79,8 +101,8 @@ class Questions(Structure):
         ("signature", c_ubyte * 64),
         ("comment_signature", c_ubyte * 64),
         ("message_len", c_uint64),
-        ("public_key_id", c_ubyte * 8),
-        ("signature_key_id", c_ubyte * 8),
+        ("comment_offset", c_uint64),
+        ("comment_len", c_uint64),
         ("legacy", c_uint32),
         ("reserved", c_uint32),
     ]
@@ -126,7 +148,7 @@ class Sealing(Structure):
 
 class Installation(Structure):
     _fields_ = [
-        ("opaque", c_uint64 * 80),
+        ("opaque", c_uint64 * 128),
     ]
 
 
@@ -150,39 +172,140 @@ class Calls:
         library.minisign_digest.restype = error
         library.minisign_digest.argtypes = (POINTER(State), c_void_p)
         library.minisign_read_public_key.restype = error
-        library.minisign_read_public_key.argtypes = (c_void_p, c_size_t, POINTER(PublicKey))
+        library.minisign_read_public_key.argtypes = (
+            c_void_p,
+            c_size_t,
+            POINTER(PublicKey),
+        )
         library.minisign_read_bare_public_key.restype = error
-        library.minisign_read_bare_public_key.argtypes = (c_void_p, c_size_t, POINTER(PublicKey))
+        library.minisign_read_bare_public_key.argtypes = (
+            c_void_p,
+            c_size_t,
+            POINTER(PublicKey),
+        )
+        library.minisign_read_signature.restype = error
+        library.minisign_read_signature.argtypes = (
+            c_void_p,
+            c_size_t,
+            POINTER(Signature),
+        )
         library.minisign_ask.restype = error
-        library.minisign_ask.argtypes = (POINTER(State), POINTER(PublicKey), c_void_p, c_size_t, c_uint32, POINTER(Questions), c_void_p, c_size_t)
+        library.minisign_ask.argtypes = (
+            POINTER(State),
+            POINTER(PublicKey),
+            POINTER(Signature),
+            c_void_p,
+            c_size_t,
+            c_uint32,
+            POINTER(Questions),
+            c_void_p,
+            c_size_t,
+        )
         library.minisign_comment_verdict.restype = error
         library.minisign_comment_verdict.argtypes = (POINTER(State), c_uint32)
         library.minisign_verdict.restype = error
         library.minisign_verdict.argtypes = (POINTER(State), c_uint32, c_uint32)
         library.minisign_read_secret_key.restype = error
-        library.minisign_read_secret_key.argtypes = (c_void_p, c_size_t, POINTER(UnopenedKey))
+        library.minisign_read_secret_key.argtypes = (
+            c_void_p,
+            c_size_t,
+            POINTER(UnopenedKey),
+        )
         library.minisign_open_unsealed_key.restype = error
-        library.minisign_open_unsealed_key.argtypes = (POINTER(UnopenedKey), POINTER(SecretKey))
+        library.minisign_open_unsealed_key.argtypes = (
+            POINTER(UnopenedKey),
+            POINTER(SecretKey),
+        )
         library.minisign_open_sealed_key.restype = error
-        library.minisign_open_sealed_key.argtypes = (POINTER(UnopenedKey), c_void_p, c_size_t, c_uint64, c_uint64, POINTER(SecretKey))
+        library.minisign_open_sealed_key.argtypes = (
+            POINTER(UnopenedKey),
+            c_void_p,
+            c_size_t,
+            c_uint64,
+            c_uint64,
+            POINTER(SecretKey),
+        )
         library.minisign_opening_memory.restype = None
-        library.minisign_opening_memory.argtypes = (POINTER(UnopenedKey), c_uint64, POINTER(c_uint64), POINTER(c_uint64))
+        library.minisign_opening_memory.argtypes = (
+            POINTER(UnopenedKey),
+            c_uint64,
+            POINTER(c_uint64),
+            POINTER(c_uint64),
+        )
         library.minisign_open_sealed_key_in_place.restype = error
-        library.minisign_open_sealed_key_in_place.argtypes = (POINTER(UnopenedKey), c_void_p, c_size_t, c_uint64, c_uint64, POINTER(c_uint32), c_size_t, c_void_p, c_size_t, POINTER(SecretKey))
+        library.minisign_open_sealed_key_in_place.argtypes = (
+            POINTER(UnopenedKey),
+            c_void_p,
+            c_size_t,
+            c_uint64,
+            c_uint64,
+            POINTER(c_uint32),
+            c_size_t,
+            c_void_p,
+            c_size_t,
+            POINTER(SecretKey),
+        )
         library.minisign_take_secret_key.restype = None
-        library.minisign_take_secret_key.argtypes = (c_void_p, c_void_p, POINTER(SecretKey))
+        library.minisign_take_secret_key.argtypes = (
+            c_void_p,
+            c_void_p,
+            POINTER(SecretKey),
+        )
         library.minisign_public_key_of.restype = error
-        library.minisign_public_key_of.argtypes = (POINTER(SecretKey), POINTER(PublicKey))
+        library.minisign_public_key_of.argtypes = (
+            POINTER(SecretKey),
+            POINTER(PublicKey),
+        )
         library.minisign_comment_message.restype = error
-        library.minisign_comment_message.argtypes = (c_void_p, c_void_p, c_size_t, c_void_p, c_size_t)
+        library.minisign_comment_message.argtypes = (
+            c_void_p,
+            c_void_p,
+            c_size_t,
+            c_void_p,
+            c_size_t,
+        )
         library.minisign_signed_text.restype = error
-        library.minisign_signed_text.argtypes = (POINTER(SecretKey), POINTER(SignedParts), c_void_p, c_size_t, POINTER(c_size_t))
+        library.minisign_signed_text.argtypes = (
+            POINTER(SecretKey),
+            POINTER(SignedParts),
+            c_void_p,
+            c_size_t,
+            POINTER(c_size_t),
+        )
         library.minisign_secret_key_text.restype = error
-        library.minisign_secret_key_text.argtypes = (POINTER(SecretKey), c_uint32, c_void_p, c_size_t, POINTER(Sealing), c_uint64, c_void_p, c_size_t, c_void_p, c_size_t, POINTER(c_size_t))
+        library.minisign_secret_key_text.argtypes = (
+            POINTER(SecretKey),
+            c_uint32,
+            c_void_p,
+            c_size_t,
+            POINTER(Sealing),
+            c_uint64,
+            c_void_p,
+            c_size_t,
+            c_void_p,
+            c_size_t,
+            POINTER(c_size_t),
+        )
         library.minisign_public_key_text.restype = error
-        library.minisign_public_key_text.argtypes = (POINTER(SecretKey), c_void_p, c_size_t, c_void_p, c_size_t, POINTER(c_size_t))
+        library.minisign_public_key_text.argtypes = (
+            POINTER(SecretKey),
+            c_void_p,
+            c_size_t,
+            c_void_p,
+            c_size_t,
+            POINTER(c_size_t),
+        )
         library.minisign_install_init.restype = error
-        library.minisign_install_init.argtypes = (POINTER(Installation), c_uint32, c_uint32)
+        library.minisign_install_init.argtypes = (
+            POINTER(Installation),
+            POINTER(PublicKey),
+            POINTER(PublicKey),
+            c_uint32,
+            c_uint32,
+            c_uint32,
+            c_uint32,
+            c_uint32,
+        )
         library.minisign_install_due.restype = c_uint32
         library.minisign_install_due.argtypes = (POINTER(Installation),)
         library.minisign_install_done.restype = error
@@ -192,25 +315,60 @@ class Calls:
         library.minisign_install_failed.restype = error
         library.minisign_install_failed.argtypes = (POINTER(Installation), c_uint32)
         library.minisign_install_record.restype = error
-        library.minisign_install_record.argtypes = (POINTER(Installation), c_void_p, c_size_t)
+        library.minisign_install_record.argtypes = (
+            POINTER(Installation),
+            c_void_p,
+            c_size_t,
+        )
         library.minisign_install_no_record.restype = error
         library.minisign_install_no_record.argtypes = (POINTER(Installation),)
         library.minisign_install_piece.restype = error
-        library.minisign_install_piece.argtypes = (POINTER(Installation), c_void_p, c_size_t)
+        library.minisign_install_piece.argtypes = (
+            POINTER(Installation),
+            c_void_p,
+            c_size_t,
+        )
+        library.minisign_install_no_target.restype = error
+        library.minisign_install_no_target.argtypes = (POINTER(Installation),)
         library.minisign_install_ask.restype = error
-        library.minisign_install_ask.argtypes = (POINTER(Installation), POINTER(PublicKey), c_void_p, c_size_t, c_void_p, c_size_t, c_uint64, POINTER(Questions), c_void_p, c_size_t)
+        library.minisign_install_ask.argtypes = (
+            POINTER(Installation),
+            c_void_p,
+            c_size_t,
+            c_void_p,
+            c_size_t,
+            c_uint64,
+            POINTER(Questions),
+            c_void_p,
+            c_size_t,
+        )
         library.minisign_install_answer.restype = error
-        library.minisign_install_answer.argtypes = (POINTER(Installation), c_uint32, c_uint32)
-        library.minisign_install_number_text.restype = c_size_t
-        library.minisign_install_number_text.argtypes = (POINTER(Installation), c_void_p, c_size_t)
+        library.minisign_install_answer.argtypes = (
+            POINTER(Installation),
+            c_uint32,
+            c_uint32,
+        )
+        library.minisign_install_number.restype = c_uint64
+        library.minisign_install_number.argtypes = (POINTER(Installation),)
+        library.minisign_install_record_text.restype = c_size_t
+        library.minisign_install_record_text.argtypes = (
+            POINTER(Installation),
+            c_void_p,
+            c_size_t,
+        )
         library.minisign_install_error.restype = error
         library.minisign_install_error.argtypes = (POINTER(Installation),)
         library.minisign_judge_comment.restype = error
-        library.minisign_judge_comment.argtypes = (c_void_p, c_size_t, c_void_p, c_size_t, c_uint32, c_uint64, c_uint64, POINTER(c_uint64))
-        library.minisign_check_comment.restype = error
-        library.minisign_check_comment.argtypes = (c_void_p, c_size_t, c_void_p, c_size_t, c_uint32, c_uint64, c_uint32, c_void_p, c_size_t, POINTER(c_uint32), POINTER(c_uint64))
-        library.minisign_check_first_comment.restype = error
-        library.minisign_check_first_comment.argtypes = (c_void_p, c_size_t, c_void_p, c_size_t, c_uint32, c_uint64, c_uint32, POINTER(c_uint32), POINTER(c_uint64))
+        library.minisign_judge_comment.argtypes = (
+            c_void_p,
+            c_size_t,
+            c_void_p,
+            c_size_t,
+            c_uint32,
+            c_uint64,
+            c_uint64,
+            POINTER(c_uint64),
+        )
 
     def version(self) -> int:
         number: int = self._library.minisign_version()
@@ -244,17 +402,45 @@ class Calls:
         self._library.minisign_read_bare_public_key(base64, len(base64), key)
         return key
 
-    def ask(self, state: State, key: PublicKey, sig_text: bytes, allow_legacy: int) -> Tuple[Questions, bytes]:
+    def read_signature(self, sig_text: bytes) -> Signature:
+        signature = Signature()
+        self._library.minisign_read_signature(sig_text, len(sig_text), signature)
+        return signature
+
+    def ask(
+        self,
+        state: State,
+        key: PublicKey,
+        signature: Signature,
+        sig_text: bytes,
+        allow_legacy: int,
+    ) -> Tuple[Questions, bytes]:
         questions = Questions()
-        message = create_string_buffer(len(sig_text) + 1)
-        self._library.minisign_ask(state, key, sig_text, len(sig_text), allow_legacy, questions, message, len(message))
-        return questions, message.raw[:questions.message_len]
+        message = create_string_buffer(64 + signature.comment_len)
+        self._library.minisign_ask(
+            state,
+            key,
+            signature,
+            sig_text,
+            len(sig_text),
+            allow_legacy,
+            questions,
+            message,
+            len(message),
+        )
+        return questions, message.raw
 
     def comment_verdict(self, state: State, second: bool) -> None:
-        self._library.minisign_comment_verdict(state, ANSWER_YES if second is True else ANSWER_NO)
+        self._library.minisign_comment_verdict(
+            state, ANSWER_YES if second is True else ANSWER_NO
+        )
 
     def verdict(self, state: State, first: bool, second: bool) -> None:
-        self._library.minisign_verdict(state, ANSWER_YES if first is True else ANSWER_NO, ANSWER_YES if second is True else ANSWER_NO)
+        self._library.minisign_verdict(
+            state,
+            ANSWER_YES if first is True else ANSWER_NO,
+            ANSWER_YES if second is True else ANSWER_NO,
+        )
 
     def read_secret_key(self, sk_text: bytes) -> UnopenedKey:
         unopened = UnopenedKey()
@@ -266,9 +452,13 @@ class Calls:
         self._library.minisign_open_unsealed_key(unopened, key)
         return key
 
-    def open_sealed_key(self, unopened: UnopenedKey, password: bytes, keep_every: int, most_rows: int) -> SecretKey:
+    def open_sealed_key(
+        self, unopened: UnopenedKey, password: bytes, keep_every: int, most_rows: int
+    ) -> SecretKey:
         key = SecretKey()
-        self._library.minisign_open_sealed_key(unopened, password, len(password), keep_every, most_rows, key)
+        self._library.minisign_open_sealed_key(
+            unopened, password, len(password), keep_every, most_rows, key
+        )
         return key
 
     def take_secret_key(self, key_id: Octets, secret: Octets) -> SecretKey:
@@ -283,29 +473,86 @@ class Calls:
 
     def comment_message(self, first: Octets, trusted: bytes) -> bytes:
         message = create_string_buffer(len(first) + len(trusted))
-        self._library.minisign_comment_message(first, trusted, len(trusted), message, len(message))
+        self._library.minisign_comment_message(
+            first, trusted, len(trusted), message, len(message)
+        )
         return message.raw
 
-    def signed_text(self, key: SecretKey, signature: Octets, comment_signature: Octets, trusted_comment: bytes, untrusted_comment: bytes) -> bytes:
+    def signed_text(
+        self,
+        key: SecretKey,
+        signature: Octets,
+        comment_signature: Octets,
+        trusted_comment: bytes,
+        untrusted_comment: bytes,
+    ) -> bytes:
         length = c_size_t()
-        text = create_string_buffer(TEXT_BYTES + len(trusted_comment) + len(untrusted_comment))
-        self._library.minisign_signed_text(key, SignedParts((c_ubyte * 64)(*signature), (c_ubyte * 64)(*comment_signature), trusted_comment, len(trusted_comment), untrusted_comment, len(untrusted_comment)), text, len(text), length)
-        return text.raw[:length.value]
+        text = create_string_buffer(
+            TEXT_BYTES + len(trusted_comment) + len(untrusted_comment)
+        )
+        self._library.minisign_signed_text(
+            key,
+            SignedParts(
+                (c_ubyte * 64)(*signature),
+                (c_ubyte * 64)(*comment_signature),
+                trusted_comment,
+                len(trusted_comment),
+                untrusted_comment,
+                len(untrusted_comment),
+            ),
+            text,
+            len(text),
+            length,
+        )
+        return text.raw[: length.value]
 
-    def secret_key_text(self, key: SecretKey, password: Optional[bytes], sealing: Sealing, keep_every: int, comment: bytes) -> bytes:
+    def secret_key_text(
+        self,
+        key: SecretKey,
+        password: Optional[bytes],
+        sealing: Sealing,
+        keep_every: int,
+        comment: bytes,
+    ) -> bytes:
         length = c_size_t()
         text = create_string_buffer(SECRET_KEY_BYTES + len(comment))
-        self._library.minisign_secret_key_text(key, 0 if password is None else 1, password, len(password or b""), sealing, keep_every, comment, len(comment), text, len(text), length)
-        return text.raw[:length.value]
+        self._library.minisign_secret_key_text(
+            key,
+            0 if password is None else 1,
+            password,
+            len(password or b""),
+            sealing,
+            keep_every,
+            comment,
+            len(comment),
+            text,
+            len(text),
+            length,
+        )
+        return text.raw[: length.value]
 
     def public_key_text(self, key: SecretKey, comment: bytes) -> bytes:
         length = c_size_t()
         text = create_string_buffer(PUBLIC_KEY_BYTES + len(comment))
-        self._library.minisign_public_key_text(key, comment, len(comment), text, len(text), length)
-        return text.raw[:length.value]
+        self._library.minisign_public_key_text(
+            key, comment, len(comment), text, len(text), length
+        )
+        return text.raw[: length.value]
 
-    def install_init(self, installation: Installation, is_first: int, numbering: int) -> None:
-        self._library.minisign_install_init(installation, is_first, numbering)
+    def install_init(
+        self,
+        installation: Installation,
+        key: PublicKey,
+        other: PublicKey,
+        is_first: int,
+        again: int,
+        is_check: int,
+        is_waiting: int,
+        numbering: int,
+    ) -> None:
+        self._library.minisign_install_init(
+            installation, key, other, is_first, again, is_check, is_waiting, numbering
+        )
 
     def install_due(self, installation: Installation) -> int:
         number: int = self._library.minisign_install_due(installation)
@@ -329,36 +576,54 @@ class Calls:
     def install_piece(self, installation: Installation, piece: bytes) -> None:
         self._library.minisign_install_piece(installation, piece, len(piece))
 
-    def install_ask(self, installation: Installation, key: PublicKey, sig_text: bytes, file: bytes, now: int) -> Tuple[Questions, bytes]:
+    def install_no_target(self, installation: Installation) -> None:
+        self._library.minisign_install_no_target(installation)
+
+    def install_ask(
+        self, installation: Installation, sig_text: bytes, file: bytes, now: int
+    ) -> Tuple[Questions, bytes]:
         questions = Questions()
-        message = create_string_buffer(len(sig_text) + 1)
-        self._library.minisign_install_ask(installation, key, sig_text, len(sig_text), file, len(file), now, questions, message, len(message))
-        return questions, message.raw[:questions.message_len]
+        message = create_string_buffer(64 + len(sig_text))
+        self._library.minisign_install_ask(
+            installation,
+            sig_text,
+            len(sig_text),
+            file,
+            len(file),
+            now,
+            questions,
+            message,
+            len(message),
+        )
+        return questions, message.raw
 
-    def install_answer(self, installation: Installation, first: bool, second: bool) -> None:
-        self._library.minisign_install_answer(installation, ANSWER_YES if first is True else ANSWER_NO, ANSWER_YES if second is True else ANSWER_NO)
+    def install_answer(
+        self, installation: Installation, first: bool, second: bool
+    ) -> None:
+        self._library.minisign_install_answer(
+            installation,
+            ANSWER_YES if first is True else ANSWER_NO,
+            ANSWER_YES if second is True else ANSWER_NO,
+        )
 
-    def install_number_text(self, installation: Installation) -> bytes:
-        text = create_string_buffer(NUMBER_TEXT_BYTES)
-        length = self._library.minisign_install_number_text(installation, text, len(text))
+    def install_number(self, installation: Installation) -> None:
+        self._library.minisign_install_number(installation)
+
+    def install_record_text(self, installation: Installation) -> bytes:
+        text = create_string_buffer(RECORD_TEXT_BYTES)
+        length = self._library.minisign_install_record_text(
+            installation, text, len(text)
+        )
         return text.raw[:length]
 
     def install_error(self, installation: Installation) -> None:
         self._library.minisign_install_error(installation)
 
-    def judge_comment(self, comment: bytes, file: bytes, numbering: int, now: int, kept: int) -> int:
+    def judge_comment(
+        self, comment: bytes, file: bytes, numbering: int, now: int, kept: int
+    ) -> int:
         number = c_uint64()
-        self._library.minisign_judge_comment(comment, len(comment), file, len(file), numbering, now, kept, number)
+        self._library.minisign_judge_comment(
+            comment, len(comment), file, len(file), numbering, now, kept, number
+        )
         return number.value
-
-    def check_comment(self, comment: bytes, file: bytes, numbering: int, now: int, is_first: int, record: bytes) -> Tuple[int, int]:
-        offer = c_uint32()
-        number = c_uint64()
-        self._library.minisign_check_comment(comment, len(comment), file, len(file), numbering, now, is_first, record, len(record), offer, number)
-        return offer.value, number.value
-
-    def check_first_comment(self, comment: bytes, file: bytes, numbering: int, now: int, is_first: int) -> Tuple[int, int]:
-        offer = c_uint32()
-        number = c_uint64()
-        self._library.minisign_check_first_comment(comment, len(comment), file, len(file), numbering, now, is_first, offer, number)
-        return offer.value, number.value

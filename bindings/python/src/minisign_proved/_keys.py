@@ -8,12 +8,17 @@ import tempfile
 import threading
 import time
 from contextlib import AbstractContextManager, ExitStack
-from typing import IO, Callable, Iterable, Iterator, List, NoReturn, Optional, Union, cast
+from typing import IO, Callable, Iterable, Iterator, List
+from typing import NoReturn, Optional, Union, cast
 
 from . import _header as h
-from ._arguments import Path, Text, check_function, check_kind, check_number, octets, path_text, text_octets
+from ._arguments import Path, Text, check_function, check_kind, check_number
+from ._arguments import octets, path_text, text_octets
 from ._calls import calls, ed25519
 from .errors import ReadingFailed
+
+__all__ = ["Data", "Password", "Progress", "PublicKey", "SecretKey", "Signature"]
+__all__ += ["TooLong", "Verifier", "change_password", "sign", "verify", "write_new"]
 
 # How many bytes were read, and how many the file has, 0 where that is not known.
 Progress = Callable[[int, int], None]
@@ -32,7 +37,8 @@ ROWS = {False: h.KEEP_EVERY_ROW, True: h.KEEP_FEW_ROWS}
 
 
 class TooLong(ReadingFailed):
-    """The text of a key or a signature has more than 1 MiB, or data more than is allowed."""
+    """The text of a key or a signature has more than 1 MiB, or data more than is
+    allowed."""
 
 
 def read_text(path: Path) -> bytes:
@@ -61,13 +67,18 @@ def pieces(data: Data) -> Iterator[bytes]:
         # (the pieces of a text would be its letters)
         if isinstance(data, str) or not isinstance(data, Iterable):
             raise
-    return (octets("a piece of data", it) for it in data)
+    return (octets("a piece of data", piece) for piece in data)
 
 
-def pieces_of(data: Union[str, IO[bytes]], progress: Optional[Progress]) -> Iterable[bytes]:
+def pieces_of(
+    data: Union[str, IO[bytes]], progress: Optional[Progress]
+) -> Iterable[bytes]:
     """The pieces of a file, which stays open where it was."""
     with ExitStack() as opened:
-        file = cast("IO[bytes]", data) if is_file(data) else opened.enter_context(open(cast(str, data), "rb", buffering=0))
+        if is_file(data):
+            file = cast("IO[bytes]", data)
+        else:
+            file = opened.enter_context(open(cast(str, data), "rb", buffering=0))
         size, done = 0 if file is data else os.fstat(file.fileno()).st_size, 0
         for piece in pieces(file):
             yield piece
@@ -76,16 +87,42 @@ def pieces_of(data: Union[str, IO[bytes]], progress: Optional[Progress]) -> Iter
                 progress(done, size)
 
 
+def identifier(key_id: Iterable[int]) -> str:
+    """The 8 bytes of a key ID as minisign shows them, in hexadecimal digits."""
+    return f"{int.from_bytes(bytes(key_id), 'little'):X}"
+
+
 class Signature:
-    """The text of a signature, as in a file `data.minisig`: bytes that are read once a key verifies with them."""
+    """The text of a signature, as in a file `data.minisig`: bytes that are read once
+    something of it is asked for, or verified."""
 
     def __init__(self, text: bytes) -> None:
         self._text = octets("text", text)
+        self._kept: Optional[h.Signature] = None
 
     @property
     def text(self) -> bytes:
         """Its bytes."""
         return self._text
+
+    @property
+    def _read(self) -> h.Signature:
+        """What its text reads as."""
+        if self._kept is None:
+            self._kept = calls.read_signature(self._text)
+        return self._kept
+
+    @property
+    def key_id(self) -> str:
+        """The identifier of the key that it names, by which a key can be chosen, as
+        minisign shows it. NotUtf8, and the errors of the text of a signature."""
+        return identifier(self._read.key_id)
+
+    @property
+    def is_legacy(self) -> bool:
+        """Whether it is over the data itself, as Minisign made signatures before
+        version 0.10. It raises what `key_id` raises."""
+        return bool(self._read.legacy)
 
     def __repr__(self) -> str:
         return f"Signature({self._text!r})"
@@ -98,7 +135,8 @@ class Signature:
 
     @classmethod
     def from_file(cls, path: Path) -> "Signature":
-        """Reads a file of at most 1 MiB: TooLong otherwise, and OSError where it cannot be read."""
+        """Reads a file of at most 1 MiB: TooLong otherwise, and OSError where it cannot
+        be read."""
         return cls(read_text(path))
 
 
@@ -106,8 +144,9 @@ class PublicKey:
     """A public key, under which signatures are verified."""
 
     def __init__(self, text: bytes, *, _read: Optional[h.PublicKey] = None) -> None:
-        """Reads both lines of a file such as minisign.pub. NotUtf8, MissingPublicKeyComment, MissingPublicKey, PublicKeyLength,
-        PublicKeyNotBase64, RecordTooShort."""
+        """Reads both lines of a file such as minisign.pub. NotUtf8,
+        MissingPublicKeyComment, MissingPublicKey, PublicKeyLength, PublicKeyNotBase64,
+        RecordTooShort."""
         self._read = _read or calls.read_public_key(octets("text", text))
 
     @property
@@ -118,21 +157,26 @@ class PublicKey:
     @property
     def key_id(self) -> str:
         """Its identifier as minisign shows it, in hexadecimal digits."""
-        return f"{int.from_bytes(bytes(self._read.key_id), 'little'):X}"
+        return identifier(self._read.key_id)
 
     @classmethod
     def from_file(cls, path: Path) -> "PublicKey":
-        """Reads a file such as minisign.pub of at most 1 MiB: TooLong otherwise, and OSError where it cannot be read."""
+        """Reads a file such as minisign.pub of at most 1 MiB: TooLong otherwise, and
+        OSError where it cannot be read."""
         return cls(read_text(path))
 
     @classmethod
     def from_base64(cls, letters: Text) -> "PublicKey":
-        """Reads the 56 letters that stand in the second line and after minisign -P. NotUtf8, BarePublicKeyLength,
-        BarePublicKeyNotBase64, RecordTooShort."""
-        return cls(b"", _read=calls.read_bare_public_key(text_octets("letters", letters)))
+        """Reads the 56 letters that stand in the second line and after minisign -P.
+        NotUtf8, BarePublicKeyLength, BarePublicKeyNotBase64, RecordTooShort."""
+        read = calls.read_bare_public_key(text_octets("letters", letters))
+        return cls(b"", _read=read)
 
-    def verify(self, data: Data, signature: Signature, allow_legacy: bool = False) -> str:
-        """The trusted comment, where the signature vouches for the data under this key; see `Verifier`."""
+    def verify(
+        self, data: Data, signature: Signature, allow_legacy: bool = False
+    ) -> str:
+        """The trusted comment, where the signature vouches for the data under this key;
+        see `Verifier`."""
         verifier = Verifier(self, signature, allow_legacy)
         for piece in pieces(data):
             verifier.update(piece)
@@ -142,24 +186,37 @@ class PublicKey:
         return f"<PublicKey {self.key_id}>"
 
     def __eq__(self, other: object) -> bool:
-        return isinstance(other, PublicKey) and (self.key, self.key_id) == (other.key, other.key_id)
+        return isinstance(other, PublicKey) and bytes(self._read) == bytes(other._read)
 
     def __hash__(self) -> int:
-        return hash((self.key, self.key_id))
+        return hash(bytes(self._read))
 
 
 class Verifier:
-    """Verifies data that comes in pieces. Where the texts reject already, it is not made: NotUtf8, the errors of the text of a
-    signature, DifferentKeyIds, LegacyNotAccepted. Signatures over the data itself are taken where `allow_legacy` is true: the data
-    is then kept in memory until the end. Threads may share one: their calls are made one after another."""
+    """Verifies data that comes in pieces. Where the texts reject already, it is not
+    made: NotUtf8, the errors of the text of a signature, DifferentKeyIds,
+    LegacyNotAccepted. Signatures over the data itself are taken where `allow_legacy` is
+    true: the data is then kept in memory until the end. Threads may share one: their
+    calls are made one after another.
+    """
 
-    def __init__(self, key: PublicKey, signature: Signature, allow_legacy: bool = False, *, _fed: Optional[h.State] = None) -> None:
+    def __init__(
+        self,
+        key: PublicKey,
+        signature: Signature,
+        allow_legacy: bool = False,
+        *,
+        _fed: Optional[h.State] = None,
+    ) -> None:
         check_kind("key", key, PublicKey)
         check_kind("signature", signature, Signature)
         check_kind("allow_legacy", allow_legacy, bool)
         self._state = _fed or calls.init()
-        self._asked, self._message = calls.ask(self._state, key._read, signature.text, 1 if allow_legacy else 0)
-        self._turn, self._held = threading.Lock(), []  # type: threading.Lock, List[bytes]
+        self._asked, self._message = calls.ask(
+            self._state, key._read, signature._read, signature.text, int(allow_legacy)
+        )
+        self._turn = threading.Lock()
+        self._held: List[bytes] = []
 
     def update(self, piece: bytes) -> None:
         """Feeds the next bytes, as many as there are."""
@@ -169,31 +226,49 @@ class Verifier:
             if self._asked.legacy == 1:
                 self._held.append(piece)
 
+    @property
+    def _comment(self) -> str:
+        """The trusted comment, as it stands in the message of the second question."""
+        begin, length = self._asked.comment_offset, self._asked.comment_len
+        return self._message[begin:][:length].decode()
+
     def _accepts_comment(self) -> bool:
-        return ed25519().accepts(bytes(self._asked.comment_signature), self._message, bytes(self._asked.public_key))
+        second, key = self._asked.comment_signature, self._asked.public_key
+        return ed25519().accepts(bytes(second), self._message, bytes(key))
 
     def trusted_comment(self) -> str:
-        """The trusted comment, where the key has signed it: also before the data is there, of which this says nothing. Otherwise
-        CommentSignatureRefused; and NotBegun where it was finished."""
+        """The trusted comment, where the key has signed it: also before the data is
+        there, of which this says nothing. Otherwise CommentSignatureRefused; and
+        NotBegun where it was finished."""
         with self._turn:
             calls.comment_verdict(self._state, self._accepts_comment())
-            return self._message[64:].decode()
+            return self._comment
 
     def finish(self) -> str:
-        """The trusted comment, where the signature vouches for all that was fed. Otherwise SignatureRefused or
-        CommentSignatureRefused; and NotBegun where it was finished before."""
+        """The trusted comment, where the signature vouches for all that was fed.
+        Otherwise SignatureRefused or CommentSignatureRefused; and NotBegun where it was
+        finished before."""
         with self._turn:
             digest, key = calls.digest(self._state), bytes(self._asked.public_key)
             message = b"".join(self._held) if self._asked.legacy == 1 else digest
             first = ed25519().accepts(bytes(self._asked.signature), message, key)
             calls.verdict(self._state, first, self._accepts_comment())
-            return self._message[64:].decode()
+            return self._comment
 
 
-def verify(path: Path, key: PublicKey, signature: Optional[Signature] = None, *, allow_legacy: bool = False,
-           progress: Optional[Progress] = None) -> str:
-    """The trusted comment, where a signature vouches for a file under a key: without one it is that of the file `path`.minisig.
-    Raises what `Verifier` and its calls raise, OSError where a file cannot be read, and TooLong. `progress` is told how far it is."""
+def verify(
+    path: Path,
+    key: PublicKey,
+    signature: Optional[Signature] = None,
+    *,
+    allow_legacy: bool = False,
+    progress: Optional[Progress] = None,
+) -> str:
+    """The trusted comment, where a signature vouches for a file under a key: without
+    one it is that of the file `path`.minisig. Raises what `Verifier` and its calls
+    raise, OSError where a file cannot be read, and TooLong. `progress` is told how far
+    it is.
+    """
     name = path_text("path", path)
     check_kind("key", key, PublicKey)
     check_function("progress", progress)
@@ -217,12 +292,16 @@ def new_password(name: str, password: Password) -> Optional[bytes]:
 
 
 class SecretKey(AbstractContextManager["SecretKey"]):
-    """A secret key that is open. `clear`, also at the end of a `with`, sets its secret bytes to zeros; what Python has copied of a
-    password or a text stays in memory. With `low_memory` a derivation takes 65 MiB and some three times the time, instead of 1 GiB."""
+    """A secret key that is open. `clear`, also at the end of a `with`, sets its secret
+    bytes to zeros; what Python has copied of a password or a text stays in memory. With
+    `low_memory` a derivation takes 65 MiB and some three times the time, instead of 1
+    GiB.
+    """
 
     def __init__(self, opened: h.SecretKey) -> None:
         check_kind("opened", opened, h.SecretKey)
-        self._opened, self._public_key = opened, PublicKey(b"", _read=calls.public_key_of(opened))
+        self._opened = opened
+        self._public_key = PublicKey(b"", _read=calls.public_key_of(opened))
 
     @property
     def public_key(self) -> PublicKey:
@@ -233,7 +312,7 @@ class SecretKey(AbstractContextManager["SecretKey"]):
         return f"<SecretKey {self.public_key.key_id}>"
 
     def __reduce__(self) -> NoReturn:
-        raise TypeError("a secret key is neither copied nor pickled: to_bytes tells its text")
+        raise TypeError("a secret key is neither copied nor pickled: see to_bytes")
 
     @classmethod
     def generate(cls) -> "SecretKey":
@@ -244,63 +323,117 @@ class SecretKey(AbstractContextManager["SecretKey"]):
         return cls(opened)
 
     @classmethod
-    def from_bytes(cls, text: bytes, password: Password = None, *, low_memory: bool = False, most_rows: int = h.USUAL_ROWS) -> "SecretKey":
-        """Opens both lines of a file such as minisign.key: KeySealed where that takes a password and there is none, KeyNotSealed where
-        it takes none, WrongPassword, WorkTooHigh where it asks for more than `most_rows` rows of scrypt in all (N times p), and the
-        errors of the text."""
+    def from_bytes(
+        cls,
+        text: bytes,
+        password: Password = None,
+        *,
+        low_memory: bool = False,
+        most_rows: int = h.USUAL_ROWS,
+    ) -> "SecretKey":
+        """Opens both lines of a file such as minisign.key: KeySealed where that takes a
+        password and there is none, KeyNotSealed where it takes none, WrongPassword,
+        WorkTooHigh where it asks for more than `most_rows` rows of scrypt in all (N
+        times p), and the errors of the text."""
         typed = old_password("password", password)
         check_kind("low_memory", low_memory, bool)
         check_number("most_rows", most_rows, 1, h.ANY_ROWS)
         unopened = calls.read_secret_key(octets("text", text))
         try:
-            return cls(calls.open_unsealed_key(unopened) if typed is None
-                       else calls.open_sealed_key(unopened, typed, ROWS[low_memory], most_rows))
+            if typed is None:
+                return cls(calls.open_unsealed_key(unopened))
+            rows = ROWS[low_memory]
+            return cls(calls.open_sealed_key(unopened, typed, rows, most_rows))
         finally:
             ctypes.memset(ctypes.byref(unopened), 0, ctypes.sizeof(unopened))
 
     @classmethod
-    def from_file(cls, path: Path, password: Password = None, *, low_memory: bool = False, most_rows: int = h.USUAL_ROWS) -> "SecretKey":
-        """Opens a file such as minisign.key of at most 1 MiB: see `from_bytes`. TooLong, and OSError where it cannot be read."""
-        return cls.from_bytes(read_text(path), password, low_memory=low_memory, most_rows=most_rows)
+    def from_file(
+        cls,
+        path: Path,
+        password: Password = None,
+        *,
+        low_memory: bool = False,
+        most_rows: int = h.USUAL_ROWS,
+    ) -> "SecretKey":
+        """Opens a file such as minisign.key of at most 1 MiB: see `from_bytes`.
+        TooLong, and OSError where it cannot be read."""
+        return cls.from_bytes(
+            read_text(path), password, low_memory=low_memory, most_rows=most_rows
+        )
 
-    def to_bytes(self, password: Password, *, comment: Text = h.SECRET_KEY_COMMENT, low_memory: bool = False) -> bytes:
-        """The text of the key, sealed under the password and a new salt, with the limits of minisign -G; with None it is not sealed.
-        An empty password is a ValueError."""
+    def to_bytes(
+        self,
+        password: Password,
+        *,
+        comment: Text = h.SECRET_KEY_COMMENT,
+        low_memory: bool = False,
+    ) -> bytes:
+        """The text of the key, sealed under the password and a new salt, with the
+        limits of minisign -G; with None it is not sealed. An empty password is a
+        ValueError."""
         typed = new_password("password", password)
         check_kind("low_memory", low_memory, bool)
-        sealing = h.Sealing((ctypes.c_ubyte * 32)(*secrets.token_bytes(32)), h.OPERATIONS_LIMIT, h.MEMORY_LIMIT)
-        return calls.secret_key_text(self._opened, typed, sealing, ROWS[low_memory], text_octets("comment", comment))
+        salt = (ctypes.c_ubyte * 32)(*secrets.token_bytes(32))
+        sealing = h.Sealing(salt, h.OPERATIONS_LIMIT, h.MEMORY_LIMIT)
+        rows, told = ROWS[low_memory], text_octets("comment", comment)
+        return calls.secret_key_text(self._opened, typed, sealing, rows, told)
 
     def public_bytes(self, comment: Optional[Text] = None) -> bytes:
-        """The text of its public key, with the comment of minisign -G where there is none."""
+        """The text of its public key, with the comment of minisign -G where there is
+        none."""
         usual = h.PUBLIC_KEY_COMMENT + self.public_key.key_id
-        return calls.public_key_text(self._opened, text_octets("comment", usual if comment is None else comment))
+        told = text_octets("comment", usual if comment is None else comment)
+        return calls.public_key_text(self._opened, told)
 
-    def sign(self, path: Path, *, trusted_comment: Optional[Text] = None, untrusted_comment: Text = UNTRUSTED_COMMENT,
-             progress: Optional[Progress] = None) -> Signature:
-        """Signs a file. Without a trusted comment it has the time and the file's name, as minisign -S writes them. BadComment,
-        UnreadableComment; SignatureRefused where the halves of the key do not belong together; OSError where it cannot be read."""
+    def sign(
+        self,
+        path: Path,
+        *,
+        trusted_comment: Optional[Text] = None,
+        untrusted_comment: Text = UNTRUSTED_COMMENT,
+        progress: Optional[Progress] = None,
+    ) -> Signature:
+        """Signs a file. Without a trusted comment it has the time and the file's name,
+        as minisign -S writes them. BadComment, UnreadableComment; SignatureRefused
+        where the halves of the key do not belong together; OSError where it cannot be
+        read.
+        """
         name = path_text("path", path)
         check_function("progress", progress)
         usual = f"timestamp:{int(time.time())}\tfile:{os.path.basename(name)}\thashed"
-        return self._sign(pieces_of(name, progress), usual if trusted_comment is None else trusted_comment, untrusted_comment)
+        trusted = usual if trusted_comment is None else trusted_comment
+        return self._sign(pieces_of(name, progress), trusted, untrusted_comment)
 
-    def sign_data(self, data: Data, *, trusted_comment: Optional[Text] = None, untrusted_comment: Text = UNTRUSTED_COMMENT) -> Signature:
-        """Signs data that is not, or not only, a file: see `sign`. Without a trusted comment it has the time alone."""
+    def sign_data(
+        self,
+        data: Data,
+        *,
+        trusted_comment: Optional[Text] = None,
+        untrusted_comment: Text = UNTRUSTED_COMMENT,
+    ) -> Signature:
+        """Signs data that is not, or not only, a file: see `sign`. Without a trusted
+        comment it has the time alone."""
         usual = f"timestamp:{int(time.time())}\thashed"
-        return self._sign(pieces(data), usual if trusted_comment is None else trusted_comment, untrusted_comment)
+        trusted = usual if trusted_comment is None else trusted_comment
+        return self._sign(pieces(data), trusted, untrusted_comment)
 
-    def _sign(self, data: Iterable[bytes], trusted_comment: Text, untrusted_comment: Text) -> Signature:
-        trusted, untrusted = text_octets("trusted_comment", trusted_comment), text_octets("untrusted_comment", untrusted_comment)
+    def _sign(
+        self, data: Iterable[bytes], trusted_comment: Text, untrusted_comment: Text
+    ) -> Signature:
+        trusted = text_octets("trusted_comment", trusted_comment)
+        untrusted = text_octets("untrusted_comment", untrusted_comment)
         state, signs, secret = calls.init(), ed25519().sign, self._opened.secret
         for piece in data:
             calls.update(state, piece)
         fed = h.State.from_buffer_copy(state)
         first = signs(calls.digest(state), secret)
         second = signs(calls.comment_message(first, trusted), secret)
-        signature = Signature(calls.signed_text(self._opened, first, second, trusted, untrusted))
-        # (one that the public half does not verify would give the secret of a damaged key away)
-        Verifier(PublicKey(b"", _read=calls.public_key_of(self._opened)), signature, _fed=fed).finish()
+        text = calls.signed_text(self._opened, first, second, trusted, untrusted)
+        # (one that the public half does not verify would give the secret of a damaged
+        # key away)
+        key, signature = calls.public_key_of(self._opened), Signature(text)
+        Verifier(PublicKey(b"", _read=key), signature, _fed=fed).finish()
         return signature
 
     def clear(self, *_: object) -> None:
@@ -310,30 +443,47 @@ class SecretKey(AbstractContextManager["SecretKey"]):
     __exit__ = clear
 
 
-def sign(path: Path, key: SecretKey, *, trusted_comment: Optional[Text] = None, untrusted_comment: Text = UNTRUSTED_COMMENT,
-         progress: Optional[Progress] = None) -> Signature:
-    """Signs a file, and writes the signature to the file `path`.minisig: see `SecretKey.sign`."""
+def sign(
+    path: Path,
+    key: SecretKey,
+    *,
+    trusted_comment: Optional[Text] = None,
+    untrusted_comment: Text = UNTRUSTED_COMMENT,
+    progress: Optional[Progress] = None,
+) -> Signature:
+    """Signs a file, and writes the signature to the file `path`.minisig: see
+    `SecretKey.sign`."""
     name = path_text("path", path)
     check_kind("key", key, SecretKey)
-    signature = key.sign(name, trusted_comment=trusted_comment, untrusted_comment=untrusted_comment, progress=progress)
+    signature = key.sign(
+        name,
+        trusted_comment=trusted_comment,
+        untrusted_comment=untrusted_comment,
+        progress=progress,
+    )
     with open(name + ".minisig", "wb") as file:
         file.write(signature.text)
     return signature
 
 
 def write_new(path: Path, text: bytes) -> None:
-    """Writes a file that its owner alone may read, and that has to be new: FileExistsError."""
+    """Writes a file that its owner alone may read, and that has to be new:
+    FileExistsError."""
     name, written = path_text("path", path), octets("text", text)
-    with open(os.open(name, os.O_WRONLY | os.O_CREAT | os.O_EXCL | os.O_CLOEXEC, 0o600), "wb") as file:
+    flags = os.O_WRONLY | os.O_CREAT | os.O_EXCL | getattr(os, "O_CLOEXEC", 0)
+    with open(os.open(name, flags, 0o600), "wb") as file:
         file.write(written)
         file.flush()
         os.fsync(file.fileno())
 
 
-def change_password(path: Path, old: Password, new: Password, *, low_memory: bool = False) -> None:
-    """Seals the secret key of a file under another password: the file is replaced at the end, by one that its owner alone may read.
-    Where a link leads to it, the file is replaced and the link stays. With None as `new` the key is not sealed; an empty one is a
-    ValueError."""
+def change_password(
+    path: Path, old: Password, new: Password, *, low_memory: bool = False
+) -> None:
+    """Seals the secret key of a file under another password: the file is replaced at
+    the end, by one that its owner alone may read. Where a link leads to it, the file is
+    replaced and the link stays. With None as `new` the key is not sealed; an empty one
+    is a ValueError."""
     name = os.path.realpath(path_text("path", path))
     opening, sealing = old_password("old", old), new_password("new", new)
     with SecretKey.from_file(name, opening, low_memory=low_memory) as key:

@@ -4,6 +4,7 @@
 Made by tools/bindings.py from include/minisign.h.
 """
 
+
 class MinisignError(Exception):
     """What the library rejected, or could not do: its number in include/minisign.h."""
 
@@ -71,7 +72,8 @@ class BadPasswordFlag(MinisignError):
 
 
 class UnreadableComment(MinisignError):
-    """A comment of a signature is one that Minisign would not read back: too long, or with a zero byte or a carriage return."""
+    """A comment of a signature is one that Minisign would not read back: too long, or
+    with a zero byte or a carriage return."""
 
     number = 11
 
@@ -89,7 +91,8 @@ class BadFirstFlag(MinisignError):
 
 
 class BadNumbering(MinisignError):
-    """A numbering is neither MINISIGN_NUMBERING_TIMESTAMP nor MINISIGN_NUMBERING_VERSION."""
+    """A numbering is neither MINISIGN_NUMBERING_TIMESTAMP nor
+    MINISIGN_NUMBERING_VERSION."""
 
     number = 14
 
@@ -287,13 +290,15 @@ class PlaceInUse(MinisignError):
 
 
 class NoRecord(MinisignError):
-    """No number is kept beside the target, and this was not said to be the first installation."""
+    """No number is kept beside the target, and this was not said to be the first
+    installation."""
 
     number = 47
 
 
 class DamagedRecord(MinisignError):
-    """What is kept beside the target does not read as a number, and this was not said to be the first installation."""
+    """What is kept beside the target does not read as a number, and this was not said
+    to be the first installation."""
 
     number = 48
 
@@ -305,7 +310,8 @@ class OtherFile(MinisignError):
 
 
 class NoNumber(MinisignError):
-    """The trusted comment has no number in decimal digits alone under the label that the caller chose, or none below 2^64."""
+    """The trusted comment has no number in decimal digits alone under the label that
+    the caller chose, or none below 2^64."""
 
     number = 50
 
@@ -317,19 +323,22 @@ class OlderUpdate(MinisignError):
 
 
 class DirectoryNotSynced(MinisignError):
-    """The update stands at the target, but a crash may still bring back what stood there before."""
+    """The update stands at the target, but a crash may still bring back what stood
+    there before."""
 
     number = 52
 
 
 class KeptByTimestamp(MinisignError):
-    """The number that is kept is a timestamp and not a version, and this was not said to be the first installation."""
+    """The number that is kept is a timestamp and not a version, and this was not said
+    to be the first installation."""
 
     number = 53
 
 
 class KeptByVersion(MinisignError):
-    """The number that is kept is a version and not a timestamp, and this was not said to be the first installation."""
+    """The number that is kept is a version and not a timestamp, and this was not said
+    to be the first installation."""
 
     number = 54
 
@@ -341,15 +350,29 @@ class Expired(MinisignError):
 
 
 class BadExpiry(MinisignError):
-    """The trusted comment has more than one field for when the update expires, or one with no number in decimal digits alone, or none below 2^64."""
+    """The trusted comment has more than one field for when the update expires, or one
+    with no number in decimal digits alone, or none below 2^64."""
 
     number = 56
 
 
 class SameNumber(MinisignError):
-    """The number of the trusted comment is the one that is kept, other data stands at the target, and the caller did not ask for the update to be installed again."""
+    """The number of the trusted comment is the one that is kept, other data stands at
+    the target, and the caller did not ask for the update to be installed again."""
 
     number = 57
+
+
+class OtherSignatureText(MinisignError):
+    """The text is not the one that the signature was read from."""
+
+    number = 61
+
+
+class SignatureNotRead(MinisignError):
+    """A signature that is asked about was not read."""
+
+    number = 62
 
 
 class KeyNotRead(MinisignError):
@@ -434,6 +457,8 @@ BY_NUMBER: "dict[int, type[MinisignError]]" = {
     55: Expired,
     56: BadExpiry,
     57: SameNumber,
+    61: OtherSignatureText,
+    62: SignatureNotRead,
     63: KeyNotRead,
     64: ReadingFailed,
     65: WritingFailed,
@@ -499,6 +524,8 @@ __all__ = [
     "Expired",
     "BadExpiry",
     "SameNumber",
+    "OtherSignatureText",
+    "SignatureNotRead",
     "KeyNotRead",
     "ReadingFailed",
     "WritingFailed",

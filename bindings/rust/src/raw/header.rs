@@ -1,6 +1,7 @@
 // SPDX-License-Identifier: MIT
-//! The numbers, structs and calls of `minisign.h`, made by `tools/bindings.py`. Each function makes one call, over what
-//! it borrows for as long as that takes, and hands over the lengths of slices as they are.
+//! The numbers, structs and calls of `minisign.h`, made by `tools/bindings.py`. Each function makes
+//! one call, over what it borrows for as long as that takes, and hands over the lengths of slices
+//! as they are.
 #![allow(dead_code, clippy::too_many_arguments)]
 
 use crate::Reason;
@@ -28,8 +29,8 @@ impl Reason {
     pub const BAD_COMMENT: Reason = Reason(9);
     /// with_password is neither 0 nor 1.
     pub const BAD_PASSWORD_FLAG: Reason = Reason(10);
-    /// A comment of a signature is one that Minisign would not read back: too long, or with a zero byte or a carriage
-    /// return.
+    /// A comment of a signature is one that Minisign would not read back: too long, or with a zero
+    /// byte or a carriage return.
     pub const UNREADABLE_COMMENT: Reason = Reason(11);
     /// A call of installing is not due, or cannot go so.
     pub const NOT_DUE: Reason = Reason(12);
@@ -103,29 +104,36 @@ impl Reason {
     pub const PLACE_IN_USE: Reason = Reason(46);
     /// No number is kept beside the target, and this was not said to be the first installation.
     pub const NO_RECORD: Reason = Reason(47);
-    /// What is kept beside the target does not read as a number, and this was not said to be the first installation.
+    /// What is kept beside the target does not read as a number, and this was not said to be the
+    /// first installation.
     pub const DAMAGED_RECORD: Reason = Reason(48);
     /// The trusted comment does not name the file that the caller expects.
     pub const OTHER_FILE: Reason = Reason(49);
-    /// The trusted comment has no number in decimal digits alone under the label that the caller chose, or none below
-    /// 2^64.
+    /// The trusted comment has no number in decimal digits alone under the label that the caller
+    /// chose, or none below 2^64.
     pub const NO_NUMBER: Reason = Reason(50);
     /// The number of the trusted comment is below the one that is kept.
     pub const OLDER_UPDATE: Reason = Reason(51);
     /// The update stands at the target, but a crash may still bring back what stood there before.
     pub const DIRECTORY_NOT_SYNCED: Reason = Reason(52);
-    /// The number that is kept is a timestamp and not a version, and this was not said to be the first installation.
+    /// The number that is kept is a timestamp and not a version, and this was not said to be the
+    /// first installation.
     pub const KEPT_BY_TIMESTAMP: Reason = Reason(53);
-    /// The number that is kept is a version and not a timestamp, and this was not said to be the first installation.
+    /// The number that is kept is a version and not a timestamp, and this was not said to be the
+    /// first installation.
     pub const KEPT_BY_VERSION: Reason = Reason(54);
     /// The update has expired at the moment that the caller passes.
     pub const EXPIRED: Reason = Reason(55);
-    /// The trusted comment has more than one field for when the update expires, or one with no number in decimal digits
-    /// alone, or none below 2^64.
+    /// The trusted comment has more than one field for when the update expires, or one with no
+    /// number in decimal digits alone, or none below 2^64.
     pub const BAD_EXPIRY: Reason = Reason(56);
-    /// The number of the trusted comment is the one that is kept, other data stands at the target, and the caller did
-    /// not ask for the update to be installed again.
+    /// The number of the trusted comment is the one that is kept, other data stands at the target,
+    /// and the caller did not ask for the update to be installed again.
     pub const SAME_NUMBER: Reason = Reason(57);
+    /// The text is not the one that the signature was read from.
+    pub const OTHER_SIGNATURE_TEXT: Reason = Reason(61);
+    /// A signature that is asked about was not read.
+    pub const SIGNATURE_NOT_READ: Reason = Reason(62);
     /// A secret key that is to be opened was not read.
     pub const KEY_NOT_READ: Reason = Reason(63);
     /// A source, a file or a prompt's reader failed at a read.
@@ -134,6 +142,77 @@ impl Reason {
     pub const WRITING_FAILED: Reason = Reason(65);
     /// A random source failed or had too few bytes.
     pub const RANDOM_SOURCE_FAILED: Reason = Reason(67);
+
+    /// The name that it has in `minisign.h`, without `MINISIGN_`: of another number "".
+    pub fn name(self) -> &'static str {
+        match self.0 {
+            0 => "OK",
+            1 => "NOT_BEGUN",
+            2 => "ALREADY_ASKED",
+            3 => "NOT_ASKED",
+            4 => "BAD_ANSWER",
+            5 => "NO_ROOM",
+            6 => "BAD_LEGACY_FLAG",
+            7 => "OUT_OF_MEMORY",
+            8 => "NOT_UTF8",
+            9 => "BAD_COMMENT",
+            10 => "BAD_PASSWORD_FLAG",
+            11 => "UNREADABLE_COMMENT",
+            12 => "NOT_DUE",
+            13 => "BAD_FIRST_FLAG",
+            14 => "BAD_NUMBERING",
+            15 => "KEY_NOT_OPENED",
+            16 => "MISSING_PUBLIC_KEY_COMMENT",
+            17 => "MISSING_PUBLIC_KEY",
+            18 => "PUBLIC_KEY_LENGTH",
+            19 => "PUBLIC_KEY_NOT_BASE64",
+            20 => "RECORD_TOO_SHORT",
+            21 => "MISSING_UNTRUSTED_COMMENT",
+            22 => "MISSING_SIGNATURE",
+            23 => "MISSING_TRUSTED_COMMENT",
+            24 => "MISSING_COMMENT_SIGNATURE",
+            25 => "UNTRUSTED_COMMENT_PREFIX",
+            26 => "SIGNATURE_NOT_BASE64",
+            27 => "TRUSTED_COMMENT_PREFIX",
+            28 => "UNSUPPORTED_ALGORITHM",
+            29 => "DIFFERENT_KEY_IDS",
+            30 => "LEGACY_NOT_ACCEPTED",
+            31 => "SIGNATURE_REFUSED",
+            32 => "COMMENT_SIGNATURE_REFUSED",
+            33 => "MISSING_SECRET_KEY_COMMENT",
+            34 => "MISSING_SECRET_KEY",
+            35 => "SECRET_KEY_NOT_BASE64",
+            36 => "KEY_SEALED",
+            37 => "KEY_CORRUPTED",
+            38 => "KEY_NOT_SEALED",
+            39 => "UNSUPPORTED_KEY_DERIVATION",
+            40 => "PARAMETERS_TOO_HIGH",
+            41 => "INVALID_PARAMETERS",
+            42 => "WRONG_PASSWORD",
+            43 => "WORK_TOO_HIGH",
+            44 => "BARE_PUBLIC_KEY_LENGTH",
+            45 => "BARE_PUBLIC_KEY_NOT_BASE64",
+            46 => "PLACE_IN_USE",
+            47 => "NO_RECORD",
+            48 => "DAMAGED_RECORD",
+            49 => "OTHER_FILE",
+            50 => "NO_NUMBER",
+            51 => "OLDER_UPDATE",
+            52 => "DIRECTORY_NOT_SYNCED",
+            53 => "KEPT_BY_TIMESTAMP",
+            54 => "KEPT_BY_VERSION",
+            55 => "EXPIRED",
+            56 => "BAD_EXPIRY",
+            57 => "SAME_NUMBER",
+            61 => "OTHER_SIGNATURE_TEXT",
+            62 => "SIGNATURE_NOT_READ",
+            63 => "KEY_NOT_READ",
+            64 => "READING_FAILED",
+            65 => "WRITING_FAILED",
+            67 => "RANDOM_SOURCE_FAILED",
+            _ => "",
+        }
+    }
 }
 
 pub const VERSION_MAJOR: usize = 0;
@@ -155,6 +234,7 @@ pub const PUBLIC_KEY_COMMENT: &str = "minisign public key ";
 pub const ANSWER_YES: u32 = 7955827;
 pub const ANSWER_NO: u32 = 28271;
 
+#[derive(Clone, Debug)]
 #[repr(C)]
 pub struct State {
     pub opaque: [u64; 64],
@@ -172,9 +252,45 @@ pub struct PublicKey {
 }
 
 impl PublicKey {
-    pub const ZEROS: Self = Self { key: [0; 32], key_id: [0; 8] };
+    pub const ZEROS: Self = Self {
+        key: [0; 32],
+        key_id: [0; 8],
+    };
 }
 
+#[derive(Clone, Debug, Eq, PartialEq, Ord, PartialOrd, Hash)]
+#[repr(C)]
+pub struct Signature {
+    pub mark: u64,
+    pub key_id: [u8; 8],
+    pub signature: [u8; 64],
+    pub comment_signature: [u8; 64],
+    pub comment_offset: u64,
+    pub comment_len: u64,
+    pub text_digest: [u8; 32],
+    pub algorithm: [u8; 2],
+    pub legacy: u8,
+    pub whole: u8,
+    pub reserved: u32,
+}
+
+impl Signature {
+    pub const ZEROS: Self = Self {
+        mark: 0,
+        key_id: [0; 8],
+        signature: [0; 64],
+        comment_signature: [0; 64],
+        comment_offset: 0,
+        comment_len: 0,
+        text_digest: [0; 32],
+        algorithm: [0; 2],
+        legacy: 0,
+        whole: 0,
+        reserved: 0,
+    };
+}
+
+#[derive(Clone, Debug)]
 #[repr(C)]
 pub struct Questions {
     pub public_key: [u8; 32],
@@ -182,14 +298,24 @@ pub struct Questions {
     pub signature: [u8; 64],
     pub comment_signature: [u8; 64],
     pub message_len: u64,
-    pub public_key_id: [u8; 8],
-    pub signature_key_id: [u8; 8],
+    pub comment_offset: u64,
+    pub comment_len: u64,
     pub legacy: u32,
     pub reserved: u32,
 }
 
 impl Questions {
-    pub const ZEROS: Self = Self { public_key: [0; 32], digest: [0; 64], signature: [0; 64], comment_signature: [0; 64], message_len: 0, public_key_id: [0; 8], signature_key_id: [0; 8], legacy: 0, reserved: 0 };
+    pub const ZEROS: Self = Self {
+        public_key: [0; 32],
+        digest: [0; 64],
+        signature: [0; 64],
+        comment_signature: [0; 64],
+        message_len: 0,
+        comment_offset: 0,
+        comment_len: 0,
+        legacy: 0,
+        reserved: 0,
+    };
 }
 
 #[repr(C)]
@@ -203,7 +329,14 @@ pub struct UnopenedKey {
 }
 
 impl UnopenedKey {
-    pub const ZEROS: Self = Self { mark: 0, bytes: [0; 158], is_sealed: 0, log2_rows: 0, work: 0, reserved: 0 };
+    pub const ZEROS: Self = Self {
+        mark: 0,
+        bytes: [0; 158],
+        is_sealed: 0,
+        log2_rows: 0,
+        work: 0,
+        reserved: 0,
+    };
 }
 
 /// It is cleared at its end.
@@ -221,7 +354,11 @@ pub struct SecretKey {
 }
 
 impl SecretKey {
-    pub const ZEROS: Self = Self { mark: 0, key_id: [0; 8], secret: [0; 64] };
+    pub const ZEROS: Self = Self {
+        mark: 0,
+        key_id: [0; 8],
+        secret: [0; 64],
+    };
 }
 
 /// It is cleared at its end.
@@ -249,7 +386,11 @@ pub struct Sealing {
 }
 
 impl Sealing {
-    pub const ZEROS: Self = Self { salt: [0; 32], operations_limit: 0, memory_limit: 0 };
+    pub const ZEROS: Self = Self {
+        salt: [0; 32],
+        operations_limit: 0,
+        memory_limit: 0,
+    };
 }
 
 extern "C" {
@@ -258,27 +399,107 @@ extern "C" {
     fn minisign_init(state: *mut State);
     fn minisign_update(state: *mut State, data: *const u8, len: usize) -> u32;
     fn minisign_digest(state: *mut State, digest: &mut [u8; 64]) -> u32;
-    fn minisign_read_public_key(pk_text: *const u8, pk_text_len: usize, key: *mut PublicKey) -> u32;
-    fn minisign_read_bare_public_key(base64: *const u8, base64_len: usize, key: *mut PublicKey) -> u32;
-    fn minisign_ask(state: *mut State, key: *const PublicKey, sig_text: *const u8, sig_text_len: usize, allow_legacy: u32, questions: *mut Questions, message: *mut u8, room: usize) -> u32;
+    fn minisign_read_public_key(pk_text: *const u8, pk_text_len: usize, key: *mut PublicKey)
+        -> u32;
+    fn minisign_read_bare_public_key(
+        base64: *const u8,
+        base64_len: usize,
+        key: *mut PublicKey,
+    ) -> u32;
+    fn minisign_read_signature(
+        sig_text: *const u8,
+        sig_text_len: usize,
+        signature: *mut Signature,
+    ) -> u32;
+    fn minisign_ask(
+        state: *mut State,
+        key: *const PublicKey,
+        signature: *const Signature,
+        sig_text: *const u8,
+        sig_text_len: usize,
+        allow_legacy: u32,
+        questions: *mut Questions,
+        message: *mut u8,
+        room: usize,
+    ) -> u32;
     fn minisign_comment_verdict(state: *const State, second: u32) -> u32;
     fn minisign_verdict(state: *mut State, first: u32, second: u32) -> u32;
-    fn minisign_read_secret_key(sk_text: *const u8, sk_text_len: usize, unopened: *mut UnopenedKey) -> u32;
+    fn minisign_read_secret_key(
+        sk_text: *const u8,
+        sk_text_len: usize,
+        unopened: *mut UnopenedKey,
+    ) -> u32;
     fn minisign_open_unsealed_key(unopened: *const UnopenedKey, key: *mut SecretKey) -> u32;
-    fn minisign_open_sealed_key(unopened: *const UnopenedKey, password: *const u8, password_len: usize, keep_every: u64, most_rows: u64, key: *mut SecretKey) -> u32;
-    fn minisign_opening_memory(unopened: *const UnopenedKey, keep_every: u64, words_wanted: *mut u64, bytes_wanted: *mut u64);
-    fn minisign_open_sealed_key_in_place(unopened: *const UnopenedKey, password: *const u8, password_len: usize, keep_every: u64, most_rows: u64, words: *mut u32, words_len: usize, bytes: *mut u8, bytes_len: usize, key: *mut SecretKey) -> u32;
+    fn minisign_open_sealed_key(
+        unopened: *const UnopenedKey,
+        password: *const u8,
+        password_len: usize,
+        keep_every: u64,
+        most_rows: u64,
+        key: *mut SecretKey,
+    ) -> u32;
+    fn minisign_opening_memory(
+        unopened: *const UnopenedKey,
+        keep_every: u64,
+        words_wanted: *mut u64,
+        bytes_wanted: *mut u64,
+    );
+    fn minisign_open_sealed_key_in_place(
+        unopened: *const UnopenedKey,
+        password: *const u8,
+        password_len: usize,
+        keep_every: u64,
+        most_rows: u64,
+        words: *mut u32,
+        words_len: usize,
+        bytes: *mut u8,
+        bytes_len: usize,
+        key: *mut SecretKey,
+    ) -> u32;
     fn minisign_take_secret_key(key_id: &[u8; 8], secret: &[u8; 64], key: *mut SecretKey);
     fn minisign_public_key_of(key: *const SecretKey, public_key: *mut PublicKey) -> u32;
-    fn minisign_comment_message(first: &[u8; 64], trusted: *const u8, trusted_len: usize, message: *mut u8, room: usize) -> u32;
-    fn minisign_signed_text(key: *const SecretKey, parts: *const SignedParts, text: *mut u8, room: usize, text_len: *mut usize) -> u32;
-    fn minisign_secret_key_text(key: *const SecretKey, with_password: u32, password: *const u8, password_len: usize, sealing: *const Sealing, keep_every: u64, comment: *const u8, comment_len: usize, text: *mut u8, room: usize, text_len: *mut usize) -> u32;
-    fn minisign_public_key_text(key: *const SecretKey, comment: *const u8, comment_len: usize, text: *mut u8, room: usize, text_len: *mut usize) -> u32;
+    fn minisign_comment_message(
+        first: &[u8; 64],
+        trusted: *const u8,
+        trusted_len: usize,
+        message: *mut u8,
+        room: usize,
+    ) -> u32;
+    fn minisign_signed_text(
+        key: *const SecretKey,
+        parts: *const SignedParts,
+        text: *mut u8,
+        room: usize,
+        text_len: *mut usize,
+    ) -> u32;
+    fn minisign_secret_key_text(
+        key: *const SecretKey,
+        with_password: u32,
+        password: *const u8,
+        password_len: usize,
+        sealing: *const Sealing,
+        keep_every: u64,
+        comment: *const u8,
+        comment_len: usize,
+        text: *mut u8,
+        room: usize,
+        text_len: *mut usize,
+    ) -> u32;
+    fn minisign_public_key_text(
+        key: *const SecretKey,
+        comment: *const u8,
+        comment_len: usize,
+        text: *mut u8,
+        room: usize,
+        text_len: *mut usize,
+    ) -> u32;
 }
 
 /// Writes zeros, also where nothing reads them.
 pub fn clear(bytes: &mut [u8]) {
-    bytes.iter_mut().for_each(|byte| unsafe { std::ptr::write_volatile(byte, 0) });
+    bytes
+        .iter_mut()
+        .for_each(|byte| unsafe { std::ptr::write_volatile(byte, 0) });
 }
 
 fn done(number: u32) -> Result<(), Reason> {
@@ -329,8 +550,35 @@ pub fn read_bare_public_key(base64: &[u8]) -> Result<PublicKey, Reason> {
     Ok(key)
 }
 
-pub fn ask(state: &mut State, key: &PublicKey, sig_text: &[u8], allow_legacy: u32, questions: &mut Questions, message: &mut [u8]) -> Result<(), Reason> {
-    done(unsafe { minisign_ask(state, key, sig_text.as_ptr(), sig_text.len(), allow_legacy, questions, message.as_mut_ptr(), message.len()) })
+pub fn read_signature(sig_text: &[u8]) -> Result<Signature, Reason> {
+    let mut signature = Signature::ZEROS;
+    done(unsafe { minisign_read_signature(sig_text.as_ptr(), sig_text.len(), &mut signature) })?;
+    Ok(signature)
+}
+
+pub fn ask(
+    state: &mut State,
+    key: &PublicKey,
+    signature: &Signature,
+    sig_text: &[u8],
+    allow_legacy: u32,
+) -> Result<(Questions, Vec<u8>), Reason> {
+    let mut questions = Questions::ZEROS;
+    let mut message = vec![0; 64 + signature.comment_len as usize];
+    done(unsafe {
+        minisign_ask(
+            state,
+            key,
+            signature,
+            sig_text.as_ptr(),
+            sig_text.len(),
+            allow_legacy,
+            &mut questions,
+            message.as_mut_ptr(),
+            message.len(),
+        )
+    })?;
+    Ok((questions, message))
 }
 
 pub fn comment_verdict(state: &State, second: bool) -> Result<(), Reason> {
@@ -338,7 +586,13 @@ pub fn comment_verdict(state: &State, second: bool) -> Result<(), Reason> {
 }
 
 pub fn verdict(state: &mut State, first: bool, second: bool) -> Result<(), Reason> {
-    done(unsafe { minisign_verdict(state, if first { ANSWER_YES } else { ANSWER_NO }, if second { ANSWER_YES } else { ANSWER_NO }) })
+    done(unsafe {
+        minisign_verdict(
+            state,
+            if first { ANSWER_YES } else { ANSWER_NO },
+            if second { ANSWER_YES } else { ANSWER_NO },
+        )
+    })
 }
 
 pub fn read_secret_key(sk_text: &[u8]) -> Result<Box<UnopenedKey>, Reason> {
@@ -353,9 +607,23 @@ pub fn open_unsealed_key(unopened: &UnopenedKey) -> Result<Box<SecretKey>, Reaso
     Ok(key)
 }
 
-pub fn open_sealed_key(unopened: &UnopenedKey, password: &[u8], keep_every: u64, most_rows: u64) -> Result<Box<SecretKey>, Reason> {
+pub fn open_sealed_key(
+    unopened: &UnopenedKey,
+    password: &[u8],
+    keep_every: u64,
+    most_rows: u64,
+) -> Result<Box<SecretKey>, Reason> {
     let mut key = Box::new(SecretKey::ZEROS);
-    done(unsafe { minisign_open_sealed_key(unopened, password.as_ptr(), password.len(), keep_every, most_rows, &mut *key) })?;
+    done(unsafe {
+        minisign_open_sealed_key(
+            unopened,
+            password.as_ptr(),
+            password.len(),
+            keep_every,
+            most_rows,
+            &mut *key,
+        )
+    })?;
     Ok(key)
 }
 
@@ -373,25 +641,86 @@ pub fn public_key_of(key: &SecretKey) -> Result<PublicKey, Reason> {
 
 pub fn comment_message(first: &[u8; 64], trusted: &[u8]) -> Result<Vec<u8>, Reason> {
     let mut message = vec![0; first.len() + trusted.len()];
-    done(unsafe { minisign_comment_message(first, trusted.as_ptr(), trusted.len(), message.as_mut_ptr(), message.len()) })?;
+    done(unsafe {
+        minisign_comment_message(
+            first,
+            trusted.as_ptr(),
+            trusted.len(),
+            message.as_mut_ptr(),
+            message.len(),
+        )
+    })?;
     Ok(message)
 }
 
-pub fn signed_text(key: &SecretKey, signature: &[u8; 64], comment_signature: &[u8; 64], trusted_comment: &[u8], untrusted_comment: &[u8]) -> Result<String, Reason> {
-    let (mut text, mut len) = (vec![0; TEXT_BYTES + trusted_comment.len() + untrusted_comment.len()], 0);
-    done(unsafe { minisign_signed_text(key, &SignedParts { signature: *signature, comment_signature: *comment_signature, trusted_comment: trusted_comment.as_ptr(), trusted_comment_len: trusted_comment.len(), untrusted_comment: untrusted_comment.as_ptr(), untrusted_comment_len: untrusted_comment.len() }, text.as_mut_ptr(), text.len(), &mut len) })?;
+pub fn signed_text(
+    key: &SecretKey,
+    signature: &[u8; 64],
+    comment_signature: &[u8; 64],
+    trusted_comment: &[u8],
+    untrusted_comment: &[u8],
+) -> Result<String, Reason> {
+    let mut text = vec![0; TEXT_BYTES + trusted_comment.len() + untrusted_comment.len()];
+    let mut len = 0;
+    done(unsafe {
+        minisign_signed_text(
+            key,
+            &SignedParts {
+                signature: *signature,
+                comment_signature: *comment_signature,
+                trusted_comment: trusted_comment.as_ptr(),
+                trusted_comment_len: trusted_comment.len(),
+                untrusted_comment: untrusted_comment.as_ptr(),
+                untrusted_comment_len: untrusted_comment.len(),
+            },
+            text.as_mut_ptr(),
+            text.len(),
+            &mut len,
+        )
+    })?;
     text_of(text, len)
 }
 
-pub fn secret_key_text(key: &SecretKey, password: Option<&[u8]>, sealing: &Sealing, keep_every: u64, comment: &[u8]) -> Result<String, Reason> {
+pub fn secret_key_text(
+    key: &SecretKey,
+    password: Option<&[u8]>,
+    sealing: &Sealing,
+    keep_every: u64,
+    comment: &[u8],
+) -> Result<String, Reason> {
     let (with_password, password) = (password.is_some().into(), password.unwrap_or_default());
-    let (mut text, mut len) = (vec![0; SECRET_KEY_BYTES + comment.len()], 0);
-    done(unsafe { minisign_secret_key_text(key, with_password, password.as_ptr(), password.len(), sealing, keep_every, comment.as_ptr(), comment.len(), text.as_mut_ptr(), text.len(), &mut len) })?;
+    let mut text = vec![0; SECRET_KEY_BYTES + comment.len()];
+    let mut len = 0;
+    done(unsafe {
+        minisign_secret_key_text(
+            key,
+            with_password,
+            password.as_ptr(),
+            password.len(),
+            sealing,
+            keep_every,
+            comment.as_ptr(),
+            comment.len(),
+            text.as_mut_ptr(),
+            text.len(),
+            &mut len,
+        )
+    })?;
     text_of(text, len)
 }
 
 pub fn public_key_text(key: &SecretKey, comment: &[u8]) -> Result<String, Reason> {
-    let (mut text, mut len) = (vec![0; PUBLIC_KEY_BYTES + comment.len()], 0);
-    done(unsafe { minisign_public_key_text(key, comment.as_ptr(), comment.len(), text.as_mut_ptr(), text.len(), &mut len) })?;
+    let mut text = vec![0; PUBLIC_KEY_BYTES + comment.len()];
+    let mut len = 0;
+    done(unsafe {
+        minisign_public_key_text(
+            key,
+            comment.as_ptr(),
+            comment.len(),
+            text.as_mut_ptr(),
+            text.len(),
+            &mut len,
+        )
+    })?;
     text_of(text, len)
 }

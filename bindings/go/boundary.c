@@ -1,0 +1,435 @@
+//go:build portable || !linux || (!amd64 && !arm64)
+
+// A copy of c/library/boundary.c that tools/carried.py made: do not edit it here.
+
+/*
+ * The boundary between the headers and the proved calls of the crate minisign_c. Made by tools/header.py.
+ *
+ * It decides three things. A pointer that is NULL where its length is 0 is replaced by one that is not, which the
+ * proved calls need. Of the copies of these calls it takes one: on an x86-64 the one that is built for x86-64-v3 if the
+ * processor has what that needs, the one for x86-64-v2 if it has that, and else the one of dist/calls.c, which is C.
+ * And after a call that was given a secret, what it has left on the stack and in registers is cleared.
+ *
+ * SPDX-License-Identifier: MIT
+ */
+#if !defined(MINISIGN_PORTABLE) \
+    && (!(defined(__x86_64__) || defined(__aarch64__)) || !defined(__LP64__) || __BYTE_ORDER__ != __ORDER_LITTLE_ENDIAN__)
+#error "the archives of dist/ are for x86-64 and AArch64, little-endian and with pointers of 64 bits: build with PORTABLE=1"
+#endif
+
+#include <stddef.h>
+#include <stdint.h>
+
+#include "clearing.h"
+#include "minisign_install.h"
+
+#if defined(MINISIGN_PORTABLE)
+
+#define PROVED(kind, name, parameters) kind portable_##name parameters
+#define CALL(name) portable_##name
+
+#elif defined(__x86_64__)
+
+#include <cpuid.h>
+
+/* All copies of a call, and the one that is taken. */
+#define PROVED(kind, name, parameters) \
+    kind v2_##name parameters; kind v3_##name parameters; kind portable_##name parameters
+#ifdef MINISIGN_ARCHIVES_ALONE
+#define CALL(name) (has_v3 ? v3_##name : v2_##name)
+#else
+#define CALL(name) (has_v3 ? v3_##name : has_v2 ? v2_##name : portable_##name)
+#endif
+
+static int has_v2, has_v3;
+
+/* Whether the processor, and the system on it, have what x86-64-v2 and x86-64-v3 are: found out once, before main. */
+__attribute__((constructor)) static void look_at_processor(void)
+{
+    const unsigned two = bit_SSE3 | bit_SSSE3 | bit_CMPXCHG16B | bit_SSE4_1 | bit_SSE4_2 | bit_POPCNT;
+    const unsigned three = bit_FMA | bit_MOVBE | bit_OSXSAVE | bit_AVX | bit_F16C, seven = bit_BMI | bit_AVX2 | bit_BMI2;
+    unsigned a, b, c, d, more, kept, kept_above;
+
+    if (!__get_cpuid(0x80000001, &a, &b, &more, &d) || !__get_cpuid(1, &a, &b, &c, &d)) {
+        return;
+    }
+    has_v2 = (c & two) == two && (more & bit_LAHF_LM) == bit_LAHF_LM;
+    if (!has_v2 || (c & three) != three) {
+        return;
+    }
+    /* (bits 1 and 2: the system keeps the registers of SSE and AVX for each program) */
+    __asm__ __volatile__("xgetbv" : "=a"(kept), "=d"(kept_above) : "c"(0));
+    has_v3 = (kept & 6) == 6 && __get_cpuid_count(7, 0, &a, &b, &c, &d) && (b & seven) == seven
+             && (more & bit_LZCNT) == bit_LZCNT;
+}
+
+#else
+
+#define PROVED(kind, name, parameters) kind aarch64_##name parameters
+#define CALL(name) aarch64_##name
+
+#endif
+
+/* Nothing is read or written here. */
+static const uint8_t nothing;
+static const uint32_t no_words;
+
+#define READ(pointer, length) ((pointer) == NULL && (length) == 0 ? &nothing : (const uint8_t *) (pointer))
+#define WRITTEN(pointer, length) ((pointer) == NULL && (length) == 0 ? (uint8_t *) &nothing : (uint8_t *) (pointer))
+#define WORDS(pointer, length) ((pointer) == NULL && (length) == 0 ? (uint32_t *) &no_words : (pointer))
+
+uint32_t minisign_version(void)
+{
+    return MINISIGN_VERSION;
+}
+
+PROVED(size_t, minisign_error_text, (uint32_t, uint8_t *, size_t));
+
+size_t minisign_error_text(uint32_t error, char *text, size_t room)
+{
+    return CALL(minisign_error_text)(error, WRITTEN(text, room), room);
+}
+
+PROVED(void, minisign_init, (minisign_state *));
+
+void minisign_init(minisign_state *state)
+{
+    CALL(minisign_init)(state);
+}
+
+PROVED(uint32_t, minisign_update, (minisign_state *, const uint8_t *, size_t));
+
+enum minisign_error minisign_update(minisign_state *state, const uint8_t *data, size_t len)
+{
+    return (enum minisign_error) CALL(minisign_update)(state, READ(data, len), len);
+}
+
+PROVED(uint32_t, minisign_digest, (minisign_state *, uint8_t *));
+
+enum minisign_error minisign_digest(minisign_state *state, uint8_t digest[64])
+{
+    return (enum minisign_error) CALL(minisign_digest)(state, digest);
+}
+
+PROVED(uint32_t, minisign_read_public_key, (const uint8_t *, size_t, minisign_public_key *));
+
+enum minisign_error minisign_read_public_key(const uint8_t *pk_text, size_t pk_text_len, minisign_public_key *key)
+{
+    return (enum minisign_error) CALL(minisign_read_public_key)(READ(pk_text, pk_text_len), pk_text_len, key);
+}
+
+PROVED(uint32_t, minisign_read_bare_public_key, (const uint8_t *, size_t, minisign_public_key *));
+
+enum minisign_error minisign_read_bare_public_key(const uint8_t *base64, size_t base64_len,
+                                                  minisign_public_key *key)
+{
+    return (enum minisign_error) CALL(minisign_read_bare_public_key)(READ(base64, base64_len), base64_len, key);
+}
+
+PROVED(uint32_t, minisign_read_signature, (const uint8_t *, size_t, minisign_signature *));
+
+enum minisign_error minisign_read_signature(const uint8_t *sig_text, size_t sig_text_len,
+                                            minisign_signature *signature)
+{
+    return (enum minisign_error) CALL(minisign_read_signature)(READ(sig_text, sig_text_len), sig_text_len,
+                                                               signature);
+}
+
+PROVED(uint32_t, minisign_ask, (minisign_state *, const minisign_public_key *, const minisign_signature *,
+                                const uint8_t *, size_t, uint32_t, minisign_questions *, uint8_t *, size_t));
+
+enum minisign_error minisign_ask(minisign_state *state, const minisign_public_key *key,
+                                 const minisign_signature *signature, const uint8_t *sig_text, size_t sig_text_len,
+                                 uint32_t allow_legacy, minisign_questions *questions, uint8_t *message,
+                                 size_t room)
+{
+    return (enum minisign_error) CALL(minisign_ask)(state, key, signature, READ(sig_text, sig_text_len),
+                                                    sig_text_len, allow_legacy, questions, WRITTEN(message, room),
+                                                    room);
+}
+
+PROVED(uint32_t, minisign_comment_verdict, (const minisign_state *, uint32_t));
+
+enum minisign_error minisign_comment_verdict(const minisign_state *state, enum minisign_answer second)
+{
+    return (enum minisign_error) CALL(minisign_comment_verdict)(state, second);
+}
+
+PROVED(uint32_t, minisign_verdict, (minisign_state *, uint32_t, uint32_t));
+
+enum minisign_error minisign_verdict(minisign_state *state, enum minisign_answer first,
+                                     enum minisign_answer second)
+{
+    return (enum minisign_error) CALL(minisign_verdict)(state, first, second);
+}
+
+PROVED(uint32_t, minisign_read_secret_key, (const uint8_t *, size_t, minisign_unopened_key *));
+
+enum minisign_error minisign_read_secret_key(const uint8_t *sk_text, size_t sk_text_len,
+                                             minisign_unopened_key *unopened)
+{
+    enum minisign_error result;
+
+    result = (enum minisign_error) CALL(minisign_read_secret_key)(READ(sk_text, sk_text_len), sk_text_len,
+                                                                  unopened);
+    minisign_clear_used();
+    return result;
+}
+
+PROVED(uint32_t, minisign_open_unsealed_key, (const minisign_unopened_key *, minisign_secret_key *));
+
+enum minisign_error minisign_open_unsealed_key(const minisign_unopened_key *unopened, minisign_secret_key *key)
+{
+    enum minisign_error result;
+
+    result = (enum minisign_error) CALL(minisign_open_unsealed_key)(unopened, key);
+    minisign_clear_used();
+    return result;
+}
+
+PROVED(uint32_t, minisign_open_sealed_key, (const minisign_unopened_key *, const uint8_t *, size_t, uint64_t,
+                                            uint64_t, minisign_secret_key *));
+
+enum minisign_error minisign_open_sealed_key(const minisign_unopened_key *unopened, const uint8_t *password,
+                                             size_t password_len, uint64_t keep_every, uint64_t most_rows,
+                                             minisign_secret_key *key)
+{
+    enum minisign_error result;
+
+    result = (enum minisign_error) CALL(minisign_open_sealed_key)(unopened, READ(password, password_len),
+                                                                  password_len, keep_every, most_rows, key);
+    minisign_clear_used();
+    return result;
+}
+
+PROVED(void, minisign_opening_memory, (const minisign_unopened_key *, uint64_t, uint64_t *, uint64_t *));
+
+void minisign_opening_memory(const minisign_unopened_key *unopened, uint64_t keep_every, uint64_t *words_wanted,
+                             uint64_t *bytes_wanted)
+{
+    CALL(minisign_opening_memory)(unopened, keep_every, words_wanted, bytes_wanted);
+    minisign_clear_used();
+}
+
+PROVED(uint32_t, minisign_open_sealed_key_in_place, (const minisign_unopened_key *, const uint8_t *, size_t,
+                                                     uint64_t, uint64_t, uint32_t *, size_t, uint8_t *, size_t,
+                                                     minisign_secret_key *));
+
+enum minisign_error minisign_open_sealed_key_in_place(const minisign_unopened_key *unopened,
+                                                      const uint8_t *password, size_t password_len,
+                                                      uint64_t keep_every, uint64_t most_rows, uint32_t *words,
+                                                      size_t words_len, uint8_t *bytes, size_t bytes_len,
+                                                      minisign_secret_key *key)
+{
+    enum minisign_error result;
+
+    result = (enum minisign_error) CALL(minisign_open_sealed_key_in_place)(unopened, READ(password, password_len),
+                                                                           password_len, keep_every, most_rows,
+                                                                           WORDS(words, words_len), words_len,
+                                                                           WRITTEN(bytes, bytes_len), bytes_len,
+                                                                           key);
+    minisign_clear_used();
+    return result;
+}
+
+PROVED(void, minisign_take_secret_key, (const uint8_t *, const uint8_t *, minisign_secret_key *));
+
+void minisign_take_secret_key(const uint8_t key_id[8], const uint8_t secret[64], minisign_secret_key *key)
+{
+    CALL(minisign_take_secret_key)(key_id, secret, key);
+    minisign_clear_used();
+}
+
+PROVED(uint32_t, minisign_public_key_of, (const minisign_secret_key *, minisign_public_key *));
+
+enum minisign_error minisign_public_key_of(const minisign_secret_key *key, minisign_public_key *public_key)
+{
+    enum minisign_error result;
+
+    result = (enum minisign_error) CALL(minisign_public_key_of)(key, public_key);
+    minisign_clear_used();
+    return result;
+}
+
+PROVED(uint32_t, minisign_comment_message, (const uint8_t *, const uint8_t *, size_t, uint8_t *, size_t));
+
+enum minisign_error minisign_comment_message(const uint8_t first[64], const uint8_t *trusted, size_t trusted_len,
+                                             uint8_t *message, size_t room)
+{
+    return (enum minisign_error) CALL(minisign_comment_message)(first, READ(trusted, trusted_len), trusted_len,
+                                                                WRITTEN(message, room), room);
+}
+
+PROVED(uint32_t, minisign_signed_text, (const minisign_secret_key *, const uint8_t *, const uint8_t *,
+                                        const uint8_t *, size_t, const uint8_t *, size_t, uint8_t *, size_t,
+                                        size_t *));
+
+enum minisign_error minisign_signed_text(const minisign_secret_key *key, const minisign_signed_parts *parts,
+                                         uint8_t *text, size_t room, size_t *text_len)
+{
+    enum minisign_error result;
+
+    result = (enum minisign_error) CALL(minisign_signed_text)(key, parts->signature, parts->comment_signature,
+            READ(parts->trusted_comment, parts->trusted_comment_len), parts->trusted_comment_len,
+            READ(parts->untrusted_comment, parts->untrusted_comment_len), parts->untrusted_comment_len,
+            WRITTEN(text, room), room, text_len);
+    minisign_clear_used();
+    return result;
+}
+
+PROVED(uint32_t, minisign_secret_key_text, (const minisign_secret_key *, uint32_t, const uint8_t *, size_t,
+                                            const minisign_sealing *, uint64_t, const uint8_t *, size_t, uint8_t *,
+                                            size_t, size_t *));
+
+enum minisign_error minisign_secret_key_text(const minisign_secret_key *key, uint32_t with_password,
+                                             const uint8_t *password, size_t password_len,
+                                             const minisign_sealing *sealing, uint64_t keep_every,
+                                             const uint8_t *comment, size_t comment_len, uint8_t *text,
+                                             size_t room, size_t *text_len)
+{
+    enum minisign_error result;
+
+    result = (enum minisign_error) CALL(minisign_secret_key_text)(key, with_password, READ(password, password_len),
+                                                                  password_len, sealing, keep_every,
+                                                                  READ(comment, comment_len), comment_len,
+                                                                  WRITTEN(text, room), room, text_len);
+    minisign_clear_used();
+    return result;
+}
+
+PROVED(uint32_t, minisign_public_key_text, (const minisign_secret_key *, const uint8_t *, size_t, uint8_t *,
+                                            size_t, size_t *));
+
+enum minisign_error minisign_public_key_text(const minisign_secret_key *key, const uint8_t *comment,
+                                             size_t comment_len, uint8_t *text, size_t room, size_t *text_len)
+{
+    enum minisign_error result;
+
+    result = (enum minisign_error) CALL(minisign_public_key_text)(key, READ(comment, comment_len), comment_len,
+                                                                  WRITTEN(text, room), room, text_len);
+    minisign_clear_used();
+    return result;
+}
+
+PROVED(uint32_t, minisign_install_init, (minisign_installation *, const minisign_public_key *,
+                                         const minisign_public_key *, uint32_t, uint32_t, uint32_t, uint32_t,
+                                         uint32_t));
+
+enum minisign_error minisign_install_init(minisign_installation *installation, const minisign_public_key *key,
+                                          const minisign_public_key *other, uint32_t is_first, uint32_t again,
+                                          uint32_t is_check, uint32_t is_waiting, uint32_t numbering)
+{
+    return (enum minisign_error) CALL(minisign_install_init)(installation, key, other, is_first, again, is_check,
+                                                             is_waiting, numbering);
+}
+
+PROVED(uint32_t, minisign_install_due, (const minisign_installation *));
+
+enum minisign_due minisign_install_due(const minisign_installation *installation)
+{
+    return (enum minisign_due) CALL(minisign_install_due)(installation);
+}
+
+PROVED(uint32_t, minisign_install_done, (minisign_installation *));
+
+enum minisign_error minisign_install_done(minisign_installation *installation)
+{
+    return (enum minisign_error) CALL(minisign_install_done)(installation);
+}
+
+PROVED(uint32_t, minisign_install_more, (minisign_installation *));
+
+enum minisign_error minisign_install_more(minisign_installation *installation)
+{
+    return (enum minisign_error) CALL(minisign_install_more)(installation);
+}
+
+PROVED(uint32_t, minisign_install_failed, (minisign_installation *, uint32_t));
+
+enum minisign_error minisign_install_failed(minisign_installation *installation, enum minisign_error why)
+{
+    return (enum minisign_error) CALL(minisign_install_failed)(installation, why);
+}
+
+PROVED(uint32_t, minisign_install_record, (minisign_installation *, const uint8_t *, size_t));
+
+enum minisign_error minisign_install_record(minisign_installation *installation, const uint8_t *record,
+                                            size_t record_len)
+{
+    return (enum minisign_error) CALL(minisign_install_record)(installation, READ(record, record_len), record_len);
+}
+
+PROVED(uint32_t, minisign_install_no_record, (minisign_installation *));
+
+enum minisign_error minisign_install_no_record(minisign_installation *installation)
+{
+    return (enum minisign_error) CALL(minisign_install_no_record)(installation);
+}
+
+PROVED(uint32_t, minisign_install_piece, (minisign_installation *, const uint8_t *, size_t));
+
+enum minisign_error minisign_install_piece(minisign_installation *installation, const uint8_t *piece,
+                                           size_t piece_len)
+{
+    return (enum minisign_error) CALL(minisign_install_piece)(installation, READ(piece, piece_len), piece_len);
+}
+
+PROVED(uint32_t, minisign_install_no_target, (minisign_installation *));
+
+enum minisign_error minisign_install_no_target(minisign_installation *installation)
+{
+    return (enum minisign_error) CALL(minisign_install_no_target)(installation);
+}
+
+PROVED(uint32_t, minisign_install_ask, (minisign_installation *, const uint8_t *, size_t, const uint8_t *, size_t,
+                                        uint64_t, minisign_questions *, uint8_t *, size_t));
+
+enum minisign_error minisign_install_ask(minisign_installation *installation, const uint8_t *sig_text,
+                                         size_t sig_text_len, const uint8_t *file, size_t file_len, uint64_t now,
+                                         minisign_questions *questions, uint8_t *message, size_t room)
+{
+    return (enum minisign_error) CALL(minisign_install_ask)(installation, READ(sig_text, sig_text_len),
+                                                            sig_text_len, READ(file, file_len), file_len, now,
+                                                            questions, WRITTEN(message, room), room);
+}
+
+PROVED(uint32_t, minisign_install_answer, (minisign_installation *, uint32_t, uint32_t));
+
+enum minisign_error minisign_install_answer(minisign_installation *installation, enum minisign_answer first,
+                                            enum minisign_answer second)
+{
+    return (enum minisign_error) CALL(minisign_install_answer)(installation, first, second);
+}
+
+PROVED(uint64_t, minisign_install_number, (const minisign_installation *));
+
+uint64_t minisign_install_number(const minisign_installation *installation)
+{
+    return CALL(minisign_install_number)(installation);
+}
+
+PROVED(size_t, minisign_install_record_text, (const minisign_installation *, uint8_t *, size_t));
+
+size_t minisign_install_record_text(const minisign_installation *installation, uint8_t *text, size_t room)
+{
+    return CALL(minisign_install_record_text)(installation, WRITTEN(text, room), room);
+}
+
+PROVED(uint32_t, minisign_install_error, (const minisign_installation *));
+
+enum minisign_error minisign_install_error(const minisign_installation *installation)
+{
+    return (enum minisign_error) CALL(minisign_install_error)(installation);
+}
+
+PROVED(uint32_t, minisign_judge_comment, (const uint8_t *, size_t, const uint8_t *, size_t, uint32_t, uint64_t,
+                                          uint64_t, uint64_t *));
+
+enum minisign_error minisign_judge_comment(const uint8_t *comment, size_t comment_len, const uint8_t *file,
+                                           size_t file_len, uint32_t numbering, uint64_t now, uint64_t kept,
+                                           uint64_t *number)
+{
+    return (enum minisign_error) CALL(minisign_judge_comment)(READ(comment, comment_len), comment_len,
+                                                              READ(file, file_len), file_len, numbering, now, kept,
+                                                              number);
+}

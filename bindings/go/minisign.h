@@ -1,0 +1,599 @@
+/*
+ * minisign.h: verifying and making minisign signatures with an Ed25519 of your own.
+ *
+ * SPDX-License-Identifier: MIT
+ *
+ * The library does all of it but Ed25519: it reads the texts of keys and signatures, hashes the data, and says what
+ * has to be asked of Ed25519. You ask a library that you trust, and pass its answers back; the library gives the
+ * verdict. What Ed25519 answers is yours.
+ *
+ * The calls stand in the order in which a program has things. To verify: a public key is read, from two lines or
+ * from its base64 alone, and a signature from its text; minisign_ask takes both, rejects what does not belong together,
+ * and tells the two questions; the data is fed; minisign_digest completes the first question; minisign_verdict takes
+ * the two answers. To sign: a secret key is read and opened; the data is fed; minisign_digest tells what is signed
+ * first; the key and the two signatures make the text.
+ *
+ * What is proved, for a caller that meets "Requirements" below: what each call answers and writes, as the contract
+ * of its export says in crates/minisign_c/src/lib.rt of the sources, and what the calls that verify, and those that
+ * sign, come to in their order, as in_a_row.rt there says. By tests alone is shown: that what was taken from malloc
+ * is cleared and given back, and that no secret stays behind on the stack or in registers; that MINISIGN_TEXT_BYTES
+ * is room enough; what c/library/boundary.c, c/library/allocation.c and c/library/clearing.c do, which stand
+ * between this page, the proved calls and malloc; and that the English of this page says what the contracts say.
+ *
+ * For x86-64 and AArch64 under Linux the calls are those that were proved and built, of x86-64 in one copy for
+ * processors with AVX2 (x86-64-v3), and one for those since 2009 (x86-64-v2). For any other processor or system, also
+ * where pointers have 32 bits, they are C that was translated from the same code: by a script that is tested and not
+ * proved. So they are on an older x86-64.
+ *
+ * Compile and link with the flags that `pkg-config --cflags --libs minisign` tells. There is no more to link. Each call
+ * says since which version it has been called as it is now. Before 1.0 the name of the shared library has the second
+ * number too, as libminisign.so.0.3: a program that was built for another one does not start with it.
+ *
+ * Two whole programs over libsodium stand in the manual page, minisign(3), and in the sources: c/examples/verify.c and
+ * c/examples/sign.c. Installing updates has a header of its own, minisign_install.h.
+ */
+#ifndef MINISIGN_H
+#define MINISIGN_H
+
+#include <stddef.h>
+#include <stdint.h>
+
+/* The version of this header; minisign_version tells that of the library. */
+#define MINISIGN_VERSION_MAJOR 0
+#define MINISIGN_VERSION_MINOR 3
+#define MINISIGN_VERSION_PATCH 0
+#define MINISIGN_VERSION_TEXT "0.3.0"
+#define MINISIGN_VERSION \
+    ((uint32_t) MINISIGN_VERSION_MAJOR << 16 | (uint32_t) MINISIGN_VERSION_MINOR << 8 \
+     | (uint32_t) MINISIGN_VERSION_PATCH)
+
+/* On a call whose result has to be looked at: the compiler warns where it is not. */
+#if defined(__cplusplus) && __cplusplus >= 201703L
+#define MINISIGN_MUST_USE [[nodiscard]]
+#elif defined(__GNUC__)
+#define MINISIGN_MUST_USE __attribute__((warn_unused_result))
+#else
+#define MINISIGN_MUST_USE
+#endif
+
+#ifdef __cplusplus
+extern "C" {
+#endif
+
+/*
+ * Requirements. The library cannot test these; where one is broken, nothing is promised.
+ *
+ * - A pointer with a length points to so many bytes, at most 2^63 - 1, that you may read, and where it is not const
+ *   also write; where the length is 0 it may be NULL. No other pointer is NULL: one to a struct points to one,
+ *   aligned as your compiler aligns it, and one to an array to all of it. Where a call writes to the front of a buffer,
+ *   what stands behind that stays as it was.
+ * - What a call may write overlaps nothing else that the call was given. No other thread touches what a call was
+ *   given before the call has returned. Different states may be used by different threads at once: the library has
+ *   no variables that change, but what the processor can is found out once, before main.
+ * - All memory is yours. The library keeps no pointer beyond a call, and what it takes from malloc during one it
+ *   has cleared and given back when the call returns. malloc and free belong together, and align a block of n bytes
+ *   to every power of two up to 16 that divides n. Verifying does not allocate. The calls that do,
+ *   minisign_open_sealed_key, minisign_signed_text, minisign_secret_key_text and minisign_public_key_text, are not
+ *   made in a signal handler or in the forked child of a process with threads.
+ *   While scrypt runs, which is where a key is opened or sealed under a password, a thread of the library brings in the
+ *   memory that was taken: it heeds no signal, and has ended when the call returns. Where none can be begun, or the
+ *   library was built with -DMINISIGN_NO_THREADS, the call takes a little longer. minisign_open_sealed_key_in_place
+ *   takes no memory and begins no thread.
+ * - No secret stays behind. A call that is given a secret key, its text or a password clears, before it returns, what
+ *   it took from malloc, the registers that a call need not keep, and the 16 KiB of the stack below its own frame,
+ *   which is more than twice what any of them uses. So they need 20 KiB of stack. tests/c/cleared.py shows it: it
+ *   searches all memory that the program may write, and all registers, for the first half of the key and its first 16
+ *   bytes, for its base64, for the password and for what scrypt derives of it, after keys were made, opened and signed
+ *   with, also with a wrong checksum and while signals come, with the C library of GNU and with musl, at -O0 and -O2,
+ *   on x86-64-v2 and -v3 and AArch64, there also of the calls as C. Not cleared is what you hold: the password, the
+ *   texts, the minisign_unopened_key, the minisign_secret_key. A signal handler that runs on another stack
+ *   (sigaltstack) has registers written there by the system, which the library cannot clear. Registers are
+ *   cleared on x86-64 and AArch64 with ELF, and under Linux on s390x, 32-bit ARM and 64-bit RISC-V; elsewhere the memory
+ *   and the stack alone are.
+ * - The bytes of a state are written by the library alone, beginning with minisign_init; so are those of a signature,
+ *   and the marks of a secret key, unopened or open. Each may be copied by assignment or memcpy: a state to go on from
+ *   one point twice. A state needs no clearing at the end, but holds up to 256 of the last bytes of the data. Set a
+ *   signature, and a secret key, unopened or open, to zeros before its first use, and clear a secret key after the last.
+ * - The answers are those of an Ed25519 on exactly the questions that were asked.
+ *
+ * A usage error that a state or a key shows is an error number and changes nothing: a state never begun (its first
+ * eight bytes are not those of minisign_init), data or questions after the digest was told, questions asked twice, or
+ * about a signature that was not read or was read from another text, a verdict before the questions or the digest,
+ * opening a secret key that was not read, a text of one that was not opened.
+ */
+
+/* The version of the library, as MINISIGN_VERSION of the header that it came with. Since 0.1. */
+uint32_t minisign_version(void);
+
+/* Numbers of errors: up to 15, and from 61 to 63, of usage, of memory and of bytes that are not UTF-8, from 16 on of
+ * what the texts say. */
+/* Numbers, made by tools/header.py. */
+enum minisign_error {
+    MINISIGN_OK = 0,
+    /* The state was never begun, or was ended by a verdict. */
+    MINISIGN_NOT_BEGUN = 1,
+    /* The questions were asked before, or the digest was told. */
+    MINISIGN_ALREADY_ASKED = 2,
+    /* The questions were not asked, or the digest was not told. */
+    MINISIGN_NOT_ASKED = 3,
+    /* An answer is neither MINISIGN_ANSWER_YES nor MINISIGN_ANSWER_NO. */
+    MINISIGN_BAD_ANSWER = 4,
+    /* A buffer is too short. */
+    MINISIGN_NO_ROOM = 5,
+    /* allow_legacy is neither 0 nor 1. */
+    MINISIGN_BAD_LEGACY_FLAG = 6,
+    /* An allocation failed, or a size that no allocation can have was asked for. */
+    MINISIGN_OUT_OF_MEMORY = 7,
+    /* A text, a typed line, a password or a comment is not UTF-8. */
+    MINISIGN_NOT_UTF8 = 8,
+    /* A comment of a signature would not be read back as it is. */
+    MINISIGN_BAD_COMMENT = 9,
+    /* with_password is neither 0 nor 1. */
+    MINISIGN_BAD_PASSWORD_FLAG = 10,
+    /* A comment of a signature is one that Minisign would not read back: too long, or with a zero byte or a
+     * carriage return. */
+    MINISIGN_UNREADABLE_COMMENT = 11,
+    /* A call of installing is not due, or cannot go so. */
+    MINISIGN_NOT_DUE = 12,
+    /* is_first is neither 0 nor 1. */
+    MINISIGN_BAD_FIRST_FLAG = 13,
+    /* A numbering is neither MINISIGN_NUMBERING_TIMESTAMP nor MINISIGN_NUMBERING_VERSION. */
+    MINISIGN_BAD_NUMBERING = 14,
+    /* A secret key was neither opened nor taken in. */
+    MINISIGN_KEY_NOT_OPENED = 15,
+    /* A public key text has no first line. */
+    MINISIGN_MISSING_PUBLIC_KEY_COMMENT = 16,
+    /* A public key text has no second line. */
+    MINISIGN_MISSING_PUBLIC_KEY = 17,
+    /* The second line of a public key text is not 56 bytes long. */
+    MINISIGN_PUBLIC_KEY_LENGTH = 18,
+    /* The second line of a public key text is not base64. */
+    MINISIGN_PUBLIC_KEY_NOT_BASE64 = 19,
+    /* Fewer bytes than a record has. */
+    MINISIGN_RECORD_TOO_SHORT = 20,
+    /* A signature text has no first line. */
+    MINISIGN_MISSING_UNTRUSTED_COMMENT = 21,
+    /* A signature text has no second line. */
+    MINISIGN_MISSING_SIGNATURE = 22,
+    /* A signature text has no third line. */
+    MINISIGN_MISSING_TRUSTED_COMMENT = 23,
+    /* A signature text has no fourth line. */
+    MINISIGN_MISSING_COMMENT_SIGNATURE = 24,
+    /* The first line of a signature text does not begin with untrusted comment: . */
+    MINISIGN_UNTRUSTED_COMMENT_PREFIX = 25,
+    /* A line of a signature text is not base64. */
+    MINISIGN_SIGNATURE_NOT_BASE64 = 26,
+    /* The third line of a signature text does not begin with trusted comment: . */
+    MINISIGN_TRUSTED_COMMENT_PREFIX = 27,
+    /* The algorithm of a signature is neither Ed nor ED. */
+    MINISIGN_UNSUPPORTED_ALGORITHM = 28,
+    /* The key ID of a signature is not that of the public key. */
+    MINISIGN_DIFFERENT_KEY_IDS = 29,
+    /* A legacy signature where only prehashed ones are allowed. */
+    MINISIGN_LEGACY_NOT_ACCEPTED = 30,
+    /* The signature of the data is not accepted. */
+    MINISIGN_SIGNATURE_REFUSED = 31,
+    /* The comment signature is too short or is not accepted. */
+    MINISIGN_COMMENT_SIGNATURE_REFUSED = 32,
+    /* A secret key text has no first line. */
+    MINISIGN_MISSING_SECRET_KEY_COMMENT = 33,
+    /* A secret key text has no second line. */
+    MINISIGN_MISSING_SECRET_KEY = 34,
+    /* The second line of a secret key text is not base64. */
+    MINISIGN_SECRET_KEY_NOT_BASE64 = 35,
+    /* A key that is asked for as unsealed names a key derivation. */
+    MINISIGN_KEY_SEALED = 36,
+    /* The checksum of an unsealed key does not match. */
+    MINISIGN_KEY_CORRUPTED = 37,
+    /* A key that is asked for as sealed names no key derivation. */
+    MINISIGN_KEY_NOT_SEALED = 38,
+    /* A sealed key names a key derivation other than Sc. */
+    MINISIGN_UNSUPPORTED_KEY_DERIVATION = 39,
+    /* The limits of a sealed key ask for more than is allowed. */
+    MINISIGN_PARAMETERS_TOO_HIGH = 40,
+    /* The limits lead to parameters that scrypt does not take. */
+    MINISIGN_INVALID_PARAMETERS = 41,
+    /* The checksum of an opened key does not match. */
+    MINISIGN_WRONG_PASSWORD = 42,
+    /* The limits lead to more parallel work than the caller allows. */
+    MINISIGN_WORK_TOO_HIGH = 43,
+    /* A public key given as base64 alone is not 56 bytes long. */
+    MINISIGN_BARE_PUBLIC_KEY_LENGTH = 44,
+    /* A public key given as base64 alone is not base64. */
+    MINISIGN_BARE_PUBLIC_KEY_NOT_BASE64 = 45,
+    /* Another run holds the lock on this target. */
+    MINISIGN_PLACE_IN_USE = 46,
+    /* No number is kept beside the target, and this was not said to be the first installation. */
+    MINISIGN_NO_RECORD = 47,
+    /* What is kept beside the target does not read as a number, and this was not said to be the first
+     * installation. */
+    MINISIGN_DAMAGED_RECORD = 48,
+    /* The trusted comment does not name the file that the caller expects. */
+    MINISIGN_OTHER_FILE = 49,
+    /* The trusted comment has no number in decimal digits alone under the label that the caller chose, or none
+     * below 2^64. */
+    MINISIGN_NO_NUMBER = 50,
+    /* The number of the trusted comment is below the one that is kept. */
+    MINISIGN_OLDER_UPDATE = 51,
+    /* The update stands at the target, but a crash may still bring back what stood there before. */
+    MINISIGN_DIRECTORY_NOT_SYNCED = 52,
+    /* The number that is kept is a timestamp and not a version, and this was not said to be the first
+     * installation. */
+    MINISIGN_KEPT_BY_TIMESTAMP = 53,
+    /* The number that is kept is a version and not a timestamp, and this was not said to be the first
+     * installation. */
+    MINISIGN_KEPT_BY_VERSION = 54,
+    /* The update has expired at the moment that the caller passes. */
+    MINISIGN_EXPIRED = 55,
+    /* The trusted comment has more than one field for when the update expires, or one with no number in decimal
+     * digits alone, or none below 2^64. */
+    MINISIGN_BAD_EXPIRY = 56,
+    /* The number of the trusted comment is the one that is kept, other data stands at the target, and the caller
+     * did not ask for the update to be installed again. */
+    MINISIGN_SAME_NUMBER = 57,
+    /* The text is not the one that the signature was read from. */
+    MINISIGN_OTHER_SIGNATURE_TEXT = 61,
+    /* A signature that is asked about was not read. */
+    MINISIGN_SIGNATURE_NOT_READ = 62,
+    /* A secret key that is to be opened was not read. */
+    MINISIGN_KEY_NOT_READ = 63,
+    /* A source, a file or a prompt's reader failed at a read. */
+    MINISIGN_READING_FAILED = 64,
+    /* A sink or a prompt's writer failed at a write or a flush. */
+    MINISIGN_WRITING_FAILED = 65,
+    /* A random source failed or had too few bytes. */
+    MINISIGN_RANDOM_SOURCE_FAILED = 67
+};
+/* The end of the numbers. */
+
+/* What an error number means, in English, ended by a 0 byte and cut where there is no room for more: to be shown to
+ * people. Returns the length of the whole text without its 0, as snprintf does. With room 0 nothing is written.
+ * MINISIGN_ERROR_TEXT_BYTES is room enough for each. Since 0.1. */
+#define MINISIGN_ERROR_TEXT_BYTES 128
+size_t minisign_error_text(uint32_t error, char *text, size_t room);
+
+/* A state, for one file: yours, of fixed size, its bytes the library's. */
+typedef struct minisign_state {
+    uint64_t opaque[64];
+} minisign_state;
+
+/* Begins: the state was fed nothing. Whatever it held before is gone. Does not allocate. Since 0.1. */
+void minisign_init(minisign_state *state);
+
+/* Feeds the next len bytes of the data: pieces of any length, 64 KiB and more being the fastest. Does not allocate,
+ * whatever the length of the data. MINISIGN_NOT_BEGUN; MINISIGN_ALREADY_ASKED, where the digest was told: the state
+ * stays as it was. Since 0.1. */
+MINISIGN_MUST_USE enum minisign_error minisign_update(minisign_state *state, const uint8_t *data, size_t len);
+
+/* Tells the Blake2b digest of all of the data that was fed: the message of the first question, in verifying and in
+ * signing. The state then takes no more data. Does not allocate. MINISIGN_NOT_BEGUN; MINISIGN_ALREADY_ASKED, where the
+ * digest was told before: state and digest stay as they were. Since 0.2. */
+MINISIGN_MUST_USE enum minisign_error minisign_digest(minisign_state *state, uint8_t digest[64]);
+
+/* ---- Verifying ---- */
+
+/* A public key: its 32 bytes and its key ID, which minisign shows as one little-endian number. */
+typedef struct minisign_public_key {
+    uint8_t key[32];
+    uint8_t key_id[8];
+} minisign_public_key;
+
+/*
+ * Reads a public key: from its text, both lines of a file such as minisign.pub, or from its base64 alone, the 56
+ * letters that stand in the second line and after minisign -P, as an updater has it built in. Does not allocate.
+ *
+ * The errors, in this order: MINISIGN_NOT_UTF8; of two lines MINISIGN_MISSING_PUBLIC_KEY_COMMENT,
+ * MINISIGN_MISSING_PUBLIC_KEY, MINISIGN_PUBLIC_KEY_LENGTH, MINISIGN_PUBLIC_KEY_NOT_BASE64,
+ * MINISIGN_RECORD_TOO_SHORT; of the base64 alone MINISIGN_BARE_PUBLIC_KEY_LENGTH,
+ * MINISIGN_BARE_PUBLIC_KEY_NOT_BASE64, MINISIGN_RECORD_TOO_SHORT. Then the key stays as it was. Since 0.2.
+ */
+MINISIGN_MUST_USE enum minisign_error minisign_read_public_key(
+    const uint8_t *pk_text, size_t pk_text_len, minisign_public_key *key);
+MINISIGN_MUST_USE enum minisign_error minisign_read_bare_public_key(
+    const uint8_t *base64, size_t base64_len, minisign_public_key *key);
+
+/* A signature as its text has it. The mark and the digest of the text are the library's; what else stands here is for
+ * you to read: a key can be chosen by key_id, and a legacy signature recognized, before anything is asked. */
+typedef struct minisign_signature {
+    uint64_t mark;
+    uint8_t key_id[8];             /* of the key that signed, as the text has it */
+    uint8_t signature[64];         /* of the digest of the data, or of the data itself where legacy is 1 */
+    uint8_t comment_signature[64]; /* zeros where the text has fewer than 64 bytes of it */
+    /* Where in the text the trusted comment stands, which nothing vouches for yet: from which byte on, and how many. */
+    uint64_t comment_offset;
+    uint64_t comment_len;
+    uint8_t text_digest[32]; /* Blake2b-256 of the text */
+    uint8_t algorithm[2];    /* "ED", or "Ed" where legacy is 1 */
+    uint8_t legacy;          /* 1 where the signature is over the data itself, otherwise 0 */
+    uint8_t whole;           /* 1 where the text has 64 bytes of the comment signature, otherwise 0 */
+    uint32_t reserved;       /* 0 */
+} minisign_signature;
+
+/*
+ * Reads the signature of a text, all of a file such as data.minisig. Keep the text until minisign_ask: the trusted
+ * comment stands there. Does not allocate.
+ *
+ * The errors, in this order: MINISIGN_NOT_UTF8; MINISIGN_MISSING_UNTRUSTED_COMMENT, MINISIGN_MISSING_SIGNATURE,
+ * MINISIGN_MISSING_TRUSTED_COMMENT, MINISIGN_MISSING_COMMENT_SIGNATURE; MINISIGN_UNTRUSTED_COMMENT_PREFIX;
+ * MINISIGN_SIGNATURE_NOT_BASE64, MINISIGN_RECORD_TOO_SHORT of the second line; MINISIGN_TRUSTED_COMMENT_PREFIX;
+ * MINISIGN_UNSUPPORTED_ALGORITHM; MINISIGN_SIGNATURE_NOT_BASE64 of the fourth line. Then the signature stays as it
+ * was. Since 0.3.
+ */
+MINISIGN_MUST_USE enum minisign_error minisign_read_signature(
+    const uint8_t *sig_text, size_t sig_text_len, minisign_signature *signature);
+
+/* What has to be asked of Ed25519, both times under public_key. */
+typedef struct minisign_questions {
+    uint8_t public_key[32];
+    /* The first question: does Ed25519 accept the signature for this message? Its message is the digest, or, where
+     * legacy is 1, all of the data itself, which you hold. Zeros until minisign_digest writes it. */
+    uint8_t digest[64];
+    uint8_t signature[64];
+    /* The second question: and this signature, for the message_len bytes in the buffer? They are the first
+     * signature followed by the trusted comment. Zeros where the text has fewer than 64 bytes here: the verdict then
+     * rejects, whatever the second answer is. */
+    uint8_t comment_signature[64];
+    uint64_t message_len;
+    /* Where in that message the trusted comment stands: from which byte on, and how many. Show this one: it is what
+     * Ed25519 was asked about. */
+    uint64_t comment_offset;
+    uint64_t comment_len;
+    uint32_t legacy;   /* 1 where the signature is over the data itself ("Ed"), 0 where it is over the digest ("ED") */
+    uint32_t reserved; /* 0 */
+} minisign_questions;
+
+/*
+ * Asks, before any data: from the public key, the signature and the text that it was read from what Ed25519 has to
+ * answer. The text is not read again: of it only the trusted comment is taken. The message of the second question is
+ * written to message, of room bytes: 64 + comment_len of the signature are room enough, and no less. The state then
+ * takes the data.
+ *
+ * allow_legacy is 1 where signatures over the data itself will do, otherwise 0. Such a question is about the data
+ * and not its digest, so hold the data in memory if you allow them.
+ *
+ * The second question can be answered at once, as for a program that wants to know whether there is anything newer:
+ * see minisign_comment_verdict. A state that was fed before it is asked goes on from there: the questions are about
+ * all that it was fed.
+ *
+ * After an error the state, the questions and the message stay as they were, and you may ask again. The errors, in
+ * this order: MINISIGN_BAD_LEGACY_FLAG; MINISIGN_NOT_BEGUN, MINISIGN_ALREADY_ASKED; MINISIGN_SIGNATURE_NOT_READ;
+ * MINISIGN_OTHER_SIGNATURE_TEXT, where the digest of the text is not that of the one that was read;
+ * MINISIGN_DIFFERENT_KEY_IDS, MINISIGN_LEGACY_NOT_ACCEPTED; MINISIGN_NO_ROOM. Does not allocate. Since 0.3.
+ */
+MINISIGN_MUST_USE enum minisign_error minisign_ask(
+    minisign_state *state, const minisign_public_key *key, const minisign_signature *signature,
+    const uint8_t *sig_text, size_t sig_text_len, uint32_t allow_legacy, minisign_questions *questions,
+    uint8_t *message, size_t room);
+
+/* Your answers: the letters "yes" and "no" as numbers. Any other number is an error, so that no truth value, no
+ * "0 for success" or "-1 for failure" of another library, and no error number is taken for one. */
+/* Answers, made by tools/header.py. */
+enum minisign_answer {
+    MINISIGN_ANSWER_YES = 0x796573,
+    MINISIGN_ANSWER_NO = 0x6e6f
+};
+/* The end of the answers. */
+
+/* What the answer to the second question is worth by itself. MINISIGN_OK exactly where the comment signature has its
+ * 64 bytes and Ed25519 accepts it: whoever has the secret key has signed this trusted comment, together with the first
+ * signature. Nothing is said of any data, and nothing of whether the first signature is accepted. Otherwise
+ * MINISIGN_COMMENT_SIGNATURE_REFUSED. It may be asked from minisign_ask on; the state stays as it is. Does not
+ * allocate. MINISIGN_BAD_ANSWER, then MINISIGN_NOT_BEGUN, MINISIGN_NOT_ASKED. Since 0.2. */
+MINISIGN_MUST_USE enum minisign_error minisign_comment_verdict(const minisign_state *state,
+                                                               enum minisign_answer second);
+
+/*
+ * The verdict, from what Ed25519 answered to the two questions, once the digest was told; it ends the state. Does
+ * not allocate.
+ *
+ * MINISIGN_OK exactly where the public key and the text of the signature vouch for all of the data that was fed,
+ * under the scheme that answered so: the text reads as a signature of the same key ID, of an algorithm that is
+ * allowed, Ed25519 accepts the signature, and for that signature followed by the trusted comment the other.
+ * Otherwise MINISIGN_SIGNATURE_REFUSED or MINISIGN_COMMENT_SIGNATURE_REFUSED: the first of these that fails.
+ *
+ * MINISIGN_BAD_ANSWER, then MINISIGN_NOT_BEGUN; MINISIGN_NOT_ASKED, where the questions were not asked or the
+ * digest was not told: the state stays as it was. Since 0.1.
+ */
+MINISIGN_MUST_USE enum minisign_error minisign_verdict(minisign_state *state, enum minisign_answer first,
+                                                       enum minisign_answer second);
+
+/* ---- Signing ---- */
+
+/* A secret key as its text has it, which is not opened yet. The mark and the bytes are the library's, which opens by
+ * them alone: what else stands here is for you to read. */
+typedef struct minisign_unopened_key {
+    uint64_t mark;
+    uint8_t bytes[158]; /* of the key's record; the secret as it is, where the key is not sealed */
+    /* 1 where the key wants a password, otherwise 0. */
+    uint8_t is_sealed;
+    /* What opening takes: of how many rows of 1 KiB the logarithm to base 2, which is at most 20, and how often all of
+     * them are made. Zeros where the key is not sealed, and where its limits are rejected. */
+    uint8_t log2_rows;
+    uint32_t work;
+    uint32_t reserved; /* 0 */
+} minisign_unopened_key;
+
+/* Reads the secret key of a text (both lines of a file such as minisign.key), which is then opened. Does not allocate.
+ * The errors, in this order: MINISIGN_NOT_UTF8; MINISIGN_MISSING_SECRET_KEY_COMMENT, MINISIGN_MISSING_SECRET_KEY,
+ * MINISIGN_SECRET_KEY_NOT_BASE64, MINISIGN_RECORD_TOO_SHORT. Then the key stays as it was. Since 0.2. */
+MINISIGN_MUST_USE enum minisign_error minisign_read_secret_key(
+    const uint8_t *sk_text, size_t sk_text_len, minisign_unopened_key *unopened);
+
+/* A secret key that was opened or taken in. The mark is the library's: texts are made only of a key that has it, so
+ * that an error that nobody looked at leads to no signature under a key ID of zeros. */
+typedef struct minisign_secret_key {
+    uint64_t mark;
+    uint8_t key_id[8];
+    uint8_t secret[64]; /* the 32 bytes of the seed, and the 32 of the public key, as Ed25519 signs with them */
+} minisign_secret_key;
+
+/*
+ * Opens a secret key that was read and was never sealed (minisign -G -W): is_sealed of what was read says so.
+ *
+ * Whether the two halves of the secret belong together is not tested, here and where a sealed key is opened: that takes
+ * an Ed25519. Of a key that is damaged, or that somebody has changed, they may not: then no signature of it verifies,
+ * and one that others get to see gives the secret half away. So verify what you make under the public half, which is
+ * the last 32 bytes, before you write it or send it, as c/examples/sign.c does.
+ *
+ * After an error the key stays as it was. The errors, in this order: MINISIGN_KEY_NOT_READ; MINISIGN_KEY_SEALED,
+ * MINISIGN_KEY_CORRUPTED. Does not allocate. Since 0.3.
+ */
+MINISIGN_MUST_USE enum minisign_error minisign_open_unsealed_key(
+    const minisign_unopened_key *unopened, minisign_secret_key *key);
+
+/*
+ * Opens a sealed secret key that was read, with its password. That takes the memory and the time of scrypt, for which
+ * the key's own limits ask: rows of 1 KiB, of which there are at most 2^20, made once or more often. You bound both:
+ *
+ * - Every keep_every-th row is kept in memory, and the others are made again when they are named. 0 and 1 keep them
+ *   all, which is the fastest and takes 1 GiB with the limits of minisign -G; MINISIGN_KEEP_FEW_ROWS, which is 16,
+ *   takes 65 MiB at most, and some three times the time. What is opened does not depend on it.
+ * - most_rows is how many rows may be made in all, whatever number is kept: of a key 2^log2_rows times its work, in
+ *   words of RFC 7914 N times p. MINISIGN_USUAL_ROWS, which is 2^20, is enough for the keys of minisign -G; with
+ *   MINISIGN_ANY_ROWS a stranger's key may run for hours. A key that asks for more is MINISIGN_WORK_TOO_HIGH, before
+ *   anything is derived.
+ *
+ * After an error the key stays as it was. The errors, in this order: MINISIGN_KEY_NOT_READ; MINISIGN_NOT_UTF8 of the
+ * password; MINISIGN_KEY_NOT_SEALED, MINISIGN_UNSUPPORTED_KEY_DERIVATION, MINISIGN_PARAMETERS_TOO_HIGH,
+ * MINISIGN_INVALID_PARAMETERS, MINISIGN_WORK_TOO_HIGH; MINISIGN_WRONG_PASSWORD, or MINISIGN_OUT_OF_MEMORY where that
+ * could come. Since 0.3.
+ */
+#define MINISIGN_KEEP_EVERY_ROW 1
+#define MINISIGN_KEEP_FEW_ROWS 16
+#define MINISIGN_USUAL_ROWS 1048576
+#define MINISIGN_ANY_ROWS UINT64_MAX
+MINISIGN_MUST_USE enum minisign_error minisign_open_sealed_key(
+    const minisign_unopened_key *unopened, const uint8_t *password, size_t password_len, uint64_t keep_every,
+    uint64_t most_rows, minisign_secret_key *key);
+
+/* Tells how much memory of yours the next call takes: so many uint32_t, and so many bytes. Zeros for a key that wants
+ * no password, and where its limits are rejected. Does not allocate. Since 0.3. */
+void minisign_opening_memory(
+    const minisign_unopened_key *unopened, uint64_t keep_every, uint64_t *words_wanted, uint64_t *bytes_wanted);
+
+/*
+ * Opens a sealed secret key as minisign_open_sealed_key does, in memory of yours: words, aligned as a uint32_t is, and
+ * bytes, at least as many of each as minisign_opening_memory tells for the same keep_every. Neither allocates nor begins
+ * a thread. What the memory holds is not read; all of it holds zeros when the call returns, after an error too.
+ *
+ * After an error the key stays as it was. The errors, in this order: MINISIGN_KEY_NOT_READ; MINISIGN_NO_ROOM; those of
+ * minisign_open_sealed_key after its first, of which MINISIGN_OUT_OF_MEMORY never comes. Since 0.3.
+ */
+MINISIGN_MUST_USE enum minisign_error minisign_open_sealed_key_in_place(
+    const minisign_unopened_key *unopened, const uint8_t *password, size_t password_len, uint64_t keep_every,
+    uint64_t most_rows, uint32_t *words, size_t words_len, uint8_t *bytes, size_t bytes_len, minisign_secret_key *key);
+
+/* Takes in a new secret key, of your Ed25519 and your random bytes: see "Making keys". Does not allocate. Since
+ * 0.2. */
+void minisign_take_secret_key(const uint8_t key_id[8], const uint8_t secret[64], minisign_secret_key *key);
+
+/* Tells the public key of a secret key: the last 32 of its 64 bytes, and its key ID. Does not allocate.
+ * MINISIGN_KEY_NOT_OPENED: the public key stays as it was. Since 0.2. */
+MINISIGN_MUST_USE enum minisign_error minisign_public_key_of(
+    const minisign_secret_key *key, minisign_public_key *public_key);
+
+/* Writes the message of the second question to the beginning of message, of room bytes: the first signature followed
+ * by the trusted comment, 64 + trusted_len bytes. The message of the first one is the digest of the data, which
+ * minisign_digest tells. Both are signed with the secret of the key. Does not allocate. MINISIGN_NO_ROOM: the message
+ * stays as it was. Since 0.1. */
+MINISIGN_MUST_USE enum minisign_error minisign_comment_message(
+    const uint8_t first[64], const uint8_t *trusted, size_t trusted_len, uint8_t *message, size_t room);
+
+/* What the text of a signature is made of, by names, so that none is taken for another. The second signature is that
+ * of the message that minisign_comment_message writes. A pointer may be NULL where its length is 0. */
+typedef struct minisign_signed_parts {
+    uint8_t signature[64];
+    uint8_t comment_signature[64];
+    const uint8_t *trusted_comment;
+    size_t trusted_comment_len;
+    const uint8_t *untrusted_comment;
+    size_t untrusted_comment_len;
+} minisign_signed_parts;
+
+/* Room enough for the text of a signature with comments of these lengths. */
+#define MINISIGN_TEXT_BYTES(trusted_comment_len, untrusted_comment_len) \
+    (240 + (size_t) (trusted_comment_len) + (size_t) (untrusted_comment_len))
+
+/*
+ * Writes the text of the signature that your two signatures make, four lines of UTF-8 as minisign -V reads them, to
+ * the front of text, of room bytes, and its length to text_len. The text repeats the key ID of the key.
+ *
+ * The text reads as a signature with exactly this key ID, these comments and these two signatures. So it vouches
+ * for the data under every public key of this key ID under which Ed25519 accepts your signatures of the digest and
+ * of the message of the second question: minisign_verdict is then MINISIGN_OK.
+ *
+ * After an error the text and its length stay as they were. The errors, in this order: MINISIGN_KEY_NOT_OPENED;
+ * MINISIGN_NOT_UTF8; MINISIGN_BAD_COMMENT, where a comment has a line feed, the trusted one white space at either
+ * end, or the untrusted one a carriage return at its end; MINISIGN_UNREADABLE_COMMENT, where minisign -V (of
+ * version 0.11) would not read a comment back: an untrusted one of 1,004 bytes or more, a trusted one of 8,174
+ * bytes or more, one with a zero byte or a carriage return; MINISIGN_NO_ROOM. MINISIGN_OUT_OF_MEMORY may come where
+ * none of those of the comments does. Since 0.3.
+ */
+MINISIGN_MUST_USE enum minisign_error minisign_signed_text(
+    const minisign_secret_key *key, const minisign_signed_parts *parts, uint8_t *text, size_t room, size_t *text_len);
+
+/* ---- Making keys ---- */
+
+/* A new key takes 8 random bytes of a key ID, a pair of Ed25519, such as crypto_sign_keypair of libsodium makes, both
+ * of which minisign_take_secret_key takes in, and 32 random bytes of a salt. With the limits and the comments of
+ * minisign -G the texts of a sealed key and of its public key are those that it would have written. A password is
+ * changed by opening a key, with minisign_open_sealed_key, and writing its text again with a new salt; a lost public
+ * key is written again from the secret one. */
+
+/* How a secret key is sealed, by libsodium's limits: with 0 and 0 a guess takes two rows of 1 KiB, made 512 times. */
+typedef struct minisign_sealing {
+    uint8_t salt[32];          /* random bytes, of no other key */
+    uint64_t operations_limit; /* how much work scrypt is */
+    uint64_t memory_limit;     /* in bytes, at most 2^30 */
+} minisign_sealing;
+
+/* The limits of minisign -G: 1 GiB of memory, unless few rows are kept. */
+#define MINISIGN_OPERATIONS_LIMIT 33554432
+#define MINISIGN_MEMORY_LIMIT 1073741824
+
+/* The comments that minisign -G writes; after that of a public key stands its key ID as one little-endian number,
+ * as printf writes it by "%" PRIX64. */
+#define MINISIGN_SECRET_KEY_COMMENT "minisign encrypted secret key"
+#define MINISIGN_PUBLIC_KEY_COMMENT "minisign public key "
+
+/* The size of the text of a key with a comment of this length. */
+#define MINISIGN_SECRET_KEY_BYTES(comment_len) (233 + (size_t) (comment_len))
+#define MINISIGN_PUBLIC_KEY_BYTES(comment_len) (77 + (size_t) (comment_len))
+
+/*
+ * Writes the text of a secret key, both lines of a file such as minisign.key, to the beginning of text, of room bytes,
+ * and its length to text_len.
+ *
+ * with_password is 1 where the key is sealed under the password, with the salt and the limits of sealing; and 0 where
+ * it is not, whatever password and sealing hold: the text then has the key's checksum, where minisign -G -W writes
+ * zeros. The text opens under that password, or without one, to exactly this key. Sealing takes the memory and the
+ * time of scrypt; keep_every is that of minisign_open_sealed_key, and the text does not depend on it. Minisign takes
+ * passwords of at most 1,023 bytes, with no line break and no zero byte: the library seals under any UTF-8.
+ *
+ * Whether the 64 bytes belong together is not tested: that takes an Ed25519.
+ *
+ * After an error the text and its length stay as they were. The errors, in this order: MINISIGN_BAD_PASSWORD_FLAG;
+ * MINISIGN_KEY_NOT_OPENED; MINISIGN_NOT_UTF8 of the comment or the password; MINISIGN_BAD_COMMENT, where the
+ * comment has a line feed; MINISIGN_UNREADABLE_COMMENT, where it has a carriage return or a zero byte, or more than
+ * 1,003 bytes; MINISIGN_NO_ROOM; with a password MINISIGN_PARAMETERS_TOO_HIGH or MINISIGN_INVALID_PARAMETERS of the
+ * limits; MINISIGN_OUT_OF_MEMORY. Since 0.2.
+ */
+MINISIGN_MUST_USE enum minisign_error minisign_secret_key_text(
+    const minisign_secret_key *key, uint32_t with_password, const uint8_t *password, size_t password_len,
+    const minisign_sealing *sealing, uint64_t keep_every, const uint8_t *comment, size_t comment_len, uint8_t *text,
+    size_t room, size_t *text_len);
+
+/* Writes the text of the public key of a secret key, both lines of a file such as minisign.pub, to the beginning of
+ * text, of room bytes, and its length to text_len. It takes the secret key, so that no seed is published where a
+ * public key was meant. After an error the text and its length stay as they were. The errors, in this order:
+ * MINISIGN_KEY_NOT_OPENED; MINISIGN_NOT_UTF8; MINISIGN_BAD_COMMENT, MINISIGN_UNREADABLE_COMMENT, as above;
+ * MINISIGN_NO_ROOM; MINISIGN_OUT_OF_MEMORY. Since 0.2. */
+MINISIGN_MUST_USE enum minisign_error minisign_public_key_text(
+    const minisign_secret_key *key, const uint8_t *comment, size_t comment_len, uint8_t *text, size_t room,
+    size_t *text_len);
+
+#ifdef __cplusplus
+}
+#endif
+
+#endif

@@ -1,0 +1,453 @@
+//go:build portable || !linux || (!amd64 && !arm64)
+
+// A copy of c/library/portable/pointers.c that tools/carried.py made: do not edit it here.
+
+/*
+ * The calls of dist/calls.c as the boundary makes them. Those take an address as a number of 64 bits, and numbers in memory
+ * are little-endian there; so numbers of a struct, or behind a pointer, are turned before a call and turned back after it,
+ * which is nothing where the processor has them so itself. Made by tools/header.py.
+ *
+ * SPDX-License-Identifier: MIT
+ */
+#include "machine.h"
+
+#include "minisign_install.h"
+
+/* A struct that the call may not change: it gets a copy where numbers are turned. */
+#define LENT(kind, lent, kept) (IS_LITTLE_ENDIAN || (lent) == NULL ? (lent) : (*(kept) = *(lent), given_##kind(kept), (kept)))
+
+/* ---- Made by tools/header.py ---- */
+
+static inline void given_minisign_signature(minisign_signature *lent)
+{
+    store64(address(&lent->mark), lent->mark);
+    store64(address(&lent->comment_offset), lent->comment_offset);
+    store64(address(&lent->comment_len), lent->comment_len);
+    store32(address(&lent->reserved), lent->reserved);
+}
+
+static inline void got_minisign_signature(minisign_signature *lent)
+{
+    lent->mark = load64(address(&lent->mark));
+    lent->comment_offset = load64(address(&lent->comment_offset));
+    lent->comment_len = load64(address(&lent->comment_len));
+    lent->reserved = load32(address(&lent->reserved));
+}
+
+static inline void given_minisign_questions(minisign_questions *lent)
+{
+    store64(address(&lent->message_len), lent->message_len);
+    store64(address(&lent->comment_offset), lent->comment_offset);
+    store64(address(&lent->comment_len), lent->comment_len);
+    store32(address(&lent->legacy), lent->legacy);
+    store32(address(&lent->reserved), lent->reserved);
+}
+
+static inline void got_minisign_questions(minisign_questions *lent)
+{
+    lent->message_len = load64(address(&lent->message_len));
+    lent->comment_offset = load64(address(&lent->comment_offset));
+    lent->comment_len = load64(address(&lent->comment_len));
+    lent->legacy = load32(address(&lent->legacy));
+    lent->reserved = load32(address(&lent->reserved));
+}
+
+static inline void given_minisign_unopened_key(minisign_unopened_key *lent)
+{
+    store64(address(&lent->mark), lent->mark);
+    store32(address(&lent->work), lent->work);
+    store32(address(&lent->reserved), lent->reserved);
+}
+
+static inline void got_minisign_unopened_key(minisign_unopened_key *lent)
+{
+    lent->mark = load64(address(&lent->mark));
+    lent->work = load32(address(&lent->work));
+    lent->reserved = load32(address(&lent->reserved));
+}
+
+static inline void given_minisign_secret_key(minisign_secret_key *lent)
+{
+    store64(address(&lent->mark), lent->mark);
+}
+
+static inline void got_minisign_secret_key(minisign_secret_key *lent)
+{
+    lent->mark = load64(address(&lent->mark));
+}
+
+static inline void given_minisign_sealing(minisign_sealing *lent)
+{
+    store64(address(&lent->operations_limit), lent->operations_limit);
+    store64(address(&lent->memory_limit), lent->memory_limit);
+}
+
+uint64_t machine_minisign_error_text(uint32_t, uint64_t, uint64_t);
+
+size_t portable_minisign_error_text(uint32_t error, uint8_t *text, size_t room)
+{
+    return (size_t) machine_minisign_error_text(error, address(text), room);
+}
+
+void machine_minisign_init(uint64_t);
+
+void portable_minisign_init(minisign_state *state)
+{
+    machine_minisign_init(address(state));
+}
+
+uint32_t machine_minisign_update(uint64_t, uint64_t, uint64_t);
+
+uint32_t portable_minisign_update(minisign_state *state, const uint8_t *data, size_t len)
+{
+    return machine_minisign_update(address(state), address(data), len);
+}
+
+uint32_t machine_minisign_digest(uint64_t, uint64_t);
+
+uint32_t portable_minisign_digest(minisign_state *state, uint8_t *digest)
+{
+    return machine_minisign_digest(address(state), address(digest));
+}
+
+uint32_t machine_minisign_read_public_key(uint64_t, uint64_t, uint64_t);
+
+uint32_t portable_minisign_read_public_key(const uint8_t *pk_text, size_t pk_text_len, minisign_public_key *key)
+{
+    return machine_minisign_read_public_key(address(pk_text), pk_text_len, address(key));
+}
+
+uint32_t machine_minisign_read_bare_public_key(uint64_t, uint64_t, uint64_t);
+
+uint32_t portable_minisign_read_bare_public_key(const uint8_t *base64, size_t base64_len, minisign_public_key *key)
+{
+    return machine_minisign_read_bare_public_key(address(base64), base64_len, address(key));
+}
+
+uint32_t machine_minisign_read_signature(uint64_t, uint64_t, uint64_t);
+
+uint32_t portable_minisign_read_signature(const uint8_t *sig_text, size_t sig_text_len,
+                                          minisign_signature *signature)
+{
+    given_minisign_signature(signature);
+    const uint32_t result = machine_minisign_read_signature(address(sig_text), sig_text_len, address(signature));
+    got_minisign_signature(signature);
+    return result;
+}
+
+uint32_t machine_minisign_ask(uint64_t, uint64_t, uint64_t, uint64_t, uint64_t, uint32_t, uint64_t, uint64_t,
+                              uint64_t);
+
+uint32_t portable_minisign_ask(minisign_state *state, const minisign_public_key *key,
+                               const minisign_signature *signature, const uint8_t *sig_text, size_t sig_text_len,
+                               uint32_t allow_legacy, minisign_questions *questions, uint8_t *message, size_t room)
+{
+    minisign_signature signature_kept;
+    const minisign_signature *signature_lent = LENT(minisign_signature, signature, &signature_kept);
+    given_minisign_questions(questions);
+    const uint32_t result = machine_minisign_ask(address(state), address(key), address(signature_lent),
+                                                 address(sig_text), sig_text_len, allow_legacy, address(questions),
+                                                 address(message), room);
+    got_minisign_questions(questions);
+    return result;
+}
+
+uint32_t machine_minisign_comment_verdict(uint64_t, uint32_t);
+
+uint32_t portable_minisign_comment_verdict(const minisign_state *state, uint32_t second)
+{
+    return machine_minisign_comment_verdict(address(state), second);
+}
+
+uint32_t machine_minisign_verdict(uint64_t, uint32_t, uint32_t);
+
+uint32_t portable_minisign_verdict(minisign_state *state, uint32_t first, uint32_t second)
+{
+    return machine_minisign_verdict(address(state), first, second);
+}
+
+uint32_t machine_minisign_read_secret_key(uint64_t, uint64_t, uint64_t);
+
+uint32_t portable_minisign_read_secret_key(const uint8_t *sk_text, size_t sk_text_len,
+                                           minisign_unopened_key *unopened)
+{
+    given_minisign_unopened_key(unopened);
+    const uint32_t result = machine_minisign_read_secret_key(address(sk_text), sk_text_len, address(unopened));
+    got_minisign_unopened_key(unopened);
+    return result;
+}
+
+uint32_t machine_minisign_open_unsealed_key(uint64_t, uint64_t);
+
+uint32_t portable_minisign_open_unsealed_key(const minisign_unopened_key *unopened, minisign_secret_key *key)
+{
+    minisign_unopened_key unopened_kept;
+    const minisign_unopened_key *unopened_lent = LENT(minisign_unopened_key, unopened, &unopened_kept);
+    given_minisign_secret_key(key);
+    const uint32_t result = machine_minisign_open_unsealed_key(address(unopened_lent), address(key));
+    got_minisign_secret_key(key);
+    return result;
+}
+
+uint32_t machine_minisign_open_sealed_key(uint64_t, uint64_t, uint64_t, uint64_t, uint64_t, uint64_t);
+
+uint32_t portable_minisign_open_sealed_key(const minisign_unopened_key *unopened, const uint8_t *password,
+                                           size_t password_len, uint64_t keep_every, uint64_t most_rows,
+                                           minisign_secret_key *key)
+{
+    minisign_unopened_key unopened_kept;
+    const minisign_unopened_key *unopened_lent = LENT(minisign_unopened_key, unopened, &unopened_kept);
+    given_minisign_secret_key(key);
+    const uint32_t result = machine_minisign_open_sealed_key(address(unopened_lent), address(password),
+                                                             password_len, keep_every, most_rows, address(key));
+    got_minisign_secret_key(key);
+    return result;
+}
+
+void machine_minisign_opening_memory(uint64_t, uint64_t, uint64_t, uint64_t);
+
+void portable_minisign_opening_memory(const minisign_unopened_key *unopened, uint64_t keep_every,
+                                      uint64_t *words_wanted, uint64_t *bytes_wanted)
+{
+    minisign_unopened_key unopened_kept;
+    const minisign_unopened_key *unopened_lent = LENT(minisign_unopened_key, unopened, &unopened_kept);
+    uint64_t words_wanted_kept = 0;
+    uint64_t bytes_wanted_kept = 0;
+    store64(address(&words_wanted_kept), *words_wanted);
+    store64(address(&bytes_wanted_kept), *bytes_wanted);
+    machine_minisign_opening_memory(address(unopened_lent), keep_every, address(&words_wanted_kept),
+                                    address(&bytes_wanted_kept));
+    *words_wanted = (uint64_t) load64(address(&words_wanted_kept));
+    *bytes_wanted = (uint64_t) load64(address(&bytes_wanted_kept));
+}
+
+uint32_t machine_minisign_open_sealed_key_in_place(uint64_t, uint64_t, uint64_t, uint64_t, uint64_t, uint64_t,
+                                                   uint64_t, uint64_t, uint64_t, uint64_t);
+
+uint32_t portable_minisign_open_sealed_key_in_place(const minisign_unopened_key *unopened, const uint8_t *password,
+                                                    size_t password_len, uint64_t keep_every, uint64_t most_rows,
+                                                    uint32_t *words, size_t words_len, uint8_t *bytes,
+                                                    size_t bytes_len, minisign_secret_key *key)
+{
+    minisign_unopened_key unopened_kept;
+    const minisign_unopened_key *unopened_lent = LENT(minisign_unopened_key, unopened, &unopened_kept);
+    given_minisign_secret_key(key);
+    const uint32_t result = machine_minisign_open_sealed_key_in_place(address(unopened_lent), address(password),
+                                                                      password_len, keep_every, most_rows,
+                                                                      address(words), words_len, address(bytes),
+                                                                      bytes_len, address(key));
+    got_minisign_secret_key(key);
+    return result;
+}
+
+void machine_minisign_take_secret_key(uint64_t, uint64_t, uint64_t);
+
+void portable_minisign_take_secret_key(const uint8_t *key_id, const uint8_t *secret, minisign_secret_key *key)
+{
+    given_minisign_secret_key(key);
+    machine_minisign_take_secret_key(address(key_id), address(secret), address(key));
+    got_minisign_secret_key(key);
+}
+
+uint32_t machine_minisign_public_key_of(uint64_t, uint64_t);
+
+uint32_t portable_minisign_public_key_of(const minisign_secret_key *key, minisign_public_key *public_key)
+{
+    minisign_secret_key key_kept;
+    const minisign_secret_key *key_lent = LENT(minisign_secret_key, key, &key_kept);
+    return machine_minisign_public_key_of(address(key_lent), address(public_key));
+}
+
+uint32_t machine_minisign_comment_message(uint64_t, uint64_t, uint64_t, uint64_t, uint64_t);
+
+uint32_t portable_minisign_comment_message(const uint8_t *first, const uint8_t *trusted, size_t trusted_len,
+                                           uint8_t *message, size_t room)
+{
+    return machine_minisign_comment_message(address(first), address(trusted), trusted_len, address(message), room);
+}
+
+uint32_t machine_minisign_signed_text(uint64_t, uint64_t, uint64_t, uint64_t, uint64_t, uint64_t, uint64_t,
+                                      uint64_t, uint64_t, uint64_t);
+
+uint32_t portable_minisign_signed_text(const minisign_secret_key *key, const uint8_t *signature,
+                                       const uint8_t *comment_signature, const uint8_t *trusted_comment,
+                                       size_t trusted_comment_len, const uint8_t *untrusted_comment,
+                                       size_t untrusted_comment_len, uint8_t *text, size_t room, size_t *text_len)
+{
+    minisign_secret_key key_kept;
+    const minisign_secret_key *key_lent = LENT(minisign_secret_key, key, &key_kept);
+    uint64_t text_len_kept = 0;
+    store64(address(&text_len_kept), *text_len);
+    const uint32_t result = machine_minisign_signed_text(address(key_lent), address(signature),
+                                                         address(comment_signature), address(trusted_comment),
+                                                         trusted_comment_len, address(untrusted_comment),
+                                                         untrusted_comment_len, address(text), room,
+                                                         address(&text_len_kept));
+    *text_len = (size_t) load64(address(&text_len_kept));
+    return result;
+}
+
+uint32_t machine_minisign_secret_key_text(uint64_t, uint32_t, uint64_t, uint64_t, uint64_t, uint64_t, uint64_t,
+                                          uint64_t, uint64_t, uint64_t, uint64_t);
+
+uint32_t portable_minisign_secret_key_text(const minisign_secret_key *key, uint32_t with_password,
+                                           const uint8_t *password, size_t password_len,
+                                           const minisign_sealing *sealing, uint64_t keep_every,
+                                           const uint8_t *comment, size_t comment_len, uint8_t *text, size_t room,
+                                           size_t *text_len)
+{
+    minisign_secret_key key_kept;
+    const minisign_secret_key *key_lent = LENT(minisign_secret_key, key, &key_kept);
+    minisign_sealing sealing_kept;
+    const minisign_sealing *sealing_lent = LENT(minisign_sealing, sealing, &sealing_kept);
+    uint64_t text_len_kept = 0;
+    store64(address(&text_len_kept), *text_len);
+    const uint32_t result = machine_minisign_secret_key_text(address(key_lent), with_password, address(password),
+                                                             password_len, address(sealing_lent), keep_every,
+                                                             address(comment), comment_len, address(text), room,
+                                                             address(&text_len_kept));
+    *text_len = (size_t) load64(address(&text_len_kept));
+    return result;
+}
+
+uint32_t machine_minisign_public_key_text(uint64_t, uint64_t, uint64_t, uint64_t, uint64_t, uint64_t);
+
+uint32_t portable_minisign_public_key_text(const minisign_secret_key *key, const uint8_t *comment,
+                                           size_t comment_len, uint8_t *text, size_t room, size_t *text_len)
+{
+    minisign_secret_key key_kept;
+    const minisign_secret_key *key_lent = LENT(minisign_secret_key, key, &key_kept);
+    uint64_t text_len_kept = 0;
+    store64(address(&text_len_kept), *text_len);
+    const uint32_t result = machine_minisign_public_key_text(address(key_lent), address(comment), comment_len,
+                                                             address(text), room, address(&text_len_kept));
+    *text_len = (size_t) load64(address(&text_len_kept));
+    return result;
+}
+
+uint32_t machine_minisign_install_init(uint64_t, uint64_t, uint64_t, uint32_t, uint32_t, uint32_t, uint32_t,
+                                       uint32_t);
+
+uint32_t portable_minisign_install_init(minisign_installation *installation, const minisign_public_key *key,
+                                        const minisign_public_key *other, uint32_t is_first, uint32_t again,
+                                        uint32_t is_check, uint32_t is_waiting, uint32_t numbering)
+{
+    return machine_minisign_install_init(address(installation), address(key), address(other), is_first, again,
+                                         is_check, is_waiting, numbering);
+}
+
+uint32_t machine_minisign_install_due(uint64_t);
+
+uint32_t portable_minisign_install_due(const minisign_installation *installation)
+{
+    return machine_minisign_install_due(address(installation));
+}
+
+uint32_t machine_minisign_install_done(uint64_t);
+
+uint32_t portable_minisign_install_done(minisign_installation *installation)
+{
+    return machine_minisign_install_done(address(installation));
+}
+
+uint32_t machine_minisign_install_more(uint64_t);
+
+uint32_t portable_minisign_install_more(minisign_installation *installation)
+{
+    return machine_minisign_install_more(address(installation));
+}
+
+uint32_t machine_minisign_install_failed(uint64_t, uint32_t);
+
+uint32_t portable_minisign_install_failed(minisign_installation *installation, uint32_t why)
+{
+    return machine_minisign_install_failed(address(installation), why);
+}
+
+uint32_t machine_minisign_install_record(uint64_t, uint64_t, uint64_t);
+
+uint32_t portable_minisign_install_record(minisign_installation *installation, const uint8_t *record,
+                                          size_t record_len)
+{
+    return machine_minisign_install_record(address(installation), address(record), record_len);
+}
+
+uint32_t machine_minisign_install_no_record(uint64_t);
+
+uint32_t portable_minisign_install_no_record(minisign_installation *installation)
+{
+    return machine_minisign_install_no_record(address(installation));
+}
+
+uint32_t machine_minisign_install_piece(uint64_t, uint64_t, uint64_t);
+
+uint32_t portable_minisign_install_piece(minisign_installation *installation, const uint8_t *piece,
+                                         size_t piece_len)
+{
+    return machine_minisign_install_piece(address(installation), address(piece), piece_len);
+}
+
+uint32_t machine_minisign_install_no_target(uint64_t);
+
+uint32_t portable_minisign_install_no_target(minisign_installation *installation)
+{
+    return machine_minisign_install_no_target(address(installation));
+}
+
+uint32_t machine_minisign_install_ask(uint64_t, uint64_t, uint64_t, uint64_t, uint64_t, uint64_t, uint64_t,
+                                      uint64_t, uint64_t);
+
+uint32_t portable_minisign_install_ask(minisign_installation *installation, const uint8_t *sig_text,
+                                       size_t sig_text_len, const uint8_t *file, size_t file_len, uint64_t now,
+                                       minisign_questions *questions, uint8_t *message, size_t room)
+{
+    given_minisign_questions(questions);
+    const uint32_t result = machine_minisign_install_ask(address(installation), address(sig_text), sig_text_len,
+                                                         address(file), file_len, now, address(questions),
+                                                         address(message), room);
+    got_minisign_questions(questions);
+    return result;
+}
+
+uint32_t machine_minisign_install_answer(uint64_t, uint32_t, uint32_t);
+
+uint32_t portable_minisign_install_answer(minisign_installation *installation, uint32_t first, uint32_t second)
+{
+    return machine_minisign_install_answer(address(installation), first, second);
+}
+
+uint64_t machine_minisign_install_number(uint64_t);
+
+uint64_t portable_minisign_install_number(const minisign_installation *installation)
+{
+    return machine_minisign_install_number(address(installation));
+}
+
+uint64_t machine_minisign_install_record_text(uint64_t, uint64_t, uint64_t);
+
+size_t portable_minisign_install_record_text(const minisign_installation *installation, uint8_t *text, size_t room)
+{
+    return (size_t) machine_minisign_install_record_text(address(installation), address(text), room);
+}
+
+uint32_t machine_minisign_install_error(uint64_t);
+
+uint32_t portable_minisign_install_error(const minisign_installation *installation)
+{
+    return machine_minisign_install_error(address(installation));
+}
+
+uint32_t machine_minisign_judge_comment(uint64_t, uint64_t, uint64_t, uint64_t, uint32_t, uint64_t, uint64_t,
+                                        uint64_t);
+
+uint32_t portable_minisign_judge_comment(const uint8_t *comment, size_t comment_len, const uint8_t *file,
+                                         size_t file_len, uint32_t numbering, uint64_t now, uint64_t kept,
+                                         uint64_t *number)
+{
+    uint64_t number_kept = 0;
+    store64(address(&number_kept), *number);
+    const uint32_t result = machine_minisign_judge_comment(address(comment), comment_len, address(file), file_len,
+                                                           numbering, now, kept, address(&number_kept));
+    *number = (uint64_t) load64(address(&number_kept));
+    return result;
+}
