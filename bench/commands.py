@@ -64,7 +64,7 @@ def tool_runs(tool, files, data):
     ]
     for arguments, stdin in commands:
         name = f"{os.path.basename(tool)} {arguments[0]}"
-        yield name, lambda it=arguments, stdin=stdin: processor_timed([tool, *it], stdin, os.devnull)
+        yield name, lambda value=arguments, stdin=stdin: processor_timed([tool, *value], stdin, os.devnull)
     rejected = [tool, "verify", pk, data, files["legacy.sig"]]
     yield f"{os.path.basename(tool)} verify (legacy)", lambda: rejected_timed(rejected, LEGACY)
 

@@ -3,9 +3,9 @@
 
     bench/gate.py LOG
 
-What `.ci/run` says goes to the file LOG. The prover's processes are looked at twice a second, and told
-apart by their words and their directory, so no other prover may be at work; what was too short to be seen is in the row of all
-else. Processor time grows with the work that others do on the host, also where `vmstat` shows none in its column `st`.
+What `.ci/run` says goes to the file LOG, and in it what each script of tests/scripts.txt took, of which there is a table of its
+own. The prover's processes are looked at twice a second, and told apart by their words and their directory, so no other prover
+may be at work; what was too short to be seen, and the scripts, are in the row of all else. Processor time grows with the work that others do on the host, also where `vmstat` shows none in its column `st`.
 
 Needs Python 3.9 or later, what the gate needs, and Linux.
 """
@@ -22,6 +22,8 @@ from collections import defaultdict
 TOP = os.path.join(os.path.dirname(os.path.realpath(__file__)), "..")
 SECONDS = 0.5
 TICKS = os.sysconf("SC_CLK_TCK")
+# What a script says at its end.
+SCRIPT = re.compile(r"(?m)^== (.*): (\d+) s, (\d+) of the processor$")
 # What is run, beside proofs, by the words or the directory of a process.
 MUST_FAIL, GROUPS, ARCHIVES = "the edits of must-fail/", "the edits in groups", "archives for C, the page's module"
 
@@ -57,15 +59,15 @@ class Watch:
 
     def look_at(self, pid):
         """Notes what a process of the prover has taken until now."""
-        with open(f"/proc/{pid}/stat", encoding="utf-8", errors="replace") as it:
-            name, _, rest = it.read().rpartition(") ")
+        with open(f"/proc/{pid}/stat", encoding="utf-8", errors="replace") as file:
+            name, _, rest = file.read().rpartition(") ")
         fields = rest.split()
         key = pid, fields[19]
         if not name.endswith("(rattle"):
             return
         if key not in self.parts:
-            with open(f"/proc/{pid}/cmdline", encoding="utf-8", errors="replace") as it:
-                words = it.read().rstrip("\0").split("\0")
+            with open(f"/proc/{pid}/cmdline", encoding="utf-8", errors="replace") as file:
+                words = file.read().rstrip("\0").split("\0")
             self.parts[key] = part_of(words, os.readlink(f"/proc/{pid}/cwd"))
         if self.parts[key]:
             self.taken[key] = (int(fields[11]) + int(fields[12])) / TICKS
@@ -76,13 +78,13 @@ class Watch:
         sums = defaultdict(float)
         for key, seconds in self.taken.items():
             sums[self.parts[key]] += seconds
-        return [(it, sums[it], self.ends[it]) for it in sorted(sums, key=self.ends.get)]
+        return [(each, sums[each], self.ends[each]) for each in sorted(sums, key=self.ends.get)]
 
 
 def run(log, watch):
     """Runs the gate, and returns its status."""
-    with open(log, "w", encoding="utf-8") as it:
-        gate = subprocess.Popen(["bash", os.path.join(TOP, ".ci", "run")], stdin=subprocess.DEVNULL, stdout=it,
+    with open(log, "w", encoding="utf-8") as file:
+        gate = subprocess.Popen(["bash", os.path.join(TOP, ".ci", "run")], stdin=subprocess.DEVNULL, stdout=file,
                                 stderr=subprocess.STDOUT)
         waiting = threading.Thread(target=gate.wait)
         waiting.start()
@@ -105,8 +107,11 @@ def main(words):
     print("| Part | Ended after, minutes | Processor time, minutes |\n|---|---|---|")
     for name, seconds, end in rows:
         print(f"| {name} | {end / 60:.1f} | {seconds / 60:.1f} |")
-    with open(log, encoding="utf-8", errors="replace") as it:
-        said = it.read()
+    with open(log, encoding="utf-8", errors="replace") as file:
+        said = file.read()
+    print("\n| Script | By the clock, minutes | Processor time, minutes |\n|---|---|---|")
+    for name, seconds, used in sorted(SCRIPT.findall(said), key=lambda row: -int(row[2])):
+        print(f"| {name} | {int(seconds) / 60:.1f} | {int(used) / 60:.1f} |")
     kept = re.search(r"(?m)^rt: ok;.*", said)
     print(kept[0] if kept else "rt ci did not pass")
     print(said.rstrip("\n").rpartition("\n")[2])

@@ -107,10 +107,10 @@ def runs():
 def least(directory, arguments, said):
     """The least processor time of some runs and their greatest memory, where the answer is the right one."""
     ended = [run([TOOL, *arguments], directory=directory) for _ in range(ROUNDS)]
-    for it in ended:
-        if (it.status, it.output) != (int(said.startswith("error")), toy.WARNING + said):
-            raise SystemExit(f"{arguments[0]} ended with {it.status} and said {it.output[:200]!r}")
-    return min(it.processor_seconds for it in ended), max(it.memory for it in ended)
+    for answer in ended:
+        if (answer.status, answer.output) != (int(said.startswith("error")), toy.WARNING + said):
+            raise SystemExit(f"{arguments[0]} ended with {answer.status} and said {answer.output[:200]!r}")
+    return min(answer.processor_seconds for answer in ended), max(answer.memory for answer in ended)
 
 
 def main():

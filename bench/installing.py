@@ -1,5 +1,5 @@
 #!/usr/bin/env python3
-"""Times `c/minisign-install` over a file of 1 GiB by the clock, beside what a person would do by hand: `cat` into a stage,
+"""Times `minisign-install` over a file of 1 GiB by the clock, beside what a person would do by hand: `cat` into a stage,
 `sync` of it and `mv`, and `b2sum` of the data. They take turns, and each ratio is that of one turn to its two others together.
 
     bench/installing.py [DIRECTORY] [PROGRAM]
@@ -47,10 +47,10 @@ def main():
                     "minisign-install": [program, "--first", "key.pub", "data", "sig", "installed"]}
         turns = [{name: measured(command) for name, command in commands.items()} for _ in range(TURNS)]
     for name in commands:
-        print(f"{name:20} {statistics.median(it[name].seconds for it in turns):8.2f} s "
-              f"{statistics.median(it[name].processor_seconds for it in turns):8.2f} s of the processor "
-              f"{max(it[name].memory for it in turns):8.1f} MiB")
-    ratio = statistics.median(it["minisign-install"].seconds / (it["cat, sync, mv"].seconds + it["b2sum"].seconds) for it in turns)
+        print(f"{name:20} {statistics.median(turn[name].seconds for turn in turns):8.2f} s "
+              f"{statistics.median(turn[name].processor_seconds for turn in turns):8.2f} s of the processor "
+              f"{max(turn[name].memory for turn in turns):8.1f} MiB")
+    ratio = statistics.median(turn["minisign-install"].seconds / (turn["cat, sync, mv"].seconds + turn["b2sum"].seconds) for turn in turns)
     print(f"minisign-install takes {ratio:.2f} of the time of the two together")
 
 

@@ -30,8 +30,8 @@ PARTS = {"Answers", "Code", "Given", "Goals", "Invariants", "Kinds", "Layout", "
 
 def saved(directory):
     """The modules that the prover saved below a directory, in their order, with the seconds after the one before."""
-    files = [(os.stat(f"{at}/{it}").st_mtime, it[: -len(".oantt")]) for at, _, names in os.walk(directory)
-             for it in names if it.endswith(".oantt") and not at.endswith("/records")]
+    files = [(os.stat(f"{at}/{name}").st_mtime, name[: -len(".oantt")]) for at, _, names in os.walk(directory)
+             for name in names if name.endswith(".oantt") and not at.endswith("/records")]
     files.sort()
     return [(module, time - before) for (before, _), (time, module) in zip(files, files[1:])]
 
@@ -41,14 +41,14 @@ def costs(modules):
     found = defaultdict(Counter)
     for module, seconds in modules:
         path = re.sub(r"^Rattle-\w+-(proofs\.)?", "", module).split(".")
-        at = next((at for at, it in enumerate(path) if it in PARTS), None)
+        at = next((at for at, each in enumerate(path) if each in PARTS), None)
         found["::".join(path[:at])]["itself" if at is None else path[at]] += seconds
     return found
 
 
 def main(words):
-    rows = next((int(it) for it in words if it.isdigit()), 30)
-    crate, flags = words[0], [it for it in words if it == "--test"]
+    rows = next((int(word) for word in words if word.isdigit()), 30)
+    crate, flags = words[0], [word for word in words if word == "--test"]
     why = proved.supply(proved.crates()[crate].below)
     if why:
         print(f"a library is not proved: {why}")
@@ -56,7 +56,7 @@ def main(words):
     with tempfile.TemporaryDirectory(prefix="proofs-") as room:
         ran = proved.rattle("check", crate, f"{proved.ROOT}/crates/{crate}", "--incremental", room, *flags)
         found = costs(saved(room))
-    for name, parts in sorted(found.items(), key=lambda it: -sum(it[1].values()))[:rows]:
+    for name, parts in sorted(found.items(), key=lambda value: -sum(value[1].values()))[:rows]:
         shown = ", ".join(f"{part} {seconds:.1f}" for part, seconds in parts.most_common(4) if seconds >= 0.1)
         print(f"{sum(parts.values()):7.1f}  {name}: {shown}")
     total = sum((parts for parts in found.values()), Counter())

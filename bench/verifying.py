@@ -42,10 +42,10 @@ def main():
         processor_timed([minisign, "-G", "-W", "-p", pk, "-s", sk])
         processor_timed([minisign, "-S", "-s", sk, "-m", data, "-x", sig])
         arguments = ["-V", "-q", "-p", pk, "-x", sig, "-m", data]
-        v2, v3 = (os.path.join(static_library.DIST, f"calls-x86-64-{it}.a") for it in ("v2", "v3"))
+        v2, v3 = (os.path.join(static_library.DIST, f"calls-x86-64-{name}.a") for name in ("v2", "v3"))
         programs = {name: build(name, v2, of_v3, directory) for name, of_v3 in (("chosen", v3), ("x86-64-v2", v2))}
         compare(
-            [(name, lambda it=it: processor_timed([it, *arguments])) for name, it in programs.items()]
+            [(name, lambda value=program: processor_timed([value, *arguments])) for name, program in programs.items()]
             + [("b2sum", lambda: processor_timed(["b2sum", data])),
                ("minisign -V", lambda: processor_timed([minisign, *arguments]))],
             rounds=15,

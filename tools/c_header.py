@@ -33,7 +33,7 @@ def value(text):
     found = VALUE.fullmatch(text)
     if not found:
         raise Unfit(f"{FILE}: {text} is no parameter and no field that is read")
-    return Value(text, *(it or "" for it in found.groups()))
+    return Value(text, *(group or "" for group in found.groups()))
 
 
 class Header:
@@ -47,25 +47,25 @@ class Header:
         self.sizes = [Size(name, number, lengths.split(", ")) for name, lengths, number in SIZE.findall(text)]
         self.enums = {name: members(body) for name, body in ENUM.findall(text)}
         bare = re.sub(r"(?m)^#.*\n|/\*(?:.|\n)*?\*/", "", text).replace("MINISIGN_MUST_USE ", "")
-        self.structs = {name: [value(it) for it in body.split(";")[:-1]] for name, body in STRUCT.findall(bare)}
-        self.calls = [Call(answer, name, [value(it) for it in parameters.split(",") if it.strip() != "void"])
+        self.structs = {name: [value(word) for word in body.split(";")[:-1]] for name, body in STRUCT.findall(bare)}
+        self.calls = [Call(answer, name, [value(word) for word in parameters.split(",") if word.strip() != "void"])
                       for answer, name, parameters in CALL.findall(bare)]
-        self.in_parts = {name for name, fields in self.structs.items() if any(it.star for it in fields)}
+        self.in_parts = {name for name, fields in self.structs.items() if any(field.star for field in fields)}
         if len(self.calls) != len(re.findall(r"\bminisign_\w+\(", bare)):
             raise Unfit(f"{FILE}: a call is not read")
 
     def taken(self, call):
         """The parameters of the proved call: in place of a struct of parts its fields."""
-        for it in call.parameters:
-            if it.kind in self.in_parts:
-                yield from (field._replace(const="const " if field.star or field.count else "", name=f"{it.name}->{field.name}")
-                            for field in self.structs[it.kind])
+        for parameter in call.parameters:
+            if parameter.kind in self.in_parts:
+                yield from (field._replace(const="const " if field.star or field.count else "", name=f"{parameter.name}->{field.name}")
+                            for field in self.structs[parameter.kind])
             else:
-                yield it
+                yield parameter
 
     @property
     def errors(self):
-        return [it for it in self.enums["error"] if it.number]
+        return [enum for enum in self.enums["error"] if enum.number]
 
 
 def both():

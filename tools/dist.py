@@ -1,6 +1,7 @@
 #!/usr/bin/env python3
 """Makes `dist/`: the proved calls of the crate minisign_c as archives and, translated, as C (`portable_calls.py`), the page that
-verifies a download, `PROVED`, which says by what and from which sources they were proved, and `SHA256SUMS`.
+verifies a download, `PROVED`, which says by what and from which sources they were proved, and `SHA256SUMS`; and the copies of these
+that `carried.py` makes.
 
     tools/dist.py [PART ..]            proves, builds and writes them
     tools/dist.py --check [PART ..]    proves and builds them, and compares them byte for byte with what stands there
@@ -28,11 +29,12 @@ from collections import namedtuple
 
 HERE = os.path.dirname(os.path.realpath(__file__))
 ROOT = os.path.dirname(HERE)
-sys.path += [os.path.join(ROOT, *it) for it in (("tests", "shared"), ("page",))]
+sys.path += [os.path.join(ROOT, *words) for words in (("tests", "shared"), ("page",))]
 
 import boundary
 import build
 import c_header
+import carried
 import needs
 import portable_calls
 import proved
@@ -43,6 +45,7 @@ DIST = os.path.join(ROOT, "dist")
 PROVED, SUMS = "PROVED", "SHA256SUMS"
 CALLS, PAGE = "minisign_c", "minisign_page"
 PAGE_FILE, LOWERED = "minisign.html", "its module was lowered to 32 bits by"
+SOURCES_OF_PAGE, MODULE = build.SOURCES_SUM, build.MODULE_SUM
 # The archives, with the flags that they are built by.
 ARCHIVES = {"calls-x86-64-v2.a": [], "calls-x86-64-v3.a": ["--cpu=x86-64-v3"],
             "calls-aarch64.a": ["--target", "aarch64-unknown-linux-gnu"]}
@@ -51,7 +54,7 @@ C_CALLS, C_CALLS_OF, TRANSLATED = "calls.c", "calls-x86-64-v2.a", "translated fr
 # The files that SHA256SUMS lists.
 LISTED = [*ARCHIVES, C_CALLS, PAGE_FILE, PROVED]
 # What PROVED says, in this order.
-SAID_OF = ["kit", "sources of the calls", *ARCHIVES, TRANSLATED, "sources of the page", PAGE_FILE, LOWERED]
+SAID_OF = ["kit", "sources of the calls", *ARCHIVES, TRANSLATED, SOURCES_OF_PAGE, PAGE_FILE, LOWERED, MODULE]
 # The parts, with the crate of each.
 PARTS = {"calls": CALLS, "page": PAGE}
 
@@ -100,18 +103,17 @@ def built_calls(room):
         print(f"dist: {name}, and proving first what is not proved", flush=True)
         verdict = proved.build_archive(CALLS, archive, *flags, compilers=compilers if name == C_CALLS_OF else None)
         yield Built(name, read(archive), {name: verdict, "sources of the calls": sources_sum("calls")})
-    names = [it.name for it in boundary.proved_calls(c_header.both())]
+    names = [call.name for call in boundary.proved_calls(c_header.both())]
     said = f"{C_CALLS}, by tools/wasm_to_c.py, which is tested and not proved; sum of the bitcode {hashlib.sha256(read(bitcode)).hexdigest()}"
     yield Built(C_CALLS, portable_calls.text(bitcode, names, room).encode(), {TRANSLATED: said})
 
 
-def built_page(room):
-    """The page."""
-    page = os.path.join(room, PAGE_FILE)
-    if build.main([page]) != 0:
-        raise proved.NotBuilt("page/build.py wrote no page")
-    lines = {PAGE_FILE: proved.verdicts[PAGE], "sources of the page": sources_sum("page"), LOWERED: lowered_by(read(page))}
-    yield Built(PAGE_FILE, read(page), lines)
+def built_page(_):
+    """The page, which names the sum of its sources, as PROVED will name that and the module."""
+    module, by = build.lowered(build.proved_module()), build.lowering()
+    sums = build.sum_of(module), sources_sum("page")
+    page = build.page(module, by, sums=sums).encode()
+    yield Built(PAGE_FILE, page, {PAGE_FILE: proved.verdicts[PAGE], SOURCES_OF_PAGE: sums[1], LOWERED: by, MODULE: sums[0]})
 
 
 def lowered_by(page):
@@ -123,7 +125,7 @@ def lowered_by(page):
 def built(parts):
     """All files of these parts."""
     with tempfile.TemporaryDirectory(prefix="dist-") as room:
-        return [it for part in parts for it in (built_calls if part == "calls" else built_page)(room)]
+        return [file for part in parts for file in (built_calls if part == "calls" else built_page)(room)]
 
 
 def write(name, data):
@@ -140,12 +142,12 @@ def make(parts):
     if lines["kit"] != kit and {*parts} != {*PARTS}:
         raise needs.Missing(f"dist/ was made by {lines['kit']}, and here is {kit}: name no part, so that all is made by one kit")
     lines["kit"] = kit
-    for it in built(parts):
-        write(it.name, it.data)
-        lines.update(it.lines)
-        print(f"dist: {it.name}, {len(it.data)} bytes")
-    write(PROVED, (head + "\n\n" + "".join(f"{it}: {lines[it]}\n" for it in SAID_OF)).encode())
-    write(SUMS, "".join(f"{hashlib.sha256(read(it)).hexdigest()}  {it}\n" for it in LISTED).encode())
+    for file in built(parts):
+        write(file.name, file.data)
+        lines.update(file.lines)
+        print(f"dist: {file.name}, {len(file.data)} bytes")
+    write(PROVED, (head + "\n\n" + "".join(f"{key}: {lines[key]}\n" for key in SAID_OF)).encode())
+    write(SUMS, "".join(f"{hashlib.sha256(read(name)).hexdigest()}  {name}\n" for name in LISTED).encode())
 
 
 # ---------------------------------------------------------------------------------------------------------------
@@ -155,7 +157,7 @@ def make(parts):
 def check_files(report):
     """The files are those of SHA256SUMS, and nothing else stands there."""
     listed = dict(reversed(line.split("  ", 1)) for line in read(SUMS).decode().splitlines())
-    found = {it for it in os.listdir(DIST) if it not in (SUMS, "README.md")}
+    found = {name for name in os.listdir(DIST) if name not in (SUMS, "README.md")}
     report.check(found == {*listed} == {*LISTED}, "dist", f"it has {sorted(found)}, and {SUMS} lists {sorted(listed)}")
     for name in sorted(found & {*listed}):
         report.check(hashlib.sha256(read(name)).hexdigest() == listed[name], f"dist/{name}", f"it is not what {SUMS} says")
@@ -173,21 +175,21 @@ def check_sources(report, parts, lines):
         report.check(lines.get(key) == sources_sum(part), "dist", f"the {key} have changed since it was made: run tools/dist.py")
 
 
-def check_built(report, it, lines, kit):
+def check_built(report, file, lines, kit):
     """A file is what was built now."""
-    kept, own = ([made, *((by[LOWERED],) if it.name == PAGE_FILE else ())] for made, by in ((lines["kit"], lines), (kit, it.lines)))
-    is_same = read(it.name) == it.data
+    kept, own = ([made, *((by[LOWERED],) if file.name == PAGE_FILE else ())] for made, by in ((lines["kit"], lines), (kit, file.lines)))
+    is_same = read(file.name) == file.data
     if is_same:
-        print(f"dist: {it.name} has the same bytes as what was proved and built now", flush=True)
+        print(f"dist: {file.name} has the same bytes as what was proved and built now", flush=True)
     if is_same or kept == own:
-        report.check(is_same, f"dist/{it.name}", f"it is not what was proved and built now from these sources, {len(it.data)} bytes")
+        report.check(is_same, f"dist/{file.name}", f"it is not what was proved and built now from these sources, {len(file.data)} bytes")
         return
-    print(f"dist: {it.name} has other bytes by {' and '.join(own)} than by {' and '.join(kept)}, which made dist/", flush=True)
-    if it.name == PAGE_FILE:
+    print(f"dist: {file.name} has other bytes by {' and '.join(own)} than by {' and '.join(kept)}, which made dist/", flush=True)
+    if file.name == PAGE_FILE:
         # (the module, what the policy says of the script with it, and what lowered it)
         bare = [re.sub(rb'const MODULE = "[^"]*"|\'sha256-[^\']*\'', b"", page).replace(lowered_by(page).encode(), b"")
-                for page in (read(it.name), it.data)]
-        report.check(bare[0] == bare[1], f"dist/{it.name}", "it differs in more than its module")
+                for page in (read(file.name), file.data)]
+        report.check(bare[0] == bare[1], f"dist/{file.name}", "it differs in more than its module")
 
 
 def check(parts):
@@ -195,15 +197,17 @@ def check(parts):
     report, (_, lines), kit = Checks(), said_by_proved(), kit_line()
     check_files(report)
     check_sources(report, parts, lines)
-    logics = [re.search(r"logic \S+", it)[0] for it in (lines["kit"], kit)]
+    module = build.taken_from(os.path.join(DIST, PAGE_FILE))[0]
+    report.check(lines.get(MODULE) == build.sum_of(module), f"dist/{PAGE_FILE}", f"its module is not the one that {PROVED} names")
+    logics = [re.search(r"logic \S+", kit_said)[0] for kit_said in (lines["kit"], kit)]
     report.check(logics[0] == logics[1], "dist", f"it was proved by {lines['kit']}, and here is {kit}: another logic")
-    for it in built(parts):
-        check_built(report, it, lines, kit)
-        verdicts = [lines.get(it.name), it.lines.get(it.name)]
+    for file in built(parts):
+        check_built(report, file, lines, kit)
+        verdicts = [lines.get(file.name), file.lines.get(file.name)]
         is_proved = [said is not None and said.startswith("logic=proved ") for said in verdicts]
-        report.check(is_proved == [it.name != C_CALLS] * 2, it.name, f"the verdicts are {verdicts}")
-        if it.name == C_CALLS and lines["kit"] == kit:
-            report.check(lines.get(TRANSLATED) == it.lines[TRANSLATED], PROVED, f"it does not say what {C_CALLS} is translated from")
+        report.check(is_proved == [file.name != C_CALLS] * 2, file.name, f"the verdicts are {verdicts}")
+        if file.name == C_CALLS and lines["kit"] == kit:
+            report.check(lines.get(TRANSLATED) == file.lines[TRANSLATED], PROVED, f"it does not say what {C_CALLS} is translated from")
     if "calls" in parts:
         check_translated(report, lines)
     return report.end()
@@ -230,7 +234,8 @@ def main(words):
         if given.check:
             return check(parts)
         make(parts)
-    except (needs.Missing, proved.NotBuilt, OSError) as why:
+        carried.write()
+    except (needs.Missing, proved.NotBuilt, build.NotPossible, OSError) as why:
         print(f"FAILED: {why}" + ("\n0 passed, 1 failed" if given.check else ""))
         return 1
     return 0

@@ -8,7 +8,7 @@ of `c/examples`.
     tools/header.py --check    fails where one is not up to date; the last line is `N passed, M failed`
 
 A name in C is the name in the source, in capitals after `MINISIGN_`, or the one of `NAMES`. The comment is the first sentence
-of the source's. The head of `c/boundary.c`, and the head and the end of each manual page, are written by hand there, and kept.
+of the source's. The head of `c/library/boundary.c`, and the head and the end of each manual page, are written by hand there, and kept.
 Needs Python 3.9 or later.
 """
 
@@ -66,7 +66,6 @@ Choice = namedtuple("Choice", "place prefix enum file numbers")
 CHOICES = (
     Choice("Calls of installing", "DUE", "Due", f"{INSTALL}/src/order.rt", f"{INSTALL}/specs/Order.antt"),
     Choice("Numberings", "NUMBERING", "Numbering", f"{INSTALL}/src/comments.rt", INSTALL_NUMBERS),
-    Choice("Offers", "OFFER", "Offer", f"{INSTALL}/src/checking.rt", INSTALL_NUMBERS),
 )
 
 
@@ -109,7 +108,9 @@ def fault_rows():
     for name, body in re.findall(r"^named_text \(?fault\.(\w+)[^=]*=\s*(.*(?:\n    .*)*)", specs, re.M):
         letters = iter("AB")
         longer[name] = "".join(piece or next(letters) for piece, _ in re.findall(r'codes "([^"]*)"|(identifier_text)', body))
-    rows = re.findall(r'^fault_row \(?fault\.(\w+)[^=]*=\s+row (\d+) kind\.(\w+) \(codes "([^"]*)"\)', specs, re.M)
+    rows = re.findall(r'^fault_row \(?fault\.(\w+)[^=]*=\s+row (\d+) kind\.(\w+)\s+\(codes "([^"]*)"\)', specs, re.M)
+    if len(rows) != len(re.findall(r"^fault_row \(?fault\.", specs, re.M)):
+        raise Unfit(f"{FAULT_ROWS}: a row of an error is not read")
     return [(name, number, kind, longer.get(name, text)) for name, number, kind, text in rows]
 
 
@@ -125,20 +126,20 @@ def all_numbers(rows, comments):
     """The errors that calls of the header answer."""
     named = {name for name, number, _, _ in fault_rows() if int(number) >= UNANSWERED and name not in TOLD_BY_HOSTS}
     found = [*misuses(), *(Number(int(number), name, comments[name]) for name, number, _, _ in rows if name not in named)]
-    if len({it.number for it in found}) != len(found) or len({it.name for it in found}) != len(found):
+    if len({error.number for error in found}) != len(found) or len({error.name for error in found}) != len(found):
         raise Unfit("two errors have one number or one name")
-    if {*NAMES} - {it.variant for it in found}:
-        raise Unfit(f"a name in C for {', '.join(sorted({*NAMES} - {it.variant for it in found}))}, which no call answers")
+    if {*NAMES} - {error.variant for error in found}:
+        raise Unfit(f"a name in C for {', '.join(sorted({*NAMES} - {error.variant for error in found}))}, which no call answers")
     return sorted(found)
 
 
 def enum_text(enum, numbers, prefix="", first=()):
     """An enum of the header, of variants with their comments, in lines that fit."""
     told = []
-    for it in numbers:
-        lines = textwrap.wrap(f"/* {it.comment}\u00a0*/", COLUMNS, initial_indent="    ", subsequent_indent="     * ",
+    for variant in numbers:
+        lines = textwrap.wrap(f"/* {variant.comment}\u00a0*/", COLUMNS, initial_indent="    ", subsequent_indent="     * ",
                               break_long_words=False, break_on_hyphens=False)
-        told.append("\n".join([*lines, f"    MINISIGN_{prefix}{it.name} = {it.number}"]).replace("\u00a0", " "))
+        told.append("\n".join([*lines, f"    MINISIGN_{prefix}{variant.name} = {variant.number}"]).replace("\u00a0", " "))
     return f"enum minisign_{enum} {{\n" + ",\n".join([*first, *told]) + "\n};\n"
 
 
@@ -152,9 +153,9 @@ def choice_text(choice):
 def answers_text(numbers):
     """The answers of the header, which are the number of no error."""
     found = re.findall(r"^pub const (ANSWER_(?:YES|NO)): u32 = (\d+);$", read(NUMBERS), re.M)
-    if len(found) != 2 or any(int(it) < 256 or int(it) in {other.number for other in numbers} for _, it in found):
+    if len(found) != 2 or any(int(value) < 256 or int(value) in {other.number for other in numbers} for _, value in found):
         raise Unfit(f"{NUMBERS} has no two answers that are no other number")
-    return "enum minisign_answer {\n" + ",\n".join(f"    MINISIGN_{name} = {int(it):#x}" for name, it in found) + "\n};\n"
+    return "enum minisign_answer {\n" + ",\n".join(f"    MINISIGN_{name} = {int(value):#x}" for name, value in found) + "\n};\n"
 
 
 def table(head, rows):
@@ -184,8 +185,8 @@ def header_text(file, parts):
 def formats_text(numbers, rows, comments):
     """The document with the table of usage errors, and that of all errors with the names of those that C knows."""
     texts = re.findall(r'Misuse::(\w+) => (?:\{\s*)?"((?:[^"\\]|\\.)*)"', item_text(NUMBERS, "fn", "Misuse::text"))
-    in_c = {it.variant: f"`MINISIGN_{it.name}`" for it in numbers}
-    uses = [(str(it.number), in_c[it.variant], it.comment, f"`{dict(texts)[it.variant]}`") for it in misuses()]
+    in_c = {error.variant: f"`MINISIGN_{error.name}`" for error in numbers}
+    uses = [(str(misuse.number), in_c[misuse.variant], misuse.comment, f"`{dict(texts)[misuse.variant]}`") for misuse in misuses()]
     told = [(f"`{name}`", number, in_c.get(name, ""), kind, f"`{text}`", comments[name]) for name, number, kind, text in rows]
     tables = {"numbers": table(("Number", "Name in C", "When", "Text"), uses),
               "errors": table(("Name", "Number", "Name in C", "Kind", "Text", "When"), told)}
@@ -207,7 +208,7 @@ def made():
     calls = Header(header + installing)
     yield boundary.FILE, boundary.boundary_text(calls)
     yield boundary.POINTERS, boundary.pointers_text(calls)
-    yield "c/names", boundary.names_text(calls)
+    yield "c/library/names", boundary.names_text(calls)
     version = dict(Header(header).texts)["VERSION_TEXT"].strip('"')
     for file, page, examples in ((HEADER, header, manual.EXAMPLES), (INSTALLING, installing, {})):
         yield manual.page_of(file), manual.manual_text(manual.page_of(file), page, version, examples)

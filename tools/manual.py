@@ -7,6 +7,7 @@ page, up to the description, and its end are written by hand there.
 
 import os
 import re
+import textwrap
 
 from sources import read
 
@@ -56,6 +57,24 @@ def prose(comment):
     return made
 
 
+def filled(lines):
+    """The lines of a page, of which text has at most 80 letters, with no paragraph that is empty or begins where a section does."""
+    made, text, is_code = [], [], False
+    for line in [*lines, ""]:
+        if not line.startswith(".") and not is_code and line:
+            text.append(line)
+            continue
+        for part in textwrap.wrap(" ".join(text), 80, break_on_hyphens=False, break_long_words=False):
+            made.append("\\&" + part if part.startswith(".") else part)
+        text = []
+        while made and made[-1] == ".PP" and (line == ".PP" or line.startswith((".IP", ".SH"))):
+            made.pop()
+        if not (line == ".PP" and made and made[-1].startswith(".SH")):
+            made.append(line)
+        is_code = line == ".nf" or (is_code and line != ".fi")
+    return made[:-1]
+
+
 def without_guards(text):
     """The code that a caller reads: no lines for the preprocessor but definitions of constants."""
     text = re.sub(r"#if.*?#endif\n", "", text, flags=re.S)
@@ -73,4 +92,4 @@ def manual_text(page, header, version, examples):
     for heading, file in examples.items():
         made += [f".SH {heading.upper()}", *code(LICENCE.sub("", read(file)))]
     head, found, _ = re.sub(r'(?m)^(\.TH .* "minisign ).*"$', rf'\g<1>{version}"', kept).partition(".SH DESCRIPTION\n")
-    return head + found + "\n".join(made) + "\n" + kept[kept.rindex(".SH SEE ALSO\n"):]
+    return head + found + "\n".join(filled(made)) + "\n" + kept[kept.rindex(".SH SEE ALSO\n"):]

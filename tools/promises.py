@@ -41,7 +41,7 @@ SAID = ("output", "debug_output", "eq", "is_default", "from_gives")
 # What stands in the comment of a call and is said for all at once: no allocator is passed to it.
 NO_MEMORY = re.compile(r"\s*(?:Takes no memory|Does not allocate)\.")
 # What a clause cites for every error, every record and every device, and what is left out of a table therefore.
-PLAIN = re.compile(r"(?:Named|Worded|PError|\w+Record|[A-Z]|.*[^\w].*|[a-z_0-9]+)$")
+PLAIN = re.compile(r"(?:Fault|Named|Worded|PError|\w+Record|[A-Z]|.*[^\w].*|[a-z_0-9]+)$")
 
 
 def paragraphs(comment):
@@ -85,7 +85,7 @@ class Call:
     def groups(self):
         """What is said of its clauses, and the clauses that stand under it."""
         groups = []
-        for clause in (it for it in self.item.clauses if it.kind.startswith("ensures")):
+        for clause in (clause for clause in self.item.clauses if clause.kind.startswith("ensures")):
             if clause.comment or not groups:
                 groups.append((paragraphs(clause.comment) if clause.comment else [doc_of(self.item)], []))
             elif clause.is_apart:
@@ -96,9 +96,9 @@ class Call:
     def carried(self, clauses):
         """A function with its clauses, and the repository's definitions that these cite."""
         names, imports = [f"`{clause.name}`" for clause in clauses if clause.name], sources.read_source(self.item.file).imports
-        cited = dict.fromkeys(f"`{name}`" for clause in clauses for name, _, _, it in
+        cited = dict.fromkeys(f"`{name}`" for clause in clauses for name, _, _, each in
                               self.library.named_in(clause.text, imports, {})
-                              if isinstance(it, sources.Definition) and self.library.is_own(it.file) and not PLAIN.match(name))
+                              if isinstance(each, sources.Definition) and self.library.is_own(each.file) and not PLAIN.match(name))
         said = f"`{self.item.path}`" + (f": {', '.join(names)}" if names else "")
         return said + (f" ({', '.join(cited)})" if cited else "")
 
@@ -106,11 +106,11 @@ class Call:
 def calls_of(library, crate):
     """The calls of a crate that promise something, in the order in which they stand."""
     read = library.crate_sources(crate)
-    types = {it.name for source in read for it in source.items if it.public and it.what in ("struct", "enum", "trait", "type")}
+    types = {item.name for source in read for item in source.items if item.public and item.what in ("struct", "enum", "trait", "type")}
     for source in read:
         path = os.path.relpath(source.file, os.path.join(library.crates[crate], "src"))
         module = path.removesuffix(".rt").replace(os.sep, "::").removesuffix("::mod")
-        for item in sorted(source.items, key=lambda it: it.line) if "tests" not in module.split("::") else ():
+        for item in sorted(source.items, key=lambda value: value.line) if "tests" not in module.split("::") else ():
             of_type = item.what == "impl" or item.trait
             is_public = item.owner in types if of_type else item.public or item.block.startswith("pub trait")
             if promises(item):
@@ -120,7 +120,7 @@ def calls_of(library, crate):
 def promises(item):
     """Whether a function has a clause for its callers, or an implementation says something to them."""
     if item.what == "impl":
-        return any(it.what == "ghost" and it.name in SAID for it in item.members)
+        return any(member.what == "ghost" and member.name in SAID for member in item.members)
     return item.what == "fn" and any(clause.kind.startswith("ensures") for clause in item.clauses)
 
 
@@ -146,14 +146,14 @@ def headlines(library):
 
 
 def words(text):
-    return [it.strip() for it in (text or "").split(",") if it.strip()]
+    return [word.strip() for word in (text or "").split(",") if word.strip()]
 
 
 def taken(library, crate, marks, without):
     """The calls for each of a crate's marks, which are the lines with their places: each call is where a place names it most
     exactly, and there in the order of the places."""
-    calls, tables = [it for it in calls_of(library, crate) if it.module not in without], {line: [] for line in marks}
-    modules = {it.module for it in calls} | {*without}
+    calls, tables = [call for call in calls_of(library, crate) if call.module not in without], {line: [] for line in marks}
+    modules = {call.module for call in calls} | {*without}
     for call in calls:
         exact, at, line = max((call.is_at(place, modules), -at, line) for line, places in marks.items()
                               for at, place in enumerate(places or [""]))
@@ -163,9 +163,9 @@ def taken(library, crate, marks, without):
         if exact == 3 or call.is_public:
             tables[line if exact else rest].append((-at, call))
     for line, places in marks.items():
-        for place in (it for at, it in enumerate(places) if at not in {at for at, _ in tables[line]}):
+        for place in (place for at, place in enumerate(places) if at not in {at for at, _ in tables[line]}):
             raise Unfit(f"{place} of {crate} has no call that promises anything, or another table has it")
-    return {line: [call for _, call in sorted(of_line, key=lambda it: it[0])] for line, of_line in tables.items()}
+    return {line: [call for _, call in sorted(of_line, key=lambda value: value[0])] for line, of_line in tables.items()}
 
 
 def made():

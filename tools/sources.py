@@ -113,7 +113,7 @@ class Item:
 
 def in_one_line(text):
     """The text with each white space as one space, and without comments and spaces inside its brackets."""
-    bare = OPAQUE.sub(lambda it: " " if it[0].startswith(("//", "/*")) else it[0], text)
+    bare = OPAQUE.sub(lambda value: " " if value[0].startswith(("//", "/*")) else value[0], text)
     bare = re.sub(r"(?<=\w)< ", "<", re.sub(r"\s+", " ", bare).strip()).replace(", >", ">")
     return re.sub(r",? (?=[)\]])", "", re.sub(r"(?<=[(\[]) ", "", bare))
 
@@ -124,7 +124,7 @@ def trait_and_type(header):
     while bare != left:
         left, bare = bare, re.sub(r"<[^<>]*>", "", bare)
     trait, _, kind = re.sub(r"\bwhere\b.*", "", bare).rpartition(" for ")
-    return [(NAME.findall(re.sub("[&']", " ", it)) or [it.strip()])[-1] for it in (trait, kind)]
+    return [(NAME.findall(re.sub("[&']", " ", each)) or [each.strip()])[-1] for each in (trait, kind)]
 
 
 def take_use(imports, text):
@@ -146,7 +146,7 @@ class Reader:
         self.source = Source(file, read(file), [], {})
         self.text = self.source.text
         # The text with spaces for what is opaque, and the places after the brackets that close others.
-        self.bare = OPAQUE.sub(lambda it: re.sub(r"[^\n]", " ", it[0]), self.text)
+        self.bare = OPAQUE.sub(lambda value: re.sub(r"[^\n]", " ", value[0]), self.text)
         self.closed, waiting = {}, []
         for found in re.finditer(r"[(\[{]|[)\]}]", self.bare):
             if found[0] in "([{":
@@ -310,8 +310,8 @@ class Library:
 
     def __init__(self):
         self.kit = find_kit()
-        crates = sorted(os.scandir(os.path.join(ROOT, "crates")), key=lambda it: it.name)
-        self.crates = {it.name: it.path for it in crates if it.is_dir()}
+        crates = sorted(os.scandir(os.path.join(ROOT, "crates")), key=lambda value: value.name)
+        self.crates = {crate.name: crate.path for crate in crates if crate.is_dir()}
 
     def is_own(self, file):
         return os.path.commonpath([ROOT, file]) == ROOT
@@ -371,7 +371,7 @@ class Library:
     @functools.lru_cache(maxsize=None)
     def resolve(self, module, name):
         """The definition, or the item of a `.rt` file, that a module has under a name, or None."""
-        found = (self.declared(at, it) or self.definitions_of(at).get(it) for at, it in self.chain(module, name))
+        found = (self.declared(at, each) or self.definitions_of(at).get(each) for at, each in self.chain(module, name))
         return next(filter(None, found), None)
 
     def definitions_of(self, module):

@@ -32,10 +32,10 @@ OPENING = Part((("minisign", "open_with_password", ""),), "open_key")
 SIGNING = Part((("minisign", "sign_bytes", "headline"),))
 DEVICES = Part((("minisign", "verify_texts", "headline"), ("minisign", "SecretKey::from_box", "headline"),
                 ("minisign", "sign_texts", "headline")))
-INSTALLING = Part((("minisign_install", "install_update", "headline"),))
+INSTALLING = Part((("minisign_install", "any_run_installs_only_updates", "safe"),))
 # The calls from C that verify, sign and make keys, by the exports of `minisign_c`, and the clauses that say what they are for.
 FROM_C = Part(tuple(("minisign_c", f"minisign_{path}", clause) for path, clause in (
-    ("read_public_key", ""), ("read_bare_public_key", ""), ("ask", "number"), ("ask", "asked"), ("ask", "asking"),
+    ("read_public_key", ""), ("read_bare_public_key", ""), ("read_signature", "number"), ("read_signature", "read"), ("ask", "number"), ("ask", "asked"),
     ("update", "fed"), ("digest", "digest"), ("comment_verdict", "verdict"), ("verdict", "verdict"),
     ("read_secret_key", "read"), ("read_secret_key", "opens"), ("open_unsealed_key", ""), ("open_sealed_key", ""),
     ("public_key_of", ""),
@@ -72,14 +72,14 @@ class Trusted:
     def __init__(self):
         self.library = sources.Library()
         # The clauses with which a part begins.
-        self.clauses = {part: [(function_of(self.library, *it), it[2]) for it in part.clauses] for part in PARTS}
+        self.clauses = {part: [(function_of(self.library, *clause), clause[2]) for clause in part.clauses] for part in PARTS}
         # By what stands for a definition: its part. In the order in which it is used.
         self.parts = {}
         # What the logic has without a definition, and what is found nowhere.
         self.built_in, self.unknown = set(), set()
         for part in PARTS[:-1]:
-            for it in self.roots(part):
-                self.follow(it, part)
+            for root in self.roots(part):
+                self.follow(root, part)
             self.end_with_faults(part)
 
     def roots(self, part):
@@ -93,17 +93,17 @@ class Trusted:
             # The views of the repository's types that it takes or returns.
             names = {*re.findall(r"\w+", function.header), function.owner}
             named += [item for item in self.items("impl") if item.trait == "Model" and item.owner in names]
-        begins = [it for it in self.reached(named) if part.first and it.name == part.first]
+        begins = [definition for definition in self.reached(named) if part.first and definition.name == part.first]
         return [*begins, *named, *traits]
 
     def reached(self, named):
         """The repository's definitions that these reach."""
         found = {}
         while named:
-            it, *named = named
-            if it not in found and self.library.is_own(it.file):
-                found[it] = None
-                named += self.named_by(it)
+            definition, *named = named
+            if definition not in found and self.library.is_own(definition.file):
+                found[definition] = None
+                named += self.named_by(definition)
         return found
 
     def follow(self, definition, part):
@@ -111,13 +111,13 @@ class Trusted:
         is_own = self.library.is_own(definition.file)
         if definition not in self.parts:
             self.parts[definition] = part if is_own else KIT
-            for it in self.named_by(definition):
-                self.follow(it, part)
+            for each in self.named_by(definition):
+                self.follow(each, part)
 
     def end_with_faults(self, part):
         """Moves what says which errors there are to the end of a part."""
-        for it in [it for it, its in self.parts.items() if its is part and is_of_faults(it)]:
-            self.parts[it] = self.parts.pop(it)
+        for pair in [name for name, its in self.parts.items() if its is part and is_of_faults(name)]:
+            self.parts[pair] = self.parts.pop(pair)
 
     def items(self, what):
         return (item for crate in self.library.crates for source in self.library.crate_sources(crate)
@@ -134,7 +134,7 @@ class Trusted:
                 self.built_in.add(name)
             else:
                 self.unknown.add(f"{module}.{source}")
-        return [it for _, it in sorted(found, key=lambda it: it[0])]
+        return [each for _, each in sorted(found, key=lambda value: value[0])]
 
     def data_of(self, module, name):
         """The data of which a name is a case."""
@@ -153,7 +153,7 @@ class Trusted:
 
     def trait_and_above(self, name):
         """The repository's trait of a name, and the traits that it stands on, these first."""
-        for item in (it for it in self.items("trait") if it.name == name):
+        for item in (pair for pair in self.items("trait") if pair.name == name):
             for above in re.findall(r"\w+", item.header.partition(":")[2]):
                 yield from self.trait_and_above(above)
             yield item
@@ -162,7 +162,7 @@ class Trusted:
         """What a definition names: of a word first what it is made of, and then what its type names."""
         if isinstance(definition, Definition):
             module = sources.read_module(definition.file)
-            others = [(name, it) for name, it in module.definitions.items() if it is not definition]
+            others = [(name, value) for name, value in module.definitions.items() if value is not definition]
             text, signature = definition.text, signature_of(definition)
             return self.found(text[len(signature):] + "\n" + signature, module.imports, others)
         if not self.library.is_own(definition.file):
@@ -193,7 +193,7 @@ def text_of(definition):
         return "\n".join([*definition.comment, *definition.lines]).rstrip()
     if definition.what == "enum" and OF_FAULTS.search(definition.file):
         # (an enum of errors by the names of its variants: when each comes, the functions say)
-        first, *names, last = [it.strip() for it in definition.text.strip().split("\n") if not it.lstrip().startswith(("///", "#["))]
+        first, *names, last = [line.strip() for line in definition.text.strip().split("\n") if not line.lstrip().startswith(("///", "#["))]
         indent = "    "
         return "\n".join([first, textwrap.fill(" ".join(names), 120, initial_indent=indent, subsequent_indent=indent,
                                                break_on_hyphens=False), last])
@@ -201,7 +201,7 @@ def text_of(definition):
 
 
 def names_of(definitions):
-    return ", ".join(f"`{it.name}`" for it in definitions) + "."
+    return ", ".join(f"`{definition.name}`" for definition in definitions) + "."
 
 
 def block_of(language, definitions):
@@ -222,10 +222,10 @@ class Facts:
         self.trusted, self.about = trusted, {}
         for crate in trusted.library.crates:
             file = os.path.join(trusted.library.crates[crate], FACTS)
-            for it in sources.read_module(file).definitions.values() if os.path.exists(file) else ():
-                if it.text.startswith("pub ") and (subject := self.subject_of(it)):
-                    printed = re.search(r"\((RFC \d+[^)]*)\)", " ".join(line.removeprefix("-- ") for line in it.comment))
-                    said = f"`{it.name}`" + (f" ({printed[1]})" if printed else "")
+            for definition in sources.read_module(file).definitions.values() if os.path.exists(file) else ():
+                if definition.text.startswith("pub ") and (subject := self.subject_of(definition)):
+                    printed = re.search(r"\((RFC \d+[^)]*)\)", " ".join(line.removeprefix("-- ") for line in definition.comment))
+                    said = f"`{definition.name}`" + (f" ({printed[1]})" if printed else "")
                     self.about.setdefault(trusted.parts[subject], {}).setdefault(file, {}).setdefault(subject, []).append(said)
 
     def subject_of(self, fact):
@@ -272,20 +272,20 @@ class Writer:
 
     def clauses(self, functions):
         for function, name in functions:
-            text = next(it.whole for it in function.clause(name) if it.kind == "ensures")
+            text = next(each.whole for each in function.clause(name) if each.kind == "ensures")
             yield f"`{function.path}` in {self.linked(function.file)}:"
             yield f"```rust\n{text}\n```"
 
     def in_order(self, definitions):
         """Definitions of the repository with their text, and the file above those that stand in one."""
-        for file, of_file in itertools.groupby(definitions, key=lambda it: it.file):
+        for file, of_file in itertools.groupby(definitions, key=lambda value: value.file):
             yield self.linked(file)
             yield block_of("antt" if file.endswith(".antt") else "rust", of_file)
 
     def of_kit(self, file, definitions):
         """Definitions of a file of the kit: only the short ones have their text."""
-        short = [it for it in definitions if isinstance(it, Definition) and text_of(it).count("\n") < SHOWN_LINES]
-        others = [it for it in definitions if it not in short]
+        short = [definition for definition in definitions if isinstance(definition, Definition) and text_of(definition).count("\n") < SHOWN_LINES]
+        others = [definition for definition in definitions if definition not in short]
         yield f"### {self.library.shown(file)}"
         yield from ["By name: " + names_of(others)] if others else []
         yield from [block_of("antt", short)] if short else []
@@ -298,15 +298,15 @@ class Writer:
 
     def kit(self, definitions):
         files = {}
-        for it in definitions:
-            files.setdefault(it.file, []).append(it)
+        for definition in definitions:
+            files.setdefault(definition.file, []).append(definition)
         for file, of_file in files.items():
-            yield from self.of_kit(file, sorted(of_file, key=lambda it: it.line))
+            yield from self.of_kit(file, sorted(of_file, key=lambda value: value.line))
         yield from self.built_in()
 
     def part(self, number, part):
         """The text of a part: its clauses, and its definitions in the order of use."""
-        definitions = [it for it, its in self.trusted.parts.items() if its is part]
+        definitions = [name for name, its in self.trusted.parts.items() if its is part]
         pieces = [*self.clauses(self.trusted.clauses[part]), *(self.kit if part is KIT else self.in_order)(definitions)]
         self.counts[number] = (len(definitions), lines_of("\n\n".join(pieces)))
         return "\n\n".join([self.by_hand(number, self.counts[number]), *pieces, *self.facts.of(part)])

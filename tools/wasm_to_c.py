@@ -69,7 +69,7 @@ TABLE = """
     i32.store16       store16(a, b)                     i64.store16       store16(a, b)
     i64.store32       store32(a, b)
 """
-IN_C = dict(it.split(maxsplit=1) for row in TABLE.splitlines() for it in re.split(r" {2,}(?=i\d\d\.)", row.strip()) if it)
+IN_C = dict(word.split(maxsplit=1) for row in TABLE.splitlines() for word in re.split(r" {2,}(?=i\d\d\.)", row.strip()) if word)
 ENDING_THE_PROGRAM = ("div_", "rem_")
 
 TYPES = {"i32": "u32", "i64": "u64"}
@@ -122,15 +122,15 @@ class Body:
         # Whether what comes next is never reached, and how many blocks were opened since.
         self.is_unreachable, self.passed_over = False, 0
         self.calls, self.reads_table, self.frame = [], False, 0
-        self.uses_stack = any(it.name.startswith("global") for it in function.instructions)
+        self.uses_stack = any(instruction.name.startswith("global") for instruction in function.instructions)
         if self.uses_stack:
             self.frame = frame_of(function)
         self.blocks.append(Block("function", function.results[0] if function.results else None, 0, 0))
-        for it in function.instructions:
+        for instruction in function.instructions:
             if self.is_unreachable:
-                self.pass_over(it)
+                self.pass_over(instruction)
             else:
-                self.translate(it)
+                self.translate(instruction)
         if self.blocks:
             raise Unread(f"{function.name}: a block does not end")
 
@@ -156,56 +156,56 @@ class Body:
 
     def keep_what_reads(self, what):
         """What stands on the stack and reads something that now changes is kept as it is."""
-        self.stack = [self.keep(it) if what in it.reads else it for it in self.stack]
+        self.stack = [self.keep(each) if what in each.reads else each for each in self.stack]
 
     # ---- Instructions ----
 
-    def pass_over(self, it):
+    def pass_over(self, instruction):
         """An instruction that is never reached, but that may end the block in which it is not."""
-        if it.name in ("block", "loop", "if"):
+        if instruction.name in ("block", "loop", "if"):
             self.passed_over += 1
         elif self.passed_over > 0:
-            self.passed_over -= it.name == "end"
-        elif it.name in ("else", "end"):
-            self.translate(it)
+            self.passed_over -= instruction.name == "end"
+        elif instruction.name in ("else", "end"):
+            self.translate(instruction)
 
-    def translate(self, it):
-        kind, _, rest = it.name.partition(".")
-        if it.name in IN_C:
-            self.number(it, kind if kind in TYPES else None)
+    def translate(self, instruction):
+        kind, _, rest = instruction.name.partition(".")
+        if instruction.name in IN_C:
+            self.number(instruction, kind if kind in TYPES else None)
         else:
             how = getattr(self, f"do_{kind}" if not rest else f"do_{kind}_{rest}", None)
             if how is None:
-                raise Unread(f"{self.function.name}: the instruction {it.name}")
-            how(it)
+                raise Unread(f"{self.function.name}: the instruction {instruction.name}")
+            how(instruction)
 
-    def number(self, it, kind):
+    def number(self, instruction, kind):
         """An instruction of the table."""
-        text = IN_C[it.name]
-        is_store, has_two = ".store" in it.name, re.search(r"\bb\b", text)
+        text = IN_C[instruction.name]
+        is_store, has_two = ".store" in instruction.name, re.search(r"\bb\b", text)
         b = self.pop() if has_two else None
-        a = self.pop() if not re.search(r"\.(load|store)", it.name) else self.address(it)
-        reads = a.reads | (b.reads if b else EMPTY) | (frozenset([MEMORY]) if ".load" in it.name else EMPTY)
+        a = self.pop() if not re.search(r"\.(load|store)", instruction.name) else self.address(instruction)
+        reads = a.reads | (b.reads if b else EMPTY) | (frozenset([MEMORY]) if ".load" in instruction.name else EMPTY)
         if b and b.number is not None:
             # (how far is shifted, where that is known)
             text = re.sub(r"\(b & (\d+)\)", lambda found: str(b.number & int(found[1])), text)
-        text = f"!({a.truth})" if it.name.endswith("eqz") and a.truth else in_c(text, a, b)
+        text = f"!({a.truth})" if instruction.name.endswith("eqz") and a.truth else in_c(text, a, b)
         if is_store:
             self.keep_what_reads(MEMORY)
             self.line(f"{text};")
-        elif re.search(r" [=!<>]=? ", IN_C[it.name]):
+        elif re.search(r" [=!<>]=? ", IN_C[instruction.name]):
             self.push(f"(u32) ({text})", "i32", reads, False, text)
         else:
-            value = Value(text, kind, reads, bool(re.fullmatch(r"\w+\([^()]*\)", IN_C[it.name])))
-            self.stack.append(self.keep(value) if any(word in it.name for word in ENDING_THE_PROGRAM) else value)
+            value = Value(text, kind, reads, bool(re.fullmatch(r"\w+\([^()]*\)", IN_C[instruction.name])))
+            self.stack.append(self.keep(value) if any(word in instruction.name for word in ENDING_THE_PROGRAM) else value)
 
-    def address(self, it):
+    def address(self, instruction):
         """Where an instruction loads from, or stores to: a number from the stack, and what the instruction adds."""
         base = self.pop()
-        if it.symbol is not None:
-            data = self.data(it.symbol)
+        if instruction.symbol is not None:
+            data = self.data(instruction.symbol)
             return data if base.number == 0 else Value(f"{in_parentheses(base)} + {in_parentheses(data)}", "i64", base.reads)
-        return Value(f"{in_parentheses(base)} + {it.operand}", "i64", base.reads) if it.operand else base
+        return Value(f"{in_parentheses(base)} + {instruction.operand}", "i64", base.reads) if instruction.operand else base
 
     def data(self, place):
         """The address of data."""
@@ -213,31 +213,31 @@ class Body:
         self.reads_table |= is_in_table
         return Value(text, "i64", EMPTY, "+" not in text)
 
-    def do_i32_const(self, it):
-        self.stack.append(constant("i32", it.operand) if it.symbol is None else self.data(it.symbol))
+    def do_i32_const(self, instruction):
+        self.stack.append(constant("i32", instruction.operand) if instruction.symbol is None else self.data(instruction.symbol))
 
-    def do_i64_const(self, it):
-        self.stack.append(constant("i64", it.operand) if it.symbol is None else self.data(it.symbol))
+    def do_i64_const(self, instruction):
+        self.stack.append(constant("i64", instruction.operand) if instruction.symbol is None else self.data(instruction.symbol))
 
-    def do_local_get(self, it):
-        name = f"l{it.operand}"
-        self.push(name, self.function.locals[it.operand], frozenset([name]), True)
+    def do_local_get(self, instruction):
+        name = f"l{instruction.operand}"
+        self.push(name, self.function.locals[instruction.operand], frozenset([name]), True)
 
-    def do_local_set(self, it):
-        name, value = f"l{it.operand}", self.pop()
+    def do_local_set(self, instruction):
+        name, value = f"l{instruction.operand}", self.pop()
         self.keep_what_reads(name)
         self.line(f"{name} = {value.text};")
 
-    def do_local_tee(self, it):
-        self.do_local_set(it)
-        self.do_local_get(it)
+    def do_local_tee(self, instruction):
+        self.do_local_set(instruction)
+        self.do_local_get(instruction)
 
-    def do_global_get(self, it):
-        self.all.check_variable(it)
+    def do_global_get(self, instruction):
+        self.all.check_variable(instruction)
         self.push("sp", "i64", frozenset(["sp"]), True)
 
-    def do_global_set(self, it):
-        self.all.check_variable(it)
+    def do_global_set(self, instruction):
+        self.all.check_variable(instruction)
         value = self.pop()
         self.keep_what_reads("sp")
         self.line(f"sp = {value.text};")
@@ -266,14 +266,14 @@ class Body:
         """What writes many bytes takes three numbers."""
         arguments = [self.pop() for _ in range(3)][::-1]
         self.keep_what_reads(MEMORY)
-        self.line(f"{how}({', '.join(it.text for it in arguments)});")
+        self.line(f"{how}({', '.join(argument.text for argument in arguments)});")
 
-    def do_call(self, it):
-        called = self.all.object.functions[it.operand]
+    def do_call(self, instruction):
+        called = self.all.object.functions[instruction.operand]
         arguments = [self.pop() for _ in called.parameters][::-1]
         self.keep_what_reads(MEMORY)
-        self.calls.append(it.operand)
-        text = self.all.call(it.operand, [one.text for one in arguments])
+        self.calls.append(instruction.operand)
+        text = self.all.call(instruction.operand, [one.text for one in arguments])
         if called.results:
             self.stack.append(self.keep(Value(text, called.results[0])))
         else:
@@ -281,23 +281,23 @@ class Body:
 
     # ---- Blocks ----
 
-    def do_block(self, it):
-        self.begin(it, "{")
+    def do_block(self, instruction):
+        self.begin(instruction, "{")
 
-    def do_loop(self, it):
-        self.begin(it, "{")
+    def do_loop(self, instruction):
+        self.begin(instruction, "{")
 
-    def do_if(self, it):
-        self.begin(it, f"if ({condition(self.pop())}) {{")
+    def do_if(self, instruction):
+        self.begin(instruction, f"if ({condition(self.pop())}) {{")
 
-    def begin(self, it, text):
+    def begin(self, instruction, text):
         """Begins a block. What stands on the stack has to last, whatever that does."""
         self.stack = [self.keep(one) if one.reads else one for one in self.stack]
         self.opened += 1
-        block = Block(it.name, it.operand, self.opened, len(self.stack))
+        block = Block(instruction.name, instruction.operand, self.opened, len(self.stack))
         if block.gives:
             self.line(f"{TYPES[block.gives]} {block.result};")
-        if it.name == "loop":
+        if instruction.name == "loop":
             self.line(f"{block.label}:;")
         self.line(text)
         self.blocks.append(block)
@@ -339,20 +339,20 @@ class Body:
         block.is_branched_to = True
         return f"{block.result} ={given}; goto {block.label};" if gives else f"goto {block.label};"
 
-    def do_br(self, it):
-        self.line(self.branch(it.operand))
+    def do_br(self, instruction):
+        self.line(self.branch(instruction.operand))
         self.is_unreachable = True
 
-    def do_br_if(self, it):
+    def do_br_if(self, instruction):
         asked = self.pop()
-        if self.blocks[-1 - it.operand].gives and self.stack:
+        if self.blocks[-1 - instruction.operand].gives and self.stack:
             # (it is read twice)
             self.stack[-1] = self.keep(self.stack[-1])
-        self.line(f"if ({condition(asked)}) {{ {self.branch(it.operand)} }}")
+        self.line(f"if ({condition(asked)}) {{ {self.branch(instruction.operand)} }}")
 
-    def do_br_table(self, it):
+    def do_br_table(self, instruction):
         asked = self.pop()
-        *others, last = map(self.branch, it.operand)
+        *others, last = map(self.branch, instruction.operand)
         self.line(f"switch ({asked.text}) {{")
         for number, one in enumerate(others):
             if one != last:
@@ -370,17 +370,17 @@ def in_c(text, a, b):
     """A row of the table, with what it takes put in: without parentheses where it stands alone in those of a call."""
     values = {"a": a, "b": b}
     return re.sub(r"(?<=\w\()([ab])(?=[,)])|(?<=, )([ab])(?=\))|\b([ab])\b",
-                  lambda it: in_parentheses(values[it[3]]) if it[3] else values[it[1] or it[2]].text, text)
+                  lambda value: in_parentheses(values[value[3]]) if value[3] else values[value[1] or value[2]].text, text)
 
 
 def frame_of(function):
     """How much of the stack of the machine a function takes, as it says once where it begins."""
     code = function.instructions
-    found = [(code[at + 1], code[at + 2].name) for at, it in enumerate(code) if it.name == "global.get"]
+    found = [(code[at + 1], code[at + 2].name) for at, instruction in enumerate(code) if instruction.name == "global.get"]
     if len(found) != 1 or found[0][0].name != "i64.const" or found[0][1] not in ("i64.sub", "i64.add"):
         raise Unread(f"{function.name}: how much of the stack it takes")
-    (it, how), = found
-    return it.operand if how == "i64.sub" else -it.operand
+    (size, how), = found
+    return size.operand if how == "i64.sub" else -size.operand
 
 
 class Translation:
@@ -388,10 +388,10 @@ class Translation:
 
     def __init__(self, read, exported):
         self.object, self.exported = read, exported
-        self.numbers = {it.name: number for number, it in enumerate(read.functions)}
+        self.numbers = {function.name: number for number, function in enumerate(read.functions)}
         self.segments, self.table, self.names, self.bodies = set(), {}, {}, {}
         self.table_bytes = 0
-        missing = [it for it in exported if it not in self.numbers]
+        missing = [name for name in exported if name not in self.numbers]
         if missing:
             raise Unread(f"it has no {', '.join(missing)}")
         for name in exported:
@@ -405,21 +405,21 @@ class Translation:
         if number in self.bodies or self.object.functions[number].instructions is None:
             return
         body = Body(self, self.object.functions[number])
-        for it in sorted({*body.calls}):
-            self.visit(it, [*above, number])
+        for call in sorted({*body.calls}):
+            self.visit(call, [*above, number])
         # What is handed on: the end of the stack and the table, where something below needs them.
-        below = [self.bodies[it] for it in body.calls if it in self.bodies]
-        body.stack_bytes = body.frame + max((it.stack_bytes for it in below), default=0)
+        below = [self.bodies[call] for call in body.calls if call in self.bodies]
+        body.stack_bytes = body.frame + max((name.stack_bytes for name in below), default=0)
         body.handed = [name for name, is_needed in (
-            ("sp", body.uses_stack or any("sp" in it.handed for it in below)),
-            ("table", body.reads_table or any("table" in it.handed for it in below))) if is_needed]
+            ("sp", body.uses_stack or any("sp" in name.handed for name in below)),
+            ("table", body.reads_table or any("table" in name.handed for name in below))) if is_needed]
         self.bodies[number] = body
 
     # ---- Names and places ----
 
-    def check_variable(self, it):
-        if self.object.variables[it.operand] != STACK_POINTER:
-            raise Unread(f"the variable {self.object.variables[it.operand]}")
+    def check_variable(self, instruction):
+        if self.object.variables[instruction.operand] != STACK_POINTER:
+            raise Unread(f"the variable {self.object.variables[instruction.operand]}")
 
     def name(self, number):
         """The name of a function in C."""
@@ -462,22 +462,22 @@ class Translation:
 
     def text(self):
         """All of the C."""
-        called = sorted({it for body in self.bodies.values() for it in body.calls if it not in self.bodies})
+        called = sorted({call for body in self.bodies.values() for call in body.calls if call not in self.bodies})
         return "\n".join([
             '#include "machine.h"', "",
             *(line for segment in sorted(self.segments) for line in self.data_lines(segment)),
             *self.table_lines(),
-            *(f"{self.declaration(self.object.functions[it], self.name(it))};" for it in called),
+            *(f"{self.declaration(self.object.functions[name], self.name(name))};" for name in called),
             *(line for number, body in self.bodies.items() for line in self.function_lines(number, body)),
             *(line for name in self.exported for line in self.exported_lines(self.numbers[name])), ""])
 
     def data_lines(self, segment):
         """Data, after a comment with the letters that it has."""
-        it = self.object.segments[segment]
-        words = it.data.decode("latin-1")
+        kept = self.object.segments[segment]
+        words = kept.data.decode("latin-1")
         comment = [f"/* {words} */"] if re.fullmatch(r"[ -~]{6,}", words) and "*/" not in words else []
-        alignment = f"ALIGNED({it.alignment}) " if it.alignment > 1 else ""
-        return [*comment, f"static {alignment}const u8 data{segment}[{max(1, len(it.data))}] = {{", *byte_lines(it.data or b"\0"), "};"]
+        alignment = f"ALIGNED({kept.alignment}) " if kept.alignment > 1 else ""
+        return [*comment, f"static {alignment}const u8 data{segment}[{max(1, len(kept.data))}] = {{", *byte_lines(kept.data or b"\0"), "};"]
 
     def table_lines(self):
         """The data that holds addresses, and how it is made."""
@@ -488,25 +488,25 @@ class Translation:
             data[at:at + len(self.object.segments[segment].data)] = self.object.segments[segment].data
         return ["", f"static const u8 table_bytes[{self.table_bytes}] = {{", *byte_lines(data), "};", "",
                 "static void write_table(u64 table)", "{", "    copy(table, address(table_bytes), sizeof table_bytes);",
-                *(f"    {it}" for it in self.pointers), "}", ""]
+                *(f"    {pointer}" for pointer in self.pointers), "}", ""]
 
     def declaration(self, function, name, handed=(), words="", first=0):
-        parameters = [*(f"u64 {it}" for it in handed), *(f"{TYPES[kind]} l{at}" for at, kind in enumerate(function.parameters, first))]
+        parameters = [*(f"u64 {name}" for name in handed), *(f"{TYPES[kind]} l{at}" for at, kind in enumerate(function.parameters, first))]
         return f"{words}{TYPES[function.results[0]] if function.results else 'void'} {name}({', '.join(parameters) or 'void'})"
 
     def function_lines(self, number, body):
         function = body.function
         text = re.sub(r"@(\d+)@(?=(\)?))", self.handed_on, "\n".join(body.lines))
         # (labels of loops to which nothing goes back)
-        text = re.sub(r"(?m)^ *(again\d+):;\n", lambda it: it[0] if f"goto {it[1]};" in text else "", text)
+        text = re.sub(r"(?m)^ *(again\d+):;\n", lambda value: value[0] if f"goto {value[1]};" in text else "", text)
         used = {*re.findall(r"\b(?:l\d+|sp|table)\b", text)}
         names = [(f"l{at}", kind) for at, kind in enumerate(function.locals)]
         variables = [(kind, [name for name, one in names[len(function.parameters):] if one == kind and name in used]) for kind in TYPES]
-        unused = [it for it in [*body.handed, *(name for name, _ in names[:len(function.parameters)])] if it not in used]
+        unused = [each for each in [*body.handed, *(name for name, _ in names[:len(function.parameters)])] if each not in used]
         return ["", self.declaration(function, self.name(number), body.handed, "static "), "{",
-                *(f"    {TYPES[kind]} {', '.join(f'{it} = 0' for it in some[at:at + 16])};" for kind, some in variables
+                *(f"    {TYPES[kind]} {', '.join(f'{failure} = 0' for failure in some[at:at + 16])};" for kind, some in variables
                   for at in range(0, len(some), 16)),
-                *(f"    (void) {it};" for it in unused), text, "}"]
+                *(f"    (void) {name};" for name in unused), text, "}"]
 
     def handed_on(self, found):
         """What a call hands on, before its own arguments."""

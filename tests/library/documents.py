@@ -1,8 +1,8 @@
 #!/usr/bin/env python3
 """Compares what the documents name with what is there: functions and clauses, the calls that a CALLING.md quotes, the
 errors of docs/INSTALLING.md, blocks of code, links, paths, names, and the old texts of the must-fail edits; and so the names
-and paths in the comments of all code, of makefiles and of manual pages. It also looks for crates that name the proofs of another
-one.
+and paths in the comments of all code, of makefiles and of manual pages. No file names a directory of one machine. It also
+looks for crates that name the proofs of another one.
 
 It prints a line for each name that is not there; the last line is `N passed, M failed`. Needs Python 3.9 or later.
 """
@@ -49,19 +49,21 @@ OTHER_COMMENTS = {
 # Names by their form: with an underscore, or with a capital letter inside.
 NAMES_IN_COMMENTS = re.compile(r"(?<![\w`./:-])(?:[A-Za-z]\w+_\w+|[A-Za-z][a-z0-9]+[A-Z]\w*)(?![\w`])")
 PATHS_IN_COMMENTS = re.compile(r"(?<![\w`./-])(?:\.ci|bench|bindings|c|compare|crates|docs|examples|include|page|tests|tools)/[\w/-]+\.[a-z]+\b")
+# A directory that only some machines have, or one person.
+OF_ONE_MACHINE = re.compile(r"(?<![\w.])/(?:opt|work|root|home|Users)/\S*")
 # What looks like a name, and is one of the world.
-OTHER_NAMES = {"OpenPGP", "WebAssembly", "KiB", "MiB", "GiB", "EdDSAs", "BlockMix", "scryptBlockMix", "scryptROMix", "VerifyError",
-               "crypto_pwhash_scryptsalsa208sha256", "AddressSanitizer", "UndefinedBehaviorSanitizer"}
+OTHER_NAMES = {"OpenPGP", "WebAssembly", "TypeScript", "macOS", "KiB", "MiB", "GiB", "EdDSAs", "BlockMix", "scryptBlockMix",
+               "scryptROMix", "VerifyError", "crypto_pwhash_scryptsalsa208sha256", "AddressSanitizer", "UndefinedBehaviorSanitizer"}
 
 
 def comments_in(path, text):
     """The comments of a file, and the lines `why:` of an edit."""
     ending = ".rt" if path.endswith(".rt.txt") else os.path.splitext(path)[1]
     if ending == ".py":
-        found = [it for it in PYTHON.finditer(text) if it[0].startswith(("#", '"""'))]
-        return [it[0] for it in found if it[0][0] == "#" or not text[text.rfind("\n", 0, it.start()) + 1:it.start()].strip()]
+        found = [match for match in PYTHON.finditer(text) if match[0].startswith(("#", '"""'))]
+        return [match[0] for match in found if match[0][0] == "#" or not text[text.rfind("\n", 0, match.start()) + 1:match.start()].strip()]
     form = OTHER_COMMENTS.get(ending, sources.OPAQUE)
-    return [it[0] for it in form.finditer(text) if form is not sources.OPAQUE or it[0].startswith(("//", "/*"))]
+    return [match[0] for match in form.finditer(text) if form is not sources.OPAQUE or match[0].startswith(("//", "/*"))]
 
 
 class Index:
@@ -75,14 +77,14 @@ class Index:
         self.functions = by_name(item for item in self.items if item.what == "fn")
         self.types = by_name(item for item in self.items if item.what in ("struct", "enum", "trait", "type"))
         specs = [file for directory in self.library.crates.values() for file in sources.files_below(f"{directory}/specs", ".antt")]
-        self.definitions = [it for file in specs for it in sources.read_module(file).definitions.values()]
+        self.definitions = [definition for file in specs for definition in sources.read_module(file).definitions.values()]
         # Items, clauses, parameters, fields, variants, definitions, and all names in code.
-        self.known = {*self.library.crates, *(it.name for it in self.items if it.what == "mod"), *(it.name for it in self.definitions)}
+        self.known = {*self.library.crates, *(item.name for item in self.items if item.what == "mod"), *(definition.name for definition in self.definitions)}
         self.known.update(os.path.basename(file).partition(".")[0] for file in files)
         # Those of the crates and of C alone, which a comment in a crate may name; comments in Python name what that has.
         self.of_crates = set(self.known)
         self.known.update(dir(builtins))
-        for file in (it for it in files if it.endswith(CODE)):
+        for file in (file for file in files if file.endswith(CODE)):
             text = read(file)
             for comment in sorted(comments_in(file, text), key=len, reverse=True):
                 text = text.replace(comment, " ")
@@ -93,8 +95,8 @@ class Index:
     def clauses_of(self, function):
         """The clauses of a function, and of the trait's that it stands for."""
         others = self.functions.get(function.name, []) if function.trait else []
-        traits = [it for it in others if it.owner == function.trait and not it.trait]
-        return [clause for it in (function, *traits) for clause in it.clauses]
+        traits = [other for other in others if other.owner == function.trait and not other.trait]
+        return [clause for trait in (function, *traits) for clause in trait.clauses]
 
 
 def by_name(items):
@@ -135,8 +137,8 @@ def check_blocks(report, document, text, index):
     for found in BLOCK.finditer(text):
         where, (language, block) = f"{document}:{text.count(chr(10), 0, found.start()) + 1}", found.groups()
         if language == "rust":
-            read_as = squeezed if "//" in block else lambda it: squeezed(re.sub(r"(?m)^\s*//.*$", "", it))
-            report.check(any(read_as(block) in read_as(it.text) for it in index.all_sources), where, "this block stands in no file")
+            read_as = squeezed if "//" in block else lambda value: squeezed(re.sub(r"(?m)^\s*//.*$", "", value))
+            report.check(any(read_as(block) in read_as(source.text) for source in index.all_sources), where, "this block stands in no file")
         elif not language and re.fullmatch(r"(?:\w+:[\w ]*\n)+", block):
             for line in block.strip().split("\n"):
                 report.check("your" in line or line in crates, where, f"crates.txt has no line {line!r}")
@@ -161,13 +163,13 @@ def check_calls(report, index, document, text):
             file = directory + line.partition(",")[0]
         elif is_quoted and line.startswith("fn "):
             path = re.match(r"fn ([\w:]+)", line)[1]
-            calls = [it for it in index.functions.get(path.rpartition("::")[2], []) if (it.file, it.path) == (file, path)]
-            headers = [re.sub(r"^(?:pub(?:\(crate\))? )?", "", sources.in_one_line(it.header)) for it in calls]
+            calls = [each for each in index.functions.get(path.rpartition("::")[2], []) if (each.file, each.path) == (file, path)]
+            headers = [re.sub(r"^(?:pub(?:\(crate\))? )?", "", sources.in_one_line(call.header)) for call in calls]
             wanted = line.replace(f"fn {path}", "fn " + path.rpartition("::")[2])
             report.check(wanted in headers, where, f"{file} has no such call, but {headers}")
         elif is_quoted and line.strip():
             found = re.fullmatch(r"  (requires|ensures)(?: (\w+))?: (.*)", line)
-            quoted = [shortened(clause.text) for it in calls for clause in index.clauses_of(it)
+            quoted = [shortened(clause.text) for call in calls for clause in index.clauses_of(call)
                       if found and (clause.kind, clause.name) == (found[1], found[2] or "")]
             report.check(found and found[3] in quoted, where, f"no such clause, but {quoted}")
 
@@ -221,11 +223,11 @@ def check_paths(report, document, text, paths):
     """Each quoted path, and names that are said to stand in a file."""
     for where, line in places(document, text):
         for name in QUOTED.findall(line):
-            for word in [name] if " " not in name else [it for it in name.split() if it.startswith(DIRECTORIES)]:
+            for word in [name] if " " not in name else [word for word in name.split() if word.startswith(DIRECTORIES)]:
                 report.check(not is_path(word) or paths.find(word), where, f"no file or directory {word}")
         for names, path in re.findall(r"((?:`[\w:]+`(?:, | and )?)+) of `([\w./]+)`", line):
             for name in QUOTED.findall(names) if is_path(path) else ():
-                there = {it for place in paths.find(path) for it in names_of(place)}
+                there = {name for place in paths.find(path) for name in names_of(place)}
                 report.check(name.rpartition("::")[2] in there, where, f"{path} has no {name}")
 
 
@@ -261,13 +263,13 @@ def check_comments(report, path, index, paths):
     """Each name in a comment is one of the sources, where it is quoted, or has the form of a name; each path leads somewhere."""
     text = read(path)
     # (in a line of use variables have names of their own)
-    for comment in (it for it in comments_in(path, text) if not re.match(r"/// let .*;$", it)):
-        quoted = [re.sub(r"\(.*\)$", "", it) for it in QUOTED.findall(comment)]
-        names = [it for it in quoted if PATH_NAME.match(it) and not re.fullmatch(r"[a-zA-Z]{1,8}|[A-Z][A-Z0-9]*|.*::\.\.", it)]
+    for comment in (comment for comment in comments_in(path, text) if not re.match(r"/// let .*;$", comment)):
+        quoted = [re.sub(r"\(.*\)$", "", found) for found in QUOTED.findall(comment)]
+        names = [name for name in quoted if PATH_NAME.match(name) and not re.fullmatch(r"[a-zA-Z]{1,8}|[A-Z][A-Z0-9]*|.*::\.\.", name)]
         known = index.of_crates if path.startswith("crates/") else index.known
         for name in {*names, *NAMES_IN_COMMENTS.findall(comment)} - OTHER_NAMES:
             # (what ends with an underscore begins a name)
-            holds = all(it in known or it.endswith("_") and any(other.startswith(it) for other in known) for it in name.split("::"))
+            holds = all(word in known or word.endswith("_") and any(other.startswith(word) for other in known) for word in name.split("::"))
             report.check(holds, path, f"a comment names `{name}`, which no source has")
         # (the paths that an edit quotes are an input)
         for place in {*filter(is_path, () if path.endswith(".edit") else quoted), *PATHS_IN_COMMENTS.findall(comment)}:
@@ -280,14 +282,14 @@ def check_clauses(report, index, document, text):
         for clause, names in re.findall(r"clauses? `(\w+)` of ((?:`[\w:]+`(?:, | and )?)+)", line):
             for name in QUOTED.findall(names):
                 found = index.functions.get(name.rpartition("::")[2], [])
-                holds = any(it.name == clause for function in found for it in index.clauses_of(function))
+                holds = any(each.name == clause for function in found for each in index.clauses_of(function))
                 report.check(holds, where, f"no clause `{clause}` of `{name}`")
 
 
 def check_texts(report, index):
     """Each quoted text of docs/FORMATS.md that has a space stands in a text of the sources, and each form of the
     usage that the program shows stands in docs/FORMATS.md."""
-    said = "\n".join({text for it in (*index.all_sources, *index.definitions) for text in TEXT.findall(it.text)})
+    said = "\n".join({text for source in (*index.all_sources, *index.definitions) for text in TEXT.findall(source.text)})
     formats = read(FORMATS)
     for usage in set(re.findall(r"usage: minisign_tool ([^\\\n]+)", said)):
         for form in usage.split(" | "):
@@ -309,7 +311,7 @@ def check_architecture(report, index):
     for crate in re.findall(r"(?m)^\w+(?=:)", read("crates.txt")):
         report.check(re.search(rf"\b{crate}\b", text), ARCHITECTURE, f"it does not name the crate {crate}")
     for crate in ("minisign", "minisign_tool"):
-        for item in (it for source in index.sources[crate] for it in source.items if it.what == "mod"):
+        for item in (item for source in index.sources[crate] for item in source.items if item.what == "mod"):
             is_file = item.text.rstrip().endswith(";") and "cfg(test)" not in item.comment
             report.check(not is_file or item.name in named, ARCHITECTURE, f"it does not name the module {item.name} of {crate}")
     for file in sources.files_below(os.path.join(index.library.crates["minisign"], "specs"), ".antt"):
@@ -320,7 +322,7 @@ def check_architecture(report, index):
 def check_layers(report, index, files):
     """No crate names the proofs of another one, but for those that it has for its callers: what it knows of it is its
     contracts, its definitions and its laws."""
-    for file in (it for it in files if it.startswith("crates/") and it.endswith((".antt", ".rt"))):
+    for file in (file for file in files if file.startswith("crates/") and file.endswith((".antt", ".rt"))):
         for where, line in places(file, read(file)) if "proofs" in read(file) else ():
             for other in re.findall(r"\b(\w+)(?:\.|::)proofs\b(?!(?:\.|::)Laws\b)", line):
                 is_own = other == file.split("/")[1] or other not in index.library.crates
@@ -330,8 +332,8 @@ def check_layers(report, index, files):
 def reasons_of(lines):
     """The lines of an edit that say why it is wrong and of which function it is, and all others but the one that says by what it
     is rejected."""
-    reasons = [it for it in lines if it.startswith(("why: ", "fn: "))]
-    return reasons, [it for it in lines if it not in reasons and not it.startswith("by: ")]
+    reasons = [line for line in lines if line.startswith(("why: ", "fn: "))]
+    return reasons, [line for line in lines if line not in reasons and not line.startswith("by: ")]
 
 
 def check_edit(report, shown):
@@ -339,7 +341,7 @@ def check_edit(report, shown):
     crate = "/".join(shown.split("/")[:2])
     reasons, lines = reasons_of(read(shown).split("\n"))
     path, old, texts, pairs = None, None, {}, 0
-    report.check(sum(it.startswith("fn: ") for it in reasons) == 1, shown, "it does not name one function")
+    report.check(sum(reason.startswith("fn: ") for reason in reasons) == 1, shown, "it does not name one function")
     says_why = len(reasons) == 2 and reasons[0].startswith("why: ")
     report.check(says_why, shown, "it does not say first why: which clause is false, and of what input")
     for where, line in places(shown, "\n".join(lines)):
@@ -382,8 +384,6 @@ def main():
     documents = {path: read(path) for path in files if path.endswith(".md")}
     for document, text in documents.items():
         check_links(report, document, text)
-        place = re.search(r"(?<![\w.])/(?:opt|work|root|home|Users)/\S*", text)
-        report.check(place is None, document, f"it names a directory of one machine: {place and place[0]}")
         if document == MADE:
             continue
         check_paths(report, document, text, paths)
@@ -397,13 +397,16 @@ def main():
             check_blocks(report, document, text, index)
         check_names(report, document, text, index, index.types)
         check_clauses(report, index, document, text)
-    for path in (it for it in files if it.endswith(COMMENTED) and not it.startswith("dist/")):
-        check_comments(report, path, index, paths)
+    for path in (file for file in files if file.endswith((*COMMENTED, ".md")) and not file.startswith("dist/")):
+        place = OF_ONE_MACHINE.search(read(path))
+        report.check(place is None, path, f"it names a directory of one machine: {place and place[0]}")
+        if not path.endswith(".md"):
+            check_comments(report, path, index, paths)
     check_installing(report, index)
     check_texts(report, index)
     check_architecture(report, index)
     check_layers(report, index, files)
-    for edit in (it for it in files if re.match(r"crates/[^/]+/(?:must-fail|wrong-bodies)/.*\.edit$", it)):
+    for edit in (file for file in files if re.match(r"crates/[^/]+/(?:must-fail|wrong-bodies)/.*\.edit$", file)):
         check_edit(report, edit)
     check_trusted(report)
     check_version(report, documents)

@@ -37,8 +37,8 @@ class Wrong(Exception):
 
 
 def read(path):
-    with open(os.path.join(proved.ROOT, path), encoding="utf-8") as it:
-        return it.read()
+    with open(os.path.join(proved.ROOT, path), encoding="utf-8") as file:
+        return file.read()
 
 
 def block_with(line):
@@ -76,22 +76,22 @@ def fill(directory):
     for at, _, names in os.walk(directory):
         for name in names:
             path = os.path.join(at, name)
-            with open(path, encoding="utf-8") as it:
-                text = it.read()
+            with open(path, encoding="utf-8") as file:
+                text = file.read()
             write(at, name, text.replace(f"Rattle.{EXAMPLES}.", f"Rattle.{CALLER}."))
 
 
 def write(directory, name, text):
-    with open(os.path.join(directory, name), "w", encoding="utf-8") as it:
-        it.write(text)
+    with open(os.path.join(directory, name), "w", encoding="utf-8") as file:
+        file.write(text)
 
 
 def check():
     """Proves the caller over the libraries that its line of crates.txt lists."""
     libraries, line = lines_of_crates()
-    names = [it.partition(":")[0] for it in libraries]
-    crate = proved.Crate(line, {it: proved.crates()[it] for it in names})
-    if [it for it in crate.below if it not in names] or set(names) - set(crate.below):
+    names = [library.partition(":")[0] for library in libraries]
+    crate = proved.Crate(line, {name: proved.crates()[name] for name in names})
+    if [name for name in crate.below if name not in names] or set(names) - set(crate.below):
         raise Wrong(f"the libraries below {CALLER} are {crate.below}, and the lines have {names}")
     why = proved.supply(crate.below)
     if why:
@@ -110,7 +110,7 @@ def check_page(page):
     if len(blocks) != 1:
         raise Wrong(f"{page} has {len(blocks)} blocks of Rattle, and not one")
     own = page.split("/")[1]
-    named = [it for it in proved.crates() if it == own or re.search(rf"\b{it}(?:::|\.)", blocks[0])]
+    named = [crate for crate in proved.crates() if crate == own or re.search(rf"\b{crate}(?:::|\.)", blocks[0])]
     crate = proved.Crate(f"{CALLER}: {' '.join(named)}", proved.crates())
     why = proved.supply(crate.below)
     if why:
@@ -125,11 +125,11 @@ def check_page(page):
 
 
 def main():
-    pages = [f"crates/{it}/CALLING.md" for it in proved.crates() if os.path.exists(f"{proved.ROOT}/crates/{it}/CALLING.md")]
+    pages = [f"crates/{crate}/CALLING.md" for crate in proved.crates() if os.path.exists(f"{proved.ROOT}/crates/{crate}/CALLING.md")]
     passed = failed = 0
-    for it in (check, *(functools.partial(check_page, page) for page in pages)):
+    for each in (check, *(functools.partial(check_page, page) for page in pages)):
         try:
-            it()
+            each()
             passed += 1
         except Wrong as why:
             print(f"FAILED: {why}")

@@ -23,6 +23,7 @@ HERE = os.path.dirname(os.path.realpath(__file__))
 sys.path.append(os.path.join(HERE, "..", "shared"))
 
 import needs
+from process import told
 from running import Skip, build_preload
 
 CRATES = os.path.join(HERE, "..", "..", "crates")
@@ -111,14 +112,8 @@ def passes(command, **options):
 
 def run_refusing(tests, name, preload, number):
     """Runs a test with one request refused: whether it passed, and whether it came to that request."""
-    told, says = os.pipe()
-    environment = {"LD_PRELOAD": preload, "REFUSE_AT": str(number), "REFUSE_SAYS": str(says)}
-    try:
-        passed = passes([tests, name], env=environment, pass_fds=[says])
-    finally:
-        os.close(says)
-    with os.fdopen(told, "rb") as said:
-        return passed, said.read(1) != b""
+    environment = {"LD_PRELOAD": preload, "REFUSE_AT": str(number)}
+    return told(lambda says: passes([tests, name], env={**environment, "REFUSE_SAYS": str(says)}, pass_fds=[says]))
 
 
 def refuse_each(tests, name, preload):

@@ -91,8 +91,8 @@ class WrongBody:
         self.is_for_kit = os.path.basename(os.path.dirname(file)) == KIT_TRIED
         # Where its function begins and ends in the file, if it is written into a copy of it, and what the name gets.
         self.copied, self.suffix = None, f"{COPY}{number}"
-        with open(file, encoding="utf-8") as it:
-            lines = it.read().splitlines()
+        with open(file, encoding="utf-8") as opened:
+            lines = opened.read().splitlines()
         for line in lines:
             key, _, value = line.partition(": ") if ": " in line else line.partition(":")
             if key == "why" and FALSE.match(value):
@@ -153,14 +153,14 @@ class WrongBody:
 
     def copy_proof(self, directory):
         """Copies the written proof of its function, where it has one and is copied, in a crate's directory."""
-        proof, copy = (f"{directory}/proofs/{it.replace('::', '/')}" for it in (self.function, self.checked()))
+        proof, copy = (f"{directory}/proofs/{each.replace('::', '/')}" for each in (self.function, self.checked()))
         if not self.copied or self.clause or not os.path.isdir(proof):
             return
         shutil.copytree(proof, copy)
         named = re.compile(rf"\b{re.escape(self.function.replace('::', '.'))}\b")
         for at, _, files in os.walk(copy):
-            for it in files:
-                with open(f"{at}/{it}", "r+", encoding="utf-8") as file:
+            for each in files:
+                with open(f"{at}/{each}", "r+", encoding="utf-8") as file:
                     text = named.sub(self.checked().replace("::", "."), file.read())
                     file.seek(0)
                     file.write(text)
@@ -182,34 +182,34 @@ class Verdict:
 
 def bodies_of(crate):
     """Returns the wrong bodies of a crate."""
-    directories = [it for it in (f"crates/{crate}/{HERE_TRIED}", f"crates/{crate}/{KIT_TRIED}") if os.path.isdir(it)]
-    files = [f"{directory}/{it}" for directory in directories for it in sorted(os.listdir(directory))]
-    return [WrongBody(crate, it, number) for number, it in enumerate(files)]
+    directories = [each for each in (f"crates/{crate}/{HERE_TRIED}", f"crates/{crate}/{KIT_TRIED}") if os.path.isdir(each)]
+    files = [f"{directory}/{name}" for directory in directories for name in sorted(os.listdir(directory))]
+    return [WrongBody(crate, file, number) for number, file in enumerate(files)]
 
 
 def listed():
     """Returns how many edits the list says each crate has."""
-    with open(LIST, encoding="utf-8") as it:
-        return {crate: int(edits) for crate, edits in re.findall(r"(?m)^(\w+): (\d+)$", it.read())}
+    with open(LIST, encoding="utf-8") as file:
+        return {crate: int(edits) for crate, edits in re.findall(r"(?m)^(\w+): (\d+)$", file.read())}
 
 
 def free_memory():
     """Returns the memory that is free, in bytes."""
-    with open("/proc/meminfo", encoding="ascii") as it:
-        found = re.search(r"MemAvailable:\s+(\d+)", it.read())
+    with open("/proc/meminfo", encoding="ascii") as file:
+        found = re.search(r"MemAvailable:\s+(\d+)", file.read())
     return 1024 * int(found[1]) if found else 0
 
 
 def assume(directory, crate, functions):
     """Puts a hole in place of the proof of each of these functions of a crate, whose files are in this directory."""
-    for it in functions:
-        *_, name = path = it.split("::")
-        if "fn" in path or "++" in it:
+    for function in functions:
+        *_, name = path = function.split("::")
+        if "fn" in path or "++" in function:
             # (a closure goes with the body that it stands in, and what ends a value is no function of the crate's)
             continue
         proof = f"{directory}/proofs/{'/'.join(path)}"
         os.makedirs(proof, exist_ok=True)
-        for file in [it for it in os.listdir(proof) if it.endswith(".antt")]:
+        for file in [name for name in os.listdir(proof) if name.endswith(".antt")]:
             os.remove(f"{proof}/{file}")
         with open(f"{proof}/Proof.antt", "w", encoding="utf-8") as file:
             file.write(HOLE.format(path=".".join([crate, "proofs", *path]), name=name))
@@ -231,15 +231,15 @@ def is_searched(directory, clause):
         return True
     if os.listdir(directory) != ["Answers.antt"]:
         return False
-    with open(f"{directory}/Answers.antt", encoding="utf-8") as it:
-        written = re.findall(r"(?m)^pub (\S+) :", it.read())
-    return all(re.fullmatch(rf"returns\S*-clause-(?!{clause}$)\w+", it) for it in written)
+    with open(f"{directory}/Answers.antt", encoding="utf-8") as file:
+        written = re.findall(r"(?m)^pub (\S+) :", file.read())
+    return all(re.fullmatch(rf"returns\S*-clause-(?!{clause}$)\w+", name) for name in written)
 
 
 def clause_alone(head, name):
     """Returns the head of a function with the one of its clauses `ensures` alone that has this name."""
-    others = [it for it in ENSURES.finditer(head) if it["name"] != name]
-    return replaced(head, [(it.start(), end_of_braces(head, it.end()), "") for it in others])
+    others = [match for match in ENSURES.finditer(head) if match["name"] != name]
+    return replaced(head, [(other.start(), end_of_braces(head, other.end()), "") for other in others])
 
 
 def end_of_braces(text, at):
@@ -306,14 +306,14 @@ class Trial:
 
     def begin(self, bodies, submit):
         """Has the crate proved as it stands, and submits the groups. It tells of each body once, here or there."""
-        for it in [it for it in bodies if not it.why_not]:
-            with open(f"crates/{self.crate}/{it.path}", encoding="utf-8") as file:
-                it.places(file.read())
-        whole = [it for it in bodies if not it.why_not]
+        for body in [body for body in bodies if not body.why_not]:
+            with open(f"crates/{self.crate}/{body.path}", encoding="utf-8") as file:
+                body.places(file.read())
+        whole = [body for body in bodies if not body.why_not]
         why = proved.supply(proved.crates()[self.crate].below) or self.lacks_proof(whole)
-        for it in bodies:
-            if it.why_not or why:
-                self.tell(Verdict(it, Verdict.FAILED, f"bad edit: {it.why_not}" if it.why_not else f"not tried: {why}"))
+        for body in bodies:
+            if body.why_not or why:
+                self.tell(Verdict(body, Verdict.FAILED, f"bad edit: {body.why_not}" if body.why_not else f"not tried: {why}"))
         for group in [] if why else groups_of(whole):
             submit(self.try_group, group)
 
@@ -323,7 +323,7 @@ class Trial:
         proved.wait_for([self.crate])
         is_proved, said = proved.has([self.crate]), proved.said()
         if not said:
-            words = [word for it in sorted({it.function for it in bodies}) for word in ("--only", it)]
+            words = [word for each in sorted({body.function for body in bodies}) for word in ("--only", each)]
             said = proved.run(["rt", "check", *words], f"crates/{self.crate}").stdout
             is_proved = re.search(r"(?m)^only=(\d+) proved=\1$", said)
         # (of a crate that an earlier run has proved `rt ci` names no function)
@@ -335,40 +335,40 @@ class Trial:
         with tempfile.TemporaryDirectory(prefix="wrong-bodies-") as room:
             self.copy_into(room, [])
             for at, _, files in os.walk(f"{room}/proofs"):
-                for it in {"Proof.antt", "Answers.antt", "Invariants.antt"} & {*files}:
-                    os.remove(f"{at}/{it}")
+                for name in {"Proof.antt", "Answers.antt", "Invariants.antt"} & {*files}:
+                    os.remove(f"{at}/{name}")
             with self.places.place():
                 said = proved.rattle("check", self.crate, room, "--allow-holes", before=("nice", "-n", "19")).stdout
         return re.findall(rf"(?m)^fn {self.crate}::(\S+): ", said)
 
     def copy_into(self, directory, group):
         """Copies the crate into a directory, with the changes of a group in place, and loops in place of all other bodies."""
-        for part in [it for it in PARTS if os.path.isdir(f"crates/{self.crate}/{it}")]:
+        for part in [part for part in PARTS if os.path.isdir(f"crates/{self.crate}/{part}")]:
             shutil.copytree(f"crates/{self.crate}/{part}", f"{directory}/{part}")
         for path, text in self.changed(group).items():
-            with open(f"{directory}/{path}", "w", encoding="utf-8") as it:
-                it.write(text)
+            with open(f"{directory}/{path}", "w", encoding="utf-8") as file:
+                file.write(text)
 
     def try_group(self, group):
         """Tries a group, and alone once more each of it that was not rejected, and tells of each."""
-        for it, was in zip(group, self.tried(group)):
+        for body, was in zip(group, self.tried(group)):
             is_final = was.outcome != Verdict.FAILED or len(group) == 1
-            self.tell(was if is_final else self.tried([it])[0])
+            self.tell(was if is_final else self.tried([body])[0])
 
     def tried(self, group):
         """Tries a group in a copy of the crate, and returns what there is to say of each body."""
-        checked = {it.checked() for it in group}
+        checked = {body.checked() for body in group}
         with tempfile.TemporaryDirectory(prefix="wrong-bodies-") as room:
             self.copy_into(room, group)
-            for it in group:
-                it.copy_proof(room)
-            assume(room, self.crate, [it for it in self.proved if it not in checked])
+            for body in group:
+                body.copy_proof(room)
+            assume(room, self.crate, [each for each in self.proved if each not in checked])
             said = self.check(room, checked)
-        return [self.judged(it, said) for it in group]
+        return [self.judged(body, said) for body in group]
 
     def check(self, directory, functions):
         """Checks these functions of the crate, whose files are in this directory, and returns what is said."""
-        words = [word for it in sorted(functions) for word in ("--only", it)]
+        words = [word for function in sorted(functions) for word in ("--only", function)]
         with self.places.place():
             return proved.rattle("check", self.crate, directory, "--allow-holes", *words, before=("nice", "-n", "19")).stdout
 
@@ -376,11 +376,11 @@ class Trial:
         """Returns the texts of the crate's sources with the changes of a group in place, and loops in place of all other
         bodies."""
         texts = {}
-        for path in [f"{at}/{it}" for at, _, names in os.walk(f"crates/{self.crate}/src") for it in names]:
-            with open(path, encoding="utf-8") as it:
-                text = it.read()
+        for path in [f"{at}/{name}" for at, _, names in os.walk(f"crates/{self.crate}/src") for name in names]:
+            with open(path, encoding="utf-8") as file:
+                text = file.read()
             name = os.path.relpath(path, f"crates/{self.crate}")
-            pieces = [piece for it in group if it.path == name for piece in it.pieces(text)]
+            pieces = [piece for body in group if body.path == name for piece in body.pieces(text)]
             in_place = [begin for begin, end, _ in pieces if begin < end]
             texts[name] = replaced(text, [*pieces, *loops(text, in_place)])
         return texts
@@ -390,25 +390,25 @@ class Trial:
         errors in its written proof."""
         lines = said.split("\n")
         mine = f"fn {self.crate}::{body.checked()}: "
-        at = next((at for at, it in enumerate(lines) if it.startswith(mine)), None)
+        at = next((at for at, line in enumerate(lines) if line.startswith(mine)), None)
         if at is None or not re.search(r"(?m)^only=", said):
             return Verdict(body, Verdict.FAILED, f"bad edit: it did not reach the prover: {proved.first_of(said)}")
         line = lines[at][len(mine):]
         if line.startswith(WELL) or body.is_unchanged:
             is_well = line.startswith(WELL) and body.is_unchanged
             return Verdict(body, Verdict.PROVED if is_well else Verdict.FAILED, f"the function is {line}")
-        begin = next((it for it in range(at - 1, -1, -1) if lines[it].startswith("fn ")), -1) + 1
-        above = [it for it in lines[begin:at] if it.startswith("note: ") and SEARCHED.search(it)]
+        begin = next((number for number in range(at - 1, -1, -1) if lines[number].startswith("fn ")), -1) + 1
+        above = [line for line in lines[begin:at] if line.startswith("note: ") and SEARCHED.search(line)]
         proof = f"./proofs/{body.checked().replace('::', '/')}/"
-        errors = [it for it in lines if it.startswith(proof) and ": error: " in it]
+        errors = [line for line in lines if line.startswith(proof) and ": error: " in line]
         if body.clause:
             # (not for what a call requires, nor for an invariant)
-            above = [it for it in above if ENSURED in it]
+            above = [line for line in above if ENSURED in line]
         is_searched = bool(above or not body.clause and SEARCHED.search(line))
-        ended = [it for it in above if not GAVE_UP.search(it)]
+        ended = [line for line in above if not GAVE_UP.search(line)]
         if is_searched and (ended or not above) and "could not tell" not in line:
             return Verdict(body, Verdict.REJECTED, (ended or [line])[0])
-        stopped = next((it for it in (line, *errors, *told_of(lines, proof)) if STOPPED.search(it)), "")
+        stopped = next((error for error in (line, *errors, *told_of(lines, proof)) if STOPPED.search(error)), "")
         if stopped:
             return Verdict(body, Verdict.FAILED, f"the prover could not tell, or stopped at a limit: {stopped}")
         if is_searched:
@@ -421,9 +421,9 @@ class Trial:
 def told_of(lines, proof):
     """Returns the lines that belong to the errors in a written proof: those that follow them, set in."""
     found, is_mine = [], False
-    for it in lines:
-        is_mine = it.startswith(proof) if not it.startswith("  ") else is_mine
-        found += [it] * is_mine
+    for line in lines:
+        is_mine = line.startswith(proof) if not line.startswith("  ") else is_mine
+        found += [line] * is_mine
     return found
 
 
@@ -452,9 +452,9 @@ def replaced(text, pieces):
 def groups_of(bodies):
     """Returns the bodies in groups of about one size in which no function is changed twice where it stands, and alone what
     others see."""
-    alone = [[it] for it in bodies if it.is_alone]
-    in_order = sorted((it for it in bodies if not it.is_alone), key=lambda it: it.function)
-    most = max(Counter(it.function for it in in_order if not it.copied).values(), default=0)
+    alone = [[body] for body in bodies if body.is_alone]
+    in_order = sorted((body for body in bodies if not body.is_alone), key=lambda value: value.function)
+    most = max(Counter(body.function for body in in_order if not body.copied).values(), default=0)
     number = max(most, -(-len(in_order) // GROUP))
     return [*alone, *(in_order[at::number] for at in range(number))]
 
@@ -476,34 +476,34 @@ def try_all(tasks):
                     yield verdict
                 else:
                     gave_up.append(verdict.body)
-            for it in [it for it in works if it.done()]:
+            for work in [work for work in works if work.done()]:
                 # (a call that ended by an exception ends this run so)
-                it.result()
-                works.remove(it)
-    for it in gave_up:
+                work.result()
+                works.remove(work)
+    for body in gave_up:
         proved.wait_for_all_else()
-        yield trials[it.label.partition("/")[0]].tried([it])[0]
+        yield trials[body.label.partition("/")[0]].tried([body])[0]
 
 
 def wrong_numbers(bodies, names):
     """Returns what is wrong with the numbers of edits, of the named crates or of all."""
-    told, wanted = listed(), {it.partition("/")[0] for it in names}
-    crates = {it for it in {*told, *bodies} if not wanted or it in wanted}
-    differ = [(it, told.get(it, 0), len(bodies.get(it, []))) for it in sorted(crates)]
-    return [f"{LIST} says that {it} has {said} edits, and it has {has}" for it, said, has in differ if said != has]
+    told, wanted = listed(), {name.partition("/")[0] for name in names}
+    crates = {crate for crate in {*told, *bodies} if not wanted or crate in wanted}
+    differ = [(crate, told.get(crate, 0), len(bodies.get(crate, []))) for crate in sorted(crates)]
+    return [f"{LIST} says that {each} has {said} edits, and it has {has}" for each, said, has in differ if said != has]
 
 
 def main(words):
-    is_unchanged, names = "--unchanged" in words, [it for it in words if it != "--unchanged"]
+    is_unchanged, names = "--unchanged" in words, [word for word in words if word != "--unchanged"]
     os.chdir(proved.ROOT)
-    bodies = {it: found for it in proved.crates() for found in [bodies_of(it)] if found}
+    bodies = {crate: found for crate in proved.crates() for found in [bodies_of(crate)] if found}
     wrong = wrong_numbers(bodies, names)
-    found = {name for crate in bodies for name in (crate, *(it.label for it in bodies[crate]))}
-    wrong += [f"no wrong body is named {it}" for it in names if it not in found]
-    is_tried = lambda it: it.label in names or not it.is_for_kit and (not names or it.label.partition("/")[0] in names)
-    tasks = {crate: [it for it in bodies[crate] if is_tried(it)] for crate in bodies}
-    for it in (it for crate in tasks for it in tasks[crate] if is_unchanged):
-        it.leave_unchanged()
+    found = {name for crate in bodies for name in (crate, *(body.label for body in bodies[crate]))}
+    wrong += [f"no wrong body is named {name}" for name in names if name not in found]
+    is_tried = lambda value: value.label in names or not value.is_for_kit and (not names or value.label.partition("/")[0] in names)
+    tasks = {crate: [body for body in bodies[crate] if is_tried(body)] for crate in bodies}
+    for task in (task for crate in tasks for task in tasks[crate] if is_unchanged):
+        task.leave_unchanged()
     tasks = {crate: tasks[crate] for crate in tasks if tasks[crate]}
     outcomes, passed = {crate: Counter() for crate in tasks}, 0
     for verdict in try_all(tasks):
@@ -515,10 +515,10 @@ def main(words):
     for crate, counted in outcomes.items():
         kinds = (Verdict.REJECTED, Verdict.GAVE_UP, Verdict.APART, Verdict.FAILED)
         kinds = (Verdict.PROVED, Verdict.FAILED) if is_unchanged else kinds
-        print(f"{crate}: " + ", ".join(f"{counted[it]} {it}" for it in kinds))
-    for it in wrong:
-        print(f"FAILED: {it}")
-    failed = sum(it[Verdict.FAILED] for it in outcomes.values()) + len(wrong)
+        print(f"{crate}: " + ", ".join(f"{counted[kind]} {kind}" for kind in kinds))
+    for failure in wrong:
+        print(f"FAILED: {failure}")
+    failed = sum(outcome[Verdict.FAILED] for outcome in outcomes.values()) + len(wrong)
     print(f"{passed} passed, {failed} failed")
     return 1 if failed or not tasks else 0
 

@@ -59,7 +59,7 @@ class Facts:
         begin, end = found.span("right")
         if wrong := self.changed(found["right"]):
             return text[:begin] + wrong + text[end:]
-        named = [it for it in re.findall(r"\w+", found[0]) if it in self.definitions and it != name]
+        named = [word for word in re.findall(r"\w+", found[0]) if word in self.definitions and word != name]
         for value in reversed(named):
             lines = self.definitions[value].lines
             if wrong := self.changed("\n".join(lines[1:])):
@@ -82,7 +82,7 @@ class Facts:
         if literal[0].isdigit():
             return literal[:-1] + ("1" if literal[-1] == "0" else "0")
         imported = re.findall(r"\w+", " ".join(IMPORTED.findall(self.text))) or ["OutOfMemory", "ReadingFailed"]
-        return next(it for it in imported if it != literal)
+        return next(name for name in imported if name != literal)
 
     def written(self, names):
         """The text of the file in which these facts are wrong."""
@@ -105,13 +105,13 @@ def said_of(crate, text):
     path = function_of(crate)
     with tempfile.TemporaryDirectory(prefix="wrong-facts-") as room:
         Trial(crate, None, None).copy_into(room, [])
-        for at in (os.path.join(at, it) for at, _, files in os.walk(f"{room}/proofs/{path}") for it in files):
+        for at in (os.path.join(at, file) for at, _, files in os.walk(f"{room}/proofs/{path}") for file in files):
             os.remove(at)
         *_, name = names = path.split(os.sep)
-        with open(f"{room}/proofs/{path}/Proof.antt", "w", encoding="utf-8") as it:
-            it.write(f"use Rattle.{crate}.proofs.Facts\n" + HOLE.format(path=".".join([crate, "proofs", *names]), name=name))
-        with open(f"{room}/{FACTS}", "w", encoding="utf-8") as it:
-            it.write(text)
+        with open(f"{room}/proofs/{path}/Proof.antt", "w", encoding="utf-8") as file:
+            file.write(f"use Rattle.{crate}.proofs.Facts\n" + HOLE.format(path=".".join([crate, "proofs", *names]), name=name))
+        with open(f"{room}/{FACTS}", "w", encoding="utf-8") as file:
+            file.write(text)
         words = ("--allow-holes", "--only", "::".join(names))
         return proved.rattle("check", crate, room, *words, before=("nice", "-n", "19")).stdout
 
@@ -133,12 +133,12 @@ def try_facts(report, crate):
 
 def main(names):
     os.chdir(proved.ROOT)
-    report, with_facts = Checks(), [it for it in proved.crates() if os.path.exists(f"crates/{it}/{FACTS}")]
+    report, with_facts = Checks(), [crate for crate in proved.crates() if os.path.exists(f"crates/{crate}/{FACTS}")]
     for crate in with_facts:
         if not names or crate in names:
             try_facts(report, crate)
-    for it in names:
-        report.check(it in with_facts, it, "it has no facts")
+    for name in names:
+        report.check(name in with_facts, name, "it has no facts")
     return report.end()
 
 

@@ -82,7 +82,7 @@ class Answer:
         head, _, tail = line.partition(" | ")
         words = head.split(" ")
         is_error = words[0] == "err"
-        said = dict(it.partition("=")[::2] for it in [*words[1:] * (not is_error), *tail.split()])
+        said = dict(word.partition("=")[::2] for word in [*words[1:] * (not is_error), *tail.split()])
         has = head if is_error else words[0]
         wanted = {**self.values, "stdout": self.stdout, "stderr": self.stderr, "typed_left": self.typed_left}
         wrong = [] if has == self.head else [f"it is `{has}` and not `{self.head}`"]

@@ -1,5 +1,5 @@
 """Every named error with its number, its kind and its text, from outside: kinds and texts are those of Minisign's Rust
-crate where it has them, and the numbers up to 62 those of include/minisign.h. docs/FORMATS.md, which is made from the
+crate where it has them, and the numbers up to 60 those of include/minisign.h. docs/FORMATS.md, which is made from the
 definition that the calls are proved by, is compared. A and B stand for key IDs."""
 
 import os
@@ -80,8 +80,8 @@ ERRORS = (
 
 def differences():
     """Yields a line for each row of docs/FORMATS.md that is not the one here, and for each that is missing."""
-    with open(FORMATS, encoding="utf-8") as it:
-        found = re.findall(r"(?m)^\| `(\w+)` \| (\d+) \|(?: `\w+`)? \| (\w+) \| `([^`]*)` \|", it.read())
+    with open(FORMATS, encoding="utf-8") as file:
+        found = re.findall(r"(?m)^\| `(\w+)` \| (\d+) \|(?: `\w+`)? \| (\w+) \| `([^`]*)` \|", file.read())
     for at in range(max(len(ERRORS), len(found))):
         wanted = ERRORS[at] if at < len(ERRORS) else None
         said = (found[at][0], int(found[at][1]), *found[at][2:]) if at < len(found) else None

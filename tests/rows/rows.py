@@ -18,13 +18,13 @@ import named_errors
 from asking import run
 
 HERE = os.path.dirname(os.path.realpath(__file__))
-MODULES = sorted({it[:-3] for it in os.listdir(HERE) if it.endswith(".py")} - {"asking", "named_errors", "rows"})
+MODULES = sorted({name[:-3] for name in os.listdir(HERE) if name.endswith(".py")} - {"asking", "named_errors", "rows"})
 
 
 def main(names):
     wrong = [*named_errors.differences()]
-    for it in wrong:
-        print(f"FAILED: {it}")
+    for failure in wrong:
+        print(f"FAILED: {failure}")
     passed, failed = len(named_errors.ERRORS), len(wrong)
     for name in names or MODULES:
         with tempfile.TemporaryDirectory(prefix="minisign-rows-") as directory:

@@ -290,8 +290,8 @@ def files(directory):
         ("missing", None, rejected("ReadingFailed")),
     ):
         if content is not None:
-            with open(os.path.join(directory, name), "wb") as it:
-                it.write(content)
+            with open(os.path.join(directory, name), "wb") as file:
+                file.write(content)
         yield Row(f"file: {name}", ask("sig_from_file", name), answer)
 
 

@@ -104,12 +104,12 @@ def built_programs():
     if not os.path.exists(made):
         print("real runs: building the program by `rt run`, which proves it first", flush=True)
         subprocess.run(["rt", "run"], cwd=CRATE, stdin=subprocess.DEVNULL, stdout=subprocess.DEVNULL, stderr=subprocess.DEVNULL)
-    return [it for it in (made, made + ".by-rattle") if os.path.exists(it)]
+    return [each for each in (made, made + ".by-rattle") if os.path.exists(each)]
 
 
 def count_over(programs, run_all):
     """Runs all cases over each program, or else over those that were built, prints the counts, and returns the exit status."""
-    programs = [os.path.abspath(it) for it in programs or built_programs()]
+    programs = [os.path.abspath(program) for program in programs or built_programs()]
     if not programs:
         print("FAILED: the program was not built")
     try:
@@ -117,8 +117,8 @@ def count_over(programs, run_all):
     except needs.Missing as why:
         print(f"FAILED: {why}")
         counts = []
-    passed = sum(it[0] for it in counts)
-    failed = sum(it[1] for it in counts) if counts else 1
+    passed = sum(count[0] for count in counts)
+    failed = sum(count[1] for count in counts) if counts else 1
     print(f"{passed} passed, {failed} failed")
     return 1 if failed else 0
 

@@ -25,7 +25,8 @@ HERE = os.path.dirname(os.path.realpath(__file__))
 sys.path.append(os.path.join(HERE, "..", "shared"))
 
 import toy
-from keygen_runs import PK, SK, check_pair, public_record, record_of
+from keygen_runs import PK, SK, public_record, record_of
+from process import told
 from real_runs import count_over
 from running import NOBODY, SECONDS, Failure, Skip, build_preload
 from sign_runs import FILE, OPEN_KEY, SIG, check_signature
@@ -89,7 +90,7 @@ class Task:
         if set(self.targets) & set(self.files):
             return self.mode
         held = content(directory, name)
-        stages = [it for it in os.listdir(os.path.join(directory, os.path.dirname(name))) if it.startswith(STAGE)]
+        stages = [each for each in os.listdir(os.path.join(directory, os.path.dirname(name))) if each.startswith(STAGE)]
         if held.startswith(SECRET_FRONT) or (len(stages) == 2 and not held.startswith(PUBLIC_FRONT)):
             return 0o600
         return 0o644
@@ -166,14 +167,9 @@ class Surviving:
 
     def run_broken(self, directory, task, **how):
         """The same with a call broken, and whether the run came to that call."""
-        told, says = os.pipe()
-        environment = {"LD_PRELOAD": self.preload, "BREAK_SAYS": str(says), **{name: str(value) for name, value in how.items()}}
-        try:
-            status, said = self.run(directory, task.arguments, environment, [says])
-        finally:
-            os.close(says)
-        with os.fdopen(told, "rb") as pipe:
-            return status, said, pipe.read(1) != b""
+        environment = {"LD_PRELOAD": self.preload, **{name: str(value) for name, value in how.items()}}
+        (status, said), came = told(lambda says: self.run(directory, task.arguments, {**environment, "BREAK_SAYS": str(says)}, [says]))
+        return status, said, came
 
     def break_each(self, task, judge, **how):
         """Breaks each of the calls in turn, and hands to `judge` what each run left; answers how many there were."""
@@ -419,25 +415,25 @@ def cases(surviving):
     for task in TASKS:
         count = len(task.targets)
         is_replaced = bool(set(task.targets) & set(task.files))
-        yield f"{task.name}, killed", lambda it=task: surviving.killed(it)
+        yield f"{task.name}, killed", lambda value=task: surviving.killed(value)
         for number in (errno.ENOSPC, errno.EDQUOT):
             name = f"{task.name}, and a write fails by {errno.errorcode[number]}"
-            yield name, lambda it=task, number=number: surviving.failing(it, "write", lambda at: 0, number)
-            yield f"{name} half way", lambda it=task, number=number: surviving.failing(it, "write", lambda at: 0, number, BREAK_SHORT=1)
+            yield name, lambda value=task, number=number: surviving.failing(value, "write", lambda at: 0, number)
+            yield f"{name} half way", lambda value=task, number=number: surviving.failing(value, "write", lambda at: 0, number, BREAK_SHORT=1)
         # After the files themselves their directory is synced, when all are replaced.
-        yield f"{task.name}, and a sync fails", lambda it=task, n=count: surviving.failing(it, "fsync", lambda at: 0 if at <= n else n)
-        yield (f"{task.name}, and a sync is of no use", lambda it=task, n=count:
-               surviving.failing(it, "fsync", lambda at: 0 if at <= n else None, errno.EINVAL))
-        yield f"{task.name}, and a rename fails", lambda it=task: surviving.failing(it, "rename", lambda at: at - 1)
-        yield f"{task.name}, and a close fails", lambda it=task: surviving.failing(it, "close", lambda at: None)
-        yield f"{task.name}, and no name is drawn", lambda it=task: surviving.failing(it, "getentropy", lambda at: 0)
+        yield f"{task.name}, and a sync fails", lambda value=task, n=count: surviving.failing(value, "fsync", lambda at: 0 if at <= n else n)
+        yield (f"{task.name}, and a sync is of no use", lambda value=task, n=count:
+               surviving.failing(value, "fsync", lambda at: 0 if at <= n else None, errno.EINVAL))
+        yield f"{task.name}, and a rename fails", lambda value=task: surviving.failing(value, "rename", lambda at: at - 1)
+        yield f"{task.name}, and a close fails", lambda value=task: surviving.failing(value, "close", lambda at: None)
+        yield f"{task.name}, and no name is drawn", lambda value=task: surviving.failing(value, "getentropy", lambda at: 0)
         if is_replaced:
-            yield f"{task.name}, and no permissions are given", lambda it=task: surviving.failing(it, "fchmod", lambda at: 0)
+            yield f"{task.name}, and no permissions are given", lambda value=task: surviving.failing(value, "fchmod", lambda at: 0)
         for calls in ("open", "read", "statx readlink"):
-            yield f"{task.name}, and {calls} fails", lambda it=task, calls=calls: surviving.failing_whatever(it, calls)
-        yield f"{task.name}, on a full disk", lambda it=task: surviving.on_full_disk(it)
-        yield f"{task.name}, beyond the size of files", lambda it=task: surviving.within_file_size(it, False)
-        yield f"{task.name}, beyond the size of files, whose signal is ignored", lambda it=task: surviving.within_file_size(it, True)
+            yield f"{task.name}, and {calls} fails", lambda value=task, calls=calls: surviving.failing_whatever(value, calls)
+        yield f"{task.name}, on a full disk", lambda value=task: surviving.on_full_disk(value)
+        yield f"{task.name}, beyond the size of files", lambda value=task: surviving.within_file_size(value, False)
+        yield f"{task.name}, beyond the size of files, whose signal is ignored", lambda value=task: surviving.within_file_size(value, True)
     yield f"{OWNERS_PAIR.name}, killed", lambda: surviving.killed(OWNERS_PAIR)
     yield "another's files stay another's", surviving.keeps_owner
     rows = [
@@ -448,14 +444,14 @@ def cases(surviving):
         ("of another owner and group", 12345, 54321, 0o666, (NOBODY, NOBODY, 0o606)),
     ]
     for name, *row in rows:
-        yield f"a file that is {name}", lambda it=row: surviving.takes_what_it_may(*it)
+        yield f"a file that is {name}", lambda value=row: surviving.takes_what_it_may(*value)
     for count in (1, 40, 200):
-        yield f"{count} names that are taken", lambda it=count: surviving.taken_names(it)
+        yield f"{count} names that are taken", lambda value=count: surviving.taken_names(value)
     yield "runs at once", surviving.at_once
     yield "a signature into standard output", surviving.into_standard_output
     yield "a program whose path is no UTF-8", surviving.under_odd_path
     for command in ("verify", "cat", "verify-raw"):
-        yield f"{command} of large data with a legacy signature", lambda it=command: surviving.legacy_within(it)
+        yield f"{command} of large data with a legacy signature", lambda value=command: surviving.legacy_within(value)
 
 
 def run_all(program):

@@ -1,0 +1,193 @@
+#!/usr/bin/env python3
+"""Compares tests/scripts.txt, of which `make -C c check` and the gate read what they run, with what is there.
+
+    tests/library/one_list.py
+
+Each script of tests/ and tools/ that counts what it checks is in the list, once, and what is listed is there. What runs the
+list (tests/check.py) adds what scripts say, and takes one that ends badly, or says nothing, for failed; without the kit it
+leaves out what needs it. tests/packages.txt, of which README has Debian's packages installed, names each package that a
+script asks for. `.ci/run` without the kit says one sentence, and begins nothing. It prints a line for each failure; the last
+line is `N passed, M failed`.
+
+Needs Python 3.9 or later and bash.
+"""
+
+import ast
+import os
+import re
+import shutil
+import subprocess
+import sys
+import tempfile
+
+HERE = os.path.dirname(os.path.realpath(__file__))
+TOP = os.path.dirname(os.path.dirname(HERE))
+sys.path += [os.path.join(TOP, *directory) for directory in (("tests", "shared"), ("tests",))]
+
+import check
+from checks import Checks
+
+SECONDS = 60
+# The scripts of tools/ that compare what they make with what stands there where `--check` is said.
+CHECKING = "--check"
+# What is not listed, as a script of the list runs it, or as what it tries is tried in the gate on the processors of most.
+NOT_LISTED = {"tests/bindings/python_user.py", "tests/c/more_processors.py"}
+COMMAND = "make -C c check"
+NEEDS = "tests/shared/needs.py"
+# Debian's packages, one a line, and README's line that installs them.
+PACKAGES = "tests/packages.txt"
+INSTALLING = f"apt install $(cat {PACKAGES})"
+# What runs in the gate the scripts that the list marks by `debian`.
+FRESH = "tests/fresh_debian.py"
+# A script of a list that is made up, by its name: its text.
+SCRIPTS = {
+    "good.py": "print('3 passed, 0 failed')",
+    "more.py": "print('a line')\nprint('4 passed, 0 failed')",
+    "failing.py": "print('2 passed, 1 failed')\nraise SystemExit(1)",
+    "silent.py": "",
+    "dying.py": "print('5 passed, 0 failed')\nraise SystemExit(3)",
+    "denying.py": "print('1 passed, 2 failed')",
+    "proving.py": "print('100 passed, 0 failed')",
+    "making.py": "import os\nmade = sum(name.startswith('MAKE') for name in os.environ)\nprint(f'1 passed, {made} failed')\nraise SystemExit(made > 0)",
+}
+# A made-up list, what is asked of it, and the last line and the exit status that have to come.
+ASKED = [
+    (["any good.py", "any more.py"], [], "7 passed, 0 failed", 0),
+    (["any good.py", "any failing.py", "any more.py"], [], "9 passed, 1 failed", 1),
+    (["any good.py", "any silent.py"], [], "3 passed, 1 failed", 1),
+    (["any good.py", "any dying.py"], [], "8 passed, 1 failed", 1),
+    (["any good.py", "any denying.py"], [], "4 passed, 2 failed", 1),
+    (["any good.py", "any gone.py"], [], "3 passed, 1 failed", 1),
+    (["any good.py", "gate proving.py"], [], "3 passed, 0 failed", 0),
+    (["any good.py", "gate proving.py"], ["--group", "one"], "103 passed, 0 failed", 0),
+    (["any good.py", "debian more.py"], ["--debian"], "4 passed, 0 failed", 0),
+    (["any good.py", "debian more.py"], [], "7 passed, 0 failed", 0),
+    (["any good.py", "debian more.py"], ["--group", "one"], "3 passed, 0 failed", 0),
+    (["any good.py", "any more.py", "gate proving.py"], ["ROOM/more.py"], "4 passed, 0 failed", 0),
+    (["any good.py"], ["--group", "two"], "0 passed, 0 failed", 1),
+    (["gate proving.py"], [], "0 passed, 0 failed", 1),
+    (["any making.py"], [], "1 passed, 0 failed", 0),
+]
+
+
+def read(name):
+    """The text of a file of the repository."""
+    with open(os.path.join(TOP, name), encoding="utf-8") as file:
+        return file.read()
+
+
+def counting():
+    """The scripts that are begun by themselves and end by counting what they checked."""
+    for directory in (*sorted(os.listdir(os.path.join(TOP, "tests"))), os.path.join("..", "tools")):
+        place = os.path.normpath(os.path.join("tests", directory))
+        for name in sorted(os.listdir(place) if os.path.isdir(place) else []):
+            path = f"{place}/{name}"
+            if name.endswith(".py") and re.search(r"(?m)^if __name__ == \"__main__\":$", read(path)) and " passed, " in read(path):
+                yield path
+
+
+def check_list(checks):
+    """What is listed is there, and what is there is listed."""
+    groups = check.groups_of(check.LIST)
+    listed = [script.words for group in groups for script in group.scripts]
+    names = [words[0] for words in listed]
+    checks.check(len({group.name for group in groups}) == len(groups), "two groups have the same name")
+    checks.check(all(group.scripts for group in groups), "a group has no script")
+    for name in names:
+        checks.check(os.path.isfile(name) and names.count(name) == 1, f"{name} is listed, and is not there or is listed twice")
+    for words in listed:
+        checks.check((CHECKING in words) == words[0].startswith("tools/"), f"{' '.join(words)}: it would make something anew")
+    for name in counting():
+        checks.check((name in names) != (name in NOT_LISTED), f"{name} is not listed, and should be, or the reverse")
+    kinds = [script.needs for group in groups for script in group.scripts]
+    checks.check("debian" not in kinds or FRESH in names, f"nothing in the gate runs what is marked by debian: {FRESH} is not listed")
+    checks.check(check.IN_BROWSERS in names, f"{check.IN_BROWSERS} is not listed")
+
+
+def check_adding(checks, room):
+    """What a run over a made-up list says."""
+    for name, text in SCRIPTS.items():
+        with open(os.path.join(room, name), "w", encoding="utf-8") as file:
+            file.write(text)
+    for number, (lines, words, last, status) in enumerate(ASKED):
+        path = os.path.join(room, "list")
+        with open(path, "w", encoding="utf-8") as file:
+            file.write("one:  # a group\n" + "".join(f"    {line.split()[0]} {room}/{line.split()[1]}\n" for line in lines))
+        ran = subprocess.run([sys.executable, check.__file__, "--list", path, *(word.replace("ROOM", room) for word in words)], env=dict(os.environ, MAKEFLAGS="s", MAKELEVEL="1"),
+                             stdout=subprocess.PIPE, stderr=subprocess.PIPE, timeout=SECONDS)
+        said = ran.stdout.decode().splitlines()
+        took = [line for line in said if re.fullmatch(r"== \S+: \d+ s, \d+ of the processor", line)]
+        checks.check(len(took) == sum(line.startswith("== ") for line in said) / 2, f"list {number}: a script does not say what it took: {said}")
+        checks.check(said[-1:] == [last] and ran.returncode == status, f"list {number}: status {ran.returncode}, it ends with {said[-1:]}")
+    for text in ("any good.py\n", "one:\n    good.py\n", "one:\n    all good.py\n"):
+        with open(path, "w", encoding="utf-8") as file:
+            file.write(text)
+        ran = subprocess.run([sys.executable, check.__file__, "--list", path, "--groups"], stdout=subprocess.PIPE,
+                             stderr=subprocess.PIPE, timeout=SECONDS)
+        checks.check(ran.returncode != 0 and not ran.stdout and b"neither a group nor a script" in ran.stderr, f"the list {text!r} is taken")
+
+
+def packages_asked_for(path):
+    """The packages that a script asks for, as expressions: a name, or one with a part that is known when it runs."""
+    nodes = [*ast.walk(ast.parse(read(path)))]
+    for loop in (node for node in nodes if isinstance(node, ast.For) and ast.unparse(node.target) == "(name, package)"):
+        yield from (re.escape(package) for _, package in ast.literal_eval(loop.iter))
+    for call in (node for node in nodes if isinstance(node, ast.Call)):
+        # (what is not here is looked for by `needs.need`, and programs by `needs.program`)
+        name = ast.unparse(call.func).removeprefix("" if path == NEEDS else "needs.")
+        for word in call.args[{"need": 2, "program": 1}.get(name, len(call.args)):]:
+            parts = word.values if isinstance(word, ast.JoinedStr) else [word]
+            if isinstance(word, (ast.JoinedStr, ast.Constant)):
+                yield "".join(re.escape(part.value) if isinstance(part, ast.Constant) else "[a-z0-9-]+" for part in parts)
+
+
+def check_packages(checks):
+    """README names the command behind how to get this, and PACKAGES the packages that the scripts ask for."""
+    section = re.search(r"(?m)^## Get it$(.*?)^## (.*?)$(.*?)^## ", read("README.md"), re.S)
+    checks.check(section and COMMAND in section[3], f"README does not name `{COMMAND}` right behind how to get it")
+    lines = re.findall(r"(?m)^apt(?:-get)? install .*$", read("README.md"))
+    checks.check(lines == [INSTALLING], f"README has the lines {lines} to copy that install packages, and not {INSTALLING!r}")
+    packages = read(PACKAGES).split()
+    checks.check(packages == sorted({*packages}) and read(PACKAGES) == "".join(f"{name}\n" for name in packages),
+                 f"{PACKAGES} has not one name a line, sorted")
+    scripts = [*(f"tests/{place}/{name}" for place in os.listdir("tests") if os.path.isdir(f"tests/{place}")
+                 for name in os.listdir(f"tests/{place}") if name.endswith(".py"))]
+    asked = {package for script in scripts for package in packages_asked_for(script)}
+    checks.check(len(asked) > 20, f"only {len(asked)} packages are found in the scripts")
+    # (the compiler and its C library come along)
+    for package in asked - {re.escape("libc6-dev")}:
+        checks.check(any(re.fullmatch(package, name) for name in packages), f"{PACKAGES} does not name the package {package}")
+    return packages
+
+
+def check_gate(checks, room):
+    """The gate without the kit ends at once, with a sentence."""
+    place = os.path.join(room, "bin")
+    os.mkdir(place)
+    for name in ("bash", "dirname"):
+        os.symlink(shutil.which(name), os.path.join(place, name))
+    for name in ("python3", "apt-get", "nice", "mktemp"):
+        with open(os.path.join(place, name), "w", encoding="ascii") as file:
+            file.write(f"#!{shutil.which('sh')}\necho {name} >> {room}/begun\n")
+        os.chmod(os.path.join(place, name), 0o755)
+    ran = subprocess.run(["bash", os.path.join(TOP, ".ci", "run")], env={"PATH": place, "CI": "1"}, stdin=subprocess.DEVNULL,
+                         stdout=subprocess.PIPE, stderr=subprocess.STDOUT, timeout=SECONDS)
+    said = ran.stdout.decode().splitlines()
+    checks.check(ran.returncode != 0 and len(said) == 1 and "there is no rt" in said[0] and f"`{COMMAND}`" in said[0],
+                 f"the gate without the kit: status {ran.returncode}: {said}")
+    checks.check(not os.path.exists(f"{room}/begun"), "the gate without the kit begins something")
+
+
+def main():
+    checks = Checks()
+    os.chdir(TOP)
+    with tempfile.TemporaryDirectory(prefix="one-list-") as room:
+        check_list(checks)
+        check_adding(checks, room)
+        check_packages(checks)
+        check_gate(checks, room)
+    return checks.end()
+
+
+if __name__ == "__main__":
+    sys.exit(main())

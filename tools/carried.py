@@ -1,0 +1,81 @@
+#!/usr/bin/env python3
+"""Makes in `bindings/go` copies of what it is built of, of dist/, c/library and include/: a module of Go has nothing but what stands
+in its own directory, also where it is a dependency of a git path, and no step before `go build`. A copy in C begins with a line
+that tells Go for which systems it is compiled.
+
+    tools/carried.py             writes them; tools/dist.py does so too, once it has made dist/
+    tools/carried.py --check     fails where one differs; the last line is `N passed, M failed`
+
+Needs Python 3.9 or later.
+"""
+
+import os
+import sys
+
+HERE = os.path.dirname(os.path.realpath(__file__))
+ROOT = os.path.dirname(HERE)
+sys.path.append(os.path.join(ROOT, "tests", "shared"))
+
+from checks import Checks
+
+GO = "bindings/go"
+# Where the archives are linked, whose calls need memory alone; and everywhere else, or with the tag `portable`, the same calls as C.
+# Of memory there is one file for Linux with pointers of 64 bits.
+WITH_PAGES = "linux && (amd64 || arm64 || loong64 || mips64 || mips64le || ppc64 || ppc64le || riscv64 || s390x)"
+AS_C = "portable || !linux || (!amd64 && !arm64)"
+COPIES = {
+    "calls-x86-64-v2.a": ("dist/calls-x86-64-v2.a", None),
+    "calls-x86-64-v3.a": ("dist/calls-x86-64-v3.a", None),
+    "calls-aarch64.a": ("dist/calls-aarch64.a", None),
+    "minisign.h": ("include/minisign.h", None),
+    "minisign_install.h": ("include/minisign_install.h", None),
+    "clearing.h": ("c/library/clearing.h", None),
+    "allocation.h": ("c/library/allocation.h", None),
+    "machine.h": ("c/library/portable/machine.h", None),
+    "allocation.c": ("c/library/allocation.c", WITH_PAGES),
+    "boundary.c": ("c/library/boundary.c", AS_C),
+    "clearing.c": ("c/library/clearing.c", AS_C),
+    "calls.c": ("dist/calls.c", AS_C),
+    "pointers.c": ("c/library/portable/pointers.c", AS_C),
+    "memory.c": ("c/library/portable/allocation.c", AS_C),
+}
+
+
+def path_of(name):
+    return os.path.join(ROOT, name)
+
+
+def copy(source, systems):
+    """What a copy has to be."""
+    with open(path_of(source), "rb") as file:
+        data = file.read()
+    told = f"//go:build {systems}\n\n// A copy of {source} that tools/carried.py made: do not edit it here.\n\n" if systems else ""
+    return told.encode() + data
+
+
+def write():
+    """Makes the copies."""
+    for name, of in COPIES.items():
+        with open(path_of(f"{GO}/{name}"), "wb") as file:
+            file.write(copy(*of))
+
+
+def check():
+    """Compares them: the exit status."""
+    checks = Checks()
+    for name, of in COPIES.items():
+        path = path_of(f"{GO}/{name}")
+        is_there = os.path.isfile(path)
+        with open(path if is_there else os.devnull, "rb") as file:
+            checks.check(file.read() == copy(*of), f"{GO}/{name} is not a copy of {of[0]}: run tools/carried.py")
+    more = {name for name in os.listdir(path_of(GO)) if name.endswith((".a", ".c", ".h"))} - {*COPIES}
+    checks.check(not more, f"{GO} has {sorted(more)}, which are no copies")
+    return checks.end()
+
+
+if __name__ == "__main__":
+    if sys.argv[1:] not in ([], ["--check"]):
+        sys.exit(__doc__)
+    if sys.argv[1:]:
+        sys.exit(check())
+    write()
