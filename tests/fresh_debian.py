@@ -11,8 +11,8 @@ scripts. Nothing is installed while they run, and there is no newer compiler tha
 there in the gate: the marked ones build and install as the documents say, by compilers and tools whose versions those name;
 the others have cases that need root, other compilers beside Debian's, or much more to install.
 
-Where no fresh Debian can be had, as only root may make one, it says why, and the marked scripts run here. The last line is
-`N passed, M failed`.
+Where no fresh Debian can be had, as only root may make one and a mirror has to answer, it says why, and the marked scripts run
+here. The last line is `N passed, M failed`.
 
 Needs Python 3.9 or later, debootstrap, unshare, and root; it installs debootstrap where it may.
 """
@@ -112,19 +112,19 @@ def why_not():
 
 def main(words):
     why = why_not()
-    if why:
-        print(f"no fresh Debian: {why}; the scripts run here")
-        return subprocess.run([sys.executable, os.path.join(HERE, "check.py"), *words_for(words)], stdin=subprocess.DEVNULL).returncode
-    with tempfile.TemporaryDirectory(prefix="fresh-debian-") as room:
-        os.chmod(room, 0o755)
-        try:
-            debian = Debian(room)
-            debian.install(packages(bool(words)))
-            debian.bring()
-        except Failed as failed:
-            print(f"FAILED: {failed}\n0 passed, 1 failed")
-            return 1
-        return debian.check(" ".join(words_for(words)))
+    if not why:
+        with tempfile.TemporaryDirectory(prefix="fresh-debian-") as room:
+            os.chmod(room, 0o755)
+            try:
+                debian = Debian(room)
+                debian.install(packages(bool(words)))
+                debian.bring()
+            except (Failed, OSError, subprocess.SubprocessError) as failed:
+                why = str(failed)
+            else:
+                return debian.check(" ".join(words_for(words)))
+    print(f"no fresh Debian: {why}; the scripts run here")
+    return subprocess.run([sys.executable, os.path.join(HERE, "check.py"), *words_for(words)], stdin=subprocess.DEVNULL).returncode
 
 
 def words_for(words):
