@@ -51,28 +51,28 @@ def is_secret(struct):
 # ---- The calls as a caller has them ----
 
 
-def role_of(call, it, after, header):
+def role_of(call, parameter, after, header):
     """What a parameter is for, as a word of the tables below, by those after it; and how many of them belong to it, with itself."""
     structs = header.structs
-    if it.kind in header.in_parts:
+    if parameter.kind in header.in_parts:
         return "parts", 1
-    if it.name.startswith("with_"):
+    if parameter.name.startswith("with_"):
         return "password", 3
-    if it.count:
-        return ("array" if it.const else "new array"), 1
-    if it.star and it.kind in ("uint8_t", "char"):
+    if parameter.count:
+        return ("array" if parameter.const else "new array"), 1
+    if parameter.star and parameter.kind in ("uint8_t", "char"):
         if not after or after[0].kind != "size_t" or after[0].star:
-            raise Unfit(f"{call.name}: {it.name}, after which no length stands")
-        if it.const:
+            raise Unfit(f"{call.name}: {parameter.name}, after which no length stands")
+        if parameter.const:
             return "bytes", 2
         if [one.kind + one.star for one in after] == ["size_t", "size_t*"]:
             return "text", 3
         is_message = any(one.name == "questions" for one in call.parameters)
         return ("short text" if call.answer == "size_t" else "message" if is_message else "joined"), 2
-    if it.star and it.kind in structs:
-        is_new = it.name == "questions" or not it.const and not after and (len(call.parameters) > 1 or call.answer == "void")
-        return "struct" if not is_new else "secret" if is_secret(it.kind) else "new struct", 1
-    return "new number" if it.star else "answer" if it.kind == "enum minisign_answer" else "number", 1
+    if parameter.star and parameter.kind in structs:
+        is_new = parameter.name == "questions" or not parameter.const and not after and (len(call.parameters) > 1 or call.answer == "void")
+        return "struct" if not is_new else "secret" if is_secret(parameter.kind) else "new struct", 1
+    return "new number" if parameter.star else "answer" if parameter.kind == "enum minisign_answer" else "number", 1
 
 
 def roles(call, header, rest):
@@ -86,11 +86,11 @@ def roles(call, header, rest):
 def room_of(call, header):
     """How many bytes a call writes, as the names of a size and of lengths: as the size says that is named as the call is, and otherwise
     all that it takes."""
-    fitting = [it for it in header.sizes if it.name.removesuffix("_BYTES") in call.name.upper()]
+    fitting = [size for size in header.sizes if size.name.removesuffix("_BYTES") in call.name.upper()]
     if fitting:
-        size = max(fitting, key=lambda it: len(it.name))
-        return [size.name], [it.removesuffix("_len") for it in size.lengths]
-    return [], [it.name for it in call.parameters if it.const and it.kind == "uint8_t"]
+        size = max(fitting, key=lambda size: len(size.name))
+        return [size.name], [name.removesuffix("_len") for name in size.lengths]
+    return [], [parameter.name for parameter in call.parameters if parameter.const and parameter.kind == "uint8_t"]
 
 
 def in_words(call, header, table, kind_of, length_of):
@@ -99,21 +99,21 @@ def in_words(call, header, table, kind_of, length_of):
     size, lengths = room_of(call, header)
     columns = [[], [], [], [], []]
 
-    def filled(role, it):
-        return {"name": it.name, "of": kind_of(it.kind, header), "count": it.count, "mut": "" if it.const else "mut ",
-                "room": " + ".join([*size, *map(length_of, lengths)]), "parts": table["between parts"].join(parts_of(it)),
+    def filled(role, parameter):
+        return {"name": parameter.name, "of": kind_of(parameter.kind, header), "count": parameter.count, "mut": "" if parameter.const else "mut ",
+                "room": " + ".join([*size, *map(length_of, lengths)]), "parts": table["between parts"].join(parts_of(parameter)),
                 "size": call.name.removeprefix("minisign_").removeprefix("install_").upper() + "_BYTES",
                 # (the comment is shorter than the text that has it)
                 "longest": "signature.comment_len" if any(part.name == "signature" for part in call.parameters) else "len(sig_text)"}
 
-    def parts_of(it):
-        for role, part in roles(call, header, header.structs[it.kind] if it.kind in header.in_parts else ()):
+    def parts_of(parameter):
+        for role, part in roles(call, header, header.structs[parameter.kind] if parameter.kind in header.in_parts else ()):
             taken, within = table[f"{role} among parts"]
             columns[0].append(taken.format(**filled(role, part)))
             yield within.format(**filled(role, part))
 
-    for role, it in roles(call, header, call.parameters):
-        words = filled(role, it)
+    for role, parameter in roles(call, header, call.parameters):
+        words = filled(role, parameter)
         for column, form in zip(columns, table[role]):
             column += [form.format(**words)] if form else []
     return columns
@@ -154,11 +154,11 @@ def ctype(kind, header):
     return name_of(kind) if kind in header.structs else C_TYPES.get(kind, "c_uint32")
 
 
-def argument(it, header):
+def argument(parameter, header):
     """The type of an argument in ctypes: bytes, a pointer to a number or a struct, or a number."""
-    if it.kind in ("uint8_t", "char"):
+    if parameter.kind in ("uint8_t", "char"):
         return "c_void_p"
-    return f"POINTER({ctype(it.kind, header)})" if it.star else ctype(it.kind, header)
+    return f"POINTER({ctype(parameter.kind, header)})" if parameter.star else ctype(parameter.kind, header)
 
 
 # How long a line of Python is at most (the default of black).
@@ -172,7 +172,7 @@ def items_of(words):
         depth += (letter in "([{") - (letter in ")]}")
         items += [""] if letter == "," and depth == 0 else []
         items[-1] += "" if letter == "," and depth == 0 else letter
-    return [it.strip() for it in items if it.strip()]
+    return [item.strip() for item in items if item.strip()]
 
 
 def in_brackets(begin, words, end, is_list=False):
@@ -183,7 +183,7 @@ def in_brackets(begin, words, end, is_list=False):
         return begin + words + end
     if not is_list and len(indent) + 4 + len(words) <= PYTHON_WIDTH:
         return f"{begin}\n{indent}    {words}\n{indent}{end}"
-    inside = "".join(f"{python_line(f'{indent}    {it},')}\n" for it in items)
+    inside = "".join(f"{python_line(f'{indent}    {item},')}\n" for item in items)
     return f"{begin}\n{inside}{indent}{end}"
 
 
@@ -206,28 +206,28 @@ def python_errors(header):
     for comment, name, number in header.errors:
         made += f"class {name_of(name)}(MinisignError):\n{docstring(comment, '    ')}\n    number = {number}\n\n\n"
     made += "BY_NUMBER: \"dict[int, type[MinisignError]]\" = {\n"
-    made += "".join(f"    {it.number}: {name_of(it.name)},\n" for it in header.errors) + "}\n\n__all__ = [\n    \"MinisignError\",\n"
-    return made + "".join(f'    "{name_of(it.name)}",\n' for it in header.errors) + "]\n"
+    made += "".join(f"    {error.number}: {name_of(error.name)},\n" for error in header.errors) + "}\n\n__all__ = [\n    \"MinisignError\",\n"
+    return made + "".join(f'    "{name_of(error.name)}",\n' for error in header.errors) + "]\n"
 
 
 def python_header(header):
     numbers = [(name, value.upper().replace("0X", "0x")) for name, value in header.numbers]
     made = kept(PYTHON, "# SPDX", "Union\n\n") + "".join(f"{name} = {value}\n" for name, value in numbers + header.texts)
     made += "# Sizes to which the length of what is put in is added.\n"
-    made += "".join(f"{it.name} = {it.number}\n" for it in header.sizes)
-    for members in (it for enum, it in header.enums.items() if enum != "error"):
-        made += "\n" + "".join(f"{it.name} = {it.number}\n" for it in members)
+    made += "".join(f"{size.name} = {size.number}\n" for size in header.sizes)
+    for members in (members for enum, members in header.enums.items() if enum != "error"):
+        made += "\n" + "".join(f"{member.name} = {member.number}\n" for member in members)
     for struct, fields in header.structs.items():
-        kinds = ["c_char_p" if it.star else ctype(it.kind, header) + (it.count and f" * {it.count}") for it in fields]
-        inside = "".join(f'        ("{it.name}", {kind}),\n' for it, kind in zip(fields, kinds))
+        kinds = ["c_char_p" if field.star else ctype(field.kind, header) + (field.count and f" * {field.count}") for field in fields]
+        inside = "".join(f'        ("{field.name}", {kind}),\n' for field, kind in zip(fields, kinds))
         made += f"\n\nclass {name_of(struct)}(Structure):\n    _fields_ = [\n{inside}    ]\n"
     made += kept(PYTHON, "\n\n# Bytes that a call only reads.", "self._library = library\n")
     for call in header.calls:
-        taken = ", ".join(argument(it, header) for it in call.parameters) + "," * (len(call.parameters) == 1)
+        taken = ", ".join(argument(parameter, header) for parameter in call.parameters) + "," * (len(call.parameters) == 1)
         result = "error" if call.answer == "enum minisign_error" else ctype(call.answer, header)
         made += f"        library.{call.name}.restype = {result}\n"
         made += in_brackets(f"        library.{call.name}.argtypes = (", taken, ")", is_list=True) + "\n"
-    return made + "".join(python_call(it, header) for it in header.calls if it.name not in DECLARED_ALONE)
+    return made + "".join(python_call(call, header) for call in header.calls if call.name not in DECLARED_ALONE)
 
 
 def python_call(call, header):
@@ -245,9 +245,9 @@ def python_call(call, header):
 
 
 def go_errors(header):
-    width = max(len("Err" + name_of(it.name)) for it in header.errors)
-    rows = [f"\t{'Err' + name_of(it.name):{width}} = Error(C.MINISIGN_{it.name})\n" for it in header.errors]
-    named = [f"\t{'Err' + name_of(it.name) + ':':{width + 1}} \"{it.name}\",\n" for it in header.errors]
+    width = max(len("Err" + name_of(error.name)) for error in header.errors)
+    rows = [f"\t{'Err' + name_of(error.name):{width}} = Error(C.MINISIGN_{error.name})\n" for error in header.errors]
+    named = [f"\t{'Err' + name_of(error.name) + ':':{width + 1}} \"{error.name}\",\n" for error in header.errors]
     names = "// Names are those of minisign.h, without MINISIGN_.\nvar names = map[Error]string{\n"
     return f"{kept(GO, '// SPDX', 'const (' + chr(10))}{''.join(rows)})\n\n{names}{''.join(named)}}}\n"
 
@@ -314,7 +314,7 @@ def in_lines(indent, begin, items, end, handed=RUST_WIDTH):
         return f"{indent}{begin}{words}{before}\n{indent}    -> {after}"
     if len(one) <= RUST_WIDTH and len(words) <= handed and "\n" not in words:
         return one
-    return f"{indent}{begin}\n" + "".join(f"{indent}    {it},\n" for it in items) + indent + end
+    return f"{indent}{begin}\n" + "".join(f"{indent}    {item},\n" for item in items) + indent + end
 
 
 def rust_unsafe(before, name, handed, after):
@@ -329,7 +329,7 @@ def rust_unsafe(before, name, handed, after):
 def rust_call(call, header):
     """A function that makes a call and answers what that writes."""
     taken, before, handed, types, told = in_words(call, header, RUST_ROLES, rust_type, "{}.len()".format)
-    handed = [it for words in handed for it in ([words] if "\n" in words else words.split(", "))]
+    handed = [word for words in handed for word in ([words] if "\n" in words else words.split(", "))]
     made = lambda before, after: rust_unsafe(before, call.name, handed, after)
     result, value = in_one(types) or "()", in_one(told)
     answers = {"void": result, "uint32_t": "u32"}.get(call.answer, f"Result<{result}, Reason>")
@@ -353,17 +353,17 @@ RUST_DERIVED = {"minisign_public_key": "Clone, Debug, Eq, PartialEq, Ord, Partia
 def rust_struct(struct, fields, header):
     """A struct with its zeros; one that holds a secret key is cleared at its end."""
     made = f"\n#[derive({RUST_DERIVED[struct]})]" if struct in RUST_DERIVED else ""
-    kinds = [f"[{rust_type(it.kind, header)}; {it.count}]" if it.count else "*const " * bool(it.star) + rust_type(it.kind, header)
-             for it in fields]
-    inside = "".join(f"    pub {it.name}: {kind},\n" for it, kind in zip(fields, kinds))
-    zeros = [f"{it.name}: {f'[0; {it.count}]' if it.count else '0'}" for it in fields]
+    kinds = [f"[{rust_type(field.kind, header)}; {field.count}]" if field.count else "*const " * bool(field.star) + rust_type(field.kind, header)
+             for field in fields]
+    inside = "".join(f"    pub {field.name}: {kind},\n" for field, kind in zip(fields, kinds))
+    zeros = [f"{field.name}: {f'[0; {field.count}]' if field.count else '0'}" for field in fields]
     made += f"\n#[repr(C)]\npub struct {name_of(struct)} {{\n{inside}}}\n"
     if struct in header.in_parts:
         return made
-    of_zeros = f" {zeros[0]} " if len(zeros) == 1 else "\n" + "".join(f"        {it},\n" for it in zeros) + "    "
+    of_zeros = f" {zeros[0]} " if len(zeros) == 1 else "\n" + "".join(f"        {zero},\n" for zero in zeros) + "    "
     made += f"\nimpl {name_of(struct)} {{\n    pub const ZEROS: Self = Self {{{of_zeros}}};\n}}\n"
     if is_secret(struct):
-        cleared = "".join(f"        clear(&mut self.{it.name});\n" for it in fields if it.count and it.name != "key_id")
+        cleared = "".join(f"        clear(&mut self.{field.name});\n" for field in fields if field.count and field.name != "key_id")
         made += RUST_CLEARED.format(struct=name_of(struct), cleared=cleared)
     return made
 
@@ -371,9 +371,9 @@ def rust_struct(struct, fields, header):
 def rust_declaration(call, header):
     """A call as it is declared."""
     told = []
-    for it in call.parameters:
-        of, array, pointer = rust_type(it.kind, header), "&" if it.const else "&mut ", "*const " if it.const else "*mut "
-        told.append(f"{it.name}: " + (f"{array}[{of}; {it.count}]" if it.count else f"{pointer}{of}" if it.star else of))
+    for parameter in call.parameters:
+        of, array, pointer = rust_type(parameter.kind, header), "&" if parameter.const else "&mut ", "*const " if parameter.const else "*mut "
+        told.append(f"{parameter.name}: " + (f"{array}[{of}; {parameter.count}]" if parameter.count else f"{pointer}{of}" if parameter.star else of))
     answer = {"void": ");", "size_t": ") -> usize;"}.get(call.answer, ") -> u32;")
     return in_lines(" " * 4, f"fn {call.name}(", told, answer) + "\n"
 
@@ -386,15 +386,15 @@ def rust_header(header):
         made += f"    pub const {name}: Reason = Reason({number});\n"
     made += "\n    /// The name that it has in `minisign.h`, without `MINISIGN_`: of another number \"\".\n"
     made += "    pub fn name(self) -> &'static str {\n        match self.0 {\n            0 => \"OK\",\n"
-    made += "".join(f'            {it.number} => "{it.name}",\n' for it in header.errors) + '            _ => "",\n        }\n    }\n'
+    made += "".join(f'            {error.number} => "{error.name}",\n' for error in header.errors) + '            _ => "",\n        }\n    }\n'
     kinds = [(name, "u64" if value.startswith("0x") else "usize", value) for name, value in header.numbers]
-    kinds += [*((it.name, "usize", it.number) for it in header.sizes), *((name, "&str", text) for name, text in header.texts)]
-    kinds += [(it.name, "u32", it.number) for enum, members in header.enums.items() if enum != "error" for it in members]
+    kinds += [*((size.name, "usize", size.number) for size in header.sizes), *((name, "&str", text) for name, text in header.texts)]
+    kinds += [(member.name, "u32", member.number) for enum, members in header.enums.items() if enum != "error" for member in members]
     made += "}\n\n" + "".join(f"pub const {name}: {kind} = {value};\n" for name, kind, value in kinds)
     made += "".join(rust_struct(struct, fields, header) for struct, fields in header.structs.items())
-    made += "\nextern \"C\" {\n" + "".join(rust_declaration(it, header) for it in header.calls) + "}\n"
+    made += "\nextern \"C\" {\n" + "".join(rust_declaration(call, header) for call in header.calls) + "}\n"
     made += kept(RUST, "\n/// Writes zeros", "Reason::NOT_UTF8)\n}\n")
-    return made + "".join(rust_call(it, header) for it in header.calls if it.name not in DECLARED_ALONE)
+    return made + "".join(rust_call(call, header) for call in header.calls if call.name not in DECLARED_ALONE)
 
 
 def made():

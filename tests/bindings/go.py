@@ -26,7 +26,7 @@ import sys
 import tempfile
 
 HERE = os.path.dirname(os.path.realpath(__file__))
-sys.path += [HERE, *(os.path.join(HERE, "..", it) for it in ("shared", "c")), os.path.join(HERE, "..", "..", "tools")]
+sys.path += [HERE, *(os.path.join(HERE, "..", name) for name in ("shared", "c")), os.path.join(HERE, "..", "..", "tools")]
 
 import carried
 import emulated
@@ -79,9 +79,9 @@ def is_utf8(text):
         return False
 
 
-def has_blank_comment(it):
+def has_blank_comment(case):
     """Whether a trusted comment has white space at its end."""
-    comment = line_of(it.signature, 3).decode().rstrip("\r")
+    comment = line_of(case.signature, 3).decode().rstrip("\r")
     return comment != comment.rstrip()
 
 
@@ -92,20 +92,20 @@ def is_canonical(letters):
 
 # Which cases this package rejects, by the header's name of why, and go-minisign accepts.
 REJECTED_HERE = {
-    "COMMENT_SIGNATURE_REFUSED": lambda it: has_blank_comment(it) or line_of(it.signature, 4).strip() == b"",
-    "NOT_UTF8": lambda it: not (is_utf8(it.key) and is_utf8(it.signature)),
-    "UNTRUSTED_COMMENT_PREFIX": lambda it: not it.signature.startswith(b"untrusted comment: "),
-    "PUBLIC_KEY_LENGTH": lambda it: len(line_of(it.key, 2)) != 56,
-    "SIGNATURE_NOT_BASE64": lambda it: not all(is_canonical(line_of(it.signature, number)) for number in (2, 4)),
-    "SIGNATURE_REFUSED": lambda it: it in shared_cases.vector_cases(),
+    "COMMENT_SIGNATURE_REFUSED": lambda case: has_blank_comment(case) or line_of(case.signature, 4).strip() == b"",
+    "NOT_UTF8": lambda case: not (is_utf8(case.key) and is_utf8(case.signature)),
+    "UNTRUSTED_COMMENT_PREFIX": lambda case: not case.signature.startswith(b"untrusted comment: "),
+    "PUBLIC_KEY_LENGTH": lambda case: len(line_of(case.key, 2)) != 56,
+    "SIGNATURE_NOT_BASE64": lambda case: not all(is_canonical(line_of(case.signature, number)) for number in (2, 4)),
+    "SIGNATURE_REFUSED": lambda case: case in shared_cases.vector_cases(),
 }
 # Which cases go-minisign rejects, by its words, and this package accepts.
 REJECTED_THERE = {
-    "Invalid encoded signature": lambda it: [len(line_of(it.signature, number).rstrip(b"\r=")) for number in (2, 4)] != [99, 86]
-                                 or len(it.signature.rstrip(b"\r\n").split(b"\n")) > 4,
-    "Invalid encoded public key": lambda it: it.key.rstrip(b"\r\n").count(b"\n") > 1 or len(line_of(it.key, 2).rstrip(b"\r")) != 56,
+    "Invalid encoded signature": lambda case: [len(line_of(case.signature, number).rstrip(b"\r=")) for number in (2, 4)] != [99, 86]
+                                 or len(case.signature.rstrip(b"\r\n").split(b"\n")) > 4,
+    "Invalid encoded public key": lambda case: case.key.rstrip(b"\r\n").count(b"\n") > 1 or len(line_of(case.key, 2).rstrip(b"\r")) != 56,
     "Invalid global signature": has_blank_comment,
-    "Incompatible signature algorithm": lambda it: base64.b64decode(line_of(it.key, 2))[:2] != b"Ed",
+    "Incompatible signature algorithm": lambda case: base64.b64decode(line_of(case.key, 2))[:2] != b"Ed",
 }
 
 
@@ -168,7 +168,7 @@ def check_answers(checks, program, room, minisign):
     """The program answers kept and damaged texts as `c/minisign` does."""
     cases = shared_cases.corpus() + shared_cases.damaged() + shared_cases.large(minisign, room)
     any_kind, strict = (shared_cases.answers_of(minisign, room, cases, allow) for allow in (True, False))
-    checks.check(60 <= sum(it is not None for it in any_kind) <= 200, "of the cases too few, or too many, are accepted")
+    checks.check(60 <= sum(comment is not None for comment in any_kind) <= 200, "of the cases too few, or too many, are accepted")
     checks.check(strict[-2:] == [b"large", None], f"c/minisign answers {strict[-2:]} to the large data")
     runs = [("at once", ["verify"], any_kind), ("from files", ["files", room], any_kind)]
     runs += [(f"in pieces of {length}", ["pieces", str(length)], strict) for length in (1, 128, 1000, 0)]
@@ -181,7 +181,7 @@ def check_answers(checks, program, room, minisign):
 def check_vectors(checks, program):
     """Its Ed25519 answers as libsodium does: which of the two signatures of a text is rejected tells what it answered to the first."""
     cases, numbers = shared_cases.vector_cases(), shared_cases.error_numbers()
-    wanted = [it[-1] for it in shared_cases.vectors()] + [False] * 3
+    wanted = [vector[-1] for vector in shared_cases.vectors()] + [False] * 3
     said = run([program, "verify"], data=shared_cases.lines_of(cases))[1].decode().splitlines()
     checks.check(len(said) == len(cases) == 296, f"{len(said)} answers to {len(cases)} vectors")
     for case, line, accepted in zip(cases, said, wanted):
@@ -207,8 +207,8 @@ def check_rejections(checks, program):
 
 def check_read(checks, program):
     """The program tells key IDs and algorithms before anything is asked."""
-    lines = shared_cases.lines_of([it.case for it in shared_cases.readings()])
-    form = lambda it: f"{it.key_id.hex()} {it.signature_key_id.hex()} {'Ed' if it.is_legacy else 'ED'}"
+    lines = shared_cases.lines_of([reading.case for reading in shared_cases.readings()])
+    form = lambda reading: f"{reading.key_id.hex()} {reading.signature_key_id.hex()} {'Ed' if reading.is_legacy else 'ED'}"
     shared_cases.check_readings(checks, "what is read", run([program, "read"], data=lines)[1], form)
 
 
@@ -357,8 +357,8 @@ class Bare(Go):
         super().__init__(room)
         programs = os.path.join(room, "programs")
         os.mkdir(programs)
-        for it in NEEDED:
-            os.symlink(os.path.join(needs.DEBIAN, it), os.path.join(programs, it))
+        for name in NEEDED:
+            os.symlink(os.path.join(needs.DEBIAN, name), os.path.join(programs, name))
         config = write(room, "gitconfig", f'[url "file://{room}/"]\n\tinsteadOf = https://example.com/\n'.encode())
         self.environment = {**self.environment, "PATH": programs, "GIT_CONFIG_GLOBAL": config, "GOSUMDB": "off", "GOFLAGS": "-mod=mod -modcacherw"}
 
@@ -403,7 +403,7 @@ def check_copies(checks, package):
 
 def check_many(checks, program, racing):
     """Many calls take no more memory, and threads get the answers that one gets."""
-    lines = shared_cases.lines_of([it for it in shared_cases.corpus() + shared_cases.damaged(60) if len(it.data) < 20_000])
+    lines = shared_cases.lines_of([case for case in shared_cases.corpus() + shared_cases.damaged(60) if len(case.data) < 20_000])
     status, said, why = run([program, "growth", str(CALLS)], data=lines)
     checks.check(status == 0 and int(said) <= PAGES, f"after {CALLS} calls {said!r} pages more are in memory: {why}")
     for what, of in (("threads", program), ("threads under the race detector", racing)):

@@ -93,7 +93,7 @@ def check_sources(checks, user):
     described = json.loads(text_of("package.json"))
     version = re.search(r'MINISIGN_VERSION_TEXT "(.*)"', read(shared_cases.HEADER).decode())[1]
     checks.check(described["version"] == version, f"package.json has the version {described['version']}, and the header {version}")
-    names = {it for it in os.listdir(os.path.join(user, "node_modules", "minisign-proved")) if it.endswith((".js", ".ts"))}
+    names = {name for name in os.listdir(os.path.join(user, "node_modules", "minisign-proved")) if name.endswith((".js", ".ts"))}
     checks.check(set(described["files"]) == names, f"package.json names {described['files']}, and there are {sorted(names)}")
     lines = 0
     for name in sorted(names - {MODULE}):
@@ -141,11 +141,11 @@ def check_answers(checks, program, room, minisign):
     shared_cases.compare(checks, "with legacy signatures", cases, program.said(lines, "cases", "legacy"), legacy)
     shared_cases.compare(checks, "without them", cases, program.said(lines, "cases"), strict)
     shared_cases.compare(checks, "in threads", cases, program.said(lines, "threads"), strict)
-    kept = [it for it in shared_cases.corpus() if len(it.data) < 300_000] + shared_cases.large(minisign, room)
+    kept = [case for case in shared_cases.corpus() if len(case.data) < 300_000] + shared_cases.large(minisign, room)
     for words, allowed in ((["pieces"], False), (["pieces", "legacy"], True)):
         wanted = shared_cases.answers_of(minisign, room, kept, allowed)
         shared_cases.compare(checks, f"in {words}", kept, program.said(shared_cases.lines_of(kept), *words), wanted)
-    accepted = sum(it is not None for it in strict)
+    accepted = sum(comment is not None for comment in strict)
     checks.check(0 < accepted < len(cases), f"{accepted} of {len(cases)} cases are accepted")
 
 
@@ -166,16 +166,16 @@ def check_rejections(checks, program):
 def check_read(checks, program, room, minisign):
     """It tells which key a signature names, and whether it is legacy, before anything is asked; and verifies with what was read."""
     told = shared_cases.readings()
-    cases = [it.case for it in told]
+    cases = [reading.case for reading in told]
     for words, allowed in ((["read"], False), (["read", "legacy"], True)):
         answers = dict(zip(cases, shared_cases.answers_of(minisign, room, cases, allowed)))
         said = program.said(shared_cases.lines_of(cases), *words)
         # (of what is rejected otherwise, the white space behind a comment was signed)
-        why = lambda it: ("DIFFERENT_KEY_IDS" if it.key_id != it.signature_key_id else "LEGACY_NOT_ACCEPTED" if it.is_legacy
+        why = lambda reading: ("DIFFERENT_KEY_IDS" if reading.key_id != reading.signature_key_id else "LEGACY_NOT_ACCEPTED" if reading.is_legacy
                           else "COMMENT_SIGNATURE_REFUSED")
-        verdict = lambda it: f"accepted {answers[it.case].hex() or '-'}" if answers[it.case] is not None else f"rejected {why(it)}"
-        shown = lambda it: f"{shared_cases.shown_id(it):0>16}"
-        form = lambda it: f"{shown(it.key_id)} {shown(it.signature_key_id)} {str(it.is_legacy).lower()} {verdict(it)}"
+        verdict = lambda reading: f"accepted {answers[reading.case].hex() or '-'}" if answers[reading.case] is not None else f"rejected {why(reading)}"
+        shown = lambda key_id: f"{shared_cases.shown_id(key_id):0>16}"
+        form = lambda reading: f"{shown(reading.key_id)} {shown(reading.signature_key_id)} {str(reading.is_legacy).lower()} {verdict(reading)}"
         shared_cases.check_readings(checks, f"{words}", said, form)
     of_texts = [(case, name) for case, name in shared_cases.rejections() if case.key == cases[0].key and "signature" in case.name]
     said = program.said(shared_cases.lines_of([case for case, _ in of_texts]), "read").decode().splitlines()
@@ -189,7 +189,7 @@ def check_vectors(checks, program, room, minisign):
     """It answers the vectors as libsodium does, by itself and in a legacy signature; and no signature fits every file."""
     vectors = edges.vectors()
     answers = program.said(json.dumps(vectors).encode(), "vectors").decode().split()
-    wanted = [str(it["sodium"]).lower() for it in vectors]
+    wanted = [str(vector["sodium"]).lower() for vector in vectors]
     checks.check(len(answers) == len(wanted) == 293, f"{len(answers)} answers to {len(wanted)} vectors")
     for vector, answer, other in zip(vectors, answers, wanted):
         checks.check(answer == other, f"the vector {vector['name']}: {answer}, and libsodium {other}")
@@ -218,7 +218,7 @@ def check_keys(checks, program):
       const [texts, data, signature] = JSON.parse(readFileSync(0)), bytes = it => Buffer.from(it, "base64");
       for (const text of texts) console.log(await verify(bytes(data), bytes(signature).toString(), text).then(
         ({keyId, isLegacy}) => keyId === "E7620F1842B4E81F" && !isLegacy ? "accepted" : keyId, why => why.code));"""
-    encoded = json.dumps([list(texts), *(base64.b64encode(it).decode() for it in (data, signature))]).encode()
+    encoded = json.dumps([list(texts), *(base64.b64encode(part).decode() for part in (data, signature))]).encode()
     status, answers, why = run([program.node, "--input-type=module", "-e", script], directory=program.user, data=encoded)
     checks.check(status == 0, why)
     for (text, wanted), answer in zip(texts.items(), answers.decode().split()):
@@ -231,9 +231,9 @@ WRONG = [
     "signature has to be a text, as a string or bytes, and not number", "signature has to be a text, as a string or bytes, and not null",
     "key has to be a text, as a string or bytes, and not undefined", "signature has 65536 bytes or more", "key has 65536 bytes or more",
     "signature has to be a text, as a string or bytes, and not object",
-    *(f"signature has to be a text, as a string or bytes, and not {it}" for it in ("number", "null", "undefined", "object")),
+    *(f"signature has to be a text, as a string or bytes, and not {kind}" for kind in ("number", "null", "undefined", "object")),
     "signature has 65536 bytes or more", "signature has to be a text, as a string or bytes, and not object",
-    *(f"key has to be a text, as a string or bytes, and not {it}" for it in ("number", "null", "object", "object")),
+    *(f"key has to be a text, as a string or bytes, and not {kind}" for kind in ("number", "null", "object", "object")),
     "options has to be an object, and not null", "options has to be an object, and not number", "options has no allowlegacy",
     "options has no toString", *["allowLegacy has to be true or false, and not "] * 2, "progress has to be a function, and not number",
     *["signal has to be an AbortSignal, and not "] * 2, "options has no signal",
@@ -277,7 +277,7 @@ def check_readme(checks, program):
     comments = b"verified, and signed with it: timestamp:1556193335\tfile:test\n", b"E7620F1842B4E81F timestamp:1556193335\tfile:test\n"
     for program_name, comment, early in zip(("readme.mjs", "streamed.mjs"), comments, (b"", comments[1])):
         for name, wanted in (("test", comment), ("hello", early)):
-            named = [os.path.join(shared_cases.CORPUS, it) for it in (name, "published.minisig")]
+            named = [os.path.join(shared_cases.CORPUS, file) for file in (name, "published.minisig")]
             # (Node 18 warns that its Ed25519 is experimental)
             status, said, why = run([program.node, os.path.join(program.user, program_name), *named], directory=program.user,
                                     environment={"NODE_NO_WARNINGS": "1"})
@@ -314,7 +314,7 @@ def check_bare(checks, program):
         said, why = answers(where, GLOBALS)
         checks.check(said == wanted, f"in a bare {where}: {said} {why}")
     for left_out in GLOBALS:
-        said, why = answers("context", [it for it in GLOBALS if it != left_out])
+        said, why = answers("context", [word for word in GLOBALS if word != left_out])
         checks.check(said != wanted, f"without {left_out}, which it is said to use: {said} {why}")
 
 
@@ -328,27 +328,27 @@ def check_npm(checks, program, room):
     os.mkdir(user)
     with open(os.path.join(user, "package.json"), "w", encoding="utf-8") as file:
         file.write("{}")
-    archive = next(it for it in os.listdir(os.path.join(room, "packed")) if it.endswith(".tgz"))
+    archive = next(file for file in os.listdir(os.path.join(room, "packed")) if file.endswith(".tgz"))
     quiet = ["--offline", "--silent", "--cache", os.path.join(room, "npm"), "--no-audit", "--no-fund"]
     status, said, why = run([npm, "install", *quiet, os.path.join(room, "packed", archive)], directory=user)
     checks.check(status == 0, f"npm install: {said} {why}")
     shutil.copy(os.path.join(program.user, "readme.mjs"), user)
-    named = [os.path.join(shared_cases.CORPUS, it) for it in ("test", "published.minisig")]
+    named = [os.path.join(shared_cases.CORPUS, file) for file in ("test", "published.minisig")]
     status, said, why = run([program.node, "readme.mjs", *named], directory=user)
     checks.check(status == 0 and said.startswith(b"verified"), f"the README's example over what npm installed: {said} {why}")
 
 
 def digits_of(cases):
-    return [[part.hex() or "-" for part in it[1:]] for it in cases]
+    return [[part.hex() or "-" for part in case[1:]] for case in cases]
 
 
 def check_browsers(checks, program, room, minisign):
     """It answers in a page and in a worker of Chromium and of Firefox what it has to."""
     cases = shared_cases.corpus() + shared_cases.damaged() + shared_cases.vector_cases()
-    kept = [it for it in shared_cases.corpus() if len(it.data) < 300_000]
+    kept = [case for case in shared_cases.corpus() if len(case.data) < 300_000]
     legacy, strict = (shared_cases.answers_of(minisign, room, cases, allowed) for allowed in (True, False))
     in_pieces, vectors = shared_cases.answers_of(minisign, room, kept, False), edges.vectors()
-    asked = {"cases": digits_of(cases), "pieces": digits_of(kept), "vectors": [[it["A"], it["sig"], it["msg"] or "-"] for it in vectors]}
+    asked = {"cases": digits_of(cases), "pieces": digits_of(kept), "vectors": [[vector["A"], vector["sig"], vector["msg"] or "-"] for vector in vectors]}
     directory = os.path.join(room, "served")
     shutil.copytree(os.path.join(program.user, "node_modules", "minisign-proved"), os.path.join(directory, "minisign-proved"))
     shutil.copy(os.path.join(HERE, "javascript", "browser.mjs"), directory)
@@ -358,7 +358,7 @@ def check_browsers(checks, program, room, minisign):
     if status != 0:
         checks.check(False, f"the browsers ended with {status}: {why[-1000:]}")
         return
-    lines = lambda answers: "".join(f"{it}\n" for it in answers).encode()
+    lines = lambda answers: "".join(f"{answer}\n" for answer in answers).encode()
     for browser, told in json.loads(said).items():
         for where in ("page", "thread"):
             answers, what = told.get(where), f"{browser} {told['version']}, {where}"
@@ -368,7 +368,7 @@ def check_browsers(checks, program, room, minisign):
             shared_cases.compare(checks, f"{what}, with legacy signatures", cases, lines(answers["legacy"]), legacy)
             shared_cases.compare(checks, f"{what}, without them", cases, lines(answers["strict"]), strict)
             shared_cases.compare(checks, f"{what}, in pieces", kept, lines(answers["pieces"]), in_pieces)
-            checks.check(answers["vectors"] == [it["sodium"] for it in vectors], f"{what}: other answers to the vectors than libsodium's")
+            checks.check(answers["vectors"] == [vector["sodium"] for vector in vectors], f"{what}: other answers to the vectors than libsodium's")
             checks.check(answers["cancelled"], f"{what}: a stream is not cancelled")
         print(f"bindings/javascript: in a page and in a worker of {browser} {told['version']}", flush=True)
 
@@ -406,7 +406,7 @@ def check_planted(checks, program, room, minisign):
     """Each planted bug is noticed by what is asked of a program over the changed package, in Node."""
     cases, vectors = shared_cases.corpus() + shared_cases.large(minisign, room), edges.vectors()
     legacy, strict = (shared_cases.answers_of(minisign, room, cases, allowed) for allowed in (True, False))
-    kept = [it for it in shared_cases.corpus() if len(it.data) < 300_000]
+    kept = [case for case in shared_cases.corpus() if len(case.data) < 300_000]
     for number, (file, old, new) in enumerate(BUGS):
         user, found = os.path.join(room, f"planted-{number}"), Checks()
         shutil.copytree(program.user, user)
@@ -424,7 +424,7 @@ def check_planted(checks, program, room, minisign):
         check_streams(found, other)
         check_keys(found, other)
         answers = other.said(json.dumps(vectors).encode(), "vectors").decode().split()
-        found.check(answers == [str(it["sodium"]).lower() for it in vectors], "vectors")
+        found.check(answers == [str(vector["sodium"]).lower() for vector in vectors], "vectors")
         checks.check(old in text and found.failures, f"planted in {file}, and not noticed: {new}")
 
 

@@ -16,7 +16,7 @@ import tempfile
 import threading
 
 HERE = os.path.dirname(os.path.realpath(__file__))
-sys.path += [os.path.join(HERE, "..", it) for it in ("shared", "page")]
+sys.path += [os.path.join(HERE, "..", name) for name in ("shared", "page")]
 
 import needs
 from browser import Chromium

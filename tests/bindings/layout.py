@@ -58,7 +58,7 @@ IN_CODE = {
 def files_of(language, top=TOP):
     """The paths of a language's files, below the top."""
     found = [path for pattern in FILES[language][0] for path in glob.glob(os.path.join(top, pattern), recursive=True)]
-    return sorted(it for it in found if os.path.relpath(it, top) != MADE_BY_PAGE)
+    return sorted(path for path in found if os.path.relpath(path, top) != MADE_BY_PAGE)
 
 
 def asked(checks, what, *command):
@@ -133,7 +133,7 @@ def check_planted(checks, room):
     """Each line that is laid out otherwise is noticed."""
     for number, (name, old, new) in enumerate(PLANTED):
         top = os.path.join(room, str(number))
-        for path in [*(it for language in FILES for it in files_of(language)), os.path.join(TOP, PACKAGE)]:
+        for path in [*(file for language in FILES for file in files_of(language)), os.path.join(TOP, PACKAGE)]:
             copied = os.path.join(top, os.path.relpath(path, TOP))
             os.makedirs(os.path.dirname(copied), exist_ok=True)
             shutil.copy(path, copied)

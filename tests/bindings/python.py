@@ -78,9 +78,9 @@ def build_wheel(checks, room):
         checks.check(False, f"the wheel was not built: {why[-2000:]}")
         return None
     with zipfile.ZipFile(wheels[0]) as wheel:
-        names = {it.partition("/")[2] for it in wheel.namelist() if it.startswith(PACKAGE + "/")}
-        told = [wheel.read(it).decode() for it in wheel.namelist() if it.endswith("METADATA")][0]
-    sources = {os.path.basename(it) for it in glob.glob(os.path.join(package, "src", PACKAGE, "*.p*"))}
+        names = {name.partition("/")[2] for name in wheel.namelist() if name.startswith(PACKAGE + "/")}
+        told = [wheel.read(name).decode() for name in wheel.namelist() if name.endswith("METADATA")][0]
+    sources = {os.path.basename(path) for path in glob.glob(os.path.join(package, "src", PACKAGE, "*.p*"))}
     checks.check(names == sources | {"libminisign.so", "py.typed"}, f"the wheel has {sorted(names)}")
     version = re.search(r'VERSION_TEXT "([^"]+)"', shared.read(shared.HEADER).decode())[1]
     checks.check(f"\nVersion: {version}\n" in told, f"the header is of version {version}, and the wheel says {told[:200]}")
@@ -174,10 +174,10 @@ for name, struct in vars(_header).items():
 """
     _, said, why = shared.run([python_path, "-c", told])
     lines = [line.split(" ", 3) for line in said.decode().splitlines()]
-    errors, texts = {int(it[1]): it[2:] for it in lines if it[0] == "error"}, shared.error_texts()
+    errors, texts = {int(line[1]): line[2:] for line in lines if line[0] == "error"}, shared.error_texts()
     wanted = {number: [class_name(name), texts[name]] for name, number in shared.error_numbers().items() if number != 0}
     checks.check(errors == wanted, f"the exceptions are {errors}: {why}")
-    places = {it[1]: int(it[2]) for it in lines if it[0] == "place"}
+    places = {line[1]: int(line[2]) for line in lines if line[0] == "place"}
     layout = {class_name(name.partition(".")[0].removeprefix("minisign_")) + "".join(name.partition(".")[1:]): at
               for name, at in shared.layout(room).items()}
     checks.check(places == layout, f"the structs are {places}, and in C {layout}")
@@ -203,7 +203,7 @@ print("wanted", ctypes.sizeof(installing.Wanted), installing.LONGEST)
         lines += f'printf("{struct} {field} %zu %zu\\n", offsetof(struct {struct}, {of}), {size});\n'
     lines += 'printf("wanted %zu %lld\\n", sizeof(struct wanted), (long long) INT64_MAX);\n'
     path = shared.write(room, "host.c", f"#include <stdio.h>\n#include \"install/installing.h\"\nint main(void) {{\n{lines}return 0; }}\n".encode())
-    directories = [f"-I{os.path.join(shared.TOP, it)}" for it in ("c", "include")]
+    directories = [f"-I{os.path.join(shared.TOP, directory)}" for directory in ("c", "include")]
     status, _, unbuilt = shared.run([needs.c_compiler(), *directories, "-o", f"{room}/host", path])
     checks.check(status == 0 and len(fields) > 15, f"the program of the host's structs: {unbuilt[-500:]}{why[-500:]}")
     wanted = shared.run([f"{room}/host"])[1] if status == 0 else b""
@@ -248,9 +248,9 @@ def check_answers(checks, user, answered):
 
 def check_read(checks, user):
     """Key IDs and legacy signatures, before anything is asked."""
-    said = user.run("read", data=shared.lines_of([it.case for it in shared.readings()]))[1]
+    said = user.run("read", data=shared.lines_of([reading.case for reading in shared.readings()]))[1]
     shared.check_readings(checks, f"what is read, {user.kind}", said,
-                          lambda it: f"{shared.shown_id(it.key_id)} {shared.shown_id(it.signature_key_id)} {it.is_legacy}")
+                          lambda reading: f"{shared.shown_id(reading.key_id)} {shared.shown_id(reading.signature_key_id)} {reading.is_legacy}")
 
 
 def check_vectors(checks, user):

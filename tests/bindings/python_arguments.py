@@ -36,11 +36,11 @@ class NoPath:
 
 def scattered(value: bytes) -> memoryview:
     """The bytes as each second one of others, so that they do not stand one behind the other."""
-    return memoryview(b"".join(bytes([it, 255 - it]) for it in value))[::2]
+    return memoryview(b"".join(bytes([byte, 255 - byte]) for byte in value))[::2]
 
 
 # What has these bytes.
-SAME_BYTES: Sequence[Callable[[bytes], Any]] = (bytearray, memoryview, scattered, lambda it: array.array("B", it), lambda it: type("Other", (bytes,), {})(it))
+SAME_BYTES: Sequence[Callable[[bytes], Any]] = (bytearray, memoryview, scattered, lambda value: array.array("B", value), lambda value: type("Other", (bytes,), {})(value))
 NUMBERS: Sequence[object] = (0, 3, 1234, -1, True, False, 1.5, 2j)
 OTHERS: Sequence[object] = ([1, 2], (1, 2), {1: 2}, set(), object())
 
@@ -54,7 +54,7 @@ class Kind(NamedTuple):
 
 
 FORMS_OF_A_PATH: Sequence[Callable[[Any], Any]] = (os.fsencode, pathlib.Path, BytesPath)
-FORMS_OF_A_TEXT: Sequence[Callable[[Any], Any]] = (str.encode, *(lambda it, form=form: form(it.encode()) for form in SAME_BYTES))
+FORMS_OF_A_TEXT: Sequence[Callable[[Any], Any]] = (str.encode, *(lambda text, form=form: form(text.encode()) for form in SAME_BYTES))
 BAD_PATHS = ("", b"", "a\0b", b"\0", pathlib.PurePath("a\0b"))
 KINDS = {
     "bytes": Kind((None, "", "text", *NUMBERS, *OTHERS), same=SAME_BYTES),
@@ -66,18 +66,18 @@ KINDS = {
     "path or none": Kind((bytearray(b"data"), NoPath(), *NUMBERS, *OTHERS), bad=BAD_PATHS, same=FORMS_OF_A_PATH),
     "target": Kind((None, bytearray(b"data"), NoPath(), *NUMBERS, *OTHERS), bad=(*BAD_PATHS, ".", "..", b"/", "there/"), same=FORMS_OF_A_PATH),
     "path or file": Kind((None, NoPath(), io.StringIO(""), io.StringIO("data"), *NUMBERS, *OTHERS), bad=BAD_PATHS,
-                         same=(*FORMS_OF_A_PATH, lambda it: open(it, "rb"), lambda it: io.BytesIO(open(it, "rb").read()))),
+                         same=(*FORMS_OF_A_PATH, lambda path: open(path, "rb"), lambda path: io.BytesIO(open(path, "rb").read()))),
     "data": Kind((None, "", "data", pathlib.Path("data"), io.StringIO(""), io.StringIO("data"), [1], ["a"], [b"da", None], *NUMBERS, object()),
-                 same=(*SAME_BYTES, io.BytesIO, lambda it: [it[:1], bytearray(it[1:])], lambda it: (it[at:at + 1] for at in range(len(it))))),
+                 same=(*SAME_BYTES, io.BytesIO, lambda value: [value[:1], bytearray(value[1:])], lambda value: (value[at:at + 1] for at in range(len(value))))),
     "truth": Kind((None, 0, 1, 1.0, "", "no", b"yes", *OTHERS)),
     "rows": Kind((None, True, 1.0, "1", b"1", *OTHERS), bad=(0, -1, 2**64, 2**64 + 1)),
     "mode or none": Kind((True, False, 0o755 + 0.0, "755", "rwx", b"755", *OTHERS), bad=(-1, 0o1000, 755, 0o100755, 2**32 + 0o755), same=(lambda _: 0, lambda _: 0o777)),
-    "size or none": Kind((True, False, 1e6, "1M", b"1", *OTHERS), bad=(-1, 2**64), same=(lambda it: 4, lambda _: 2**64 - 1)),
+    "size or none": Kind((True, False, 1e6, "1M", b"1", *OTHERS), bad=(-1, 2**64), same=(lambda _: 4, lambda _: 2**64 - 1)),
     "seconds": Kind((None, True, 1.0, "1", b"1", *OTHERS), bad=(-1, 24 * 60 * 60 + 1), same=(lambda _: 0, lambda _: 24 * 60 * 60)),
     "function or none": Kind(("f", b"f", *NUMBERS, *OTHERS)),
     "numbering": Kind((None, b"version", *NUMBERS, *OTHERS), bad=("", "date", "Version", "version ")),
     "Ed25519": Kind((None, b"libsodium", *NUMBERS, *OTHERS), bad=("", "sodium", "Libsodium")),
-    "public keys": Kind((None, "RWQ", b"RWQ", *NUMBERS, *OTHERS), bad=([], ()), same=(lambda it: [it], lambda it: (it, it))),
+    "public keys": Kind((None, "RWQ", b"RWQ", *NUMBERS, *OTHERS), bad=([], ()), same=(lambda value: [value], lambda value: (value, value))),
     "public key": Kind((None, "RWQ", b"RWQ", "theirs", *NUMBERS, *OTHERS)),
     "secret key": Kind((None, b"key", *NUMBERS, *OTHERS)),
     "signature": Kind((None, "", "text", b"text", *NUMBERS, *OTHERS)),
@@ -170,14 +170,14 @@ def there_with(path: str, data: bytes) -> str:
 def public_calls() -> Iterator[Tuple[str, Callable[..., object]]]:
     """All functions of the package, and of its classes what makes one and each method."""
     for name in minisign.__all__:
-        it = getattr(minisign, name)
-        if inspect.isfunction(it):
-            yield name, it
-        elif inspect.isclass(it) and not issubclass(it, (BaseException, enum.Enum)):
-            yield name, it
-            for method, value in vars(it).items():
+        found = getattr(minisign, name)
+        if inspect.isfunction(found):
+            yield name, found
+        elif inspect.isclass(found) and not issubclass(found, (BaseException, enum.Enum)):
+            yield name, found
+            for method, value in vars(found).items():
                 if not method.startswith("_") and not isinstance(value, property):
-                    yield f"{name}.{method}", getattr(it, method)
+                    yield f"{name}.{method}", getattr(found, method)
 
 
 def files(room: str) -> Dict[str, bytes]:
@@ -229,9 +229,9 @@ def check_arguments(room: str, check: Check) -> None:
     os.mkdir(room)
     rows = table(room)
     calls = dict(public_calls())
-    check({it.name for it in rows} == set(calls), f"the table and the package differ in {set(calls) ^ {it.name for it in rows}}")
+    check({row.name for row in rows} == set(calls), f"the table and the package differ in {set(calls) ^ {row.name for row in rows}}")
     for row in rows:
-        taken = [it.name for it in inspect.signature(calls[row.name]).parameters.values() if it.name != "self" and it.name[0] != "_"]
+        taken = [parameter.name for parameter in inspect.signature(calls[row.name]).parameters.values() if parameter.name != "self" and parameter.name[0] != "_"]
         check(taken == list(row.kinds), f"the arguments of {row.name}: {taken}")
         check_row(row, check, room)
     place = os.path.join(room, "there", "app")

@@ -12,7 +12,7 @@ import shutil
 import sys
 
 HERE = os.path.dirname(os.path.realpath(__file__))
-sys.path += [os.path.join(HERE, "..", it) for it in ("shared", "c")]
+sys.path += [os.path.join(HERE, "..", name) for name in ("shared", "c")]
 
 import emulated
 import needs
@@ -42,9 +42,9 @@ def few_programs(room):
     """A directory for PATH that has these programs alone."""
     directory = os.path.join(room, "programs")
     os.mkdir(directory)
-    for it in NEEDED:
-        if os.path.exists(os.path.join(needs.DEBIAN, it)):
-            os.symlink(os.path.join(needs.DEBIAN, it), os.path.join(directory, it))
+    for name in NEEDED:
+        if os.path.exists(os.path.join(needs.DEBIAN, name)):
+            os.symlink(os.path.join(needs.DEBIAN, name), os.path.join(directory, name))
     return directory
 
 
@@ -79,7 +79,7 @@ def check_without_host(checks, python, sources, programs):
     text = shared.read(os.path.join(sources, "setup.py")).decode()
     shared.write(sources, "setup.py", text.replace(*NO_HOST).encode())
     status, library, why = build(python, sources, programs, CC=needs.c_compiler(), CFLAGS="-O0")
-    names = [os.path.join(shared.CORPUS, it) for it in ("published.pub", "published.minisig", "test")]
+    names = [os.path.join(shared.CORPUS, name) for name in ("published.pub", "published.minisig", "test")]
     _, said, wrong = shared.run([python, "-c", USER, *names], environment={"PYTHONPATH": os.path.dirname(os.path.dirname(library))})
     checks.check(NO_HOST[0] in text and status == 0 and said.startswith(b"installing is for Linux: "), f"without a host: {said!r} {why[-300:]}{wrong[-500:]}")
 
@@ -91,7 +91,7 @@ def check_wheels(checks, python, archive, room, compilers, programs):
         environment = {"PATH": programs, "CC": compiler, "CFLAGS": "-O0", "MINISIGN_PORTABLE": "1"}
         status, _, why = shared.run([python, "setup.py", "-q", "bdist_wheel", "--dist-dir", "made"], sources, environment)
         names = os.listdir(os.path.join(sources, "made")) if status == 0 else []
-        checks.check([it.rpartition("-none-")[2] for it in names] == [f"{machine}.whl"], f"the wheel for {machine}: {names} {why[-500:]}")
+        checks.check([name.rpartition("-none-")[2] for name in names] == [f"{machine}.whl"], f"the wheel for {machine}: {names} {why[-500:]}")
 
 
 def run_all(checks, python, archive, room):

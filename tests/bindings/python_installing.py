@@ -95,7 +95,7 @@ def main():
     if most is not None:
         most = int(most[:-1]) << UNITS[most[-1]] if most[-1] in UNITS else int(most)
     try:
-        public_keys = [read_key(minisign.PublicKey.from_base64, it) for it in keys] or read_key(minisign.PublicKey.from_file, key)
+        public_keys = [read_key(minisign.PublicKey.from_base64, text) for text in keys] or read_key(minisign.PublicKey.from_file, key)
         text, wanted = read_signature(signature), {"first": "first" in options, "numbering": numbering, "name": options.get("name")}
         if "check" in options:
             return OFFERS[minisign.check(public_keys, text, place, **wanted)]

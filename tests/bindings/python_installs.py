@@ -9,7 +9,7 @@ import subprocess
 import sys
 
 HERE = os.path.dirname(os.path.realpath(__file__))
-sys.path += [os.path.join(HERE, "..", it) for it in ("shared", "tool", "installer")]
+sys.path += [os.path.join(HERE, "..", name) for name in ("shared", "tool", "installer")]
 
 from cut_off import BEGINNINGS, CUTS
 from installers import RealInstaller
@@ -39,10 +39,10 @@ def installer(python, room):
     with open(program, "w", encoding="utf-8") as file:
         file.write(f"#!{python}\n{text}")
     os.chmod(program, 0o755)
-    it = Installing(program, PythonInstaller(room), room)
+    installing = Installing(program, PythonInstaller(room), room)
     # (what Python itself calls is neither broken nor traced)
-    it.preload, it.trace = (build_preload(it.room, name, "libminisign.so") for name in ("break_calls", "trace_calls"))
-    return it
+    installing.preload, installing.trace = (build_preload(installing.room, name, "libminisign.so") for name in ("break_calls", "trace_calls"))
+    return installing
 
 
 def is_of_words(case):
@@ -50,12 +50,12 @@ def is_of_words(case):
     return {"words", "said"} <= set(inspect.signature(case).parameters)
 
 
-def chosen_cases(it):
-    words = {name for name, _ in word_cases(it)} | {name for name, case in check_cases(it) if is_of_words(case)} | set(LEFT_OUT)
+def chosen_cases(installing):
+    words = {name for name, _ in word_cases(installing)} | {name for name, case in check_cases(installing) if is_of_words(case)} | set(LEFT_OUT)
     kept = {"a name that begins with a dash", "another name than the signed one"}
     # (what the host does after a cut over other beginnings, the cases of the program show)
     cut_off = {f"cut off by {cut}, over {begin}" for begin, *_ in BEGINNINGS[1:] for cut, _ in CUTS}
-    return [(name, case) for name, case in cases(it) if name not in (words - kept) | cut_off]
+    return [(name, case) for name, case in cases(installing) if name not in (words - kept) | cut_off]
 
 
 def run_all(check, python, room):

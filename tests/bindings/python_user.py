@@ -47,7 +47,7 @@ def rejects(kind: Type[BaseException], call: Callable[[], object], what: str) ->
 
 def read_cases() -> Iterator[Tuple[bytes, bytes, bytes]]:
     for line in sys.stdin:
-        key, data, signature = (bytes.fromhex(it.strip("-\n")) for it in line.split(" "))
+        key, data, signature = (bytes.fromhex(part.strip("-\n")) for part in line.split(" "))
         yield key, data, signature
 
 
@@ -89,7 +89,7 @@ def pieces() -> None:
             lambda: PublicKey(key).verify(io.BytesIO(data), signature, True),
             lambda: PublicKey(key).verify(cut(data, choose), signature, True),
             lambda: in_pieces(bytes), lambda: in_pieces(bytearray), lambda: in_pieces(memoryview)]
-        found = {answer(it) for it in ways}
+        found = {answer(way) for way in ways}
         print(found.pop() if len(found) == 1 else f"differs {found}")
 
 
@@ -158,7 +158,7 @@ def threads(room: str) -> None:
             verifier.update(piece)
 
     shared = Verifier(key.public_key, for_all)
-    started = [threading.Thread(target=run, args=(it,)) for it in range(8)]
+    started = [threading.Thread(target=run, args=(number,)) for number in range(8)]
     started += [threading.Thread(target=feed, args=(shared,)) for _ in range(8)]
     for thread in started:
         thread.start()
@@ -265,7 +265,7 @@ def parts(room: str) -> None:
     comments: Dict[str, Any] = {"trusted_comment": "one", "untrusted_comment": "two"}
     made = key.sign(data, **comments)
     ways: List[Data] = [b"what is signed", bytearray(b"what is signed"), io.BytesIO(b"what is signed"), [b"what is", b"", b" signed"]]
-    check(all(key.sign_data(it, **comments) == made for it in ways), "data in memory is signed as a file")
+    check(all(key.sign_data(way, **comments) == made for way in ways), "data in memory is signed as a file")
     check(re.fullmatch(r"timestamp:\d+\thashed", key.public_key.verify(b"", key.sign_data([]))) is not None, "the default comment of data in memory")
     check(len({made, Signature(bytearray(made.text)), key.sign_data(b"other", **comments)}) == 2 and made != made.text, "signatures in a set")
 
@@ -281,30 +281,30 @@ def parts(room: str) -> None:
         verifier = Verifier(key.public_key, signature)
         before = answer(verifier.trusted_comment)
         verifier.update(fed)
-        wanted = [it if it.startswith("rejected") else f"accepted {it.encode().hex()}" for it in (comment, comment, all_of_it)]
+        wanted = [text if text.startswith("rejected") else f"accepted {text.encode().hex()}" for text in (comment, comment, all_of_it)]
         check([before, answer(verifier.trusted_comment), answer(verifier.finish)] == wanted, f"{fed!r}: not {wanted}")
         rejects(minisign.NotBegun, verifier.trusted_comment, "the comment of a verifier that was finished")
 
     shown = [repr(key), str(key), f"{key}", repr(key.public_key), repr([key]), repr(vars(key)), pydoc.render_doc(key), repr(Verifier(key.public_key, made))]
-    check(all(secret[:32].hex() not in it and repr(secret)[2:-1] not in it for it in shown), f"the secret is shown: {shown}")
+    check(all(secret[:32].hex() not in text and repr(secret)[2:-1] not in text for text in shown), f"the secret is shown: {shown}")
     check(shown[0] == f"<SecretKey {key.public_key.key_id}>" and shown[3] == f"<PublicKey {key.public_key.key_id}>", f"keys are shown as {shown}")
     check(eval(repr(made)) == made, f"a signature is shown as {made!r}")
     for call in (copy.copy, copy.deepcopy, pickle.dumps):
         rejects(TypeError, lambda call=call: call(key), f"a secret key, and {call.__name__}")  # type: ignore[misc]
-    for it, name in ((key, "public_key"), (key.public_key, "key"), (key.public_key, "key_id"), (made, "text"), (made, "key_id"), (made, "is_legacy")):
-        rejects(AttributeError, lambda it=it, name=name: setattr(it, name, getattr(other, name, b"")), f"a new {name}")  # type: ignore[misc]
+    for value, name in ((key, "public_key"), (key.public_key, "key"), (key.public_key, "key_id"), (made, "text"), (made, "key_id"), (made, "is_legacy")):
+        rejects(AttributeError, lambda value=value, name=name: setattr(value, name, getattr(other, name, b"")), f"a new {name}")  # type: ignore[misc]
 
 
 def documentation(room: str) -> None:
     """`help` shows all that there is and nothing else, and each call and each error says what it does."""
     shown = pydoc.plain(pydoc.render_doc(minisign))
     for name in minisign.__all__:
-        it = getattr(minisign, name)
+        named = getattr(minisign, name)
         check(re.search(rf"\b{name}\b", shown) is not None, f"help does not show {name}")
-        check(not (inspect.isclass(it) or inspect.isfunction(it)) or bool(it.__doc__), f"{name} says nothing")
+        check(not (inspect.isclass(named) or inspect.isfunction(named)) or bool(named.__doc__), f"{name} says nothing")
     for name, call in python_arguments.public_calls():
         check(bool(inspect.getdoc(call)), f"{name} says nothing")
-    there = {name for name, it in vars(minisign).items() if not name.startswith("_") and not inspect.ismodule(it)}
+    there = {name for name, value in vars(minisign).items() if not name.startswith("_") and not inspect.ismodule(value)}
     check(there == set(minisign.__all__) and len(minisign.__all__) == len(there), f"in __all__, or there, and not both: {there ^ set(minisign.__all__)}")
 
 
@@ -319,7 +319,7 @@ def passwords(room: str) -> None:
     check(open(sealed, "rb").read() == before, "a key whose password was not changed")
     minisign.change_password(sealed, "pass \u00e9", "new")
     check(os.stat(sealed).st_mode & 0o777 == 0o600, "the mode of a key whose password was changed")
-    check(not [it for it in os.listdir(room) if it.startswith("sealed.key.")], "a file beside the key is left")
+    check(not [name for name in os.listdir(room) if name.startswith("sealed.key.")], "a file beside the key is left")
     ways: List[Text] = ["new", bytearray(b"new")]
     for way in ways:
         check(SecretKey.from_file(sealed, way).public_key == key.public_key, "a key whose password was changed")
@@ -335,8 +335,8 @@ def installing(room: str) -> None:
         return key.sign(write(room, "update", data), trusted_comment=comment)
 
     def state() -> Tuple[object, object, List[str]]:
-        read = [open(it, "rb").read() if os.path.exists(it) else None for it in (place, os.path.join(directory, ".app.number"))]
-        return read[0], read[1] and read[1].split(b"\n")[0], [it for it in os.listdir(directory) if "stage" in it]
+        read = [open(path, "rb").read() if os.path.exists(path) else None for path in (place, os.path.join(directory, ".app.number"))]
+        return read[0], read[1] and read[1].split(b"\n")[0], [name for name in os.listdir(directory) if "stage" in name]
 
     one, two = signed(b"one", "version:1\tfile:app"), signed(b"two", "version:2\tfile:app")
     seen: List[Tuple[int, int]] = []
@@ -404,7 +404,7 @@ def installing(room: str) -> None:
     check(state() == (b"two", b"version:2", []) and os.stat(place).st_mode & 0o777 == 0o755, f"a file that is open: {state()}")
     rejects(minisign.OlderUpdate, lambda: minisign.install(key.public_key, io.BytesIO(b"one"), one, place, numbering="version"), "an older update")
     rejects(minisign.KeptByVersion, lambda: minisign.install(key.public_key, path, two, place), "the other field")
-    newer, older = [minisign.check(key.public_key, it, place, numbering="version") for it in (signed(b"3", "version:3\tfile:app"), one)]
+    newer, older = [minisign.check(key.public_key, update, place, numbering="version") for update in (signed(b"3", "version:3\tfile:app"), one)]
     check([newer, older] == [minisign.Offer.NEWER, minisign.Offer.OLDER] and state()[0] == b"two", f"a check says {newer} and {older}")
     other = SecretKey.generate().public_key
     for keys in ([other, key.public_key], (key.public_key, other)):

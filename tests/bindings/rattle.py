@@ -35,7 +35,7 @@ def build(room, libsodium):
     for path in glob.glob(os.path.join(room, "**", "*.txt"), recursive=True):
         os.rename(path, path.removesuffix(".txt"))
     lines = shared.read(os.path.join(room, "crates.txt")).decode().splitlines()
-    crate = proved.Crate(next(it for it in lines if it.startswith(f"{NAME}:")), proved.crates())
+    crate = proved.Crate(next(line for line in lines if line.startswith(f"{NAME}:")), proved.crates())
     why = proved.supply(crate.below)
     if why:
         raise proved.NotBuilt(why)

@@ -29,7 +29,7 @@ import sys
 import tempfile
 
 HERE = os.path.dirname(os.path.realpath(__file__))
-sys.path += [HERE, *(os.path.join(HERE, "..", it) for it in ("shared", "c"))]
+sys.path += [HERE, *(os.path.join(HERE, "..", name) for name in ("shared", "c"))]
 
 import emulated
 import needs
@@ -123,7 +123,7 @@ def check_sources(checks):
         words = re.sub(r"unsafe_code", "", "\n".join(code))
         checks.check(name.startswith("src/raw") or "unsafe" not in words, f"{name}: it has `unsafe`")
     checks.check(lines <= LINES, f"the crate has {lines} lines")
-    there = [os.path.relpath(os.path.join(directory, it), CRATE) for directory, _, names in os.walk(os.path.join(CRATE, "src")) for it in names]
+    there = [os.path.relpath(os.path.join(directory, name), CRATE) for directory, _, names in os.walk(os.path.join(CRATE, "src")) for name in names]
     checks.check({*there, "build.rs"} == {*BY_HAND, MADE}, f"the crate has the files {sorted(there)}")
     status, said, _ = run([sys.executable, os.path.join(TOP, "tools", "bindings.py"), "--check"])
     checks.check(status == 0, said.decode())
@@ -146,8 +146,8 @@ def check_declarations(checks):
     checks.check(len(declared) >= 10, f"the crate declares only {len(declared)} calls")
     for name, parameters, answer in declared:
         found = re.search(rf"(\w+) {name}\((.*?)\)", header, re.S)
-        wanted = [kind_of(re.sub(r"\s+", " ", it)) for it in found[2].split(",") if it.strip() != "void"]
-        told = [it.partition(":")[2].strip() for it in parameters.split(",") if it]
+        wanted = [kind_of(re.sub(r"\s+", " ", parameter)) for parameter in found[2].split(",") if parameter.strip() != "void"]
+        told = [parameter.partition(":")[2].strip() for parameter in parameters.split(",") if parameter]
         checks.check(told == wanted, f"{name}: declared with {told} in place of {wanted}")
         result = {"void": "", "size_t": "usize"}.get(found[1], "u32")
         checks.check(answer == result, f"{name}: declared with the answer {answer!r} in place of {result}")
@@ -199,7 +199,7 @@ def check_answers(checks, program, room, minisign):
     kept, damaged, edges = shared_cases.corpus(), shared_cases.damaged(), shared_cases.vector_cases()
     cases = kept + damaged + shared_cases.large(minisign, room)
     any_kind, strict = (shared_cases.answers_of(minisign, room, cases, allow) for allow in (True, False))
-    checks.check(60 <= sum(it is not None for it in any_kind) <= 200, "of the cases too few, or too many, are accepted")
+    checks.check(60 <= sum(comment is not None for comment in any_kind) <= 200, "of the cases too few, or too many, are accepted")
     checks.check(strict[-2:] == [b"large", None], f"c/minisign answers {strict[-2:]} to the large data")
     runs = [("at once", ["verify"], any_kind), ("without legacy signatures", ["strict"], strict)]
     runs += [(f"in pieces of {length}", ["pieces", str(length)], strict) for length in (1, 128, 1000, 0)]
@@ -255,7 +255,7 @@ def check_rejections(checks, program):
         for (case, name), line in zip(cases, said):
             checks.check(re.fullmatch(rejection(name, other), line), f"{case.name}: {line} in place of {rejection(name, other)}")
     bare = shared_cases.read(os.path.join(shared_cases.CORPUS, "published.pub")).decode().split("\n")[1]
-    of_length, of_base64 = (f"Err(InvalidEncoding(BARE_PUBLIC_KEY_{it}))" for it in ("LENGTH", "NOT_BASE64"))
+    of_length, of_base64 = (f"Err(InvalidEncoding(BARE_PUBLIC_KEY_{why}))" for why in ("LENGTH", "NOT_BASE64"))
     for text, wanted in ((bare, "Ok(None)"), (bare[:-1], of_length), (bare[:-1] + "!", of_base64), (f"x\n{bare}", of_length)):
         said = run([program, "bare", text])[1].decode().strip()
         checks.check(said == wanted, f"the key {text!r} alone: {said} in place of {wanted}")
@@ -263,8 +263,8 @@ def check_rejections(checks, program):
 
 def check_read(checks, program):
     """The program tells key IDs and legacy signatures before anything is asked."""
-    lines = shared_cases.lines_of([it.case for it in shared_cases.readings()])
-    form = lambda it: f"{it.key_id.hex()} {it.signature_key_id.hex()} {str(it.is_legacy).lower()}"
+    lines = shared_cases.lines_of([reading.case for reading in shared_cases.readings()])
+    form = lambda reading: f"{reading.key_id.hex()} {reading.signature_key_id.hex()} {str(reading.is_legacy).lower()}"
     shared_cases.check_readings(checks, "what is read", run([program, "read"], data=lines)[1], form)
 
 
@@ -277,7 +277,7 @@ def check_signing(checks, program, room, minisign):
         os.mkdir(directory)
         said = run([program, "make", directory, *password])[1]
         checks.check(said == b"Ok(())\n", f"a key, {name}: {said!r}")
-        key, public, sig = (os.path.join(directory, it) for it in ("secret", "public", "sig"))
+        key, public, sig = (os.path.join(directory, name) for name in ("secret", "public", "sig"))
         run([minisign, "-S", "-s", key, "-m", data, "-x", sig, "-t", "t"], data=b"pass word\n")
         status, said, why = run([minisign, "-V", "-Q", "-p", public, "-m", data, "-x", sig])
         checks.check((status, said) == (0, b"t\n"), f"c/minisign with a key, {name}: {status}, {why}")
@@ -317,7 +317,7 @@ def check_signing(checks, program, room, minisign):
 
 def check_many(checks, program):
     """Many calls take no more memory, and threads get the answers that one gets."""
-    lines = shared_cases.lines_of([it for it in shared_cases.corpus() + shared_cases.damaged(60) if len(it.data) < 20_000])
+    lines = shared_cases.lines_of([case for case in shared_cases.corpus() + shared_cases.damaged(60) if len(case.data) < 20_000])
     status, said, why = run([program, "growth", str(CALLS)], data=lines)
     checks.check(status == 0 and int(said) <= PAGES, f"after {CALLS} calls {said!r} pages more are in memory: {why}")
     status, said, why = run([program, "threads"], data=lines)
@@ -327,7 +327,7 @@ def check_many(checks, program):
 def check_own(checks, cargo, room, crate):
     """A program with an Ed25519 of its own gets its answers, and is linked with no libsodium."""
     program = cargo.program(room, "own", ALONE.format(crate=crate), "own.rs")
-    key, signature = (os.path.join(shared_cases.CORPUS, it) for it in ("published.pub", "published.minisig"))
+    key, signature = (os.path.join(shared_cases.CORPUS, name) for name in ("published.pub", "published.minisig"))
     for answers, why in (("yy", None), ("yn", "COMMENT_SIGNATURE_REFUSED"), ("ny", "SIGNATURE_REFUSED")):
         wanted = f"Err(InvalidSignature({why}))" if why else "Ok(())"
         said = run([program, answers, key, signature])[1].decode().strip()
@@ -366,8 +366,8 @@ class Place:
                             "CARGO_TARGET_DIR": os.path.join(self.directory, "target")}
         if not os.path.isdir(self.programs):
             os.mkdir(self.programs)
-            for it in NEEDED:
-                os.symlink(os.path.join(needs.DEBIAN, it), os.path.join(self.programs, it))
+            for name in NEEDED:
+                os.symlink(os.path.join(needs.DEBIAN, name), os.path.join(self.programs, name))
 
     def build(self, target=None, **environment):
         """Builds it: how that ended, and the path of the program."""
@@ -380,7 +380,7 @@ class Place:
         status, why, program = self.build(target, **environment)
         if not checks.check(status == 0, f"{what}: it was not built: {why[-1000:]}"):
             return None
-        texts = [os.path.join(shared_cases.CORPUS, it) for it in ("published.pub", "published.minisig")]
+        texts = [os.path.join(shared_cases.CORPUS, name) for name in ("published.pub", "published.minisig")]
         status, said, why = run([*before, program + ending, *texts], environment={"WINEPREFIX": os.path.join(self.directory, "wine"), "WINEDEBUG": "-all"})
         checks.check(said.decode().replace("\r", "") == messages(), f"{what}: status {status}, {said.decode()}{why[-500:]}")
         return program
@@ -421,8 +421,8 @@ def check_targets(checks, crate, room):
     needs.program("x86_64-w64-mingw32-gcc", "gcc-mingw-w64-x86-64")
     emulator, compiler, library = emulated.emulator(arm), emulated.compiler(arm), rust_for_arm()
     place = Place(room, "for others", ALONE.format(crate=crate))
-    for it in ("x86_64-w64-mingw32-gcc", os.path.basename(compiler)):
-        os.symlink(os.path.join(needs.DEBIAN, it), os.path.join(place.programs, it))
+    for name in ("x86_64-w64-mingw32-gcc", os.path.basename(compiler)):
+        os.symlink(os.path.join(needs.DEBIAN, name), os.path.join(place.programs, name))
     place.check(checks, "for Windows", [own.program], WINDOWS, ".exe")
     own.end()
     linker = f"CARGO_TARGET_{ARM.upper().replace('-', '_')}_LINKER"
@@ -472,10 +472,10 @@ BUGS = [
 def take_built(cargo, room):
     """The crates of a directory take the library that was built before: the bugs are in what is Rust."""
     library = next(iter(glob.glob(f"{cargo.target}/release/build/minisign-proved-*/out/libminisign.a")))
-    names = ["minisign", *(os.path.basename(it)[3:-2] for it in glob.glob(f"{os.path.dirname(library)}/libcalls-*.a"))]
+    names = ["minisign", *(os.path.basename(path)[3:-2] for path in glob.glob(f"{os.path.dirname(library)}/libcalls-*.a"))]
     host = re.search(r"^host: (.*)$", run([cargo.environment["RUSTC"], "-vV"])[1].decode(), re.M)[1]
     os.mkdir(os.path.join(room, ".cargo"))
-    words = f'[target.{host}.minisign_proved]\nrustc-link-search = ["native={os.path.dirname(library)}"]\nrustc-link-lib = {[f"static={it}" for it in names]}\n'
+    words = f'[target.{host}.minisign_proved]\nrustc-link-search = ["native={os.path.dirname(library)}"]\nrustc-link-lib = {[f"static={name}" for name in names]}\n'
     write(room, ".cargo/config.toml", words.encode())
 
 

@@ -100,7 +100,7 @@ def check_readme(checks, package):
     text = read(os.path.join(TOP, "bindings", package, "README.md")).decode()
     lines, parts = text.splitlines(), re.findall(r"^## (What is different from|.*)", text, re.M)
     checks.check(len(lines) <= README_LINES, f"README.md has {len(lines)} lines")
-    checks.check([it for it in parts if it in README_PARTS] == README_PARTS, f"README.md has the parts {parts}")
+    checks.check([part for part in parts if part in README_PARTS] == README_PARTS, f"README.md has the parts {parts}")
     example = re.search(r"^## Verify\n.*?^```\w+\n(.*?)^```", text, re.M | re.S)
     checks.check(example and len(example[1].splitlines()) <= README_VERIFYING, f"README.md verifies in more lines: {example}")
     kept = b"\n".join(read(os.path.join(CORPUS, name)) for name in ("published.pub", "published.minisig")).decode().split("\n")
@@ -115,21 +115,21 @@ def corpus():
     """The kept keys, data and signatures of Minisign's own program."""
     with open(os.path.join(CORPUS, "cases.json"), encoding="utf-8") as file:
         cases = json.load(file)
-    name_of = lambda it: f"{it['key']}, {it['data']}, {it['signature']}"
-    return [Case(name_of(it), *(read(os.path.join(CORPUS, it[part])) for part in ("key", "data", "signature"))) for it in cases]
+    name_of = lambda case: f"{case['key']}, {case['data']}, {case['signature']}"
+    return [Case(name_of(case), *(read(os.path.join(CORPUS, case[part])) for part in ("key", "data", "signature"))) for case in cases]
 
 
 def vectors():
     """The signatures of Ed25519 that implementations answer differently: a name, a key of 32 bytes, a signature of 64, a message,
     and whether libsodium accepts it."""
     of = bytes.fromhex
-    return [(it["name"], of(it["A"]), of(it["sig"]), of(it["msg"]), it["sodium"]) for it in edges.vectors()]
+    return [(vector["name"], of(vector["A"]), of(vector["sig"]), of(vector["msg"]), vector["sodium"]) for vector in edges.vectors()]
 
 
 def vector_cases():
     """The same signatures as cases of the older kind. A host that accepts one rejects the comment's signature, and so all of them
     are rejected: which of the two was rejected tells the answer. Another case fits every file where small orders are accepted."""
-    cases = [Case(it["name"], edges.legacy_texts(it)[0], bytes.fromhex(it["msg"]), edges.legacy_texts(it)[1]) for it in edges.vectors()]
+    cases = [Case(vector["name"], edges.legacy_texts(vector)[0], bytes.fromhex(vector["msg"]), edges.legacy_texts(vector)[1]) for vector in edges.vectors()]
     key, signature = edges.texts_for_every_file()
     return cases + [Case("a signature for every file", key, data, signature) for data in (b"", b"data", bytes(100_000))]
 
@@ -137,7 +137,7 @@ def vector_cases():
 def damaged(count=DAMAGED):
     """Kept cases of which the key, the signature or the data was changed, at most in three places: the same at each run."""
     choose = random.Random(SEED)
-    good = [it for it in corpus() if len(it.data) < 100_000]
+    good = [case for case in corpus() if len(case.data) < 100_000]
     cases = []
     while len(cases) < count:
         of = choose.choice(good)
@@ -166,7 +166,7 @@ def damage(choose, text):
         lambda: b"\n".join(lines[:line] + lines[line + 1:] + [lines[line]]),
         lambda: text.replace(b"\n", b"\r\n"),
         lambda: text + choose.choice((b"\n", b" ", b"\r\n", b"more\n", b"\x00")),
-        lambda: b"\n".join(it + choose.choice((b"", b" ", b"\t", b"\r")) for it in lines),
+        lambda: b"\n".join(line + choose.choice((b"", b" ", b"\t", b"\r")) for line in lines),
     ]
     return choose.choice(ways)()
 
@@ -221,7 +221,7 @@ def readings():
     """What the kept cases say that Minisign's own program accepts, but for the one of no UTF-8, and one whose signature is of
     another key."""
     with open(os.path.join(CORPUS, "cases.json"), encoding="utf-8") as file:
-        accepted = [it["status"] == 0 and it["signature"] != "no-utf8.minisig" for it in json.load(file)]
+        accepted = [row["status"] == 0 and row["signature"] != "no-utf8.minisig" for row in json.load(file)]
     cases = [case for case, is_accepted in zip(corpus(), accepted) if is_accepted]
     other = cases[0]._replace(name="a signature of another key", key=read(os.path.join(CORPUS, "second.pub")))
     return [reading(case) for case in [*cases, other]]
@@ -230,9 +230,9 @@ def readings():
 def check_readings(checks, what, said, form):
     """Checks what a program read of the cases of `readings`: one line each, as `form` writes it of the case."""
     told, lines = readings(), said.decode(errors="replace").splitlines()
-    checks.check(len(lines) == len(told) > 20 and len({it.is_legacy for it in told}) == 2, f"{what}: {len(lines)} lines of {len(told)} cases")
-    for it, line in zip(told, lines):
-        checks.check(line == form(it), f"{what}, {it.case.name}: {line} in place of {form(it)}")
+    checks.check(len(lines) == len(told) > 20 and len({told_case.is_legacy for told_case in told}) == 2, f"{what}: {len(lines)} lines of {len(told)} cases")
+    for told_case, line in zip(told, lines):
+        checks.check(line == form(told_case), f"{what}, {told_case.case.name}: {line} in place of {form(told_case)}")
 
 
 def shown_id(key_id):
@@ -258,7 +258,7 @@ def answer_of(program, room, number, case, allow_legacy):
 def answers_of(program, room, cases, allow_legacy=True):
     """What `c/minisign` answers to each case: the trusted comment, or None where it rejects."""
     with concurrent.futures.ThreadPoolExecutor(4) as pool:
-        return list(pool.map(lambda it: answer_of(program, room, it[0], it[1], allow_legacy), enumerate(cases)))
+        return list(pool.map(lambda task: answer_of(program, room, task[0], task[1], allow_legacy), enumerate(cases)))
 
 
 def large(program, room):

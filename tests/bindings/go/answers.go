@@ -43,17 +43,17 @@ type pieces struct {
 	grow bool
 }
 
-func (it *pieces) Read(to []byte) (int, error) {
-	if len(it.rest) == 0 {
+func (from *pieces) Read(to []byte) (int, error) {
+	if len(from.rest) == 0 {
 		return 0, io.EOF
 	}
-	if it.next < len(to) {
-		to = to[:it.next]
+	if from.next < len(to) {
+		to = to[:from.next]
 	}
-	length := copy(to, it.rest)
-	it.rest = it.rest[length:]
-	if it.grow {
-		it.next++
+	length := copy(to, from.rest)
+	from.rest = from.rest[length:]
+	if from.grow {
+		from.next++
 	}
 	return length, nil
 }
@@ -92,24 +92,24 @@ func fromFile(directory string) way {
 	}
 }
 
-func verify(it line, how way) (string, error) {
-	key, err := minisign.DecodePublicKey(string(it.key))
+func verify(given line, how way) (string, error) {
+	key, err := minisign.DecodePublicKey(string(given.key))
 	if err != nil {
 		return "", err
 	}
-	signature, err := minisign.DecodeSignature(string(it.signature))
+	signature, err := minisign.DecodeSignature(string(given.signature))
 	if err != nil {
 		return "", err
 	}
-	good, err := how(&key, it.data, signature)
+	good, err := how(&key, given.data, signature)
 	if good != (err == nil) {
 		panic("a verdict and an error")
 	}
 	return strings.TrimPrefix(signature.TrustedComment, "trusted comment: "), err
 }
 
-func answer(it line, how way) string {
-	comment, err := verify(it, how)
+func answer(given line, how way) string {
+	comment, err := verify(given, how)
 	if err != nil {
 		number, _ := err.(minisign.Error)
 		return fmt.Sprintf("rejected %d %q", number, err.Error())
@@ -121,12 +121,12 @@ func answer(it line, how way) string {
 }
 
 // reading tells the identifiers of a key and of a signature, and its algorithm: all of it before anything is asked.
-func reading(it line) string {
-	key, err := minisign.DecodePublicKey(string(it.key))
+func reading(given line) string {
+	key, err := minisign.DecodePublicKey(string(given.key))
 	if err != nil {
 		return err.Error()
 	}
-	signature, err := minisign.DecodeSignature(string(it.signature))
+	signature, err := minisign.DecodeSignature(string(given.signature))
 	if err != nil {
 		return err.Error()
 	}
@@ -160,8 +160,8 @@ func growth(cases []line, count int) int {
 func threads(cases []line) bool {
 	answers := func() string {
 		var all bytes.Buffer
-		for _, it := range cases {
-			fmt.Fprintln(&all, answer(it, atOnce), answer(it, inPieces(1000)))
+		for _, given := range cases {
+			fmt.Fprintln(&all, answer(given, atOnce), answer(given, inPieces(1000)))
 		}
 		return all.String()
 	}
@@ -177,8 +177,8 @@ func threads(cases []line) bool {
 	all.Wait()
 	close(same)
 	good := true
-	for it := range same {
-		good = good && it
+	for isSame := range same {
+		good = good && isSame
 	}
 	return good
 }
@@ -208,16 +208,16 @@ func main() {
 		fmt.Printf("%x %x %v\n", key.KeyId, key.PublicKey, err)
 		return
 	}
-	for _, it := range lines() {
+	for _, given := range lines() {
 		if os.Args[1] == "read" {
-			fmt.Println(reading(it))
+			fmt.Println(reading(given))
 			continue
 		}
 		if os.Args[1] == "files" {
-			os.WriteFile(filepath.Join(os.Args[2], "key"), it.key, 0o644)
-			os.WriteFile(filepath.Join(os.Args[2], "signature"), it.signature, 0o644)
+			os.WriteFile(filepath.Join(os.Args[2], "key"), given.key, 0o644)
+			os.WriteFile(filepath.Join(os.Args[2], "signature"), given.signature, 0o644)
 			how = fromFile(os.Args[2])
 		}
-		fmt.Println(answer(it, how))
+		fmt.Println(answer(given, how))
 	}
 }

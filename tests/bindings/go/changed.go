@@ -104,14 +104,14 @@ func main() {
 	if err != nil {
 		panic(err)
 	}
-	for _, it := range changes {
+	for _, change := range changes {
 		key, signature := read(paths)
-		it.make(&key, &signature)
+		change.make(&key, &signature)
 		good, err := key.Verify(data, signature)
 		fromFile, fileErr := key.VerifyFromFile(paths[1], signature)
 		if good != fromFile || fmt.Sprint(err) != fmt.Sprint(fileErr) {
-			panic(it.name)
+			panic(change.name)
 		}
-		fmt.Printf("%s: %t, %v\n", it.name, good, err)
+		fmt.Printf("%s: %t, %v\n", change.name, good, err)
 	}
 }

@@ -118,7 +118,7 @@ async function answersInPieces(cases, options) {
 
 async function vectorAnswers(vectors) {
   const {accepts} = await import(new URL("node_modules/minisign-proved/ed25519.js", import.meta.url));
-  return Promise.all(vectors.map(it => accepts(...[it.A, it.sig, it.msg].map(bytesOf))));
+  return Promise.all(vectors.map(vector => accepts(...[vector.A, vector.sig, vector.msg].map(bytesOf))));
 }
 
 async function answersInThreads(text) {
@@ -128,7 +128,7 @@ async function answersInThreads(text) {
     thread.on("error", reject);
   });
   const found = await Promise.all(Array.from({length: THREADS}, run));
-  return found.every(it => it.join() === found[0].join()) ? found[0] : ["different answers"];
+  return found.every(each => each.join() === found[0].join()) ? found[0] : ["different answers"];
 }
 
 async function memoryOf(count, [[key, data, signature], [, other]]) {
@@ -203,7 +203,7 @@ if (isMainThread) {
     verifier: () => verifierAnswers(casesOf(text)),
     wrong: () => wrongAnswers(casesOf(text)),
   }[what];
-  process.stdout.write((await run()).map(it => `${it}\n`).join(""));
+  process.stdout.write((await run()).map(line => `${line}\n`).join(""));
 } else {
   parentPort.postMessage(await answersOf(casesOf(workerData)));
 }

@@ -56,7 +56,7 @@ const Data = Blob, Stream = ReadableStream;
 
 async function answers({verify, MinisignError}, [key, data, signature]) {
   const pieces = () => [data.subarray(0, 1), data.subarray(1)];
-  const forms = [data, new Data(pieces()), pieces(), new Stream({start: it => (pieces().forEach(piece => it.enqueue(piece)), it.close())}),
+  const forms = [data, new Data(pieces()), pieces(), new Stream({start: queue => (pieces().forEach(piece => queue.enqueue(piece)), queue.close())}),
                  data.subarray(1)];
   const lines = [];
   for (const form of forms) {
@@ -69,7 +69,7 @@ async function answers({verify, MinisignError}, [key, data, signature]) {
 if (isMainThread) {
   const [where, ...names] = process.argv.slice(2);
   const [key, ...rest] = readFileSync(0, "utf8").trim().split(" ").map(digits => Buffer.from(digits, "hex"));
-  const read = [key.toString(), ...rest.map(it => new Uint8Array(it))];
+  const read = [key.toString(), ...rest.map(part => new Uint8Array(part))];
   if (where === "context") {
     console.log((await answers(await inContext(names), read)).join("\n"));
   } else {

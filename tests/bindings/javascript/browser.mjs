@@ -49,14 +49,14 @@ function isCancelled() {
 
 async function answersOf({cases, pieces, vectors}) {
   const answers = {legacy: [], strict: [], pieces: [], vectors: [], cancelled: await isCancelled()};
-  for (const [key, data, signature] of cases.map(it => it.map(bytesOf))) {
+  for (const [key, data, signature] of cases.map(parts => parts.map(bytesOf))) {
     answers.legacy.push(await answerOf(data, signature, key, {allowLegacy: true}));
     answers.strict.push(await answerOf(data, signature, key));
   }
-  for (const [key, data, signature] of pieces.map(it => it.map(bytesOf))) {
+  for (const [key, data, signature] of pieces.map(parts => parts.map(bytesOf))) {
     answers.pieces.push(await answerInPieces(data, signature, key));
   }
-  for (const [key, signature, message] of vectors.map(it => it.map(bytesOf))) {
+  for (const [key, signature, message] of vectors.map(parts => parts.map(bytesOf))) {
     answers.vectors.push(await accepts(key, signature, message));
   }
   return answers;
@@ -68,7 +68,7 @@ if (typeof document === "undefined") {
   asked().then(postMessage);
 } else {
   const worker = new Worker("browser.mjs", {type: "module"});
-  const inWorker = new Promise((resolve, reject) => Object.assign(worker, {onmessage: it => resolve(it.data), onerror: reject}));
+  const inWorker = new Promise((resolve, reject) => Object.assign(worker, {onmessage: event => resolve(event.data), onerror: reject}));
   const told = await Promise.all([asked(), inWorker]).then(([page, thread]) => ({page, thread}), why => ({why: String(why.message ?? why)}));
   document.body.textContent = JSON.stringify(told);
   document.documentElement.dataset.ready = "";

@@ -140,7 +140,7 @@ const TRIED = {
   },
   // One of the web that has failed, one that fails as it is read, and one that somebody else reads.
   async web() {
-    const at = when => new ReadableStream({[when]: it => it.error(Object.assign(new Error(), {code: when}))});
+    const at = when => new ReadableStream({[when]: queue => queue.error(Object.assign(new Error(), {code: when}))});
     const seen = [await ending(verify(at("start"), signature, key)), await ending(verify(at("pull"), signature, key))];
     const locked = new ReadableStream();
     locked.getReader();
@@ -174,4 +174,4 @@ const TRIED = {
   },
 };
 
-process.stdout.write((await TRIED[what]()).map(it => `${it}\n`).join(""));
+process.stdout.write((await TRIED[what]()).map(line => `${line}\n`).join(""));

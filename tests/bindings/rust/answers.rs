@@ -149,8 +149,8 @@ fn growth(cases: &[Vec<Vec<u8>>], count: usize) -> i64 {
 fn is_same_in_threads(cases: &[Vec<Vec<u8>>]) -> bool {
     let shared: Vec<_> = cases.iter().filter_map(|case| texts(case).ok().map(|(key, signature)| (key, signature, &case[1]))).collect();
     let answers = || -> Vec<String> {
-        let verdict = |it: &(PublicKey, Signature, &Vec<u8>)| it.0.verify(it.2, &it.1, true).map(|()| it.1.trusted_comment().into());
-        shared.iter().map(|it| answer(verdict(it))).collect()
+        let verdict = |given: &(PublicKey, Signature, &Vec<u8>)| given.0.verify(given.2, &given.1, true).map(|()| given.1.trusted_comment().into());
+        shared.iter().map(|given| answer(verdict(given))).collect()
     };
     let alone = answers();
     let secret = SecretKey::generate(&Sodium).unwrap();
@@ -164,7 +164,7 @@ fn is_same_in_threads(cases: &[Vec<Vec<u8>>]) -> bool {
                 })
             })
             .collect();
-        threads.into_iter().all(|it| it.join().unwrap())
+        threads.into_iter().all(|thread| thread.join().unwrap())
     })
 }
 
@@ -226,8 +226,8 @@ fn main() {
         ["shown"] => shown(),
         ["read"] => lines().iter().for_each(|case| println!("{}", reading(case).unwrap_or_else(|error| error.to_string()))),
         ["accepts"] => {
-            for it in lines() {
-                println!("{}", Sodium.accepts(&it[2][..].try_into().unwrap(), &it[1], &it[0][..].try_into().unwrap()));
+            for vector in lines() {
+                println!("{}", Sodium.accepts(&vector[2][..].try_into().unwrap(), &vector[1], &vector[0][..].try_into().unwrap()));
             }
         }
         ["growth", count] => println!("{}", growth(&lines(), count.parse().unwrap())),

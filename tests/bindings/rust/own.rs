@@ -12,7 +12,7 @@ impl Ed25519 for Own {
 
 fn main() {
     let words: Vec<String> = std::env::args().skip(1).collect();
-    let own = Own(words[0].chars().map(|it| it == 'y').collect(), Default::default());
+    let own = Own(words[0].chars().map(|letter| letter == 'y').collect(), Default::default());
     let (key, signature) = (PublicKey::from_file(&words[1]).unwrap(), Signature::from_file(&words[2]).unwrap());
     println!("{:?}", key.verify_with(&own, b"any data", &signature, false));
 }

@@ -6,7 +6,7 @@ struct Shown;
 
 impl Ed25519 for Shown {
     fn accepts(&self, _: &[u8; 64], message: &[u8], _: &[u8; 32]) -> bool {
-        println!("{}", message.iter().map(|it| format!("{it:02x}")).collect::<String>());
+        println!("{}", message.iter().map(|byte| format!("{byte:02x}")).collect::<String>());
         true
     }
 }
