@@ -78,7 +78,9 @@ def root_of(kind):
 
 
 def emulator(kind):
-    """The words before a program that run it."""
+    """The words before a program that run it. An x86-64 runs what is for i386 itself: under qemu threads of it do not end."""
+    if kind.debian == "i386" and os.uname().machine == "x86_64":
+        return [f"{root_of(kind)}/lib/ld-linux.so.2", "--library-path", f"{root_of(kind)}/lib"]
     return [needs.program(f"qemu-{kind.emulator}-static", "qemu-user-static"), "-L", root_of(kind)]
 
 
