@@ -39,8 +39,10 @@ HEAD = """\
 #define ALIGNMENT(type) _Alignof(type)
 #endif
 
+/* (some processors of 32 bits, as i386, align numbers of 64 bits to less) */
+#define IS_ALIGNED(type, alignment) (ALIGNMENT(type) == (alignment) || (sizeof(void *) < 8 && ALIGNMENT(type) < (alignment)))
 #define IS_LAID_OUT(type, size, alignment) \\
-    static_assert(sizeof(type) == (size) && ALIGNMENT(type) == (alignment), #type)
+    static_assert(sizeof(type) == (size) && IS_ALIGNED(type, alignment), #type)
 #define IS_AT(type, field, offset, size) \\
     static_assert(offsetof(type, field) == (offset) && sizeof(((type *) 0)->field) == (size), #type "." #field)
 """
