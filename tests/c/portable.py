@@ -176,11 +176,11 @@ KINDS = [Kind("s390x", "s390x-linux-gnu", "s390x", "s390x", "IBM S/390"), Kind("
          Kind("riscv64", "riscv64-linux-gnu", "riscv64", "riscv64", "RISC-V", has_sodium=False)]
 
 
-def check_kind(checks, room, answers, kind):
+def check_kind(checks, room, answers, kind, *more):
     """A kind of processors, under qemu; what was built."""
     place = os.path.join(room, kind.name)
     os.mkdir(place)
-    built = emulated.Emulated(checks, place, kind)
+    built = emulated.Emulated(checks, place, kind, *more)
     emulated.check_all(checks, built, OF_MALLOC if kind.has_32_bits else PROGRAMS)
     answers.check(checks, kind.name, built.compiler, f"{built.out}/libminisign.a", before=built.emulator)
     return built
