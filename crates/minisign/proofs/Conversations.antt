@@ -1,10 +1,12 @@
--- Conversations that are known from outside (docs/FORMATS.md), so that a wrong definition does not check: what they
--- write, and which passwords differ.
+-- Conversations that are known from outside (docs/FORMATS.md), so that a wrong definition does not check:
+-- what they write, and which passwords differ.
 use Rattle.std.proofs.Common.{◌≡◌, ℕ, List, [], ◌∷◌, ◌++◌, None, Some, codes, refl}
-use Rattle.minisign.proofs.Common.{chars, is_utf8, Named, PasswordsDiffer, written, accepted_line, first_line, password_of, typed_password}
+use Rattle.minisign.proofs.Common.{chars, is_utf8, Named, PasswordsDiffer, written, accepted_line, first_line}
+use Rattle.minisign.proofs.Common.{password_of, typed_password}
 use lib.Utf8.{encode}
 use Rattle.minisign.specs.NewPassword.{choosing_steps, difference, sealing_steps}
-use Rattle.minisign.specs.Opening.{asking_text, deriving_text, done_text, purpose_line, sealing_text, second_question, opening_steps}
+use Rattle.minisign.specs.Opening.{asking_text, deriving_text, done_text, purpose_line, sealing_text}
+use Rattle.minisign.specs.Opening.{second_question, opening_steps}
 use Rattle.minisign.specs.Records.{SecretKeyRecord}
 
 -- a line and its line feed
@@ -12,9 +14,11 @@ abbrev typing : List ℕ → List ℕ
 typing line = line ++ 10 ∷ []
 
 -- a key is sealed under a password that is typed twice
-pub written_while_sealing : written (choosing_steps (typing (codes "one")) (typing (codes "one")) ++ sealing_steps)
+pub written_while_sealing : written
+    (choosing_steps (typing (codes "one")) (typing (codes "one")) ++ sealing_steps)
     ≡ codes "Please enter a password to protect the secret key.\nPassword: Password (one more time): Deriving a key from the password in order to encrypt the secret key... done\n"
-unfolding password_of first_line accepted_line is_utf8 chars encode purpose_line asking_text second_question sealing_text done_text
+unfolding password_of first_line accepted_line is_utf8 chars encode purpose_line asking_text second_question
+    sealing_text done_text
 written_while_sealing = refl
 
 -- an empty password is shown each time
@@ -30,10 +34,12 @@ unfolding password_of first_line accepted_line is_utf8 chars encode asking_text 
 written_while_opening k = refl
 
 -- the second password is another one
-pub other_password : difference (typed_password (typing (codes "one"))) (typed_password (typing (codes "two"))) ≡ Some (Named PasswordsDiffer)
+pub other_password : difference (typed_password (typing (codes "one")))
+    (typed_password (typing (codes "two"))) ≡ Some (Named PasswordsDiffer)
 unfolding password_of first_line accepted_line is_utf8 chars encode
 other_password = refl
 
-pub same_password : difference (typed_password (typing (codes "one"))) (typed_password (typing (codes "one"))) ≡ None
+pub same_password : difference (typed_password (typing (codes "one"))) (typed_password (typing (codes "one")))
+    ≡ None
 unfolding password_of first_line accepted_line is_utf8 chars encode
 same_password = refl

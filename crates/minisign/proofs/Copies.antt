@@ -1,15 +1,19 @@
 -- What an output holds of data that was copied in part.
-use Rattle.std.proofs.Common.{◌≡◌, ℕ, List, [], ◌++◌, Option, None, Some, append-nil, ap, refl, sym, subst, ◌∙◌}
-use Rattle.minisign.proofs.Common.{append_known, Appends, Consumes, Keeps, AppendsFront, SameWhereKnown, AppendsFront-after, AppendsFront-keeps, AppendsFront-more}
+use Rattle.std.proofs.Common.{◌≡◌, ℕ, List, [], ◌++◌, Option, None, Some, append-nil, ap, refl, sym, subst}
+use Rattle.std.proofs.Common.{◌∙◌}
+use Rattle.minisign.proofs.Common.{append_known, Appends, Consumes, Keeps, AppendsFront, SameWhereKnown}
+use Rattle.minisign.proofs.Common.{AppendsFront-after, AppendsFront-keeps, AppendsFront-more}
 use Rattle.minisign.specs.Reading.{IsAhead}
 
 -- all of a text is a prefix of it
 pub front_of_all : (a b c : Option (List ℕ)) (bs : List ℕ) → Appends a b bs → Keeps b c → AppendsFront a c bs
 front_of_all a b c bs all kept =
-    subst (AppendsFront a c) (append-nil bs) (AppendsFront-after a b c bs [] all (AppendsFront-keeps b c [] kept))
+    subst (AppendsFront a c) (append-nil bs)
+    (AppendsFront-after a b c bs [] all (AppendsFront-keeps b c [] kept))
 
 -- a prefix of what was read so far is one of all that was ahead
-pub front_of_ahead : (ahead now old new : Option (List ℕ)) (bs : List ℕ) → Consumes ahead now bs → AppendsFront old new bs
+pub front_of_ahead : (ahead now old new : Option (List ℕ)) (bs : List ℕ) → Consumes ahead now bs
+    → AppendsFront old new bs
     → (message : List ℕ) × IsAhead ahead message × AppendsFront old new message
 front_of_ahead None now old new bs read front = (bs, tt, front)
 front_of_ahead (Some xs) None old new bs read front = absurd read
@@ -17,7 +21,8 @@ front_of_ahead (Some xs) (Some ys) old new bs read front =
     (xs, refl, subst (AppendsFront old new) (sym read) (AppendsFront-more old new bs ys front))
 
 -- before anything was read, nothing taken is a prefix of all that is ahead
-pub front_of_nothing : (ahead old new : Option (List ℕ)) → Keeps old new → (message : List ℕ) × IsAhead ahead message × AppendsFront old new message
+pub front_of_nothing : (ahead old new : Option (List ℕ)) → Keeps old new
+    → (message : List ℕ) × IsAhead ahead message × AppendsFront old new message
 front_of_nothing None old new kept = ([], tt, AppendsFront-keeps old new [] kept)
 front_of_nothing (Some xs) old new kept = (xs, refl, AppendsFront-keeps old new xs kept)
 
@@ -34,11 +39,14 @@ all_kept (Some x) (Some y) None bs all kept = absurd kept
 all_kept (Some x) (Some y) (Some z) bs all kept = kept ∙ all
 
 -- what was given so far, and then more
-pub given_more : (old new : Option (List ℕ)) (a b : List ℕ) → IsAhead old a → new ≡ append_known old b → IsAhead new (a ++ b)
+pub given_more : (old new : Option (List ℕ)) (a b : List ℕ) → IsAhead old a → new ≡ append_known old b
+    → IsAhead new (a ++ b)
 given_more None new a b given more = subst (λ known. IsAhead known (a ++ b)) (sym more) tt
-given_more (Some xs) new a b given more = subst (λ known. IsAhead known (a ++ b)) (sym more) (ap (λ (l : List ℕ). l ++ b) given)
+given_more (Some xs) new a b given more = subst (λ known. IsAhead known (a ++ b)) (sym more)
+    (ap (λ (l : List ℕ). l ++ b) given)
 
 -- what was given so far, and no more
-pub given_still : (old new : Option (List ℕ)) (a : List ℕ) → IsAhead old a → SameWhereKnown old new → IsAhead new a
+pub given_still : (old new : Option (List ℕ)) (a : List ℕ) → IsAhead old a → SameWhereKnown old new
+    → IsAhead new a
 given_still old None a given kept = tt
 given_still old (Some ys) a given kept = subst (λ known. IsAhead known a) kept given

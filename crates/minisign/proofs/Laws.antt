@@ -1,10 +1,10 @@
--- What the proofs of other crates cite: of a box that is judged, of a verdict on texts that vouch for a message, of verifying
--- without an output, and of a sink that is written to in parts.
+-- What the proofs of other crates cite: of a box that is judged, of a verdict on texts that vouch for a
+-- message, of verifying without an output, and of a sink that is written to in parts.
 use Rattle.std.proofs.Common.{◌≡◌, ℕ, Bool, List, sym, ◌∙◌, inl, inr, Ok, Err}
 use Rattle.minisign.proofs.Common.{Fault, Named, OutOfMemory}
 use Rattle.minisign.specs.Acceptance.{Verifier}
 use Rattle.minisign.specs.Headline.{TextsVouchFor, verdict}
-use Rattle.minisign.specs.Texts.{IsReadOrNoMemory}
+use Rattle.minisign.specs.Texts.{IsGivenOrNoMemory}
 use Rattle.minisign.proofs.ReadTexts.{read_value}
 use Rattle.minisign.proofs.Verdicts.{vouching_verdict}
 pub use Rattle.minisign.proofs.Verdicts.{judged_vouches, vouched, vouched_verdict, vouches_judged}
@@ -14,15 +14,21 @@ pub use Rattle.minisign_base.proofs.Laws.{AppendsFront-after, AppendsFront-more}
 module _ (accepts : Verifier) (pk_text sig_text message : List ℕ) (legacy : Bool) where
   -- texts that vouch for a message are rejected only where an allocation fails
   pub only_memory : (e : Fault) → TextsVouchFor accepts pk_text sig_text message legacy
-      → IsReadOrNoMemory {V = List ℕ} (Err e) (verdict accepts pk_text sig_text message legacy) → e ≡ Named OutOfMemory
-  only_memory e v (inl is) = let differ = is ∙ vouching_verdict accepts pk_text sig_text message legacy v in cc differ
+      → IsGivenOrNoMemory {V = List ℕ} (Err e) (verdict accepts pk_text sig_text message legacy)
+      → e ≡ Named OutOfMemory
+  only_memory e v (inl is) = let differ = is ∙ vouching_verdict accepts pk_text sig_text message legacy v in
+      cc differ
   only_memory e v (inr memory) = cc memory
 
   -- and what is accepted is vouched for
-  pub accepted_vouches : (comment : List ℕ) → IsReadOrNoMemory (Ok comment) (verdict accepts pk_text sig_text message legacy)
+  pub accepted_vouches : (comment : List ℕ)
+      → IsGivenOrNoMemory (Ok comment) (verdict accepts pk_text sig_text message legacy)
       → TextsVouchFor accepts pk_text sig_text message legacy
-  accepted_vouches comment given = (vouched accepts pk_text sig_text message legacy comment (read_value comment _ given)).vouched
+  accepted_vouches comment given =
+      (vouched accepts pk_text sig_text message legacy comment (read_value comment _ given)).vouched
 
   -- texts that are rejected do not vouch for the message
-  pub refused_unvouched : (e : Fault) → verdict accepts pk_text sig_text message legacy ≡ Err e → ¬ (TextsVouchFor accepts pk_text sig_text message legacy)
-  refused_unvouched e is v = let differ = sym is ∙ vouching_verdict accepts pk_text sig_text message legacy v in cc differ
+  pub refused_unvouched : (e : Fault) → verdict accepts pk_text sig_text message legacy ≡ Err e
+      → ¬ (TextsVouchFor accepts pk_text sig_text message legacy)
+  refused_unvouched e is v = let differ = sym is ∙ vouching_verdict accepts pk_text sig_text message legacy
+      v in cc differ

@@ -1,63 +1,103 @@
--- Texts of public keys: the function that reads them and the relation agree, and a written text reads as its key.
-use Rattle.std.proofs.Common.{◌≡◌, ◌≢◌, ℕ, ◌≤◌, true, List, [], ◌∷◌, ◌++◌, length, take, drop, codes, refl, sym, ap, subst, ◌∙◌, arith, ◌==◌, Ok, Err, leb, eq-eqb, eqb-true, append_assoc, ne_eqb, le-leb, leb-true, length-append, length-take-le, length-drop, take-append-drop}
-use Rattle.minisign.proofs.Common.{trim, lines, IsBytes, front_bytes, Named, identifier_text, NamedFault, PublicKeyLineLength, PublicKeyLineNotBase64, BarePublicKeyLength, BarePublicKeyNotBase64, RecordTooShort}
+-- Texts of public keys: the function that reads them and the relation agree, and a written text reads as its
+-- key.
+use Rattle.std.proofs.Common.{◌≡◌, ◌≢◌, ℕ, ◌≤◌, true, List, [], ◌∷◌, ◌++◌, length, take, drop, codes, refl}
+use Rattle.std.proofs.Common.{sym, ap, subst, ◌∙◌, arith, ◌==◌, Ok, Err, leb, eq-eqb, eqb-true, append_assoc}
+use Rattle.std.proofs.Common.{ne_eqb, le-leb, leb-true, length-append, length-take-le, length-drop}
+use Rattle.std.proofs.Common.{take-append-drop}
+use Rattle.minisign.proofs.Common.{trim, lines, IsBytes, front_bytes, Named, key_id_text, NamedFault}
+use Rattle.minisign.proofs.Common.{PublicKeyLineLength, PublicKeyLineNotBase64, BarePublicKeyLength}
+use Rattle.minisign.proofs.Common.{BarePublicKeyNotBase64, RecordTooShort}
 use Rattle.minisign.specs.Records.{PublicKeyRecord, ReadsPublicKey, public_key_bytes}
-use Rattle.minisign.specs.Texts.{IsBase64Of, IsReading, base64_of, base64_bytes, is_base64, untrusted_comment_label}
-use Rattle.minisign.specs.PublicKeyText.{EncodesPublicKey, PublicKeyText, BarePublicKey, decoded_key, key_in_lines, public_key_label, public_key_text, read_bare_public_key, read_public_key}
+use Rattle.minisign.specs.Texts.{IsBase64Of, IsReading, base64_of, base64_bytes, is_base64}
+use Rattle.minisign.specs.Texts.{untrusted_comment_label}
+use Rattle.minisign.specs.PublicKeyText.{EncodesPublicKey, PublicKeyText, BarePublicKey, decoded_key}
+use Rattle.minisign.specs.PublicKeyText.{key_in_lines, public_key_label, public_key_text}
+use Rattle.minisign.specs.PublicKeyText.{read_bare_public_key, read_public_key}
 use Rattle.minisign.proofs.Base64Texts.{bytes_read, is_read, reads}
-use Rattle.minisign.proofs.WrittenLines.{AllGraphic, graphic_base64, graphic_identifier, trim_graphic, IsOneLine, AllShown, lines_line, lines_last, shown_append, shown_codes, shown_graphic, shown_one_line, length_base64_key}
+use Rattle.minisign.proofs.WrittenLines.{AllGraphic, graphic_base64, graphic_key_id, trim_graphic, IsOneLine}
+use Rattle.minisign.proofs.WrittenLines.{AllShown, lines_line, lines_last, shown_append, shown_codes}
+use Rattle.minisign.proofs.WrittenLines.{shown_graphic, shown_one_line, length_base64_key}
 use Rattle.minisign.proofs.ReadTexts.{is_reading, passed}
 use Rattle.minisign.proofs.RecordFields.{joined_fields, one_public_key}
 
 -- bytes that a key is read from
 long_enough : (bytes : List ℕ) (k : PublicKeyRecord) → ReadsPublicKey bytes k → 42 ≤ length bytes
 long_enough bytes k h =
-    omega (arith, h.algorithm_length, h.keynum_length, h.key_length, simp length-append at (ap length h.front.1))
+    omega (
+      arith,
+      h.algorithm_length,
+      h.keynum_length,
+      h.key_length,
+      simp length-append at
+          (ap length h.front.1),
+    )
 
 -- a text that encodes a key passes the tests of base64 and of the length
 encodes_tests : (text : List ℕ) (k : PublicKeyRecord) → EncodesPublicKey text k
     → (is_base64 text ≡ true) × (leb 42 (length (base64_bytes text)) ≡ true)
 encodes_tests text k h = (
   is_read text h.bytes h.base64,
-  le-leb 42 _ (subst (λ (b : List ℕ). 42 ≤ length b) (sym (bytes_read text h.bytes h.base64)) (long_enough h.bytes k h.reads)),
+  le-leb 42 _ (subst (λ (b : List ℕ). 42 ≤ length b) (sym (bytes_read text h.bytes h.base64))
+      (long_enough h.bytes k h.reads)),
 )
 
 -- bytes that are many enough begin with a key
 unfoldable key_in : List ℕ → PublicKeyRecord
-key_in bytes = record { algorithm = take 2 bytes; keynum = take 8 (drop 2 bytes); key = take 32 (drop 8 (drop 2 bytes)) }
+key_in bytes = record {
+  algorithm = take 2 bytes;
+  keynum = take 8 (drop 2 bytes);
+  key =
+      take 32 (drop 8 (drop 2 bytes));
+}
 
 key_in_front : (bytes : List ℕ) → 42 ≤ length bytes → ReadsPublicKey bytes (key_in bytes)
 unfolding key_in
 key_in_front bytes l = record {
   algorithm_length = length-take-le 2 bytes (omega arith);
   keynum_length = length-take-le 8 (drop 2 bytes) (omega (arith, length-drop 2 bytes));
-  key_length = length-take-le 32 (drop 8 (drop 2 bytes)) (omega (arith, length-drop 2 bytes, length-drop 8 (drop 2 bytes)));
-  front = (drop 32 (drop 8 (drop 2 bytes)), joined_fields bytes _ _ _ _ _ _ (sym (take-append-drop 2 bytes)) (sym (take-append-drop 8 (drop 2 bytes))) (sym (take-append-drop 32 (drop 8 (drop 2 bytes)))));
+  key_length = length-take-le 32 (drop 8 (drop 2 bytes))
+      (omega (arith, length-drop 2 bytes, length-drop 8 (drop 2 bytes)));
+  front = (
+    drop 32 (drop 8 (drop 2 bytes)),
+    joined_fields bytes _ _ _ _ _ _ (sym (take-append-drop 2 bytes))
+        (sym (take-append-drop 8 (drop 2 bytes))) (sym (take-append-drop 32 (drop 8 (drop 2 bytes)))),
+  );
 }
 
 -- a text that encodes a key decodes to it, and to nothing else
-pub encoded_is_decoded : (fault : NamedFault) (text : List ℕ) (k : PublicKeyRecord) → EncodesPublicKey text k → decoded_key fault text ≡ Ok k
+pub encoded_is_decoded : (fault : NamedFault) (text : List ℕ) (k : PublicKeyRecord) → EncodesPublicKey text k
+    → decoded_key fault text ≡ Ok k
 unfolding key_in
 encoded_is_decoded fault text k h =
     let tests = encodes_tests text k h in
     let reads = subst (λ b. ReadsPublicKey b k) (sym (bytes_read text h.bytes h.base64)) h.reads in
-    let same : key_in (base64_bytes text) ≡ k = one_public_key _ (key_in (base64_bytes text)) k (key_in_front _ (leb-true 42 _ tests.1)) reads in
+    let same : key_in (base64_bytes text) ≡ k = one_public_key _ (key_in (base64_bytes text)) k
+    (key_in_front _ (leb-true 42 _ tests.1)) reads in
     rw (tests.0, tests.1) (ap Ok same)
 
-decoded_is_encoded : (fault : NamedFault) (text : List ℕ) (k : PublicKeyRecord) → decoded_key fault text ≡ Ok k → EncodesPublicKey text k
+decoded_is_encoded : (fault : NamedFault) (text : List ℕ) (k : PublicKeyRecord) → decoded_key fault text
+    ≡ Ok k → EncodesPublicKey text k
 unfolding key_in
 decoded_is_encoded fault text k h =
     let base64 = passed (is_base64 text) fault _ k h in
-    let long = passed (leb 42 (length (base64_bytes text))) RecordTooShort (Ok (key_in (base64_bytes text))) k base64.1 in
+    let long = passed (leb 42 (length (base64_bytes text))) RecordTooShort (Ok (key_in (base64_bytes text))) k
+    base64.1 in
     let same : key_in (base64_bytes text) ≡ k = cc long.1 in
-    record { bytes = base64_bytes text; base64 = reads text base64.0; reads = subst (ReadsPublicKey (base64_bytes text)) same (key_in_front _ (leb-true 42 _ long.0)) }
+    record {
+      bytes = base64_bytes text;
+      base64 = reads text base64.0;
+      reads =
+          subst (ReadsPublicKey (base64_bytes text)) same (key_in_front _ (leb-true 42 _ long.0));
+    }
 
 -- a text reads as a key where it is read as this key
 pub text_is_read : (text : List ℕ) (k : PublicKeyRecord) → PublicKeyText text k → read_public_key text ≡ Ok k
 unfolding read_public_key
-text_is_read text k h = rw (h.cut, eq-eqb _ 56 h.encoded_length) (encoded_is_decoded PublicKeyLineNotBase64 (trim h.encoded) k h.key)
+text_is_read text k h = rw (h.cut, eq-eqb _ 56 h.encoded_length)
+    (encoded_is_decoded PublicKeyLineNotBase64 (trim h.encoded) k h.key)
 
-read_lines : (text : List ℕ) (ls : List (List ℕ)) (k : PublicKeyRecord) → lines text ≡ ls → key_in_lines ls ≡ Ok k → PublicKeyText text k
+read_lines : (text : List ℕ) (ls : List (List ℕ)) (k : PublicKeyRecord) → lines text ≡ ls
+    → key_in_lines ls ≡ Ok k → PublicKeyText text k
 read_lines text [] k cut h = cc h
 read_lines text (a ∷ []) k cut h = cc h
 read_lines text (a ∷ b ∷ later) k cut h =
@@ -76,7 +116,8 @@ unfolding read_public_key
 read_text text k h = read_lines text (lines text) k refl h
 
 pub read_as : (text : List ℕ) → IsReading (PublicKeyText text) (read_public_key text)
-read_as text = is_reading (PublicKeyText text) (read_public_key text) (λ k. (read_text text k, text_is_read text k))
+read_as text = is_reading (PublicKeyText text) (read_public_key text)
+    (λ k. (read_text text k, text_is_read text k))
 
 -- a text is read by its lines
 pub of_lines : (text : List ℕ) (ls : List (List ℕ)) → lines text ≡ ls → read_public_key text ≡ key_in_lines ls
@@ -84,64 +125,84 @@ unfolding read_public_key
 of_lines text ls cut = ap key_in_lines cut
 
 -- the same of bare base64
-pub bare_is_read : (text : List ℕ) (k : PublicKeyRecord) → BarePublicKey text k → read_bare_public_key text ≡ Ok k
+pub bare_is_read : (text : List ℕ) (k : PublicKeyRecord) → BarePublicKey text k → read_bare_public_key text
+    ≡ Ok k
 unfolding read_bare_public_key
-bare_is_read text k h = rw (eq-eqb _ 56 h.trimmed_length) (encoded_is_decoded BarePublicKeyNotBase64 text k h.key)
+bare_is_read text k h = rw (eq-eqb _ 56 h.trimmed_length)
+    (encoded_is_decoded BarePublicKeyNotBase64 text k h.key)
 
-pub read_bare : (text : List ℕ) (k : PublicKeyRecord) → read_bare_public_key text ≡ Ok k → BarePublicKey text k
+pub read_bare : (text : List ℕ) (k : PublicKeyRecord) → read_bare_public_key text ≡ Ok k
+    → BarePublicKey text k
 unfolding read_bare_public_key
 read_bare text k h =
     let long = passed (length (trim text) == 56) BarePublicKeyLength _ k h in
-    record { trimmed_length = eqb-true (length (trim text)) 56 long.0; key = decoded_is_encoded BarePublicKeyNotBase64 text k long.1 }
+    record {
+      trimmed_length = eqb-true (length (trim text)) 56 long.0;
+      key =
+          decoded_is_encoded BarePublicKeyNotBase64 text k long.1;
+    }
 
-pub other_bare_length : (text : List ℕ) → length (trim text) ≢ 56 → read_bare_public_key text ≡ Err (Named BarePublicKeyLength)
+pub other_bare_length : (text : List ℕ) → length (trim text) ≢ 56 → read_bare_public_key text
+    ≡ Err (Named BarePublicKeyLength)
 unfolding read_bare_public_key
 other_bare_length text differs = rw (ne_eqb _ 56 differs) refl
 
-pub bare_length : (text : List ℕ) → length (trim text) ≡ 56 → read_bare_public_key text ≡ decoded_key BarePublicKeyNotBase64 text
+pub bare_length : (text : List ℕ) → length (trim text) ≡ 56 → read_bare_public_key text
+    ≡ decoded_key BarePublicKeyNotBase64 text
 unfolding read_bare_public_key
 bare_length text same = rw (eq-eqb _ 56 same) refl
 
 pub bare_read_as : (text : List ℕ) → IsReading (BarePublicKey text) (read_bare_public_key text)
-bare_read_as text = is_reading (BarePublicKey text) (read_bare_public_key text) (λ k. (read_bare text k, bare_is_read text k))
+bare_read_as text = is_reading (BarePublicKey text) (read_bare_public_key text)
+    (λ k. (read_bare text k, bare_is_read text k))
 
 shown_label : AllShown (untrusted_comment_label ++ public_key_label)
 unfolding untrusted_comment_label public_key_label
 shown_label = shown_codes (codes "untrusted comment: minisign public key: ") refl
 
 -- the base64 of a key reads as the key
-pub written_base64 : (k : PublicKeyRecord) (text bytes : List ℕ) → IsBase64Of text bytes → bytes ≡ public_key_bytes k → ReadsPublicKey bytes k → BarePublicKey text k
+pub written_base64 : (k : PublicKeyRecord) (text bytes : List ℕ) → IsBase64Of text bytes
+    → bytes ≡ public_key_bytes k → ReadsPublicKey bytes k → BarePublicKey text k
 written_base64 k text bytes base64 same reads =
-    let long : length bytes ≡ 42 = ap length same ∙ simp length-append (omega (arith, reads.algorithm_length, reads.keynum_length, reads.key_length)) in
+    let long : length bytes ≡ 42 = ap length same ∙ simp length-append
+    (omega (arith, reads.algorithm_length, reads.keynum_length, reads.key_length)) in
     record {
-      trimmed_length = ap (λ (t : List ℕ). length (trim t)) base64.encoded ∙ ap length (trim_graphic _ (graphic_base64 bytes base64.each)) ∙ length_base64_key bytes long;
+      trimmed_length = ap (λ (t : List ℕ). length (trim t)) base64.encoded
+          ∙ ap length (trim_graphic _ (graphic_base64 bytes base64.each)) ∙ length_base64_key bytes long;
       key = record { bytes = bytes; base64 = base64; reads = reads };
     }
 
 -- the text that is written for a key reads as the key
 module _ (k : PublicKeyRecord) (bare : BarePublicKey (base64_of (public_key_bytes k)) k) where
   pub graphic : AllGraphic (base64_of (public_key_bytes k))
-  graphic = graphic_base64 (public_key_bytes k) (front_bytes (public_key_bytes k) _ (subst IsBytes bare.key.reads.front.1 bare.key.base64.each))
+  graphic = graphic_base64 (public_key_bytes k)
+      (front_bytes (public_key_bytes k) _ (subst IsBytes bare.key.reads.front.1 bare.key.base64.each))
 
   pub stays : trim (base64_of (public_key_bytes k)) ≡ base64_of (public_key_bytes k)
   stays = trim_graphic _ graphic
 
-  first_line : IsOneLine (untrusted_comment_label ++ public_key_label ++ identifier_text k.keynum)
-  first_line = shown_one_line _ (shown_append (untrusted_comment_label ++ public_key_label) (identifier_text k.keynum) shown_label (shown_graphic _ (graphic_identifier k.keynum)))
+  first_line : IsOneLine (untrusted_comment_label ++ public_key_label ++ key_id_text k.keynum)
+  first_line = shown_one_line _
+      (shown_append (untrusted_comment_label ++ public_key_label) (key_id_text k.keynum) shown_label
+      (shown_graphic _ (graphic_key_id k.keynum)))
 
   pub written_text : read_public_key (public_key_text k) ≡ Ok k
   written_text = text_is_read (public_key_text k) k (record {
-    comment = untrusted_comment_label ++ public_key_label ++ identifier_text k.keynum;
+    comment = untrusted_comment_label ++ public_key_label ++ key_id_text k.keynum;
     encoded = base64_of (public_key_bytes k);
     later = [];
-    cut = lines_line _ _ first_line ∙ ap (λ l. (untrusted_comment_label ++ public_key_label ++ identifier_text k.keynum) ∷ l) (lines_last _ (shown_one_line _ (shown_graphic _ graphic)));
+    cut = lines_line _ _ first_line
+        ∙ ap (λ l. (untrusted_comment_label ++ public_key_label ++ key_id_text k.keynum) ∷ l)
+        (lines_last _ (shown_one_line _ (shown_graphic _ graphic)));
     encoded_length = ap length (sym stays) ∙ bare.trimmed_length;
     key = subst (λ (t : List ℕ). EncodesPublicKey t k) (sym stays) bare.key;
   })
 
 -- the written text, letter by letter
 pub spelled_text : (k : PublicKeyRecord) (id b : List ℕ) → id ≡ k.keynum → b ≡ base64_of (public_key_bytes k)
-    → codes "untrusted comment: minisign public key: " ++ (identifier_text id ++ (10 ∷ (b ++ 10 ∷ []))) ≡ public_key_text k
+    → codes "untrusted comment: minisign public key: " ++ (key_id_text id ++ (10 ∷ (b ++ 10 ∷ [])))
+    ≡ public_key_text k
 unfolding untrusted_comment_label public_key_label
 spelled_text k id b same_id same_b =
-    rw (same_id, same_b) (ap (λ (t : List ℕ). codes "untrusted comment: minisign public key: " ++ t) (sym (append_assoc (identifier_text k.keynum) (10 ∷ []) (base64_of (public_key_bytes k) ++ 10 ∷ []))))
+    rw (same_id, same_b) (ap (λ (t : List ℕ). codes "untrusted comment: minisign public key: " ++ t)
+    (sym (append_assoc (key_id_text k.keynum) (10 ∷ []) (base64_of (public_key_bytes k) ++ 10 ∷ []))))

@@ -1,14 +1,15 @@
 -- What a reading call answers, from what is read.
 use Rattle.std.proofs.Common.{◌≡◌, ◌↔◌, Bool, true, false, refl, sym, ◌∙◌, inl, inr, Result, Ok, Err}
 use Rattle.minisign.proofs.Common.{Fault, without_value, NamedFault}
-use Rattle.minisign.specs.Texts.{IsReadOrNoMemory, IsReading, and_then, require}
+use Rattle.minisign.specs.Texts.{IsGivenOrNoMemory, IsReading, and_then, require}
 
 -- what is read is one value at most
 pub one_value : {V : Type 0} (r : Result V Fault) (v w : V) → r ≡ Ok v → r ≡ Ok w → v ≡ w
 one_value r v w of_v of_w = let same = sym of_v ∙ of_w in cc same
 
 -- a relation of which a function gives the values
-pub is_reading : {V : Type 0} (reads : V → Type 0) (read : Result V Fault) → ((v : V) → (read ≡ Ok v) ↔ reads v) → IsReading reads read
+pub is_reading : {V : Type 0} (reads : V → Type 0) (read : Result V Fault)
+    → ((v : V) → (read ≡ Ok v) ↔ reads v) → IsReading reads read
 is_reading reads read value = record {
   value = value;
   one_value = λ v w of_v of_w. one_value read v w ((value v).1 of_v) ((value w).1 of_w);
@@ -16,12 +17,14 @@ is_reading reads read value = record {
 }
 
 -- what is read after a test
-pub passed : {V : Type 0} (holds : Bool) (fault : NamedFault) (more : Result V Fault) (v : V) → require holds fault more ≡ Ok v → (holds ≡ true) × (more ≡ Ok v)
+pub passed : {V : Type 0} (holds : Bool) (fault : NamedFault) (more : Result V Fault) (v : V)
+    → require holds fault more ≡ Ok v → (holds ≡ true) × (more ≡ Ok v)
 passed true fault more v h = (refl, h)
 passed false fault more v h = cc h
 
 -- what is read on
-pub read_before : {V W : Type 0} (r : Result V Fault) (more : V → Result W Fault) (w : W) → and_then r more ≡ Ok w → (v : V) × (r ≡ Ok v) × (more v ≡ Ok w)
+pub read_before : {V W : Type 0} (r : Result V Fault) (more : V → Result W Fault) (w : W)
+    → and_then r more ≡ Ok w → (v : V) × (r ≡ Ok v) × (more v ≡ Ok w)
 read_before (Ok v) more w h = (v, refl, h)
 read_before (Err e) more w h = cc h
 
@@ -37,6 +40,6 @@ pub same_fault : {V : Type 0} (e f : Fault) → ◌≡◌ {A = Result V Fault} (
 same_fault e f h = cc h
 
 -- a value was read
-pub read_value : {V : Type 0} (v : V) (read : Result V Fault) → IsReadOrNoMemory (Ok v) read → read ≡ Ok v
+pub read_value : {V : Type 0} (v : V) (read : Result V Fault) → IsGivenOrNoMemory (Ok v) read → read ≡ Ok v
 read_value v read (inl is) = sym is
 read_value v read (inr memory) = cc memory

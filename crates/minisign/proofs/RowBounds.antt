@@ -4,17 +4,21 @@ use Rattle.std.proofs.Math.Nat.{div-lt_iff_lt-mul, mul-le-mul, mul_comm}
 use Rattle.std.proofs.lemmas.Bool.{lt-ltb, ltb-true, ltb_from_iff}
 use Rattle.std.proofs.lemmas.Nat.{pow_pos}
 
--- no more rows than so many are made exactly where they are made no more often than the quotient says, cut to 32 bits
-pub same_test : (most n p m : ℕ) → p < 2 ^ 30 → m ≡ min (most / 2 ^ n) (2 ^ 32 - 1) → nat_lt m p ≡ nat_lt most (2 ^ n * p)
+-- no more rows than so many are made exactly where they are made no more often than the quotient says, cut to
+-- 32 bits
+pub same_test : (most n p m : ℕ) → p < 2 ^ 30 → m ≡ min (most / 2 ^ n) (2 ^ 32 - 1)
+    → nat_lt m p ≡ nat_lt most (2 ^ n * p)
 same_test most n p m small is =
     let turned : 2 ^ n * p ≡ p * 2 ^ n = mul_comm (2 ^ n) p in
     ltb_from_iff (
       λ h. let below : m < p = ltb-true m p h in
           let within : most / 2 ^ n < p = omega (arith, is, below, small) in
-          let all : most < p * 2 ^ n = (div-lt_iff_lt-mul {k = 2 ^ n} {x = most} {y = p} (pow_pos n)).0 within in
+          let all : most < p * 2 ^ n = (div-lt_iff_lt-mul {k = 2 ^ n} {x = most} {y = p} (pow_pos n)).0
+          within in
           omega (arith, all, turned),
       λ h. let all : most < p * 2 ^ n = omega (arith, h, turned) in
-          let within : most / 2 ^ n < p = (div-lt_iff_lt-mul {k = 2 ^ n} {x = most} {y = p} (pow_pos n)).1 all in
+          let within : most / 2 ^ n < p = (div-lt_iff_lt-mul {k = 2 ^ n} {x = most} {y = p} (pow_pos n)).1
+          all in
           lt-ltb m p (omega (arith, is, within)),
     )
 

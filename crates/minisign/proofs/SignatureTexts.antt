@@ -1,12 +1,28 @@
--- Texts of signatures: the function that reads them and the relation agree, and a written text reads as its box; and texts that
--- are read where they lie.
-use Rattle.std.proofs.Common.{◌≡◌, ◌≢◌, ◌||◌, Bool, bytes_eq, ℕ, ◌<◌, ◌≤◌, true, false, List, [], ◌∷◌, ◌++◌, length, take, drop, codes, Ok, Err, refl, sym, ap, subst, ◌∙◌, arith, inl, inr, Some, eqb, leb, lit<, append_assoc, take-take, min, MatchResult, None, Result, ⊎_elim, le-leb, leb-true, cond, length-take-le, length-drop, take-append-drop}
-use Rattle.minisign.proofs.Common.{starts_with, trim, lines, strip_carriage_return, false_from_ne_true, lt-leb, or_cases, or_left, or_right, cases_lt, Decides-eqb, drop-append_seam, starts_is, bytes_eq-Decides, Named, Fault, UntrustedCommentPrefix, SignatureNotBase64, RecordTooShort, TrustedCommentPrefix, UnsupportedSignatureAlgorithm, IsBytes, front_bytes, NamedFault}
-use Rattle.minisign.specs.Records.{CommentsRecord, SignatureRecord, ReadsSignature, IsKnownAlgorithm, signature_bytes, legacy_algorithm, prehashed_algorithm, PublicKeyRecord, ReadsPublicKey, public_key_bytes}
-use Rattle.minisign.specs.Texts.{IsBase64Of, IsReading, base64_of, base64_bytes, is_base64, map_ok, untrusted_comment_label, line}
-use Rattle.minisign.specs.SignatureText.{AreOneLine, AreReadBack, EncodesSignature, SignatureText, SignatureTextRecord, box_of, comments_read_back, read_signature, read_signature_box, signature_in_lines, signature_text, trusted_comment_label, first_64}
+-- Texts of signatures: the function that reads them and the relation agree, and a written text reads as its
+-- box; and texts that are read where they lie.
+use Rattle.std.proofs.Common.{◌≡◌, ◌≢◌, ◌||◌, Bool, bytes_eq, ℕ, ◌<◌, ◌≤◌, true, false, List, [], ◌∷◌, ◌++◌}
+use Rattle.std.proofs.Common.{length, take, drop, codes, Ok, Err, refl, sym, ap, subst, ◌∙◌, arith, inl, inr}
+use Rattle.std.proofs.Common.{Some, eqb, leb, lit<, append_assoc, take-take, min, MatchResult, None, Result}
+use Rattle.std.proofs.Common.{⊎_elim, le-leb, leb-true, cond, length-take-le, length-drop, take-append-drop}
+use Rattle.minisign.proofs.Common.{starts_with, trim, lines, strip_carriage_return, false_from_ne_true}
+use Rattle.minisign.proofs.Common.{lt-leb, or_cases, or_left, or_right, cases_lt, Decides-eqb}
+use Rattle.minisign.proofs.Common.{drop-append_seam, starts_is, bytes_eq-Decides, Named, Fault}
+use Rattle.minisign.proofs.Common.{UntrustedCommentPrefix, SignatureNotBase64, RecordTooShort}
+use Rattle.minisign.proofs.Common.{TrustedCommentPrefix, UnsupportedSignatureAlgorithm, IsBytes, front_bytes}
+use Rattle.minisign.proofs.Common.{NamedFault}
+use Rattle.minisign.specs.Records.{CommentsRecord, SignatureRecord, ReadsSignature, IsKnownAlgorithm}
+use Rattle.minisign.specs.Records.{signature_bytes, legacy_algorithm, prehashed_algorithm, PublicKeyRecord}
+use Rattle.minisign.specs.Records.{ReadsPublicKey, public_key_bytes}
+use Rattle.minisign.specs.Texts.{IsBase64Of, IsReading, base64_of, base64_bytes, is_base64, map_ok}
+use Rattle.minisign.specs.Texts.{untrusted_comment_label, line}
+use Rattle.minisign.specs.SignatureText.{AreOneLine, AreReadBack, EncodesSignature, SignatureText}
+use Rattle.minisign.specs.SignatureText.{SignatureTextRecord, box_of, comments_read_back, read_signature}
+use Rattle.minisign.specs.SignatureText.{read_signature_box, signature_in_lines, signature_text}
+use Rattle.minisign.specs.SignatureText.{trusted_comment_label, first_64}
 use Rattle.minisign.proofs.Base64Texts.{bytes_read, is_read, reads, short_of, length_base64}
-use Rattle.minisign.proofs.WrittenLines.{AllGraphic, graphic_base64, trim_graphic, AllShown, labelled, labelled_one_line, lines_labelled, lines_line, lines_last, shown_codes, shown_graphic, shown_one_line, strip_none, trimmed_end}
+use Rattle.minisign.proofs.WrittenLines.{AllGraphic, graphic_base64, trim_graphic, AllShown, labelled}
+use Rattle.minisign.proofs.WrittenLines.{labelled_one_line, lines_labelled, lines_line, lines_last}
+use Rattle.minisign.proofs.WrittenLines.{shown_codes, shown_graphic, shown_one_line, strip_none, trimmed_end}
 use Rattle.minisign.proofs.ReadTexts.{is_reading, passed}
 use Rattle.minisign.proofs.RecordFields.{joined_fields, one_signature, stored_algorithm, stored_length}
 use Rattle.minisign.specs.PublicKeyText.{EncodesPublicKey, decoded_key}
@@ -16,10 +32,12 @@ use Rattle.minisign.proofs.PublicKeyTexts.{encoded_is_decoded}
 pub begins : (line label rest : List ℕ) → line ≡ label ++ rest → starts_with eqb line label ≡ true
 begins line label rest = (starts_is Decides-eqb line label (starts_with eqb line label) refl).1 rest
 
-begins_with : (line label : List ℕ) → starts_with eqb line label ≡ true → line ≡ label ++ drop (length label) line
+begins_with : (line label : List ℕ) → starts_with eqb line label ≡ true
+    → line ≡ label ++ drop (length label) line
 begins_with line label = (starts_is Decides-eqb line label (starts_with eqb line label) refl).0
 
-pub begins_not : (line label : List ℕ) → ((rest : List ℕ) → line ≢ label ++ rest) → starts_with eqb line label ≡ false
+pub begins_not : (line label : List ℕ) → ((rest : List ℕ) → line ≢ label ++ rest) → starts_with eqb line label
+    ≡ false
 begins_not line label h = false_from_ne_true _ (λ t. h _ (begins_with line label t))
 
 -- the algorithms that are known
@@ -38,7 +56,8 @@ is_known a h = elim (or_cases _ _ h) [
 
 -- what a text that encodes a signature is tested for
 encodes_tests : (text : List ℕ) (s : SignatureRecord) → EncodesSignature text s
-    → (is_base64 text ≡ true) × (leb 74 (length (base64_bytes text)) ≡ true) × (take 2 (base64_bytes text) ≡ s.algorithm)
+    → (is_base64 text ≡ true) × (leb 74 (length (base64_bytes text)) ≡ true)
+    × (take 2 (base64_bytes text) ≡ s.algorithm)
 encodes_tests text s h =
     let same : base64_bytes text ≡ h.bytes = bytes_read text h.bytes h.base64 in (
       is_read text h.bytes h.base64,
@@ -48,76 +67,107 @@ encodes_tests text s h =
 
 -- the signature in the first 74 bytes
 abbrev signature_of_bytes : List ℕ → SignatureRecord
-signature_of_bytes bytes = record { algorithm = take 2 bytes; keynum = take 8 (drop 2 bytes); signature = take 64 (drop 8 (drop 2 bytes)) }
+signature_of_bytes bytes = record {
+  algorithm = take 2 bytes;
+  keynum = take 8 (drop 2 bytes);
+  signature =
+      take 64 (drop 8 (drop 2 bytes));
+}
 
 -- bytes that are many enough begin with a signature
 signature_in_front : (bytes : List ℕ) → 74 ≤ length bytes → ReadsSignature bytes (signature_of_bytes bytes)
 signature_in_front bytes l = record {
   algorithm_length = length-take-le 2 bytes (omega arith);
   keynum_length = length-take-le 8 (drop 2 bytes) (omega (arith, length-drop 2 bytes));
-  signature_length = length-take-le 64 (drop 8 (drop 2 bytes)) (omega (arith, length-drop 2 bytes, length-drop 8 (drop 2 bytes)));
-  front = (drop 64 (drop 8 (drop 2 bytes)), joined_fields bytes _ _ _ _ _ _ (sym (take-append-drop 2 bytes)) (sym (take-append-drop 8 (drop 2 bytes))) (sym (take-append-drop 64 (drop 8 (drop 2 bytes)))));
+  signature_length = length-take-le 64 (drop 8 (drop 2 bytes))
+      (omega (arith, length-drop 2 bytes, length-drop 8 (drop 2 bytes)));
+  front = (
+    drop 64 (drop 8 (drop 2 bytes)),
+    joined_fields bytes _ _ _ _ _ _ (sym (take-append-drop 2 bytes))
+        (sym (take-append-drop 8 (drop 2 bytes))) (sym (take-append-drop 64 (drop 8 (drop 2 bytes)))),
+  );
 }
 
 -- a signature that is encoded is the one at the front of the decoded bytes
-decoded_signature : (text : List ℕ) (s : SignatureRecord) → EncodesSignature text s → signature_of_bytes (base64_bytes text) ≡ s
+decoded_signature : (text : List ℕ) (s : SignatureRecord) → EncodesSignature text s
+    → signature_of_bytes (base64_bytes text) ≡ s
 decoded_signature text s h =
     let bytes = base64_bytes text in
     let reads = subst (λ b. ReadsSignature b s) (sym (bytes_read text h.bytes h.base64)) h.reads in
-    one_signature bytes (signature_of_bytes bytes) s (signature_in_front bytes (stored_length bytes s reads)) reads
+    one_signature bytes (signature_of_bytes bytes) s (signature_in_front bytes (stored_length bytes s reads))
+    reads
 
 -- what is read of four lines
 module _ (a b c d : List ℕ) where
-  pub other_label : starts_with eqb a untrusted_comment_label ≡ false → signature_in_lines (a ∷ b ∷ c ∷ d ∷ []) ≡ Err (Named UntrustedCommentPrefix)
+  pub other_label : starts_with eqb a untrusted_comment_label ≡ false
+      → signature_in_lines (a ∷ b ∷ c ∷ d ∷ []) ≡ Err (Named UntrustedCommentPrefix)
   other_label label = rw label refl
 
   module _ (label : starts_with eqb a untrusted_comment_label ≡ true) where
-    pub no_base64 : is_base64 (trim b) ≡ false → signature_in_lines (a ∷ b ∷ c ∷ d ∷ []) ≡ Err (Named SignatureNotBase64)
+    pub no_base64 : is_base64 (trim b) ≡ false → signature_in_lines (a ∷ b ∷ c ∷ d ∷ [])
+        ≡ Err (Named SignatureNotBase64)
     no_base64 other = rw (label, other) refl
 
-    pub too_short : is_base64 (trim b) ≡ true → length (base64_bytes (trim b)) < 74 → signature_in_lines (a ∷ b ∷ c ∷ d ∷ []) ≡ Err (Named RecordTooShort)
+    pub too_short : is_base64 (trim b) ≡ true → length (base64_bytes (trim b)) < 74
+        → signature_in_lines (a ∷ b ∷ c ∷ d ∷ []) ≡ Err (Named RecordTooShort)
     too_short base64 short = rw (label, base64, lt-leb 74 _ short) refl
 
     module _ (s : SignatureRecord) (encodes : EncodesSignature (trim b) s) where
-      pub other_trusted_label : starts_with eqb c trusted_comment_label ≡ false → signature_in_lines (a ∷ b ∷ c ∷ d ∷ []) ≡ Err (Named TrustedCommentPrefix)
+      pub other_trusted_label : starts_with eqb c trusted_comment_label ≡ false
+          → signature_in_lines (a ∷ b ∷ c ∷ d ∷ []) ≡ Err (Named TrustedCommentPrefix)
       other_trusted_label trusted =
           let signature = encodes_tests (trim b) s encodes in
           rw (label, signature.0, signature.1, trusted) refl
 
       module _ (trusted : starts_with eqb c trusted_comment_label ≡ true) where
-        pub unknown : is_known_algorithm s.algorithm ≡ false → signature_in_lines (a ∷ b ∷ c ∷ d ∷ []) ≡ Err (Named UnsupportedSignatureAlgorithm)
+        pub unknown : is_known_algorithm s.algorithm ≡ false → signature_in_lines (a ∷ b ∷ c ∷ d ∷ [])
+            ≡ Err (Named UnsupportedSignatureAlgorithm)
         unknown other =
             let signature = encodes_tests (trim b) s encodes in
             rw (label, signature.0, signature.1, trusted, signature.2, other) refl
 
         module _ (algorithm : is_known_algorithm s.algorithm ≡ true) where
-          pub no_comment_base64 : is_base64 (trim d) ≡ false → signature_in_lines (a ∷ b ∷ c ∷ d ∷ []) ≡ Err (Named SignatureNotBase64)
+          pub no_comment_base64 : is_base64 (trim d) ≡ false → signature_in_lines (a ∷ b ∷ c ∷ d ∷ [])
+              ≡ Err (Named SignatureNotBase64)
           no_comment_base64 other =
               let signature = encodes_tests (trim b) s encodes in
               rw (label, signature.0, signature.1, trusted, signature.2, algorithm, other) refl
 
-          pub all_passed : (u t g : List ℕ) → is_base64 (trim d) ≡ true → drop (length untrusted_comment_label) a ≡ u
+          pub all_passed : (u t g : List ℕ) → is_base64 (trim d) ≡ true
+              → drop (length untrusted_comment_label) a ≡ u
               → trim (drop (length trusted_comment_label) c) ≡ t → base64_bytes (trim d) ≡ g
-              → signature_in_lines (a ∷ b ∷ c ∷ d ∷ []) ≡ Ok (record { signature = s; comments = record { untrusted = u; trusted = t; signature = g } })
+              → signature_in_lines (a ∷ b ∷ c ∷ d ∷ []) ≡ Ok
+              (record { signature = s; comments = record { untrusted = u; trusted = t; signature = g } })
           all_passed u t g signed is_untrusted is_trusted is_signed =
               let signature = encodes_tests (trim b) s encodes in
               let same = decoded_signature (trim b) s encodes in
-              let known : is_known_algorithm (take 2 (base64_bytes (trim b))) ≡ true = ap is_known_algorithm signature.2 ∙ algorithm in
+              let known : is_known_algorithm (take 2 (base64_bytes (trim b)))
+              ≡ true = ap is_known_algorithm signature.2 ∙ algorithm in
               rw (label, signature.0, signature.1, trusted, known, signed)
-              (λ i. Ok (record { signature = same i; comments = record { untrusted = is_untrusted i; trusted = is_trusted i; signature = is_signed i } }))
+              (λ i. Ok (record {
+                signature = same i;
+                comments =
+                    record { untrusted = is_untrusted i; trusted = is_trusted i; signature = is_signed i };
+              }))
 
 -- a text reads as a signature with comments where it is read as this one
-pub text_is_read : (text : List ℕ) (t : SignatureTextRecord) → SignatureText text t → read_signature text ≡ Ok t
+pub text_is_read : (text : List ℕ) (t : SignatureTextRecord) → SignatureText text t
+    → read_signature text ≡ Ok t
 unfolding read_signature
 text_is_read text t h =
-    rw h.cut (all_passed h.first h.second h.third h.fourth (begins h.first untrusted_comment_label _ h.untrusted_comment) t.signature h.signature
-    (begins h.third trusted_comment_label _ h.trusted_comment.1) (known t.signature.algorithm h.algorithm) _ _ _
+    rw h.cut (all_passed h.first h.second h.third h.fourth
+    (begins h.first untrusted_comment_label _ h.untrusted_comment) t.signature h.signature
+    (begins h.third trusted_comment_label _ h.trusted_comment.1) (known t.signature.algorithm h.algorithm) _ _
+    _
     (is_read _ _ h.comment_signature)
-    (ap (drop (length untrusted_comment_label)) h.untrusted_comment ∙ drop-append_seam untrusted_comment_label t.comments.untrusted)
-    (ap (λ (l : List ℕ). trim (drop (length trusted_comment_label) l)) h.trusted_comment.1 ∙ ap trim (drop-append_seam trusted_comment_label h.trusted_comment.0) ∙ h.trusted_comment.2)
+    (ap (drop (length untrusted_comment_label)) h.untrusted_comment
+    ∙ drop-append_seam untrusted_comment_label t.comments.untrusted)
+    (ap (λ (l : List ℕ). trim (drop (length trusted_comment_label) l)) h.trusted_comment.1
+    ∙ ap trim (drop-append_seam trusted_comment_label h.trusted_comment.0) ∙ h.trusted_comment.2)
     (bytes_read _ _ h.comment_signature))
 
-read_lines : (text : List ℕ) (ls : List (List ℕ)) (t : SignatureTextRecord) → lines text ≡ ls → signature_in_lines ls ≡ Ok t → SignatureText text t
+read_lines : (text : List ℕ) (ls : List (List ℕ)) (t : SignatureTextRecord) → lines text ≡ ls
+    → signature_in_lines ls ≡ Ok t → SignatureText text t
 read_lines text [] t cut h = cc h
 read_lines text (a ∷ []) t cut h = cc h
 read_lines text (a ∷ b ∷ []) t cut h = cc h
@@ -147,7 +197,12 @@ read_lines text (a ∷ b ∷ c ∷ d ∷ later) t cut h =
       later = later;
       cut = cut;
       untrusted_comment = begins_with a untrusted_comment_label untrusted.0;
-      signature = record { bytes = bytes; base64 = reads _ base64.0; reads = signature_in_front bytes (leb-true 74 _ long.0) };
+      signature = record {
+        bytes = bytes;
+        base64 = reads _ base64.0;
+        reads =
+            signature_in_front bytes (leb-true 74 _ long.0);
+      };
       algorithm = is_known (take 2 bytes) algorithm.0;
       trusted_comment = (_, begins_with c trusted_comment_label trusted.0, refl);
       comment_signature = reads _ signed.0;
@@ -158,22 +213,28 @@ unfolding read_signature
 read_text text t h = read_lines text (lines text) t refl h
 
 pub read_as : (text : List ℕ) → IsReading (SignatureText text) (read_signature text)
-read_as text = is_reading (SignatureText text) (read_signature text) (λ t. (read_text text t, text_is_read text t))
+read_as text = is_reading (SignatureText text) (read_signature text)
+    (λ t. (read_text text t, text_is_read text t))
 
 -- a text is read by its lines
-pub of_lines : (text : List ℕ) (ls : List (List ℕ)) → lines text ≡ ls → read_signature text ≡ signature_in_lines ls
+pub of_lines : (text : List ℕ) (ls : List (List ℕ)) → lines text ≡ ls
+    → read_signature text ≡ signature_in_lines ls
 unfolding read_signature
 of_lines text ls cut = ap signature_in_lines cut
 
 -- the text that is written, letter by letter
-pub spelled_text : (s : SignatureRecord) (c : CommentsRecord) (u b t g : List ℕ) → u ≡ c.untrusted → b ≡ base64_of (signature_bytes s) → t ≡ c.trusted → g ≡ base64_of c.signature
-    → codes "untrusted comment: " ++ (u ++ (10 ∷ (b ++ (10 ∷ (codes "trusted comment: " ++ (t ++ (10 ∷ (g ++ 10 ∷ [])))))))) ≡ signature_text s c
+pub spelled_text : (s : SignatureRecord) (c : CommentsRecord) (u b t g : List ℕ) → u ≡ c.untrusted
+    → b ≡ base64_of (signature_bytes s) → t ≡ c.trusted → g ≡ base64_of c.signature
+    → codes "untrusted comment: "
+    ++ (u ++ (10 ∷ (b ++ (10 ∷ (codes "trusted comment: " ++ (t ++ (10 ∷ (g ++ 10 ∷ []))))))))
+    ≡ signature_text s c
 unfolding untrusted_comment_label trusted_comment_label
 spelled_text s c u b t g same_u same_b same_t same_g =
     let encoded : List ℕ = base64_of (signature_bytes s) in
     let last : List ℕ = line (base64_of c.signature) in
     rw (same_u, same_b, same_t, same_g) (sym (
-    labelled (codes "untrusted comment: ") c.untrusted (line encoded ++ (line (codes "trusted comment: " ++ c.trusted) ++ last))
+    labelled (codes "untrusted comment: ") c.untrusted
+    (line encoded ++ (line (codes "trusted comment: " ++ c.trusted) ++ last))
     ∙ ap (λ (r : List ℕ). codes "untrusted comment: " ++ (c.untrusted ++ (10 ∷ r)))
     (append_assoc encoded (10 ∷ []) (line (codes "trusted comment: " ++ c.trusted) ++ last)
     ∙ ap (λ (r : List ℕ). encoded ++ (10 ∷ r)) (labelled (codes "trusted comment: ") c.trusted last))
@@ -195,49 +256,66 @@ some_trusted : 0 < length trusted_comment_label
 unfolding trusted_comment_label
 some_trusted = lit< tt
 
--- a written text reads as its signature and comments, but for a carriage return at the end of the untrusted one
-module _ (s : SignatureRecord) (c : CommentsRecord) (encodes : EncodesSignature (base64_of (signature_bytes s)) s) (signed : IsBase64Of (base64_of c.signature) c.signature)
+-- a written text reads as its signature and comments, but for a carriage return at the end of the untrusted
+-- one
+module _ (s : SignatureRecord) (c : CommentsRecord)
+    (encodes : EncodesSignature (base64_of (signature_bytes s)) s)
+    (signed : IsBase64Of (base64_of c.signature) c.signature)
     (one : AreOneLine c.untrusted c.trusted) (algorithm : IsKnownAlgorithm s.algorithm) where
   graphic : AllGraphic (base64_of (signature_bytes s))
-  graphic = graphic_base64 (signature_bytes s) (front_bytes (signature_bytes s) _ (subst IsBytes encodes.reads.front.1 encodes.base64.each))
+  graphic = graphic_base64 (signature_bytes s)
+      (front_bytes (signature_bytes s) _ (subst IsBytes encodes.reads.front.1 encodes.base64.each))
 
   graphic_comment : AllGraphic (base64_of c.signature)
   graphic_comment = graphic_base64 c.signature signed.each
 
   written_lines : lines (signature_text s c)
-      ≡ (untrusted_comment_label ++ strip_carriage_return c.untrusted) ∷ base64_of (signature_bytes s) ∷ (trusted_comment_label ++ c.trusted) ∷ base64_of c.signature ∷ []
+      ≡ (untrusted_comment_label ++ strip_carriage_return c.untrusted) ∷ base64_of (signature_bytes s)
+      ∷ (trusted_comment_label ++ c.trusted) ∷ base64_of c.signature ∷ []
   written_lines =
-      lines_labelled untrusted_comment_label c.untrusted _ shown_untrusted some_untrusted one.untrusted_one_line
-      ∙ ap (λ l. (untrusted_comment_label ++ strip_carriage_return c.untrusted) ∷ l) (lines_line _ _ (shown_one_line _ (shown_graphic _ graphic))
-      ∙ ap (λ l. base64_of (signature_bytes s) ∷ l) (lines_line _ _ (labelled_one_line trusted_comment_label c.trusted shown_trusted some_trusted one.trusted_one_line (trimmed_end c.trusted one.trusted_trimmed))
-      ∙ ap (λ l. (trusted_comment_label ++ c.trusted) ∷ l) (lines_last _ (shown_one_line _ (shown_graphic _ graphic_comment)))))
+      lines_labelled untrusted_comment_label c.untrusted _ shown_untrusted some_untrusted
+      one.untrusted_one_line
+      ∙ ap (λ l. (untrusted_comment_label ++ strip_carriage_return c.untrusted) ∷ l)
+      (lines_line _ _ (shown_one_line _ (shown_graphic _ graphic))
+      ∙ ap (λ l. base64_of (signature_bytes s) ∷ l)
+      (lines_line _ _ (labelled_one_line trusted_comment_label c.trusted shown_trusted some_trusted
+      one.trusted_one_line (trimmed_end c.trusted one.trusted_trimmed))
+      ∙ ap (λ l. (trusted_comment_label ++ c.trusted) ∷ l)
+      (lines_last _ (shown_one_line _ (shown_graphic _ graphic_comment)))))
 
-  pub written_text : read_signature_box (signature_text s c) ≡ Ok (record { signature = s; comments = Some (comments_read_back c) })
-  written_text = ap (map_ok box_of) (text_is_read (signature_text s c) (record { signature = s; comments = comments_read_back c }) (record {
-    first = untrusted_comment_label ++ strip_carriage_return c.untrusted;
-    second = base64_of (signature_bytes s);
-    third = trusted_comment_label ++ c.trusted;
-    fourth = base64_of c.signature;
-    later = [];
-    cut = written_lines;
-    untrusted_comment = refl;
-    signature = subst (λ (t : List ℕ). EncodesSignature t s) (sym (trim_graphic _ graphic)) encodes;
-    algorithm = algorithm;
-    trusted_comment = (c.trusted, refl, one.trusted_trimmed);
-    comment_signature = subst (λ (t : List ℕ). IsBase64Of t c.signature) (sym (trim_graphic _ graphic_comment)) signed;
-  }))
+  pub written_text : read_signature_box (signature_text s c)
+      ≡ Ok (record { signature = s; comments = Some (comments_read_back c) })
+  written_text = ap (map_ok box_of)
+      (text_is_read (signature_text s c) (record { signature = s; comments = comments_read_back c }) (record {
+        first = untrusted_comment_label ++ strip_carriage_return c.untrusted;
+        second = base64_of (signature_bytes s);
+        third = trusted_comment_label ++ c.trusted;
+        fourth = base64_of c.signature;
+        later = [];
+        cut = written_lines;
+        untrusted_comment = refl;
+        signature = subst (λ (t : List ℕ). EncodesSignature t s) (sym (trim_graphic _ graphic)) encodes;
+        algorithm = algorithm;
+        trusted_comment = (c.trusted, refl, one.trusted_trimmed);
+        comment_signature = subst (λ (t : List ℕ). IsBase64Of t c.signature)
+            (sym (trim_graphic _ graphic_comment)) signed;
+      }))
 
 -- nothing goes of comments that are read back as they were written
 pub same_comments : (c : CommentsRecord) → AreReadBack c.untrusted c.trusted → comments_read_back c ≡ c
-same_comments c keeps = ap (λ (u : List ℕ). record c { untrusted = u }) (strip_none c.untrusted keeps.untrusted_end)
+same_comments c keeps = ap (λ (u : List ℕ). record c { untrusted = u })
+    (strip_none c.untrusted keeps.untrusted_end)
 
 -- a record that the front of bytes begins with, the bytes begin with
-longer : (bytes record_bytes rest : List ℕ) (n : ℕ) → take n bytes ≡ record_bytes ++ rest → bytes ≡ record_bytes ++ (rest ++ drop n bytes)
+longer : (bytes record_bytes rest : List ℕ) (n : ℕ) → take n bytes ≡ record_bytes ++ rest
+    → bytes ≡ record_bytes ++ (rest ++ drop n bytes)
 longer bytes record_bytes rest n front =
-    sym (take-append-drop n bytes) ∙ ap (λ (x : List ℕ). x ++ drop n bytes) front ∙ append_assoc record_bytes rest (drop n bytes)
+    sym (take-append-drop n bytes) ∙ ap (λ (x : List ℕ). x ++ drop n bytes) front
+    ∙ append_assoc record_bytes rest (drop n bytes)
 
 -- what the front of the decoded bytes is read as
-module _ (text room bytes : List ℕ) (n : ℕ) (base64 : IsBase64Of text bytes) (front : take n room ≡ take n bytes) where
+module _ (text room bytes : List ℕ) (n : ℕ) (base64 : IsBase64Of text bytes)
+    (front : take n room ≡ take n bytes) where
   encoded_key : (k : PublicKeyRecord) → ReadsPublicKey (take n room) k → EncodesPublicKey text k
   encoded_key k h = record {
     bytes = bytes;
@@ -246,7 +324,11 @@ module _ (text room bytes : List ℕ) (n : ℕ) (base64 : IsBase64Of text bytes)
       algorithm_length = h.algorithm_length;
       keynum_length = h.keynum_length;
       key_length = h.key_length;
-      front = (h.front.0 ++ drop n bytes, longer bytes (public_key_bytes k) h.front.0 n (sym front ∙ h.front.1));
+      front = (
+        h.front.0 ++ drop n bytes,
+        longer bytes (public_key_bytes k) h.front.0 n
+            (sym front ∙ h.front.1),
+      );
     };
   }
 
@@ -258,12 +340,17 @@ module _ (text room bytes : List ℕ) (n : ℕ) (base64 : IsBase64Of text bytes)
       algorithm_length = h.algorithm_length;
       keynum_length = h.keynum_length;
       signature_length = h.signature_length;
-      front = (h.front.0 ++ drop n bytes, longer bytes (signature_bytes s) h.front.0 n (sym front ∙ h.front.1));
+      front = (
+        h.front.0 ++ drop n bytes,
+        longer bytes (signature_bytes s) h.front.0 n
+            (sym front ∙ h.front.1),
+      );
     };
   }
 
 -- a front that is too short is all of the bytes
-pub short_front : (text room bytes : List ℕ) (n cap m : ℕ) → IsBase64Of text bytes → n ≡ min (length bytes) cap → n ≤ length room → m ≤ cap → length (take n room) < m
+pub short_front : (text room bytes : List ℕ) (n cap m : ℕ) → IsBase64Of text bytes
+    → n ≡ min (length bytes) cap → n ≤ length room → m ≤ cap → length (take n room) < m
     → (is_base64 text ≡ true) × (length (base64_bytes text) < m)
 short_front text room bytes n cap m base64 count fits least short =
     let same : length (take n room) ≡ n = length-take-le n room fits in
@@ -271,8 +358,10 @@ short_front text room bytes n cap m base64 count fits least short =
     short_of text bytes bytes m base64 refl few
 
 -- the front of the decoded bytes is read as all of them
-pub front_read : (fault : NamedFault) (text room bytes : List ℕ) (n : ℕ) (r : Result PublicKeyRecord Fault) → IsBase64Of text bytes → n ≡ min (length bytes) 42
-    → n ≤ length room → take n room ≡ take n bytes → MatchResult r (ReadsPublicKey (take n room)) (λ e. (e ≡ Named RecordTooShort) × (length (take n room) < 42))
+pub front_read : (fault : NamedFault) (text room bytes : List ℕ) (n : ℕ) (r : Result PublicKeyRecord Fault)
+    → IsBase64Of text bytes → n ≡ min (length bytes) 42
+    → n ≤ length room → take n room ≡ take n bytes → MatchResult r (ReadsPublicKey (take n room))
+    (λ e. (e ≡ Named RecordTooShort) × (length (take n room) < 42))
     → r ≡ decoded_key fault text
 front_read fault text room bytes n (Ok k) base64 count fits front reads =
     sym (encoded_is_decoded fault text k (encoded_key text room bytes n base64 front k reads))
@@ -287,15 +376,19 @@ few_bytes bytes few = ap (λ b. cond b (Some (take 64 bytes)) None) (lt-leb 64 (
 enough_bytes : (bytes : List ℕ) → 64 ≤ length bytes → first_64 bytes ≡ Some (take 64 bytes)
 enough_bytes bytes enough = ap (λ b. cond b (Some (take 64 bytes)) None) (le-leb 64 (length bytes) enough)
 
-pub front_64 : (bytes room : List ℕ) (n : ℕ) → n ≡ min (length bytes) 66 → n ≤ length room → take n room ≡ take n bytes → first_64 (take n room) ≡ first_64 bytes
+pub front_64 : (bytes room : List ℕ) (n : ℕ) → n ≡ min (length bytes) 66 → n ≤ length room
+    → take n room ≡ take n bytes → first_64 (take n room) ≡ first_64 bytes
 front_64 bytes room n count fits front =
     let same : length (take n room) ≡ n = length-take-le n room fits in
     ⊎_elim
     (λ few. few_bytes (take n room) (omega (arith, same, count)) ∙ sym (few_bytes bytes few))
-    (λ enough. enough_bytes (take n room) (omega (arith, same, count)) ∙ ap (λ (x : List ℕ). Some (take 64 x)) front
-    ∙ ap (λ (x : List ℕ). Some x) (take-take 64 n bytes (omega (arith, count))) ∙ sym (enough_bytes bytes enough))
+    (λ enough. enough_bytes (take n room) (omega (arith, same, count))
+    ∙ ap (λ (x : List ℕ). Some (take 64 x)) front
+    ∙ ap (λ (x : List ℕ). Some x) (take-take 64 n bytes (omega (arith, count)))
+    ∙ sym (enough_bytes bytes enough))
     (cases_lt (length bytes) 64)
 
 -- the base64 of a signature is longer than the signature
 pub long_enough : (text : List ℕ) (s : SignatureRecord) → EncodesSignature text s → 64 ≤ length text
-long_enough text s h = omega (arith, stored_length h.bytes s h.reads, ap length h.base64.encoded, length_base64 h.bytes)
+long_enough text s h = omega
+    (arith, stored_length h.bytes s h.reads, ap length h.base64.encoded, length_base64 h.bytes)

@@ -1,19 +1,27 @@
--- The judge and the verdict are functions, acceptance a record of conditions: they agree. And what a verdict does not depend on.
-use Rattle.std.proofs.Common.{◌≡◌, ◌↔◌, ◌||◌, ℕ, Bool, true, false, List, length, refl, sym, ap, subst, ◌∙◌, inl, inr, ⊎_elim, [], Option, None, Some, IfOk, IfSome, MatchOption, MatchResult, bytes_eq, take, min, nat_le, arith, Result, Ok, Err, length-take, option_map, le-leb, leb-true}
-use Rattle.minisign.proofs.Common.{⊤, option_map_or, and_parts, or_cases, or_left, or_right, bytes_eq-Decides, Fault, Named, NamedFault, OutOfMemory, TrustedCommentAbsent, nat_tests}
-use Rattle.minisign.specs.Acceptance.{CommentIsSigned, Verifier, Vouches, accepts_comments, judge, judge_answers, judge_key, signed_bytes, judged_parts}
+-- The judge and the verdict are functions, acceptance a record of conditions: they agree. And what a verdict
+-- does not depend on.
+use Rattle.std.proofs.Common.{◌≡◌, ◌↔◌, ◌||◌, ℕ, Bool, true, false, List, length, refl, sym, ap, subst, ◌∙◌}
+use Rattle.std.proofs.Common.{inl, inr, ⊎_elim, [], Option, None, Some, IfOk, IfSome, MatchOption}
+use Rattle.std.proofs.Common.{MatchResult, bytes_eq, take, min, nat_le, arith, Result, Ok, Err, length-take}
+use Rattle.std.proofs.Common.{option_map, le-leb, leb-true}
+use Rattle.minisign.proofs.Common.{⊤, option_map_or, and_parts, or_cases, or_left, or_right, bytes_eq-Decides}
+use Rattle.minisign.proofs.Common.{Fault, Named, NamedFault, OutOfMemory, TrustedCommentAbsent, nat_tests}
+use Rattle.minisign.specs.Acceptance.{CommentIsSigned, Verifier, Vouches, accepts_comments, judge}
+use Rattle.minisign.specs.Acceptance.{judge_answers, judge_key, signed_bytes, judged_parts}
 use Rattle.minisign.specs.Calls.{TextsVouchWith}
 use Rattle.minisign.specs.Headline.{TextsVouchFor, verdict}
 use Rattle.minisign.specs.PublicKeyText.{read_public_key}
-use Rattle.minisign.specs.Records.{CommentsRecord, PublicKeyRecord, SignatureBoxRecord, SignatureRecord, is_prehashed, prehashed_algorithm}
+use Rattle.minisign.specs.Records.{CommentsRecord, PublicKeyRecord, SignatureBoxRecord, SignatureRecord}
+use Rattle.minisign.specs.Records.{is_prehashed, prehashed_algorithm}
 use Rattle.minisign.specs.SignatureText.{SignatureTextRecord, box_of, read_signature, read_signature_box}
-use Rattle.minisign.specs.Texts.{IsReadOrNoMemory, IsReading, and_then, map_ok, require}
+use Rattle.minisign.specs.Texts.{IsGivenOrNoMemory, IsReading, and_then, map_ok, require}
 use Rattle.minisign.specs.Verifying.{read_texts}
 use Rattle.minisign.proofs.ReadTexts.{is_reading, passed, read_before, read_value}
 
 -- == What is read one after the other ==
 
-pub mapped_of : {V W : Type 0} (f : V → W) (r : Result V Fault) (w : W) → map_ok f r ≡ Ok w → (v : V) × (r ≡ Ok v) × (f v ≡ w)
+pub mapped_of : {V W : Type 0} (f : V → W) (r : Result V Fault) (w : W) → map_ok f r ≡ Ok w
+    → (v : V) × (r ≡ Ok v) × (f v ≡ w)
 mapped_of f (Ok v) w h = (v, refl, cc h)
 mapped_of f (Err e) w h = cc h
 
@@ -24,30 +32,38 @@ unmapped f (Err d) e h = cc h
 -- == The judge ==
 
 comment_signed : (accepts : Verifier) (pk : PublicKeyRecord) (s : SignatureRecord) (c : Option CommentsRecord)
-    → accepts_comments accepts pk (record { signature = s; comments = c }) ≡ true → IfSome c (CommentIsSigned accepts pk s)
+    → accepts_comments accepts pk (record { signature = s; comments = c }) ≡ true
+    → IfSome c (CommentIsSigned accepts pk s)
 comment_signed accepts pk s None h = tt
 comment_signed accepts pk s (Some c) h =
     let (long, signed) = and_parts _ _ h in
     record { long_enough = leb-true 64 (length c.signature) long; signed = signed }
 
-comment_accepted : (accepts : Verifier) (pk : PublicKeyRecord) (s : SignatureRecord) (c : Option CommentsRecord)
-    → IfSome c (CommentIsSigned accepts pk s) → accepts_comments accepts pk (record { signature = s; comments = c }) ≡ true
+comment_accepted : (accepts : Verifier) (pk : PublicKeyRecord) (s : SignatureRecord)
+    (c : Option CommentsRecord)
+    → IfSome c (CommentIsSigned accepts pk s)
+    → accepts_comments accepts pk (record { signature = s; comments = c }) ≡ true
 comment_accepted accepts pk s None h = refl
 comment_accepted accepts pk s (Some c) h = rw (le-leb 64 (length c.signature) h.long_enough) h.signed
 
 -- these bytes are those that the signature is over, where such a signature is allowed
 abbrev pub AreSigned : List ℕ → SignatureBoxRecord → Bool → List ℕ → Type 0
-AreSigned bytes x legacy message = (is_prehashed x.signature || legacy) ≡ true → bytes ≡ signed_bytes x message
+AreSigned bytes x legacy message = (is_prehashed x.signature || legacy) ≡ true
+    → bytes ≡ signed_bytes x message
 
 -- what comes after two tests matters only where both hold
-judged_alike : (same allowed : Bool) (other unallowed : NamedFault) (a b : Result ⊤ Fault) → (allowed ≡ true → a ≡ b)
-    → and_then {V = ⊤} (require same other (require allowed unallowed (Ok tt))) (λ _. a) ≡ and_then {V = ⊤} (require same other (require allowed unallowed (Ok tt))) (λ _. b)
+judged_alike : (same allowed : Bool) (other unallowed : NamedFault) (a b : Result ⊤ Fault)
+    → (allowed ≡ true → a ≡ b)
+    → and_then {V = ⊤} (require same other (require allowed unallowed (Ok tt))) (λ _. a)
+    ≡ and_then {V = ⊤} (require same other (require allowed unallowed (Ok tt))) (λ _. b)
 judged_alike true true other unallowed a b equal = equal refl
 judged_alike true false other unallowed a b equal = refl
 judged_alike false allowed other unallowed a b equal = refl
 
-module _ (accepts : Verifier) (pk : PublicKeyRecord) (x : SignatureBoxRecord) (message : List ℕ) (legacy : Bool) where
-  pub judged_vouches : (u : ⊤) → judge accepts pk x message legacy ≡ Ok u → Vouches accepts pk x message legacy
+module _ (accepts : Verifier) (pk : PublicKeyRecord) (x : SignatureBoxRecord) (message : List ℕ)
+    (legacy : Bool) where
+  pub judged_vouches : (u : ⊤) → judge accepts pk x message legacy ≡ Ok u
+      → Vouches accepts pk x message legacy
   judged_vouches u h =
       let (v, keys, answers) = read_before _ _ u h in
       let (same, more) = passed _ _ _ _ keys in
@@ -56,7 +72,9 @@ module _ (accepts : Verifier) (pk : PublicKeyRecord) (x : SignatureBoxRecord) (m
       let (comments, end) = passed _ _ _ _ others in
       record {
         same_key = (bytes_eq-Decides x.signature.keynum pk.keynum).0 same;
-        allowed = ⊎_elim (λ hashed. inl ((bytes_eq-Decides x.signature.algorithm prehashed_algorithm).0 hashed)) inr (or_cases _ _ allowed);
+        allowed = ⊎_elim (λ hashed. inl
+            ((bytes_eq-Decides x.signature.algorithm prehashed_algorithm).0 hashed)) inr
+            (or_cases _ _ allowed);
         signed = signed;
         comment_signed = comment_signed accepts pk x.signature x.comments comments;
       }
@@ -65,7 +83,9 @@ module _ (accepts : Verifier) (pk : PublicKeyRecord) (x : SignatureBoxRecord) (m
   vouches_judged v =
       let same = (bytes_eq-Decides x.signature.keynum pk.keynum).1 v.same_key in
       let allowed : (is_prehashed x.signature || legacy) ≡ true =
-      ⊎_elim (λ hashed. or_left _ legacy ((bytes_eq-Decides x.signature.algorithm prehashed_algorithm).1 hashed)) (or_right (is_prehashed x.signature) legacy) v.allowed in
+      ⊎_elim (λ hashed. or_left _ legacy
+      ((bytes_eq-Decides x.signature.algorithm prehashed_algorithm).1 hashed))
+      (or_right (is_prehashed x.signature) legacy) v.allowed in
       let comments = comment_accepted accepts pk x.signature x.comments v.comment_signed in
       rw (same, allowed, v.signed, comments) refl
 
@@ -73,36 +93,48 @@ module _ (accepts : Verifier) (pk : PublicKeyRecord) (x : SignatureBoxRecord) (m
   judge_decided = (judged_vouches tt, vouches_judged)
 
   -- what was judged, memory aside
-  pub judged_or_not : (u : ⊤) → IsReadOrNoMemory (Ok u) (judge accepts pk x message legacy) → Vouches accepts pk x message legacy
+  pub judged_or_not : (u : ⊤) → IsGivenOrNoMemory (Ok u) (judge accepts pk x message legacy)
+      → Vouches accepts pk x message legacy
   judged_or_not u judged = judged_vouches u (read_value u _ judged)
 
   -- bytes that a signature is over where one is allowed are judged as the message
   pub judged_held : (bytes : List ℕ) → AreSigned bytes x legacy message → (r : Result ⊤ Fault)
-      → IsReadOrNoMemory r (and_then (judge_key pk.keynum x.signature legacy) (λ _. judge_answers (accepts bytes pk.key x.signature.signature) (accepts_comments accepts pk x)))
-      → IsReadOrNoMemory r (judge accepts pk x message legacy)
+      → IsGivenOrNoMemory r (and_then (judge_key pk.keynum x.signature legacy)
+      (λ _. judge_answers (accepts bytes pk.key x.signature.signature) (accepts_comments accepts pk x)))
+      → IsGivenOrNoMemory r (judge accepts pk x message legacy)
   judged_held bytes held r =
-      subst (IsReadOrNoMemory r) (judged_alike (bytes_eq x.signature.keynum pk.keynum) (is_prehashed x.signature || legacy) _ _ _ _
-      (λ allowed. ap (λ (b : List ℕ). judge_answers (accepts b pk.key x.signature.signature) (accepts_comments accepts pk x)) (held allowed)))
+      subst (IsGivenOrNoMemory r)
+      (judged_alike (bytes_eq x.signature.keynum pk.keynum) (is_prehashed x.signature || legacy) _ _ _ _
+      (λ allowed. ap (λ (b : List ℕ). judge_answers (accepts b pk.key x.signature.signature)
+      (accepts_comments accepts pk x)) (held allowed)))
 
 -- a rejection, where less is told of the value
-pub kept_refusal : {V W : Type 0} (f : V → W) (e : Fault) (r : Result V Fault) → IsReadOrNoMemory (Err e) r → IsReadOrNoMemory (Err e) (map_ok f r)
+pub kept_refusal : {V W : Type 0} (f : V → W) (e : Fault) (r : Result V Fault) → IsGivenOrNoMemory (Err e) r
+    → IsGivenOrNoMemory (Err e) (map_ok f r)
 kept_refusal f e r (inl is) = inl (ap (map_ok f) is)
 kept_refusal f e r (inr memory) = inr (cc memory)
 
 -- == What two texts read as ==
 
-read_both : (pk_text sig_text : List ℕ) (key : PublicKeyRecord) (box : SignatureBoxRecord) → read_public_key pk_text ≡ Ok key → read_signature_box sig_text ≡ Ok box
+read_both : (pk_text sig_text : List ℕ) (key : PublicKeyRecord) (box : SignatureBoxRecord)
+    → read_public_key pk_text ≡ Ok key → read_signature_box sig_text ≡ Ok box
     → read_texts pk_text sig_text ≡ Ok (key, box)
 read_both pk_text sig_text key box key_read box_read =
-    ap (λ (k : Result PublicKeyRecord Fault). and_then k (λ key. map_ok (λ (x : SignatureBoxRecord). (key, x)) (read_signature_box sig_text))) key_read
+    ap (λ (k : Result PublicKeyRecord Fault). and_then k
+    (λ key. map_ok (λ (x : SignatureBoxRecord). (key, x)) (read_signature_box sig_text))) key_read
     ∙ ap (map_ok (λ (x : SignatureBoxRecord). (key, x))) box_read
 
-pub both_read : (pk_text sig_text : List ℕ) (key : PublicKeyRecord) (box : SignatureBoxRecord) → read_texts pk_text sig_text ≡ Ok (key, box)
+pub both_read : (pk_text sig_text : List ℕ) (key : PublicKeyRecord) (box : SignatureBoxRecord)
+    → read_texts pk_text sig_text ≡ Ok (key, box)
     → (read_public_key pk_text ≡ Ok key) × (read_signature_box sig_text ≡ Ok box)
 both_read pk_text sig_text key box read =
     let (k, key_read, more) = read_before _ _ (key, box) read in
-    let (x, box_read, same) = mapped_of (λ (x : SignatureBoxRecord). (k, x)) (read_signature_box sig_text) (key, box) more in
-    (key_read ∙ ap (λ (both : PublicKeyRecord × SignatureBoxRecord). Ok both.0) same, box_read ∙ ap (λ (both : PublicKeyRecord × SignatureBoxRecord). Ok both.1) same)
+    let (x, box_read, same) = mapped_of (λ (x : SignatureBoxRecord). (k, x)) (read_signature_box sig_text)
+    (key, box) more in (
+      key_read ∙ ap (λ (both : PublicKeyRecord × SignatureBoxRecord). Ok both.0) same,
+      box_read
+          ∙ ap (λ (both : PublicKeyRecord × SignatureBoxRecord). Ok both.1) same,
+    )
 
 -- the trusted comment of a text, and of a box
 abbrev pub trusted_of : SignatureTextRecord → List ℕ
@@ -112,29 +144,39 @@ abbrev comment_of : SignatureBoxRecord → List ℕ
 comment_of x = option_map_or (λ c. c.trusted) x.comments []
 
 -- the comment of the box that the texts read as
-pub told_comment : {T : Type 0} (bytes : T → List ℕ) (pk_text sig_text : List ℕ) (key : PublicKeyRecord) (box : SignatureBoxRecord) → read_texts pk_text sig_text ≡ Ok (key, box)
+pub told_comment : {T : Type 0} (bytes : T → List ℕ) (pk_text sig_text : List ℕ) (key : PublicKeyRecord)
+    (box : SignatureBoxRecord) → read_texts pk_text sig_text ≡ Ok (key, box)
     → (r : Result T Fault)
-    → MatchOption box.comments (r ≡ Err (Named TrustedCommentAbsent)) (λ c. MatchResult r (λ t. bytes t ≡ c.trusted) (λ e. e ≡ Named OutOfMemory))
+    → MatchOption box.comments (r ≡ Err (Named TrustedCommentAbsent))
+    (λ c. MatchResult r (λ t. bytes t ≡ c.trusted) (λ e. e ≡ Named OutOfMemory))
     → IfOk r (λ t. map_ok trusted_of (read_signature sig_text) ≡ Ok (bytes t))
 told_comment bytes pk_text sig_text key box read (Ok t) told =
-    let (s, signature_read, same) = mapped_of box_of (read_signature sig_text) box (both_read pk_text sig_text key box read).1 in
-    rw signature_read (ap Ok (sym (subst (λ (x : SignatureBoxRecord). MatchOption x.comments (Ok t ≡ Err (Named TrustedCommentAbsent)) (λ c. bytes t ≡ c.trusted)) (sym same) told)))
+    let (s, signature_read, same) = mapped_of box_of (read_signature sig_text) box
+    (both_read pk_text sig_text key box read).1 in
+    rw signature_read (ap Ok
+    (sym (subst (λ (x : SignatureBoxRecord). MatchOption x.comments
+    (Ok t ≡ Err (Named TrustedCommentAbsent)) (λ c. bytes t ≡ c.trusted)) (sym same) told)))
 told_comment bytes pk_text sig_text key box read (Err e) told = tt
 
 -- == The verdict ==
 
 module _ (accepts : Verifier) (pk_text sig_text message : List ℕ) (legacy : Bool) where
   -- the verdict where both texts are read
-  pub read_verdict : (key : PublicKeyRecord) (t : SignatureTextRecord) → read_public_key pk_text ≡ Ok key → read_signature sig_text ≡ Ok t
-      → (r : Result ⊤ Fault) → r ≡ judge accepts key (box_of t) message legacy → verdict accepts pk_text sig_text message legacy ≡ and_then r (λ _. Ok t.comments.trusted)
+  pub read_verdict : (key : PublicKeyRecord) (t : SignatureTextRecord) → read_public_key pk_text ≡ Ok key
+      → read_signature sig_text ≡ Ok t
+      → (r : Result ⊤ Fault) → r ≡ judge accepts key (box_of t) message legacy
+      → verdict accepts pk_text sig_text message legacy ≡ and_then r (λ _. Ok t.comments.trusted)
   unfolding verdict
-  read_verdict key t key_read signature_read r judged = rw (key_read, signature_read) (ap (λ r. and_then r (λ _. Ok t.comments.trusted)) (sym judged))
+  read_verdict key t key_read signature_read r judged =
+      rw (key_read, signature_read) (ap (λ r. and_then r (λ _. Ok t.comments.trusted)) (sym judged))
 
-  pub key_refused : (e : Fault) → read_public_key pk_text ≡ Err e → verdict accepts pk_text sig_text message legacy ≡ Err e
+  pub key_refused : (e : Fault) → read_public_key pk_text ≡ Err e
+      → verdict accepts pk_text sig_text message legacy ≡ Err e
   unfolding verdict
   key_refused e refused = rw refused refl
 
-  pub signature_refused : (key : PublicKeyRecord) (e : Fault) → read_public_key pk_text ≡ Ok key → read_signature sig_text ≡ Err e
+  pub signature_refused : (key : PublicKeyRecord) (e : Fault) → read_public_key pk_text ≡ Ok key
+      → read_signature sig_text ≡ Err e
       → verdict accepts pk_text sig_text message legacy ≡ Err e
   unfolding verdict
   signature_refused key e read refused = rw (read, refused) refl
@@ -144,52 +186,67 @@ module _ (accepts : Verifier) (pk_text sig_text message : List ℕ) (legacy : Bo
   left both = and_then (judge accepts both.0 both.1 message legacy) (λ _. Ok (comment_of both.1))
 
   in_parts : (k : Result PublicKeyRecord Fault) (s : Result SignatureTextRecord Fault)
-      → and_then k (λ key. and_then s (λ t. and_then (judge accepts key (box_of t) message legacy) (λ _. Ok t.comments.trusted)))
+      → and_then k (λ key. and_then s
+      (λ t. and_then (judge accepts key (box_of t) message legacy) (λ _. Ok t.comments.trusted)))
       ≡ and_then (and_then k (λ key. map_ok (λ box. (key, box)) (map_ok box_of s))) left
   in_parts (Ok key) (Ok t) = refl
   in_parts (Ok key) (Err e) = refl
   in_parts (Err e) s = refl
 
   -- so it is a function of what both read as
-  of_texts : (r : Result (PublicKeyRecord × SignatureBoxRecord) Fault) → read_texts pk_text sig_text ≡ r → verdict accepts pk_text sig_text message legacy ≡ and_then r left
+  of_texts : (r : Result (PublicKeyRecord × SignatureBoxRecord) Fault) → read_texts pk_text sig_text ≡ r
+      → verdict accepts pk_text sig_text message legacy ≡ and_then r left
   unfolding verdict
-  of_texts r read = in_parts (read_public_key pk_text) (read_signature sig_text) ∙ ap (λ r. and_then r left) read
+  of_texts r read = in_parts (read_public_key pk_text) (read_signature sig_text)
+      ∙ ap (λ r. and_then r left) read
 
   -- a text is rejected, or an allocation failed for one
-  pub text_refused : (e : Fault) → IsReadOrNoMemory (Err e) (read_texts pk_text sig_text) → IsReadOrNoMemory (Err e) (verdict accepts pk_text sig_text message legacy)
+  pub text_refused : (e : Fault) → IsGivenOrNoMemory (Err e) (read_texts pk_text sig_text)
+      → IsGivenOrNoMemory (Err e) (verdict accepts pk_text sig_text message legacy)
   text_refused e (inl refused) = inl (sym (of_texts (Err e) (sym refused)))
   text_refused e (inr memory) = inr (cc memory)
 
-  module _ (key : PublicKeyRecord) (box : SignatureBoxRecord) (read : read_texts pk_text sig_text ≡ Ok (key, box)) where
+  module _ (key : PublicKeyRecord) (box : SignatureBoxRecord)
+      (read : read_texts pk_text sig_text ≡ Ok (key, box)) where
     -- the box that the texts read as is judged
-    pub judged_verdict : (r : Result ⊤ Fault) → judge accepts key box message legacy ≡ r → verdict accepts pk_text sig_text message legacy ≡ and_then r (λ _. Ok (comment_of box))
-    judged_verdict r judged = of_texts (Ok (key, box)) read ∙ ap (λ r. and_then r (λ _. Ok (comment_of box))) judged
+    pub judged_verdict : (r : Result ⊤ Fault) → judge accepts key box message legacy ≡ r
+        → verdict accepts pk_text sig_text message legacy ≡ and_then r (λ _. Ok (comment_of box))
+    judged_verdict r judged = of_texts (Ok (key, box)) read ∙ ap (λ r. and_then r (λ _. Ok (comment_of box)))
+        judged
 
     untold : (r : Result ⊤ Fault) → map_ok (λ _. tt) (and_then r (λ _. Ok (comment_of box))) ≡ r
     untold (Ok u) = refl
     untold (Err e) = refl
 
-    pub told_nothing : (r : Result ⊤ Fault) → IsReadOrNoMemory r (judge accepts key box message legacy) → IsReadOrNoMemory r (map_ok (λ _. tt) (verdict accepts pk_text sig_text message legacy))
+    pub told_nothing : (r : Result ⊤ Fault) → IsGivenOrNoMemory r (judge accepts key box message legacy)
+        → IsGivenOrNoMemory r (map_ok (λ _. tt) (verdict accepts pk_text sig_text message legacy))
     told_nothing r (inl judged) = inl (sym (ap (map_ok (λ _. tt)) (judged_verdict r (sym judged)) ∙ untold r))
     told_nothing r (inr memory) = inr memory
 
     pub told_success : (comment : List ℕ) → map_ok trusted_of (read_signature sig_text) ≡ Ok comment → (u : ⊤)
-        → IsReadOrNoMemory (Ok u) (judge accepts key box message legacy) → IsReadOrNoMemory (Ok comment) (verdict accepts pk_text sig_text message legacy)
+        → IsGivenOrNoMemory (Ok u) (judge accepts key box message legacy)
+        → IsGivenOrNoMemory (Ok comment) (verdict accepts pk_text sig_text message legacy)
     told_success comment said u judged =
-        let (t, signature_read, same) = mapped_of box_of (read_signature sig_text) box (both_read pk_text sig_text key box read).1 in
-        let told : t.comments.trusted ≡ comment = let is = sym (ap (map_ok trusted_of) signature_read) ∙ said in cc is in
+        let (t, signature_read, same) = mapped_of box_of (read_signature sig_text) box
+        (both_read pk_text sig_text key box read).1 in
+        let told : t.comments.trusted ≡ comment = let is = sym (ap (map_ok trusted_of) signature_read)
+        ∙ said in cc is in
         inl (sym (judged_verdict (Ok u) (read_value u _ judged) ∙ ap Ok (ap comment_of (sym same) ∙ told)))
 
-    pub told_refusal : (e : Fault) → IsReadOrNoMemory {V = ⊤} (Err e) (judge accepts key box message legacy) → IsReadOrNoMemory (Err e) (verdict accepts pk_text sig_text message legacy)
+    pub told_refusal : (e : Fault) → IsGivenOrNoMemory {V = ⊤} (Err e) (judge accepts key box message legacy)
+        → IsGivenOrNoMemory (Err e) (verdict accepts pk_text sig_text message legacy)
     told_refusal e (inl judged) = inl (sym (judged_verdict (Err e) (sym judged)))
     told_refusal e (inr memory) = inr (cc memory)
 
   -- the comment that is vouched for
-  pub vouching_verdict : (v : TextsVouchFor accepts pk_text sig_text message legacy) → verdict accepts pk_text sig_text message legacy ≡ Ok (comment_of v.box)
+  pub vouching_verdict : (v : TextsVouchFor accepts pk_text sig_text message legacy)
+      → verdict accepts pk_text sig_text message legacy ≡ Ok (comment_of v.box)
   vouching_verdict v =
-      judged_verdict v.key v.box (read_both pk_text sig_text v.key v.box v.key_read v.box_read) (Ok tt) (vouches_judged accepts v.key v.box message legacy v.vouches)
+      judged_verdict v.key v.box (read_both pk_text sig_text v.key v.box v.key_read v.box_read) (Ok tt)
+      (vouches_judged accepts v.key v.box message legacy v.vouches)
 
-  pub vouched : (comment : List ℕ) → verdict accepts pk_text sig_text message legacy ≡ Ok comment → TextsVouchWith accepts pk_text sig_text message legacy comment
+  pub vouched : (comment : List ℕ) → verdict accepts pk_text sig_text message legacy ≡ Ok comment
+      → TextsVouchWith accepts pk_text sig_text message legacy comment
   unfolding verdict
   vouched comment h =
       let (key, key_read, more) = read_before _ _ comment h in
@@ -208,15 +265,21 @@ module _ (accepts : Verifier) (pk_text sig_text message : List ℕ) (legacy : Bo
         trusted = cc said;
       }
 
-  pub vouched_verdict : (comment : List ℕ) → TextsVouchWith accepts pk_text sig_text message legacy comment → verdict accepts pk_text sig_text message legacy ≡ Ok comment
-  vouched_verdict comment v = vouching_verdict v.vouched ∙ ap Ok (ap (λ (c : Option CommentsRecord). option_map_or (λ c. c.trusted) c []) v.both ∙ v.trusted)
+  pub vouched_verdict : (comment : List ℕ) → TextsVouchWith accepts pk_text sig_text message legacy comment
+      → verdict accepts pk_text sig_text message legacy ≡ Ok comment
+  vouched_verdict comment v = vouching_verdict v.vouched
+      ∙ ap Ok (ap (λ (c : Option CommentsRecord). option_map_or (λ c. c.trusted) c []) v.both ∙ v.trusted)
 
-  pub verdict_decided : IsReading (TextsVouchWith accepts pk_text sig_text message legacy) (verdict accepts pk_text sig_text message legacy)
+  pub verdict_decided : IsReading (TextsVouchWith accepts pk_text sig_text message legacy)
+      (verdict accepts pk_text sig_text message legacy)
   verdict_decided =
-      is_reading (TextsVouchWith accepts pk_text sig_text message legacy) (verdict accepts pk_text sig_text message legacy) (λ comment. (vouched comment, vouched_verdict comment))
+      is_reading (TextsVouchWith accepts pk_text sig_text message legacy)
+      (verdict accepts pk_text sig_text message legacy)
+      (λ comment. (vouched comment, vouched_verdict comment))
 
   -- the comment of the text is the one that was signed, where the texts vouch for the message
-  pub signed_comment : (comment : List ℕ) → TextsVouchFor accepts pk_text sig_text message legacy → map_ok trusted_of (read_signature sig_text) ≡ Ok comment
+  pub signed_comment : (comment : List ℕ) → TextsVouchFor accepts pk_text sig_text message legacy
+      → map_ok trusted_of (read_signature sig_text) ≡ Ok comment
       → TextsVouchWith accepts pk_text sig_text message legacy comment
   signed_comment comment v said =
       let (t, signature_read, same) = mapped_of box_of (read_signature sig_text) v.box v.box_read in
@@ -233,15 +296,18 @@ at_least m n same = grind (arith, nat_tests)
 
 -- whether there are 64 bytes shows in the first 64
 long_enough : (a b : List ℕ) → take 64 b ≡ take 64 a → nat_le 64 (length b) ≡ nat_le 64 (length a)
-long_enough a b same = let lengths : min 64 (length b) ≡ min 64 (length a) = sym (length-take 64 b) ∙ ap length same ∙ length-take 64 a in at_least (length a) (length b) lengths
+long_enough a b same = let lengths : min 64 (length b) ≡ min 64 (length a) = sym (length-take 64 b)
+    ∙ ap length same ∙ length-take 64 a in at_least (length a) (length b) lengths
 
 -- what is judged of comments
 abbrev judged_comment : CommentsRecord → List ℕ × List ℕ
 judged_comment c = (c.trusted, take 64 c.signature)
 
-same_comments : (accepts : Verifier) (pk other : PublicKeyRecord) (s t : SignatureRecord) (c d : Option CommentsRecord)
+same_comments : (accepts : Verifier) (pk other : PublicKeyRecord) (s t : SignatureRecord)
+    (c d : Option CommentsRecord)
     → other.key ≡ pk.key → t ≡ s → option_map judged_comment d ≡ option_map judged_comment c
-    → accepts_comments accepts other (record { signature = t; comments = d }) ≡ accepts_comments accepts pk (record { signature = s; comments = c })
+    → accepts_comments accepts other (record { signature = t; comments = d }) ≡ accepts_comments accepts pk
+    (record { signature = s; comments = c })
 same_comments accepts pk other s t None None key signature same = refl
 same_comments accepts pk other s t None (Some d) key signature same = cc same
 same_comments accepts pk other s t (Some c) None key signature same = cc same
@@ -254,10 +320,18 @@ same_comments accepts pk other s t (Some c) (Some d) key signature same =
 abbrev Parts : Type 0
 Parts = List ℕ × List ℕ × SignatureRecord × Option (List ℕ × List ℕ)
 
-pub unvouched_same : (accepts : Verifier) (pk other : PublicKeyRecord) (x y : SignatureBoxRecord) (message : List ℕ) (legacy : Bool)
-    → judged_parts other y ≡ judged_parts pk x → judge accepts other y message legacy ≡ judge accepts pk x message legacy
+pub unvouched_same : (accepts : Verifier) (pk other : PublicKeyRecord) (x y : SignatureBoxRecord)
+    (message : List ℕ) (legacy : Bool)
+    → judged_parts other y ≡ judged_parts pk x → judge accepts other y message legacy
+    ≡ judge accepts pk x message legacy
 unvouched_same accepts pk other x y message legacy same =
     let keynum : other.keynum ≡ pk.keynum = ap (λ (p : Parts). p.0) same in
     let key : other.key ≡ pk.key = ap (λ (p : Parts). p.1) same in
     let signature : y.signature ≡ x.signature = ap (λ (p : Parts). p.2) same in
-    rw (same_comments accepts pk other x.signature y.signature x.comments y.comments key signature (ap (λ (p : Parts). p.3) same), signature, keynum, key) refl
+    rw (
+      same_comments accepts pk other x.signature y.signature x.comments y.comments key signature
+          (ap (λ (p : Parts). p.3) same),
+      signature,
+      keynum,
+      key,
+    ) refl

@@ -1,8 +1,22 @@
 -- Lines as they are written and read back: first lines, letters that are shown, and lines with labels.
-use Rattle.std.proofs.Common.{◌≡◌, ◌≢◌, ◌==◌, subst, ℕ, zero, suc, ◌+◌, ◌-◌, ◌<◌, ◌≤◌, Bool, true, false, ◌&&◌, List, [], ◌∷◌, ◌++◌, length, take, slice_index, refl, sym, ap, ◌∙◌, arith, eqb, leb, ⊎_elim, ◌^◌, ◌*◌, ◌/◌, ◌%◌, replicate, nat_lt, drop, get_or, inl, inr, lit<, cond, ne_eqb, leb-true, length-append, get_or-append-add, take_all, take-append-drop, length-drop, encode_utf8, encode_utf8_all, IsAscii, All, w64, eq-eqb, eqb-true, append-nil, append_assoc}
-use Rattle.minisign.proofs.Common.{and_parts, cases_lt, get_or-append_right, take-append-add, length-replicate, get_or_default, nil_from_length, chars, drop_trailing_whitespace, trim, trim_end, trim_start, chars_after, skip_leading_whitespace, NoCharPasses, LacksByte, AllByRecursion, slice_split, lines, strip_carriage_return, lines_of_parts, StripsCarriageReturn, IsFirstLine, standard, unpadded_len, padding_len, encode_symbols, length-encode_symbols, IsInRange, from_le_bytes, before_digits, digit_glyph, digits, digits_onto, format_spec, number_padding, padded_integral, common_steps, IsBytes, identifier_text}
+use Rattle.std.proofs.Common.{◌≡◌, ◌≢◌, ◌==◌, subst, ℕ, zero, suc, ◌+◌, ◌-◌, ◌<◌, ◌≤◌, Bool, true, false}
+use Rattle.std.proofs.Common.{◌&&◌, List, [], ◌∷◌, ◌++◌, length, take, slice_index, refl, sym, ap, ◌∙◌, arith}
+use Rattle.std.proofs.Common.{eqb, leb, ⊎_elim, ◌^◌, ◌*◌, ◌/◌, ◌%◌, replicate, nat_lt, drop, get_or, inl, inr}
+use Rattle.std.proofs.Common.{lit<, cond, ne_eqb, leb-true, length-append, get_or-append-add, take_all}
+use Rattle.std.proofs.Common.{take-append-drop, length-drop, encode_utf8, encode_utf8_all, IsAscii, All, w64}
+use Rattle.std.proofs.Common.{eq-eqb, eqb-true, append-nil, append_assoc}
+use Rattle.minisign.proofs.Common.{and_parts, cases_lt, get_or-append_right, take-append-add}
+use Rattle.minisign.proofs.Common.{length-replicate, get_or_default, nil_from_length, chars}
+use Rattle.minisign.proofs.Common.{drop_trailing_whitespace, trim, trim_end, trim_start, chars_after}
+use Rattle.minisign.proofs.Common.{skip_leading_whitespace, NoCharPasses, LacksByte, AllByRecursion}
+use Rattle.minisign.proofs.Common.{slice_split, lines, strip_carriage_return, lines_of_parts}
+use Rattle.minisign.proofs.Common.{StripsCarriageReturn, IsFirstLine, standard, unpadded_len, padding_len}
+use Rattle.minisign.proofs.Common.{encode_symbols, length-encode_symbols, IsInRange, from_le_bytes}
+use Rattle.minisign.proofs.Common.{before_digits, digit_glyph, digits, digits_onto, format_spec}
+use Rattle.minisign.proofs.Common.{number_padding, padded_integral, common_steps, IsBytes, key_id_text}
 use Rattle.std.proofs.Math.ListN.{get_or-append}
-use Rattle.std.proofs.lemmas.Str.{inside_one, len_utf8_bounds, length-encode, length-le-encodes, encodes-IsAscii, encode_ascii}
+use Rattle.std.proofs.lemmas.Str.{inside_one, len_utf8_bounds, length-encode, length-le-encodes}
+use Rattle.std.proofs.lemmas.Str.{encodes-IsAscii, encode_ascii}
 use Rattle.std.specs.Char.{is_whitespace, is_newline}
 use Rattle.base64.specs.Tables.{all_below}
 use Rattle.base64.proofs.Tables.{all_below_at}
@@ -13,17 +27,20 @@ use Rattle.minisign.specs.Texts.{line, base64_of}
 
 -- no byte of such a text is a line feed
 no_newline : (bs : List ℕ) → NoCharPasses is_newline bs → All (λ b. eqb b 10 ≡ false) bs
-no_newline bs h k d l = ne_eqb _ 10 (λ z. NoCharPasses-char 10 bs k h (lit< tt) l (get_or_default bs k 0 d l ∙ z))
+no_newline bs h k d l = ne_eqb _ 10
+    (λ z. NoCharPasses-char 10 bs k h (lit< tt) l (get_or_default bs k 0 d l ∙ z))
 
 stripped : (l x : List ℕ) → StripsCarriageReturn l x → strip_carriage_return l ≡ x
 stripped [] x (inl h) = sym h.0
-stripped (b ∷ l) x (inl h) = ap (λ t. cond t (take (length (b ∷ l) - 1) (b ∷ l)) (b ∷ l)) (ne_eqb _ 13 (h.1 (omega arith))) ∙ sym h.0
+stripped (b ∷ l) x (inl h) = ap (λ t. cond t (take (length (b ∷ l) - 1) (b ∷ l)) (b ∷ l))
+    (ne_eqb _ 13 (h.1 (omega arith))) ∙ sym h.0
 stripped l x (inr e) =
     let last : get_or l (length l - 1) 0 ≡ 13 = grind (arith, common_steps) in
     let front : take (length l - 1) l ≡ x = grind (arith, common_steps) in
     ap (λ t. cond t (take (length l - 1) l) l) (eq-eqb _ 13 last) ∙ front
 
-pub lines_of_parts-cons : (x : List ℕ) (parts : List (List ℕ)) → 0 < length parts → lines_of_parts (x ∷ parts) ≡ strip_carriage_return x ∷ lines_of_parts parts
+pub lines_of_parts-cons : (x : List ℕ) (parts : List (List ℕ)) → 0 < length parts → lines_of_parts (x ∷ parts)
+    ≡ strip_carriage_return x ∷ lines_of_parts parts
 lines_of_parts-cons x [] l = absurd (omega arith)
 lines_of_parts-cons x (y ∷ more) l = refl
 
@@ -35,18 +52,24 @@ lines_first w x rest some h =
     let front : All (λ b. eqb b 10 ≡ false) (take n w) = no_newline (take n w) h.1 in
     ⊎_elim
     (λ l. let o = h.2 (omega (arith, length-drop n w)) in
-    let after : drop n w ≡ 10 ∷ rest = o.2 ∙ ap (λ d. encode_utf8 d ++ rest) (eqb-true o.0 10 o.1) ∙ ap (λ v. v ++ rest) (encode_ascii 10 (lit< tt)) in
-    ap lines (sym (take-append-drop n w) ∙ ap (λ v. take n w ++ v) after) ∙ ap lines_of_parts (slice_split_at p (take n w) 10 rest front refl)
-    ∙ lines_of_parts-cons (take n w) (slice_split p rest) (omega (arith, length-slice_split p rest)) ∙ ap (λ v. v ∷ lines rest) (stripped (take n w) x (h.5 l)))
+    let after : drop n w ≡ 10 ∷ rest = o.2 ∙ ap (λ d. encode_utf8 d ++ rest) (eqb-true o.0 10 o.1)
+    ∙ ap (λ v. v ++ rest) (encode_ascii 10 (lit< tt)) in
+    ap lines (sym (take-append-drop n w) ∙ ap (λ v. take n w ++ v) after)
+    ∙ ap lines_of_parts (slice_split_at p (take n w) 10 rest front refl)
+    ∙ lines_of_parts-cons (take n w) (slice_split p rest) (omega (arith, length-slice_split p rest))
+    ∙ ap (λ v. v ∷ lines rest) (stripped (take n w) x (h.5 l)))
     (λ l. let fits : n + length rest ≤ length w = h.3 in
-    ap lines_of_parts (slice_split_none p w (subst (All (λ b. eqb b 10 ≡ false)) (take_all n w l) front)) ∙ ap (λ t. cond t [] (w ∷ [])) (ne_eqb (length w) 0 (λ z. omega arith))
+    ap lines_of_parts (slice_split_none p w (subst (All (λ b. eqb b 10 ≡ false)) (take_all n w l) front))
+    ∙ ap (λ t. cond t [] (w ∷ [])) (ne_eqb (length w) 0 (λ z. omega arith))
     ∙ (λ i. sym (h.4 (omega arith)) i ∷ lines (sym (nil_from_length rest (omega arith)) i)))
     (cases_lt n (length w))
 
 -- a line that a line feed ends
-pub lines-cut : (x rest : List ℕ) → All (λ b. eqb b 10 ≡ false) x → lines (x ++ (10 ∷ rest)) ≡ strip_carriage_return x ∷ lines rest
+pub lines-cut : (x rest : List ℕ) → All (λ b. eqb b 10 ≡ false) x → lines (x ++ (10 ∷ rest))
+    ≡ strip_carriage_return x ∷ lines rest
 lines-cut x rest front =
-    ap lines_of_parts (slice_split_at (λ b. eqb b 10) x 10 rest front refl) ∙ lines_of_parts-cons x (slice_split (λ b. eqb b 10) rest) (omega (arith, length-slice_split (λ b. eqb b 10) rest))
+    ap lines_of_parts (slice_split_at (λ b. eqb b 10) x 10 rest front refl) ∙ lines_of_parts-cons x
+    (slice_split (λ b. eqb b 10) rest) (omega (arith, length-slice_split (λ b. eqb b 10) rest))
 
 -- a graphic letter of ASCII: neither a line feed nor white space
 abbrev pub IsGraphic : ℕ → Type 0
@@ -83,8 +106,10 @@ graphic_symbols (a ∷ []) h =
     (letter (a / 4) (omega arith), (letter (a % 4 * 16) (omega arith), tt))
 graphic_symbols (a ∷ b ∷ []) h =
     let la : a < 256 = h 0 in
-    let lb : b < 256 = h 1 in
-    (letter (a / 4) (omega arith), (letter (a % 4 * 16 + b / 16) (omega arith), (letter (b % 16 * 4) (omega arith), tt)))
+    let lb : b < 256 = h 1 in (
+      letter (a / 4) (omega arith),
+      (letter (a % 4 * 16 + b / 16) (omega arith), (letter (b % 16 * 4) (omega arith), tt)),
+    )
 graphic_symbols (a ∷ b ∷ c ∷ rest) h =
     let la : a < 256 = h 0 in
     let lb : b < 256 = h 1 in
@@ -111,7 +136,7 @@ pub graphic_base64 : (m : List ℕ) → IsBytes m → AllGraphic (base64_of m)
 unfolding base64_of
 graphic_base64 m h = all_append _ _ (graphic_symbols m h) (graphic_padding _)
 
--- so are the digits of an identifier
+-- so are the digits of a key ID
 graphic_digit : (d : ℕ) → d < 16 → IsGraphic (digit_glyph true d)
 graphic_digit d l = grind (arith, common_steps)
 
@@ -119,7 +144,9 @@ graphic_digits : (k n : ℕ) (acc : List ℕ) → AllGraphic acc → AllGraphic 
 graphic_digits zero n acc h = h
 graphic_digits (suc k) n acc h =
     let digit : IsGraphic (digit_glyph true (n % 16)) = graphic_digit (n % 16) (omega arith) in
-    elim (n / 16 == 0) as (λ b. AllGraphic (cond b (digit_glyph true (n % 16) ∷ acc) (digits_onto k 16 true (n / 16) (digit_glyph true (n % 16) ∷ acc)))) [
+    elim (n / 16 == 0) as (λ b. AllGraphic
+    (cond b (digit_glyph true (n % 16) ∷ acc)
+    (digits_onto k 16 true (n / 16) (digit_glyph true (n % 16) ∷ acc)))) [
       | true ↦ (digit, h)
       | false ↦ graphic_digits k (n / 16) _ (digit, h)
     ]
@@ -129,16 +156,19 @@ graphic_zeros zero = tt
 graphic_zeros (suc n) = ((omega arith, omega arith), graphic_zeros n)
 
 -- as 16 digits are written, with zeros in front
-graphic_padded : (numeral : List ℕ) → AllGraphic numeral → AllGraphic (padded_integral (format_spec 32 0 4 16 (2 ^ 64 - 1)) false [] numeral)
+graphic_padded : (numeral : List ℕ) → AllGraphic numeral
+    → AllGraphic (padded_integral (format_spec 32 0 4 16 (2 ^ 64 - 1)) false [] numeral)
 unfolding padded_integral
 graphic_padded numeral h =
     let sixteen = format_spec 32 0 4 16 (2 ^ 64 - 1) in
-    all_append (before_digits sixteen false [] (length numeral)) (numeral ++ []) (graphic_zeros (number_padding sixteen false [] (length numeral)))
+    all_append (before_digits sixteen false [] (length numeral)) (numeral ++ [])
+    (graphic_zeros (number_padding sixteen false [] (length numeral)))
     (all_append numeral [] h tt)
 
-pub graphic_identifier : (id : List ℕ) → AllGraphic (identifier_text id)
-unfolding identifier_text digits
-graphic_identifier id = graphic_padded (digits 16 true (from_le_bytes w64 id)) (graphic_digits 64 (from_le_bytes w64 id) [] tt)
+pub graphic_key_id : (id : List ℕ) → AllGraphic (key_id_text id)
+unfolding key_id_text digits
+graphic_key_id id = graphic_padded (digits 16 true (from_le_bytes w64 id))
+    (graphic_digits 64 (from_le_bytes w64 id) [] tt)
 
 -- trimming leaves graphic letters as they are
 dark : (c : ℕ) → IsGraphic c → is_whitespace c ≡ false
@@ -187,7 +217,8 @@ no_feeds x h k d l = ne_eqb _ 10 (λ z. h k l (get_or_default x k 0 d l ∙ z))
 -- a line, and the lines after it
 pub lines_line : (x rest : List ℕ) → IsOneLine x → lines (line x ++ rest) ≡ x ∷ lines rest
 lines_line x rest h = ap lines (append_assoc x (10 ∷ []) rest) ∙ lines-cut x rest (no_feeds x h.no_feed)
-    ∙ ap (λ (b : List ℕ). b ∷ lines rest) (ap (λ t. cond t (take (length x - 1) x) x) (ne_eqb _ 13 h.no_return))
+    ∙ ap (λ (b : List ℕ). b ∷ lines rest)
+    (ap (λ t. cond t (take (length x - 1) x) x) (ne_eqb _ 13 h.no_return))
 
 -- the last line
 pub lines_last : (x : List ℕ) → IsOneLine x → lines (line x) ≡ x ∷ []
@@ -221,7 +252,8 @@ shown_one_line (x ∷ xs) h = record {
 length_base64 : (m : List ℕ) (n : ℕ) → length m ≡ n → length (base64_of m) ≡ unpadded_len n + padding_len n
 unfolding base64_of
 length_base64 m n h =
-    length-append _ _ ∙ (λ i. length-encode_symbols standard.encode_table m i + length-replicate {A = ℕ} (padding_len (length m)) 61 i) ∙ ap (λ (k : ℕ). unpadded_len k + padding_len k) h
+    length-append _ _ ∙ (λ i. length-encode_symbols standard.encode_table m i + length-replicate {A = ℕ}
+    (padding_len (length m)) 61 i) ∙ ap (λ (k : ℕ). unpadded_len k + padding_len k) h
 
 -- the length of 42 bytes in base64, and of 158
 pub length_base64_key : (m : List ℕ) → length m ≡ 42 → length (base64_of m) ≡ 56
@@ -245,55 +277,69 @@ shown_codes (x ∷ xs) h =
 pub labelled : (label x rest : List ℕ) → line (label ++ x) ++ rest ≡ label ++ (x ++ (10 ∷ rest))
 labelled label x rest = append_assoc (label ++ x) (10 ∷ []) rest ∙ append_assoc label x (10 ∷ rest)
 
-last_append : (xs ys : List ℕ) → 0 < length ys → slice_index (xs ++ ys) (length (xs ++ ys) - 1) ≡ slice_index ys (length ys - 1)
+last_append : (xs ys : List ℕ) → 0 < length ys → slice_index (xs ++ ys) (length (xs ++ ys) - 1)
+    ≡ slice_index ys (length ys - 1)
 last_append xs ys some =
     let at : length (xs ++ ys) - 1 ≡ length xs + (length ys - 1) = omega (arith, length-append xs ys) in
     ap (λ (n : ℕ). slice_index (xs ++ ys) n) at ∙ get_or-append-add xs ys (length ys - 1) 0
 
 -- no line feed stands in a line with a label before it
-labelled_no_feed : (label x : List ℕ) → AllShown label → LacksByte 10 x → (k : ℕ) → k < length (label ++ x) → slice_index (label ++ x) k ≢ 10
+labelled_no_feed : (label x : List ℕ) → AllShown label → LacksByte 10 x → (k : ℕ) → k < length (label ++ x)
+    → slice_index (label ++ x) k ≢ 10
 labelled_no_feed label x shown lacks k l e = ⊎_elim
     (λ before. absurd (omega (arith, shown_at label k shown before, get_or-append label x 0 k before, e)))
-    (λ behind. lacks (k - length label) (omega (arith, l, length-append label x)) (sym (get_or-append_right label x k 0 behind) ∙ e))
+    (λ behind. lacks (k - length label) (omega (arith, l, length-append label x))
+    (sym (get_or-append_right label x k 0 behind) ∙ e))
     (cases_lt k (length label))
 
 -- a line is one with a label before it
-pub labelled_one_line : (label x : List ℕ) → AllShown label → 0 < length label → LacksByte 10 x → slice_index x (length x - 1) ≢ 13 → IsOneLine (label ++ x)
+pub labelled_one_line : (label x : List ℕ) → AllShown label → 0 < length label → LacksByte 10 x
+    → slice_index x (length x - 1) ≢ 13 → IsOneLine (label ++ x)
 labelled_one_line label x shown some lacks end = record {
   no_feed = labelled_no_feed label x shown lacks;
   no_return = last_of x lacks end;
 }
   where
-    last_of : (x : List ℕ) → LacksByte 10 x → slice_index x (length x - 1) ≢ 13 → slice_index (label ++ x) (length (label ++ x) - 1) ≢ 13
+    last_of : (x : List ℕ) → LacksByte 10 x → slice_index x (length x - 1) ≢ 13
+        → slice_index (label ++ x) (length (label ++ x) - 1) ≢ 13
     last_of [] lacks end e =
         let same : label ++ [] ≡ label = append-nil label in
-        let at : slice_index label (length label - 1) ≡ 13 = subst (λ (t : List ℕ). slice_index t (length t - 1) ≡ 13) same e in
+        let at : slice_index label (length label - 1)
+        ≡ 13 = subst (λ (t : List ℕ). slice_index t (length t - 1) ≡ 13) same e in
         absurd (omega (arith, at, shown_at label (length label - 1) shown (omega arith)))
     last_of (y ∷ ys) lacks end e = end (sym (last_append label (y ∷ ys) (omega arith)) ∙ e)
 
 -- a line that begins with a label: the carriage return at its end is that of what stands after the label
-label_ends : (label : List ℕ) → AllShown label → 0 < length label → slice_index (label ++ []) (length (label ++ []) - 1) ≢ 13
-label_ends label shown some = (labelled_one_line label [] shown some (λ k l. absurd (omega arith)) (λ e. absurd (omega arith))).no_return
+label_ends : (label : List ℕ) → AllShown label → 0 < length label
+    → slice_index (label ++ []) (length (label ++ []) - 1) ≢ 13
+label_ends label shown some = (labelled_one_line label [] shown some (λ k l. absurd (omega arith))
+    (λ e. absurd (omega arith))).no_return
 
-pub strip_labelled : (label x : List ℕ) → AllShown label → 0 < length label → strip_carriage_return (label ++ x) ≡ label ++ strip_carriage_return x
+pub strip_labelled : (label x : List ℕ) → AllShown label → 0 < length label
+    → strip_carriage_return (label ++ x) ≡ label ++ strip_carriage_return x
 strip_labelled label [] shown some =
-    ap (λ t. cond t (take (length (label ++ []) - 1) (label ++ [])) (label ++ [])) (ne_eqb _ 13 (label_ends label shown some))
+    ap (λ t. cond t (take (length (label ++ []) - 1) (label ++ [])) (label ++ []))
+    (ne_eqb _ 13 (label_ends label shown some))
 strip_labelled label (y ∷ ys) shown some =
-    ap (λ (n : ℕ). cond (eqb n 13) (take (length (label ++ y ∷ ys) - 1) (label ++ y ∷ ys)) (label ++ y ∷ ys)) (last_append label (y ∷ ys) (omega arith))
+    ap (λ (n : ℕ). cond (eqb n 13) (take (length (label ++ y ∷ ys) - 1) (label ++ y ∷ ys)) (label ++ y ∷ ys))
+    (last_append label (y ∷ ys) (omega arith))
     ∙ step (eqb (slice_index (y ∷ ys) (length (y ∷ ys) - 1)) 13)
   where
     shorter : length (label ++ y ∷ ys) - 1 ≡ length label + (length (y ∷ ys) - 1)
     shorter = omega (arith, length-append label (y ∷ ys))
 
-    step : (b : Bool) → cond b (take (length (label ++ y ∷ ys) - 1) (label ++ y ∷ ys)) (label ++ y ∷ ys) ≡ label ++ cond b (take (length (y ∷ ys) - 1) (y ∷ ys)) (y ∷ ys)
-    step true = ap (λ (n : ℕ). take n (label ++ y ∷ ys)) shorter ∙ take-append-add label (y ∷ ys) (length (y ∷ ys) - 1)
+    step : (b : Bool) → cond b (take (length (label ++ y ∷ ys) - 1) (label ++ y ∷ ys)) (label ++ y ∷ ys)
+        ≡ label ++ cond b (take (length (y ∷ ys) - 1) (y ∷ ys)) (y ∷ ys)
+    step true = ap (λ (n : ℕ). take n (label ++ y ∷ ys)) shorter ∙ take-append-add label (y ∷ ys)
+        (length (y ∷ ys) - 1)
     step false = refl
 
 -- such a line with no line feed in it, and the lines after it
 pub lines_labelled : (label x rest : List ℕ) → AllShown label → 0 < length label → LacksByte 10 x
     → lines (line (label ++ x) ++ rest) ≡ (label ++ strip_carriage_return x) ∷ lines rest
 lines_labelled label x rest shown some lacks =
-    ap lines (append_assoc (label ++ x) (10 ∷ []) rest) ∙ lines-cut (label ++ x) rest (no_feeds (label ++ x) (labelled_no_feed label x shown lacks))
+    ap lines (append_assoc (label ++ x) (10 ∷ []) rest) ∙ lines-cut (label ++ x) rest
+    (no_feeds (label ++ x) (labelled_no_feed label x shown lacks))
     ∙ ap (λ (b : List ℕ). b ∷ lines rest) (strip_labelled label x shown some)
 
 -- nothing goes of a text that does not end in one
@@ -301,27 +347,38 @@ pub strip_none : (x : List ℕ) → slice_index x (length x - 1) ≢ 13 → stri
 strip_none x other = ap (λ t. cond t (take (length x - 1) x) x) (ne_eqb _ 13 other)
 
 -- a text that is trimmed does not end with a carriage return
-last_of_letter : (c : ℕ) → is_whitespace c ≡ false → slice_index (encode_utf8 c) (length (encode_utf8 c) - 1) ≢ 13
+last_of_letter : (c : ℕ) → is_whitespace c ≡ false
+    → slice_index (encode_utf8 c) (length (encode_utf8 c) - 1) ≢ 13
 last_of_letter c dark e =
     let some : 0 < length (encode_utf8 c) = omega (arith, length-encode c, (len_utf8_bounds c).0) in
-    let same : c ≡ slice_index (encode_utf8 c) (length (encode_utf8 c) - 1) = inside_one c [] (encode_utf8 c) _ (sym (append-nil _)) (omega arith) (omega (arith, e)) in
+    let same : c ≡ slice_index (encode_utf8 c) (length (encode_utf8 c) - 1) = inside_one c []
+    (encode_utf8 c) _ (sym (append-nil _)) (omega arith) (omega (arith, e)) in
     let white : is_whitespace c ≡ true = ap is_whitespace (same ∙ e) in
     let no = sym dark ∙ white in
     cc no
 
-last_dark : (cs : List ℕ) → slice_index (encode_utf8_all (drop_trailing_whitespace cs)) (length (encode_utf8_all (drop_trailing_whitespace cs)) - 1) ≢ 13
+last_dark : (cs : List ℕ) → slice_index (encode_utf8_all (drop_trailing_whitespace cs))
+    (length (encode_utf8_all (drop_trailing_whitespace cs)) - 1) ≢ 13
 last_dark [] = λ e. absurd (omega arith)
 last_dark (c ∷ cs) = step (drop_trailing_whitespace cs) (is_whitespace c) refl (last_dark cs)
   where
-    step : (ds : List ℕ) (white : Bool) → is_whitespace c ≡ white → slice_index (encode_utf8_all ds) (length (encode_utf8_all ds) - 1) ≢ 13
-        → slice_index (encode_utf8_all (cond (white && length ds == 0) [] (c ∷ ds))) (length (encode_utf8_all (cond (white && length ds == 0) [] (c ∷ ds))) - 1) ≢ 13
+    step : (ds : List ℕ) (white : Bool) → is_whitespace c ≡ white
+        → slice_index (encode_utf8_all ds) (length (encode_utf8_all ds) - 1) ≢ 13
+        → slice_index (encode_utf8_all (cond (white && length ds == 0) [] (c ∷ ds)))
+        (length (encode_utf8_all (cond (white && length ds == 0) [] (c ∷ ds))) - 1) ≢ 13
     step [] true is others = λ e. absurd (omega arith)
-    step [] false is others = subst (λ (t : List ℕ). slice_index t (length t - 1) ≢ 13) (sym (append-nil (encode_utf8 c))) (last_of_letter c is)
+    step [] false is others = subst (λ (t : List ℕ). slice_index t (length t - 1) ≢ 13)
+        (sym (append-nil (encode_utf8 c))) (last_of_letter c is)
     step (d ∷ ds) true is others =
         let more : length (d ∷ ds) == 0 ≡ false = ne_eqb _ 0 (λ z. absurd (omega arith)) in
-        rw more (λ e. others (sym (last_append (encode_utf8 c) (encode_utf8_all (d ∷ ds)) (omega (arith, length-le-encodes (d ∷ ds)))) ∙ e))
-    step (d ∷ ds) false is others = λ e. others (sym (last_append (encode_utf8 c) (encode_utf8_all (d ∷ ds)) (omega (arith, length-le-encodes (d ∷ ds)))) ∙ e)
+        rw more (λ e. others (sym
+        (last_append (encode_utf8 c) (encode_utf8_all (d ∷ ds))
+        (omega (arith, length-le-encodes (d ∷ ds)))) ∙ e))
+    step (d ∷ ds) false is others = λ e. others
+        (sym (last_append (encode_utf8 c) (encode_utf8_all (d ∷ ds))
+        (omega (arith, length-le-encodes (d ∷ ds)))) ∙ e)
 
 pub trimmed_end : (t : List ℕ) → trim t ≡ t → slice_index t (length t - 1) ≢ 13
 unfolding trim_end
-trimmed_end t same = subst (λ (x : List ℕ). slice_index x (length x - 1) ≢ 13) same (last_dark (chars (trim_start t)))
+trimmed_end t same = subst (λ (x : List ℕ). slice_index x (length x - 1) ≢ 13) same
+    (last_dark (chars (trim_start t)))

@@ -3,8 +3,12 @@
 use Rattle.std.specs.Prelude.{◌≡◌, ⊤, ℕ, ◌≤◌, Bool, true, IsTrue, ◌⊎◌, ◌||◌, ◌&&◌, if◌then◌else◌, nat_le}
 use Rattle.std.specs.Prelude.{List, [], ◌++◌, length, take, Option, IfSome, Result, Ok, codes, bytes_eq}
 use Rattle.std.specs.Prelude.{option_map}
-use Rattle.minisign.specs.Common.{option_map_or, blake2b_digest, Fault, DifferentKeyIds, LegacyNotAccepted}
-use Rattle.minisign.specs.Common.{SignatureRefused, CommentSignatureRefused}
+use Rattle.std.specs.Option.{option_map_or}
+use Rattle.minisign_hash.specs.Blake2b.{blake2b_digest}
+use Rattle.minisign_base.specs.Fault.{Fault}
+use Rattle.minisign_base.specs.declared.faults.NamedFault.TheVariants.{DifferentKeyIds, LegacyNotAccepted}
+use Rattle.minisign_base.specs.declared.faults.NamedFault.TheVariants.{SignatureRefused}
+use Rattle.minisign_base.specs.declared.faults.NamedFault.TheVariants.{CommentSignatureRefused}
 use Rattle.minisign.specs.Texts.{line, and_then, require}
 use Rattle.minisign.specs.declared.options.VerifyOptions.{VerifyOptions}
 use Rattle.minisign.specs.Records.{PublicKeyRecord, SignatureRecord, CommentsRecord, SignatureBoxRecord}

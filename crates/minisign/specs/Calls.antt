@@ -1,9 +1,11 @@
 -- What the calls for callers promise: data is vouched for and this is the comment that was signed with it, or
 -- the first reason why it is not; and why bytes are not signed, and no pair is made.
 use Rattle.std.specs.Prelude.{◌≡◌, ℕ, ◌<◌, ◌≤◌, Bool, true, false, ◌⊎◌, List, length, Some, IfSome}
-use Rattle.minisign.specs.Common.{Fault, Named, EncryptedKeyRefused, OutOfMemory, PasswordTooLong}
-use Rattle.minisign.specs.Common.{RandomSourceFailed, ReadingFailed, IsFlushed, IsSteady, RandomCall}
-use Rattle.minisign.specs.Common.{RereaderCall, SinkCall, Takes}
+use Rattle.minisign_base.specs.Fault.{Fault, Named}
+use Rattle.minisign_base.specs.declared.faults.NamedFault.TheVariants.{EncryptedKeyRefused, OutOfMemory}
+use Rattle.minisign_base.specs.declared.faults.NamedFault.TheVariants.{PasswordTooLong, RandomSourceFailed}
+use Rattle.minisign_base.specs.declared.faults.NamedFault.TheVariants.{ReadingFailed}
+use Rattle.minisign_base.specs.DeviceCalls.{IsFlushed, IsSteady, RandomCall, RereaderCall, SinkCall, Takes}
 use Rattle.minisign.specs.Records.{CommentsRecord, SecretKeyRecord}
 use Rattle.minisign.specs.Acceptance.{Verifier}
 use Rattle.minisign.specs.Generation.{AllDrawn}

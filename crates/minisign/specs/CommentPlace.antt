@@ -2,7 +2,7 @@
 use Rattle.std.specs.Prelude.{◌≡◌, ◌≤◌, ◌+◌, ◌-◌, ◌==◌, ℕ, List, [], ◌∷◌, length, take, drop}
 use Rattle.std.specs.List.{after_first}
 use Rattle.std.specs.Str.{trim_start}
-use Rattle.minisign.specs.Common.{lines}
+use Rattle.std.specs.Str.Lines.{lines}
 use Rattle.minisign.specs.SignatureText.{trusted_comment_label}
 
 -- what stands behind the first line feed of a text

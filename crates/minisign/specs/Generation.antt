@@ -1,8 +1,12 @@
 -- The pairs of keys that generation makes, from which random bytes, and what the sinks of a pair take.
 use Rattle.std.specs.Prelude.{◌≡◌, ℕ, ◌⊎◌, List, ◌++◌, length, replicate, Option, None, Ok, Err, codes}
-use Rattle.minisign.specs.Common.{w64, to_le_bytes, blake2b_digest, FailsAtPart, PromptCall, RandomCall}
-use Rattle.minisign.specs.Common.{SinkCall, TakesPart, Fault, Named, OutOfMemory, RandomSourceFailed}
-use Rattle.minisign.specs.Common.{WritingFailed, IsBytes}
+use Rattle.std.specs.Int.{w64, to_le_bytes}
+use Rattle.minisign_hash.specs.Blake2b.{blake2b_digest}
+use Rattle.minisign_base.specs.DeviceCalls.{FailsAtPart, PromptCall, RandomCall, SinkCall, TakesPart}
+use Rattle.minisign_base.specs.Fault.{Fault, Named}
+use Rattle.minisign_base.specs.declared.faults.NamedFault.TheVariants.{OutOfMemory, RandomSourceFailed}
+use Rattle.minisign_base.specs.declared.faults.NamedFault.TheVariants.{WritingFailed}
+use Rattle.minisign_base.specs.Scheme.{IsBytes}
 use Rattle.minisign.specs.NewPassword.{IsSealing}
 use Rattle.minisign.specs.PublicKeyText.{public_key_text}
 use Rattle.minisign.specs.Records.{PublicKeyRecord, SecretKeyRecord, legacy_algorithm, public_key_bytes}
@@ -108,12 +112,16 @@ pub record OpensToPair (public_of : List ℕ → List ℕ) (password : List ℕ)
 abbrev pub AreUnwritten : {P K : Type 0} → SinkCall P → SinkCall K → Type 0
 AreUnwritten pk_sink sk_sink = (pk_sink.new ≡ pk_sink.old) × (sk_sink.new ≡ sk_sink.old)
 
--- a pair's parts are not written: an allocation failed, with both sinks as they were; or the public sink
--- failed, with the secret one as it was, or took and flushed its part, and the secret sink failed
+-- the public sink failed, with the secret one as it was, or took and flushed its part, and the secret sink
+-- failed
+abbrev pub SinksFail : {P K : Type 0} → SinkCall P → SinkCall K → List ℕ → List ℕ → Type 0
+SinksFail pk_sink sk_sink public secret = (FailsAtPart pk_sink public × (sk_sink.new ≡ sk_sink.old))
+    ⊎ (TakesPart pk_sink public × FailsAtPart sk_sink secret)
+
+-- a pair's parts are not written: an allocation failed, with both sinks as they were; or a sink failed
 abbrev pub PartsFail : {P K : Type 0} → SinkCall P → SinkCall K → List ℕ → List ℕ → Fault → Type 0
 PartsFail pk_sink sk_sink public secret e = ((e ≡ Named OutOfMemory) × AreUnwritten pk_sink sk_sink)
-    ⊎ ((e ≡ Named WritingFailed) × ((FailsAtPart pk_sink public × (sk_sink.new ≡ sk_sink.old))
-    ⊎ (TakesPart pk_sink public × FailsAtPart sk_sink secret)))
+    ⊎ ((e ≡ Named WritingFailed) × SinksFail pk_sink sk_sink public secret)
 
 -- a pair that is not sealed is not written as raw bytes: the random source failed, with both sinks as they
 -- were, or a pair was made whose parts were not written

@@ -4,15 +4,17 @@
 -- explains the notation, such as x.now, and that a key or a box of the code stands here for its record or its
 -- text.
 use Rattle.std.specs.Prelude.{◌≡◌, ℕ, Bool, true, List, Option, Some, Ok, IfSome, Result}
-use Rattle.minisign.specs.Common.{Fault, IsFlushed, IsSteady, RereaderCall, SinkFails, SinkCall, SourceFails}
-use Rattle.minisign.specs.Common.{Takes}
+use Rattle.minisign_base.specs.Fault.{Fault}
+use Rattle.minisign_base.specs.DeviceCalls.{IsFlushed, IsSteady, RereaderCall, SinkFails, SinkCall}
+use Rattle.minisign_base.specs.DeviceCalls.{SourceFails, Takes}
 use Rattle.minisign.specs.Records.{PublicKeyRecord, SecretKeyRecord, SignatureBoxRecord}
 use Rattle.minisign.specs.Acceptance.{Verifier, Vouches, VouchesUnderEachKey, judge}
 use Rattle.minisign.specs.Opening.{IsOpenedOrNoMemory, open_key}
 use Rattle.minisign.specs.Signing.{ChosenComments, IsGenuine}
 use Rattle.minisign.specs.PublicKeyText.{read_public_key}
 use Rattle.minisign.specs.SignatureText.{AreOneLine, box_of, read_signature, read_signature_box}
-use Rattle.minisign.specs.Texts.{IsReadOrNoMemory, and_then}
+use Rattle.minisign.specs.Texts.{IsGivenOrNoMemory, and_then}
+use Rattle.minisign.specs.declared.options.VerifyOptions.{VerifyOptions}
 
 -- == Verifying ==
 
@@ -43,7 +45,14 @@ abbrev pub WhereNothingFails : {R W O V : Type 0} → Bool → RereaderCall R �
 WhereNothingFails output reader status out answer of_data =
     (message : List ℕ) → reader.source.ahead reader.old ≡ Some message
     → ¬ (SourceFails reader) → ¬ (SinkFails status) → ¬ (SinkFails out)
-    → (output ≡ true → IsSteady reader) → IsReadOrNoMemory answer (of_data message)
+    → (output ≡ true → IsSteady reader) → IsGivenOrNoMemory answer (of_data message)
+
+-- so is it of the verdict on two texts, with options
+abbrev pub IsVerdictWhereNothingFails : {R W O : Type 0} → Verifier → List ℕ → List ℕ → VerifyOptions
+    → RereaderCall R → SinkCall W → SinkCall O → Result (List ℕ) Fault → Type 0
+IsVerdictWhereNothingFails accepts pk_text sig_text options reader status out answer =
+    WhereNothingFails options.output reader status out answer
+    (λ message. verdict accepts pk_text sig_text message options.allow_legacy)
 
 -- what the output took, where this is known, is itself vouched for by the texts, and was flushed
 pub record CopyIsVouchedFor {O : Type 0} (accepts : Verifier) (pk_text sig_text : List ℕ) (legacy : Bool)

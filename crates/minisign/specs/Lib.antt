@@ -1,4 +1,3 @@
-pub mod Common
 pub mod Records
 pub mod Texts
 pub mod Reading
@@ -23,7 +22,7 @@ pub use Rattle.minisign_base.specs.DeviceCalls
 pub use Rattle.minisign_base.specs.Devices
 pub use Rattle.minisign_base.specs.Fault
 pub use Rattle.minisign_base.specs.Faults
-pub use Rattle.minisign_base.specs.Identifiers
+pub use Rattle.minisign_base.specs.KeyIds
 pub use Rattle.minisign_base.specs.Limits
 pub use Rattle.minisign_base.specs.Members
 pub use Rattle.minisign_base.specs.Passwords

@@ -1,7 +1,11 @@
 -- Keys that are made of their parts, and the texts of both: 64 secret bytes, of a seed and of its public key,
 -- under a key ID.
 use Rattle.std.specs.Prelude.{◌≡◌, ◌+◌, ℕ, List, length, false, Option, None, Some, Ok, unwrap_or}
-use Rattle.minisign.specs.Common.{LacksByte, Fault, Named, OutOfMemory, numbers, result_err, sealing_limits}
+use Rattle.std.specs.Str.Iter.{LacksByte}
+use Rattle.minisign_base.specs.Fault.{Fault, Named}
+use Rattle.minisign_base.specs.declared.faults.NamedFault.TheVariants.{OutOfMemory}
+use Rattle.minisign_base.specs.Limits.{numbers, sealing_limits}
+use Rattle.std.specs.Result.{result_err}
 use Rattle.minisign.specs.Generation.{key_to_seal, unsealed_key}
 use Rattle.minisign.specs.PublicKeyText.{read_public_key, commented_public_key_text}
 use Rattle.minisign.specs.Records.{SecretKeyRecord, legacy_algorithm, own_public_key}

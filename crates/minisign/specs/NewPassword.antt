@@ -2,9 +2,12 @@
 -- asks twice, and tells of the derivation.
 use Rattle.std.specs.Prelude.{◌≡◌, ℕ, List, [], ◌∷◌, ◌++◌, Option, None, Some, Result, Ok, IfOk, MatchResult}
 use Rattle.std.specs.Prelude.{bytes_eq, if◌then◌else◌}
-use Rattle.minisign.specs.Common.{Fault, Named, PromptCall, OutOfMemory, PasswordsDiffer, Allocate}
-use Rattle.minisign.specs.Common.{ConversationEnds, Say, Step, Test, asking_steps, password_of}
-use Rattle.minisign.specs.Common.{typed_password, without_value}
+use Rattle.minisign_base.specs.Fault.{Fault, Named}
+use Rattle.minisign_base.specs.DeviceCalls.{PromptCall}
+use Rattle.minisign_base.specs.declared.faults.NamedFault.TheVariants.{OutOfMemory, PasswordsDiffer}
+use Rattle.minisign_base.specs.Prompts.{Allocate, ConversationEnds, Say, Step, Test, asking_steps}
+use Rattle.minisign_base.specs.Passwords.{password_of, typed_password}
+use Rattle.minisign_base.specs.Steps.{without_value}
 use Rattle.minisign.specs.Opening.{asking_text, done_text, purpose_line, sealing_text, second_question}
 
 -- two passwords that differ

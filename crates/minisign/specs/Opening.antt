@@ -1,9 +1,13 @@
 -- How opening the text of a sealed key ends, with a password that is passed in or asked for.
 use Rattle.std.specs.Prelude.{◌≡◌, ◌⊎◌, ℕ, List, [], ◌∷◌, ◌++◌, Option, None, Some, Result, Ok, Err, codes}
 use Rattle.std.specs.Prelude.{Bool, false, if◌then◌else◌, IsOk}
-use Rattle.minisign.specs.Common.{result_err, Fault, Named, OutOfMemory, PromptCall, Allocate}
-use Rattle.minisign.specs.Common.{ConversationEnds, Say, Step, Test, asking_steps, password_of}
-use Rattle.minisign.specs.Common.{typed_password, option_map_or, result_ok, WorkTooHigh}
+use Rattle.std.specs.Result.{result_err, result_ok}
+use Rattle.minisign_base.specs.Fault.{Fault, Named}
+use Rattle.minisign_base.specs.declared.faults.NamedFault.TheVariants.{OutOfMemory, WorkTooHigh}
+use Rattle.minisign_base.specs.DeviceCalls.{PromptCall}
+use Rattle.minisign_base.specs.Prompts.{Allocate, ConversationEnds, Say, Step, Test, asking_steps}
+use Rattle.minisign_base.specs.Passwords.{password_of, typed_password}
+use Rattle.std.specs.Option.{option_map_or}
 use Rattle.minisign.specs.Records.{SecretKeyRecord}
 use Rattle.minisign.specs.Sealing.{allowed_work, restored_key, sealed_by_scrypt, xored_key, checksum_of}
 use Rattle.minisign.specs.Sealing.{is_within, no_kdf, open_sealed, scrypt_kdf, unencrypted_key}

@@ -2,8 +2,11 @@
 -- is written for a key.
 use Rattle.std.specs.Prelude.{◌≡◌, ◌==◌, ℕ, List, [], ◌∷◌, ◌++◌, length, take, drop, nat_le, Result, Ok, Err}
 use Rattle.std.specs.Prelude.{codes}
-use Rattle.minisign.specs.Common.{trim, lines, Fault, Named, NamedFault}
-use Rattle.minisign_base.specs.Identifiers.{identifier_text}
+use Rattle.std.specs.Str.{trim}
+use Rattle.std.specs.Str.Lines.{lines}
+use Rattle.minisign_base.specs.Fault.{Fault, Named}
+use Rattle.minisign_base.specs.declared.faults.NamedFault.{NamedFault}
+use Rattle.minisign_base.specs.KeyIds.{key_id_text}
 use Rattle.minisign.specs.Texts.{line, IsBase64Of, base64_of, base64_bytes, is_base64, require}
 use Rattle.minisign.specs.Texts.{untrusted_comment_label}
 use Rattle.minisign.specs.Records.{PublicKeyRecord, ReadsPublicKey, public_key_bytes}
@@ -72,7 +75,7 @@ public_key_label = codes "minisign public key: "
 
 -- the text that is written for a key: its key ID, and its record in base64
 abbrev pub public_key_text : PublicKeyRecord → List ℕ
-public_key_text k = line (untrusted_comment_label ++ public_key_label ++ identifier_text k.keynum)
+public_key_text k = line (untrusted_comment_label ++ public_key_label ++ key_id_text k.keynum)
     ++ line (base64_of (public_key_bytes k))
 
 -- the text that is written with a comment of the caller's

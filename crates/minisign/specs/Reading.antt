@@ -1,9 +1,14 @@
 -- What comes of reading to the end, and of copying what was read; why a text is not read from a source or a
 -- file.
 use Rattle.std.specs.Prelude.{◌≡◌, ◌⊎◌, ⊤, ℕ, List, Option, IfSome, Result, IfErr, OnOk, OnErr, Err, IsUtf8}
-use Rattle.minisign.specs.Common.{IsAtEnd, Rose, IsUnflushed, IsWritingFault, RereaderCall, SinkCall}
-use Rattle.minisign.specs.Common.{SinkHasNoNewFault, SourceGives, Takes, TakesFront, Fault, Named, NamedFault}
-use Rattle.minisign.specs.Common.{OutOfMemory, ReadingFailed, NotUtf8, SourceOf}
+use Rattle.std.specs.Io.KnownBytes.{IsAtEnd}
+use Rattle.minisign_base.specs.Devices.{Rose}
+use Rattle.minisign_base.specs.DeviceCalls.{IsUnflushed, IsWritingFault, RereaderCall, SinkCall}
+use Rattle.minisign_base.specs.DeviceCalls.{SinkHasNoNewFault, SourceGives, Takes, TakesFront}
+use Rattle.minisign_base.specs.Fault.{Fault, Named}
+use Rattle.minisign_base.specs.declared.faults.NamedFault.{NamedFault}
+use Rattle.minisign_base.specs.declared.faults.NamedFault.TheVariants.{OutOfMemory, ReadingFailed, NotUtf8}
+use Rattle.minisign_base.specs.Members.{SourceOf}
 
 -- these were the bytes ahead, or those that were given; where these are not known, nothing is said of them
 abbrev pub IsAhead : Option (List ℕ) → List ℕ → Type 0

@@ -45,7 +45,13 @@ legacy_algorithm = codes "Ed"
 abbrev pub prehashed_algorithm : List ℕ
 prehashed_algorithm = codes "ED"
 
+-- a signature over the digest of the data
+abbrev pub prehashed_signature : List ℕ → List ℕ → SignatureRecord
+prehashed_signature keynum signature =
+    record { algorithm = prehashed_algorithm; keynum = keynum; signature = signature }
+
 -- an algorithm of signatures
+
 abbrev pub IsKnownAlgorithm : List ℕ → Type 0
 IsKnownAlgorithm a = (a ≡ legacy_algorithm) ⊎ (a ≡ prehashed_algorithm)
 

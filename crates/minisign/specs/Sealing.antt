@@ -2,8 +2,12 @@
 -- last 104 bytes of its record, as one list, are xored with a stream of scrypt (RFC 7914, section 6).
 use Rattle.std.specs.Prelude.{ℕ, ◌*◌, ◌^◌, Bool, true, not, ◌&&◌, nat_lt, List, [], ◌∷◌, ◌++◌, take, drop}
 use Rattle.std.specs.Prelude.{Option, None, Result, Ok, bit_xor, bytes_eq, codes, if◌then◌else◌}
-use Rattle.minisign.specs.Common.{option_map_or, result_ok, w64, from_le_bytes, blake2b_digest, numbers}
-use Rattle.minisign.specs.Common.{sealing_limits, Fault}
+use Rattle.std.specs.Option.{option_map_or}
+use Rattle.std.specs.Result.{result_ok}
+use Rattle.std.specs.Int.{w64, from_le_bytes}
+use Rattle.minisign_hash.specs.Blake2b.{blake2b_digest}
+use Rattle.minisign_base.specs.Limits.{numbers, sealing_limits}
+use Rattle.minisign_base.specs.Fault.{Fault}
 use Rattle.std.specs.Simd.Lanes.{zip2}
 use Rattle.minisign_kdf.specs.Scrypt.{scrypt}
 use Rattle.minisign_kdf.specs.Params.{Numbers}

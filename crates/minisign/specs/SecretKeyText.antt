@@ -2,7 +2,8 @@
 -- is written for a key.
 use Rattle.std.specs.Prelude.{◌≡◌, ℕ, List, [], ◌∷◌, ◌++◌, length, take, drop, nat_le, Option, Result, Ok}
 use Rattle.std.specs.Prelude.{Err, codes, unwrap_or}
-use Rattle.minisign.specs.Common.{lines, Fault, Named}
+use Rattle.std.specs.Str.Lines.{lines}
+use Rattle.minisign_base.specs.Fault.{Fault, Named}
 use Rattle.minisign.specs.Texts.{line, IsBase64Of, base64_of, base64_bytes, is_base64, require}
 use Rattle.minisign.specs.Texts.{untrusted_comment_label}
 use Rattle.minisign.specs.Records.{SecretKeyRecord, ReadsSecretKey, secret_key_bytes}

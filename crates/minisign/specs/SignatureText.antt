@@ -3,7 +3,10 @@
 use Rattle.std.specs.Prelude.{◌≡◌, ◌≢◌, ◌||◌, ◌-◌, ℕ, List, [], ◌∷◌, ◌++◌, length, take, drop, slice_index}
 use Rattle.std.specs.Prelude.{nat_eq, nat_le, bytes_eq, Some, Result, Ok, Err, codes, if◌then◌else◌, Option}
 use Rattle.std.specs.Prelude.{None, option_map}
-use Rattle.minisign.specs.Common.{trim, LacksByte, lines, strip_carriage_return, Fault, Named}
+use Rattle.std.specs.Str.{trim}
+use Rattle.std.specs.Str.Iter.{LacksByte}
+use Rattle.std.specs.Str.Lines.{lines, strip_carriage_return}
+use Rattle.minisign_base.specs.Fault.{Fault, Named}
 use Rattle.std.specs.List.{starts_with}
 use Rattle.minisign.specs.Texts.{line, IsBase64Of, base64_of, base64_bytes, is_base64, map_ok, require}
 use Rattle.minisign.specs.Texts.{untrusted_comment_label}
@@ -63,6 +66,19 @@ read_signature text = signature_in_lines (lines text)
 -- the box that it reads as
 abbrev pub read_signature_box : List ℕ → Result SignatureBoxRecord Fault
 read_signature_box text = map_ok box_of (read_signature text)
+
+-- a signature, an untrusted comment, a trusted one, and the signature of the comment
+abbrev pub with_comments : SignatureRecord → List ℕ → List ℕ → List ℕ → SignatureTextRecord
+with_comments s untrusted trusted signature =
+    record {
+      signature = s;
+      comments = record {
+        untrusted = untrusted;
+        trusted = trusted;
+        signature =
+            signature;
+      };
+    }
 
 -- == The grammar as a relation ==
 

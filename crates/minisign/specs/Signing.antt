@@ -1,14 +1,18 @@
 -- The box that signing makes.
 use Rattle.std.specs.Prelude.{◌≡◌, ℕ, true, false, List, ◌++◌, length, Option, Some, ◌⊎◌, IsSomeAnd, codes}
 use Rattle.std.specs.Prelude.{option_copied, unwrap_or, decimal}
-use Rattle.minisign.specs.Common.{Consumes, blake2b_digest, RandomCall, SourceCall, Fault, Named, SchemeOf}
-use Rattle.minisign.specs.Common.{IsBytes, AreRandomBytes}
+use Rattle.std.specs.Io.KnownBytes.{Consumes}
+use Rattle.minisign_hash.specs.Blake2b.{blake2b_digest}
+use Rattle.minisign_base.specs.DeviceCalls.{RandomCall, SourceCall}
+use Rattle.minisign_base.specs.Fault.{Fault, Named}
+use Rattle.minisign_base.specs.Members.{SchemeOf}
+use Rattle.minisign_base.specs.Scheme.{IsBytes, AreRandomBytes}
 use denote.Ref.{Bor}
-use Rattle.minisign.specs.Records.{PublicKeyRecord, SecretKeyRecord, SignatureBoxRecord, prehashed_algorithm}
-use Rattle.minisign.specs.Acceptance.{Verifier, VouchesUnderEachKey, accepts_comments}
+use Rattle.minisign.specs.Records.{PublicKeyRecord, SecretKeyRecord, SignatureBoxRecord, prehashed_signature}
+use Rattle.minisign.specs.Acceptance.{VouchesUnderEachKey, accepts_comments}
 use Rattle.minisign.specs.Reading.{HasFailed, ReadsWhole}
 use Rattle.minisign.specs.Sealing.{is_encrypted}
-use Rattle.minisign.specs.SignatureText.{AreReadBack}
+use Rattle.minisign.specs.SignatureText.{AreReadBack, box_of, with_comments}
 use Rattle.minisign_base.specs.declared.faults.NamedFault.TheVariants as named
 
 -- what a scheme signs: a message, with a secret key of 64 bytes and 64 random bytes or none
@@ -27,12 +31,15 @@ pub record ChosenComments : Type 0 where
   pub trusted : List ℕ
   pub untrusted : List ℕ
 
+-- these two
+abbrev pub comments_of : List ℕ → List ℕ → ChosenComments
+comments_of trusted untrusted = record { trusted = trusted; untrusted = untrusted }
+
 -- the comments that a caller hands over, or else the defaults: the moment as the trusted one
 abbrev pub given_comments : Option (Bor (List ℕ)) → Option (Bor (List ℕ)) → ℕ → ChosenComments
-given_comments trusted untrusted moment = record {
-  trusted = unwrap_or (option_copied trusted) (default_trusted_comment moment);
-  untrusted = unwrap_or (option_copied untrusted) default_untrusted_comment;
-}
+given_comments trusted untrusted moment = comments_of
+    (unwrap_or (option_copied trusted) (default_trusted_comment moment))
+    (unwrap_or (option_copied untrusted) default_untrusted_comment)
 
 -- the box that signing makes of the message: a signature of its digest, which has 64 bytes, with the first
 -- random bytes, and a signature of that signature and the trusted comment with the second
@@ -40,17 +47,8 @@ abbrev pub signed_box : Signer → SecretKeyRecord → List ℕ → ChosenCommen
     → SignatureBoxRecord
 signed_box sign sk message chosen z1 z2 =
     let signature = sign (blake2b_digest 64 message) sk.secret (Some z1) in
-    let comment_signature = sign (signature ++ chosen.trusted) sk.secret (Some z2) in
-    record {
-      signature = record { algorithm = prehashed_algorithm; keynum = sk.keynum; signature = signature };
-      comments =
-          Some
-          (record {
-            untrusted = chosen.untrusted;
-            trusted = chosen.trusted;
-            signature = comment_signature;
-          });
-    }
+    box_of (with_comments (prehashed_signature sk.keynum signature) chosen.untrusted chosen.trusted
+    (sign (signature ++ chosen.trusted) sk.secret (Some z2)))
 
 -- these bytes were drawn, where they are known
 abbrev pub HasDrawn : {Z : Type 0} → RandomCall Z → List ℕ → Type 0
@@ -83,6 +81,12 @@ HasSignedBox s scheme sk message chosen z x = IsSigned (s.signature_of scheme) s
     × ((seed : List ℕ) → IsGenuine (s.public_of scheme) sk seed
     → VouchesUnderEachKey (s.accepts scheme) (s.public_of scheme seed) sk.keynum message x)
 
+-- all the data was read, and the box is signed so over it
+abbrev pub HasSignedData : {S R Z : Type 0} → SchemeOf S → S → SecretKeyRecord → SourceCall R → ChosenComments
+    → RandomCall Z → SignatureBoxRecord → Type 0
+HasSignedData s scheme sk r chosen z x = (message : List ℕ) × ReadsWhole r.source r.old r.new message
+    × HasSignedBox s scheme sk message chosen z x
+
 -- the chosen comments are read back as they were written
 abbrev pub AreChosenReadBack : ChosenComments → Type 0
 AreChosenReadBack chosen = AreReadBack chosen.untrusted chosen.trusted
@@ -104,13 +108,12 @@ OpenedSigningFails r z e =
 -- signing fails: the key is sealed, with nothing read or drawn; or it is opened, and signing with it fails;
 -- or all the data was read, and the public key that was given does not accept the comment signature of the
 -- box that the opened key made of it
-abbrev pub SigningFails : {R Z : Type 0} → Verifier → Signer → Option PublicKeyRecord → SecretKeyRecord
-    → ChosenComments
-    → SourceCall R → RandomCall Z → Fault → Type 0
-SigningFails accepts sign pk sk chosen r z e =
+abbrev pub SigningFails : {S R Z : Type 0} → SchemeOf S → S → Option PublicKeyRecord → SecretKeyRecord
+    → ChosenComments → SourceCall R → RandomCall Z → Fault → Type 0
+SigningFails s scheme pk sk chosen r z e =
     (((e ≡ Named named.EncryptedKeyRefused) × (is_encrypted sk ≡ true) × (r.new ≡ r.old) × (z.new ≡ z.old))
     ⊎ ((is_encrypted sk ≡ false) × OpenedSigningFails r z e))
     ⊎ IsSomeAnd pk (λ p. (message : List ℕ) × (made : SignatureBoxRecord)
     × (e ≡ Named (named.RefusedByGivenKey p.keynum)) × (is_encrypted sk ≡ false)
-    × ReadsWhole r.source r.old r.new message × IsSigned sign sk message chosen z made
-    × (accepts_comments accepts p made ≡ false))
+    × ReadsWhole r.source r.old r.new message × IsSigned (s.signature_of scheme) sk message chosen z made
+    × (accepts_comments (s.accepts scheme) p made ≡ false))

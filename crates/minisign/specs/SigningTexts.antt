@@ -1,6 +1,8 @@
 -- Signing with the text of a secret key: which key the text gives, and what is returned.
 use Rattle.std.specs.Prelude.{◌≡◌, ◌⊎◌, ℕ, true, false, List, Option, None, Some, Result, Ok, Err}
-use Rattle.minisign.specs.Common.{Fault, PromptCall, RandomCall, SourceCall, SchemeOf}
+use Rattle.minisign_base.specs.Fault.{Fault}
+use Rattle.minisign_base.specs.DeviceCalls.{PromptCall, RandomCall, SourceCall}
+use Rattle.minisign_base.specs.Members.{SchemeOf}
 use Rattle.minisign.specs.Headline.{SigningHeadline}
 use Rattle.minisign.specs.Reading.{ReadsWhole}
 use Rattle.minisign.specs.Records.{CommentsRecord, SecretKeyRecord, SignatureBoxRecord}
@@ -36,6 +38,12 @@ abbrev pub HasSignedText : {S Z : Type 0} → SchemeOf S → S → SecretKeyReco
 HasSignedText s scheme sk message chosen z text = IsSignedText (s.signature_of scheme) sk message chosen z
     text
     × SigningHeadline (s.accepts scheme) (s.public_of scheme) sk message chosen text
+
+-- all the data was read, and the text is that of a box that is signed so over it
+abbrev pub HasSignedDataText : {S R Z : Type 0} → SchemeOf S → S → SecretKeyRecord → SourceCall R
+    → ChosenComments → RandomCall Z → List ℕ → Type 0
+HasSignedDataText s scheme sk r chosen z text = (message : List ℕ)
+    × ReadsWhole r.source r.old r.new message × HasSignedText s scheme sk message chosen z text
 
 -- the text of a secret key gave a key, all the data was read, and this is the text of a signature that is
 -- made so

@@ -2,13 +2,17 @@
 -- status, and the output.
 use Rattle.std.specs.Prelude.{◌≡◌, ◌≢◌, ◌⊎◌, ⊤, ℕ, Bool, true, false, ◌&&◌, List, [], ◌∷◌, ◌++◌, Result, Ok}
 use Rattle.std.specs.Prelude.{Err, MatchResult, IsErrAnd}
-use Rattle.minisign.specs.Common.{blake2b_digest, Fault, Named, Flushes, GoesBack, Marks, Puts, RereaderCall}
-use Rattle.minisign.specs.Common.{SinkCall, SourceGives, EndsWith, StepsEnd, DataChanged, GoingBackFailed}
-use Rattle.minisign.specs.Common.{OutOfMemory, WritingFailed}
+use Rattle.minisign_hash.specs.Blake2b.{blake2b_digest}
+use Rattle.minisign_base.specs.Fault.{Fault, Named}
+use Rattle.minisign_base.specs.DeviceCalls.{Flushes, GoesBack, Marks, Puts, RereaderCall, SinkCall}
+use Rattle.minisign_base.specs.DeviceCalls.{SourceGives}
+use Rattle.minisign_base.specs.Steps.{EndsWith, StepsEnd}
+use Rattle.minisign_base.specs.declared.faults.NamedFault.TheVariants.{DataChanged, GoingBackFailed}
+use Rattle.minisign_base.specs.declared.faults.NamedFault.TheVariants.{OutOfMemory, WritingFailed}
 use Rattle.minisign.specs.Acceptance.{Verifier, judge, status_lines}
 use Rattle.minisign.specs.Reading.{Copies, IsReadFault, ReadsWhole}
 use Rattle.minisign.specs.Records.{PublicKeyRecord, SignatureBoxRecord, is_prehashed}
-use Rattle.minisign.specs.Texts.{IsReadOrNoMemory}
+use Rattle.minisign.specs.Texts.{IsGivenOrNoMemory}
 use Rattle.minisign.specs.declared.options.VerifyOptions.{VerifyOptions}
 use Rattle.minisign.specs.declared.signed_data.SignedData.{SignedData}
 use Rattle.minisign.specs.declared.signed_data.SignedData.TheVariants.{Digest, Kept, Unkept}
@@ -44,7 +48,7 @@ module _ {R W O : Type 0} (reader : RereaderCall R) (status : SinkCall W) (out :
       (λ e. IsReadFault reader.source reader.old reader.new e × SourceGives reader)
       × (reader.source.is_marked reader.new ≡ reader.source.is_marked reader.old))
       × (status.new ≡ status.old) × (out.new ≡ out.old)
-  StageEnds (Judge accepts pk x legacy message) answer = IsReadOrNoMemory answer
+  StageEnds (Judge accepts pk x legacy message) answer = IsGivenOrNoMemory answer
       (judge accepts pk x message legacy)
       × (reader.new ≡ reader.old) × (status.new ≡ status.old) × (out.new ≡ out.old)
   StageEnds (Report text) answer =

@@ -2,7 +2,9 @@
 -- order.
 use Rattle.std.specs.Prelude.{◌≡◌, ◌↔◌, ◌⊎◌, ℕ, ◌%◌, Bool, if◌then◌else◌, bytes_eq, map, List, Result, Ok}
 use Rattle.std.specs.Prelude.{Err, codes, [], ◌∷◌, ◌++◌}
-use Rattle.minisign.specs.Common.{Fault, Named, NamedFault, OutOfMemory}
+use Rattle.minisign_base.specs.Fault.{Fault, Named}
+use Rattle.minisign_base.specs.declared.faults.NamedFault.{NamedFault}
+use Rattle.minisign_base.specs.declared.faults.NamedFault.TheVariants.{OutOfMemory}
 use Rattle.base64.specs.Engines.{standard}
 use Rattle.base64.specs.GeneralPurpose.{encode_of, decoded_bytes_of, IsBytes}
 
@@ -41,9 +43,9 @@ abbrev pub map_ok : {V W : Type 0} → (V → W) → Result V Fault → Result W
 map_ok f (Ok v) = Ok (f v)
 map_ok f (Err e) = Err e
 
--- the answer is what is read, or out of memory
-abbrev pub IsReadOrNoMemory : {V : Type 0} → Result V Fault → Result V Fault → Type 0
-IsReadOrNoMemory answer read = (answer ≡ read) ⊎ (answer ≡ Err (Named OutOfMemory))
+-- the answer is the one that is given, or out of memory
+abbrev pub IsGivenOrNoMemory : {V : Type 0} → Result V Fault → Result V Fault → Type 0
+IsGivenOrNoMemory answer given = (answer ≡ given) ⊎ (answer ≡ Err (Named OutOfMemory))
 
 -- what is read is a value exactly where the text reads as this value, by the relation; it reads as one at
 -- most, and as none where what is read is an error

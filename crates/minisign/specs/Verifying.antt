@@ -2,9 +2,11 @@
 -- failed at one of its stages.
 use Rattle.std.specs.Prelude.{◌≡◌, ℕ, Bool, true, false, if◌then◌else◌, List, [], ◌++◌, IsSome, ◌⊎◌, Result}
 use Rattle.std.specs.Prelude.{Ok, Err}
-use Rattle.minisign.specs.Common.{IsAtEnd, blake2b_digest, Fault, IsFlushed, IsSteady, IsUnflushed}
-use Rattle.minisign.specs.Common.{RereaderCall, SinkCall, SinkHasNoNewFault, SourceHasNoNewFault, Takes}
-use Rattle.minisign.specs.Common.{unused}
+use Rattle.std.specs.Io.KnownBytes.{IsAtEnd}
+use Rattle.minisign_hash.specs.Blake2b.{blake2b_digest}
+use Rattle.minisign_base.specs.Fault.{Fault}
+use Rattle.minisign_base.specs.DeviceCalls.{IsFlushed, IsSteady, IsUnflushed, RereaderCall, SinkCall}
+use Rattle.minisign_base.specs.DeviceCalls.{SinkHasNoNewFault, SourceHasNoNewFault, Takes, unused}
 use Rattle.minisign.specs.Records.{PublicKeyRecord, SignatureBoxRecord, is_prehashed}
 use Rattle.minisign.specs.Acceptance.{Verifier, Vouches, signed_bytes, status_lines}
 use Rattle.minisign.specs.declared.options.VerifyOptions.{VerifyOptions}
@@ -12,7 +14,7 @@ use Rattle.minisign.specs.Reading.{IsAhead}
 use Rattle.minisign.specs.Stages.{StagesEnd, second_copy_stages, is_reread, reading_stages, verifying_stages}
 use Rattle.minisign.specs.PublicKeyText.{read_public_key}
 use Rattle.minisign.specs.SignatureText.{read_signature_box}
-use Rattle.minisign.specs.Texts.{IsReadOrNoMemory, and_then, map_ok}
+use Rattle.minisign.specs.Texts.{IsGivenOrNoMemory, and_then, map_ok}
 
 -- what is to be said of a box that was accepted
 abbrev pub wanted_status : Bool → SignatureBoxRecord → List ℕ
@@ -85,7 +87,7 @@ pub record VerifyingTextsSucceeds {R W O : Type 0} (accepts : Verifier) (pk_text
 abbrev pub VerifyingTextsFails : {R W O : Type 0} → Verifier → List ℕ → List ℕ → VerifyOptions
     → RereaderCall R → SinkCall W → SinkCall O → Fault → Type 0
 VerifyingTextsFails accepts pk_text sig_text options reader status out e =
-    (IsReadOrNoMemory (Err e) (read_texts pk_text sig_text)
+    (IsGivenOrNoMemory (Err e) (read_texts pk_text sig_text)
     × (reader.new ≡ reader.old) × (status.new ≡ status.old) × (out.new ≡ out.old))
     ⊎ ((key : PublicKeyRecord) × (box : SignatureBoxRecord) × (read_texts pk_text sig_text ≡ Ok (key, box))
     × VerifyingFails accepts key box options reader status out e)

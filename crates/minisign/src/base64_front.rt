@@ -15,9 +15,8 @@ const PIECE_BYTES: usize = 48;
 // all of them or as many as there is room for; nothing where the text is not base64.
 pub(crate) fn decode_front(text: &[u8], room: &mut [u8]) -> Option<usize>
     requires { length room.old % 3 ≡ 0 }
-    ensures { MatchOption result (is_base64 text.now ≡ false)
-        (λ n. (bytes : List ℕ) × IsBase64Of text.now bytes
-        × (n ≡ min (length bytes) (length room.old)) × (n ≤ length room.new)
+    ensures { MatchOption result (is_base64 text.now ≡ false) (λ n. (bytes : List ℕ)
+        × IsBase64Of text.now bytes × (n ≡ min (length bytes) (length room.old)) × (n ≤ length room.new)
         × (take n room.new ≡ take n bytes)) }
 {
     let fitting = room.len() / 3 * 4;

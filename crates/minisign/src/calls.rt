@@ -8,9 +8,9 @@ ghost use Rattle.minisign_base.specs.DeviceCalls.{rereader_call, sink_call, unus
 ghost use Rattle.minisign_base.specs.Devices.{HasGiven};
 ghost use Rattle.minisign.specs.Calls.{CopyIsVouchedWith, TextsVouchWith};
 ghost use Rattle.minisign.specs.Acceptance.{options_of};
-ghost use Rattle.minisign.specs.Headline.{WhereNothingFails, verdict};
+ghost use Rattle.minisign.specs.Headline.{verdict, IsVerdictWhereNothingFails};
 ghost use Rattle.minisign.specs.Reading.{HasFailed, IsAhead, IsReadFromFile, ReadsWhole};
-ghost use Rattle.minisign.specs.Texts.{IsReadOrNoMemory, map_ok};
+ghost use Rattle.minisign.specs.Texts.{IsGivenOrNoMemory, map_ok};
 ghost use Rattle.minisign.specs.Records.{PublicKeyRecord, SignatureBoxRecord};
 ghost use Rattle.minisign.specs.SignatureText.{read_signature};
 ghost use Rattle.minisign.specs.Verifying.{VerifyingTextsFails, VerifyingTextsSucceeds, read_texts};
@@ -49,11 +49,9 @@ pub fn verify_with<S: Scheme, R: Rereader, W: Sink, O: Sink>(
 ) -> Result<String>
     // Over data that is known, where no device fails, and over a steady source where the data is copied: the
     // answer is the verdict, a function of the two texts, the data and the flag, or out of memory.
-    ensures headline { WhereNothingFails options.output
-        (rereader_call R.Source R.steady data_reader.old data_reader.new)
-        (sink_call W.Sink status.old status.new) (sink_call O.Sink out.old out.new)
-        (map_ok string_bytes result)
-        (λ bytes. verdict (S.accepts scheme.now) pk_text.now sig_text.now bytes options.allow_legacy) }
+    ensures headline { IsVerdictWhereNothingFails (S.accepts scheme.now) pk_text.now sig_text.now options
+        (rereader_call R.Source R.steady data_reader.old data_reader.new) (sink_call W.Sink status.old
+        status.new) (sink_call O.Sink out.old out.new) (map_ok string_bytes result) }
 
     // What is returned is the comment that the signature text holds.
     ensures comment { IfOk result
@@ -61,13 +59,11 @@ pub fn verify_with<S: Scheme, R: Rereader, W: Sink, O: Sink>(
 
     // What is said of success and of a rejection is what the clauses `accepted` and `refused` of
     // `verify_texts` say.
-    ensures accepted { OnOk result
-        (VerifyingTextsSucceeds (S.accepts scheme.now) pk_text.now sig_text.now options
-        (rereader_call R.Source R.steady data_reader.old data_reader.new)
+    ensures accepted { OnOk result (VerifyingTextsSucceeds (S.accepts scheme.now) pk_text.now sig_text.now
+        options (rereader_call R.Source R.steady data_reader.old data_reader.new)
         (sink_call W.Sink status.old status.new) (sink_call O.Sink out.old out.new)) }
-    ensures refused { IfErr result
-        (VerifyingTextsFails (S.accepts scheme.now) pk_text.now sig_text.now options
-        (rereader_call R.Source R.steady data_reader.old data_reader.new)
+    ensures refused { IfErr result (VerifyingTextsFails (S.accepts scheme.now) pk_text.now sig_text.now
+        options (rereader_call R.Source R.steady data_reader.old data_reader.new)
         (sink_call W.Sink status.old status.new) (sink_call O.Sink out.old out.new)) }
 
     // With quiet the status is untouched, and without `output` the output.
@@ -99,7 +95,7 @@ fn read_with_comment(
     pk_text: &str,
     sig_text: &str,
 ) -> Result<(PublicKey, SignatureBox, String)>
-    ensures read { IsReadOrNoMemory {V = PublicKeyRecord × SignatureBoxRecord}
+    ensures read { IsGivenOrNoMemory {V = PublicKeyRecord × SignatureBoxRecord}
         (map_ok (λ all. (all.0, all.1)) result)
         (read_texts pk_text.now sig_text.now) }
     ensures comment { IfOk result
@@ -130,7 +126,7 @@ pub fn verify_bytes<S: Scheme>(
 ) -> Result<String>
     // Of data in memory: the answer is the verdict, a function of the two texts and the data, or out of
     // memory.
-    ensures { IsReadOrNoMemory (map_ok string_bytes result)
+    ensures { IsGivenOrNoMemory (map_ok string_bytes result)
         (verdict (S.accepts scheme.now) pk_text.now sig_text.now message.now false) }
 {
     let mut room = zeros(alloc, sig_text.len())?;
@@ -140,8 +136,8 @@ pub fn verify_bytes<S: Scheme>(
 
 /// Verifies that the texts of a public key and of a signature vouch for the data in memory, and returns the
 /// trusted comment, which was signed with the data, where it lies in the text of the signature. Does not
-/// allocate: `room` has as many bytes as the text of the signature at least, and holds afterwards what the
-/// comment signature is over, or what it held before.
+/// allocate: `room` has as many bytes as the text of the signature at least; what it holds afterwards is not
+/// said.
 ///
 /// These are rejected, in this order: the text of the public key, as `read_public_key` says; the text of the
 /// signature, as `read_signature` says; key IDs that differ; a signature over the data itself, unless
@@ -233,10 +229,9 @@ pub fn verify_reader<S: Scheme, R: Rereader>(
 ) -> Result<String>
     // Over a source whose bytes are known, if it does not fail: the answer is the verdict, a function of the
     // two texts and the data, or out of memory.
-    ensures headline { WhereNothingFails false
-        (rereader_call R.Source R.steady data_reader.old data_reader.new) unused unused
-        (map_ok string_bytes result)
-        (λ message. verdict (S.accepts scheme.now) pk_text.now sig_text.now message false) }
+    ensures headline { IsVerdictWhereNothingFails (S.accepts scheme.now) pk_text.now sig_text.now
+        (options_of true false false) (rereader_call R.Source R.steady data_reader.old data_reader.new) unused
+        unused (map_ok string_bytes result) }
 
     // Whether its bytes are known or not: on success the texts vouch for what was ahead, with the
     // comment that is returned; all of it was read to its end, without an error.
@@ -246,11 +241,9 @@ pub fn verify_reader<S: Scheme, R: Rereader>(
 
     // Otherwise out of memory; or `reading failed`, only if the reader's count of errors rose; or the
     // verdict's rejection.
-    ensures refused { IfErr result
-        (λ e. (e ≡ Named OutOfMemory)
-        ⊎ HasFailed ReadingFailed (R.faults data_reader.old) (R.faults data_reader.new) e
-        ⊎ ((message : List ℕ) × IsAhead (R.ahead data_reader.old) message
-        × (verdict (S.accepts scheme.now) pk_text.now sig_text.now message false ≡ Err e))) }
+    ensures refused { IfErr result (λ e. (e ≡ Named OutOfMemory) ⊎ HasFailed ReadingFailed (R.faults
+        data_reader.old) (R.faults data_reader.new) e ⊎ ((bytes : List ℕ) × IsAhead (R.ahead data_reader.old)
+        bytes × (verdict (S.accepts scheme.now) pk_text.now sig_text.now bytes false ≡ Err e))) }
 
     // After a rejection a text was rejected, or an allocation for one failed, with the reader as it was; or
     // it failed at one of the stages of `verify`: at the reading, where an allocation failed or the reader
@@ -315,11 +308,9 @@ pub fn copy_verified<S: Scheme, R: Rereader, O: Sink>(
 ) -> Result<String>
     // Over a steady source whose bytes are known, if no device fails: the answer is the verdict, a function
     // of the two texts and the data, or out of memory.
-    ensures headline { WhereNothingFails true
-        (rereader_call R.Source R.steady data_reader.old data_reader.new) unused
-        (sink_call O.Sink out.old out.new)
-        (map_ok string_bytes result)
-        (λ message. verdict (S.accepts scheme.now) pk_text.now sig_text.now message false) }
+    ensures headline { IsVerdictWhereNothingFails (S.accepts scheme.now) pk_text.now sig_text.now
+        (options_of true true false) (rereader_call R.Source R.steady data_reader.old data_reader.new) unused
+        (sink_call O.Sink out.old out.new) (map_ok string_bytes result) }
 
     // What the output took and flushed is itself vouched for, with the comment that is returned; a
     // second reading gave it, with the digest of the first; and it is what was ahead of a steady
@@ -332,9 +323,8 @@ pub fn copy_verified<S: Scheme, R: Rereader, O: Sink>(
     // stages of `verify`. So nothing was copied, or the texts vouch for what was read first, and
     // going back, memory, the second reading or the output failed, or the second reading had
     // another digest.
-    ensures refused { IfErr result
-        (VerifyingTextsFails (S.accepts scheme.now) pk_text.now sig_text.now (options_of true true false)
-        (rereader_call R.Source R.steady data_reader.old data_reader.new) unused
+    ensures refused { IfErr result (VerifyingTextsFails (S.accepts scheme.now) pk_text.now sig_text.now
+        (options_of true true false) (rereader_call R.Source R.steady data_reader.old data_reader.new) unused
         (sink_call O.Sink out.old out.new)) }
 {
     verify_with(

@@ -39,10 +39,8 @@ fn accepts_comment<S: Scheme>(
     signature: &Signature,
     comments: &Comments,
 ) -> Result<bool>
-    ensures { MatchResult result
-        (λ b. b ≡ accepts_comments (S.accepts scheme.now) pk.now
-        (record { signature = signature.now; comments = Some comments.now }))
-        (λ e. e ≡ Named OutOfMemory) }
+    ensures { MatchResult result (λ b. b ≡ accepts_comments (S.accepts scheme.now) pk.now
+        (record { signature = signature.now; comments = Some comments.now })) (λ e. e ≡ Named OutOfMemory) }
 {
     if comments.global_sig.len() < 64 {
         return Ok(false);

@@ -106,10 +106,9 @@ fn copy_pieces<R: Rereader, O: Sink>(
     requires some { 0 < length buf.old }
     requires open { has_finalized hasher.old ≡ false }
     requires anew { BeginsAnew (R.since data_reader.old) }
-    ensures copied { OnOk result ((message : List ℕ)
-        × ((m : List ℕ) → IsFed hasher.old m → IsFed hasher.new (m ++ message))
-        × Copies (rereader_call R.Source R.steady data_reader.old data_reader.new)
-        (sink_call O.Sink out.old out.new) message (Ok tt)) }
+    ensures copied { OnOk result ((message : List ℕ) × ((m : List ℕ) → IsFed hasher.old m
+        → IsFed hasher.new (m ++ message)) × Copies (rereader_call R.Source R.steady data_reader.old
+        data_reader.new) (sink_call O.Sink out.old out.new) message (Ok tt)) }
     ensures refused { IfErr result (λ e. (message : List ℕ)
         × Copies (rereader_call R.Source R.steady data_reader.old data_reader.new)
         (sink_call O.Sink out.old out.new) message (Err e)) }
@@ -134,9 +133,8 @@ fn copy_pieces<R: Rereader, O: Sink>(
 
 // Returns to the mark.
 fn go_back<R: Rereader>(data_reader: &mut R) -> Result<()>
-    ensures { MatchResult result
-        (λ _. GoesBack (rereader_call R.Source R.steady data_reader.old data_reader.new) (Ok tt))
-        (λ e. (e ≡ Named GoingBackFailed)
+    ensures { MatchResult result (λ _. GoesBack (rereader_call R.Source R.steady data_reader.old
+        data_reader.new) (Ok tt)) (λ e. (e ≡ Named GoingBackFailed)
         × GoesBack (rereader_call R.Source R.steady data_reader.old data_reader.new) (Err tt)) }
 {
     match data_reader.back() {

@@ -10,7 +10,7 @@ ghost use Rattle.minisign_base.specs.declared.faults.NamedFault.TheVariants.{Pub
 ghost use Rattle.minisign_base.specs.declared.faults.NamedFault.TheVariants.{RecordTooShort};
 ghost use Rattle.minisign_base.specs.declared.faults.NamedFault.TheVariants.{SignatureNotBase64};
 ghost use Rattle.minisign.specs.SignatureText.{first_64, view_of, EncodesSignature, read_signature};
-ghost use Rattle.minisign.specs.SignatureText.{signature_in_lines};
+ghost use Rattle.minisign.specs.SignatureText.{signature_in_lines, with_comments};
 ghost use Rattle.minisign.specs.PublicKeyText.{decoded_key, read_bare_public_key, read_public_key};
 ghost use Rattle.minisign.specs.Records.{IsKnownAlgorithm, is_prehashed};
 ghost use Rattle.minisign.specs.Texts.{base64_bytes, is_base64, map_ok, require};
@@ -181,14 +181,9 @@ pub(crate) struct SignatureParts<'a> {
 
 // Reads a signature text.
 pub(crate) fn read_parts(text: &str) -> Result<SignatureParts<'_>>
-    ensures read { IfOk result (λ p. read_signature text.now ≡ Ok (record {
-      signature = p.signature;
-      comments = record {
-        untrusted = p.untrusted_comment.now;
-        trusted = p.trusted_comment.now;
-        signature = base64_bytes p.comment_signature.now;
-      };
-    })) }
+    ensures read { IfOk result (λ p. read_signature text.now ≡ Ok
+        (with_comments p.signature p.untrusted_comment.now p.trusted_comment.now
+        (base64_bytes p.comment_signature.now))) }
     ensures parts { IfOk result
         (λ p. (is_base64 p.comment_signature.now ≡ true) × IsKnownAlgorithm p.signature.algorithm
         × (64 + length p.trusted_comment.now ≤ length text.now)) }
@@ -210,15 +205,9 @@ fn read_lines<'a>(
     third: &'a str,
     fourth: &'a str,
 ) -> Result<SignatureParts<'a>>
-    ensures read { IfOk result (λ p.
-        signature_in_lines (first.now ∷ second.now ∷ third.now ∷ fourth.now ∷ []) ≡ Ok (record {
-          signature = p.signature;
-          comments = record {
-            untrusted = p.untrusted_comment.now;
-            trusted = p.trusted_comment.now;
-            signature = base64_bytes p.comment_signature.now;
-          };
-        })) }
+    ensures read { IfOk result (λ p. signature_in_lines (first.now ∷ second.now ∷ third.now ∷ fourth.now ∷ [])
+        ≡ Ok (with_comments p.signature p.untrusted_comment.now p.trusted_comment.now
+        (base64_bytes p.comment_signature.now))) }
     ensures parts { IfOk result
         (λ p. (is_base64 p.comment_signature.now ≡ true) × IsKnownAlgorithm p.signature.algorithm
         × (64 + length p.trusted_comment.now ≤ length second.now + length third.now)) }
@@ -243,9 +232,8 @@ fn read_lines<'a>(
 
 // The signature that a text is the base64 of.
 fn decode_signature(text: &str) -> Result<Signature>
-    ensures { MatchResult result (EncodesSignature text.now)
-        (λ e. ((e ≡ Named SignatureNotBase64) × (is_base64 text.now ≡ false))
-        ⊎ ((e ≡ Named RecordTooShort) × (is_base64 text.now ≡ true)
+    ensures { MatchResult result (EncodesSignature text.now) (λ e. ((e ≡ Named SignatureNotBase64)
+        × (is_base64 text.now ≡ false)) ⊎ ((e ≡ Named RecordTooShort) × (is_base64 text.now ≡ true)
         × (length (base64_bytes text.now) < 74))) }
 {
     let mut record = [0u8; 75];

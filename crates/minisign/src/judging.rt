@@ -1,7 +1,7 @@
 //! The conditions of acceptance in their order, of data in memory and a signature text that is read where it
 //! lies: none of it takes memory.
 
-ghost use Rattle.std.specs.Prelude.{◌≡◌, ◌+◌, ◌≤◌, ◌++◌, if◌then◌else◌, length, take};
+ghost use Rattle.std.specs.Prelude.{◌≡◌, ◌+◌, ◌≤◌, if◌then◌else◌, length};
 ghost use Rattle.minisign_hash.specs.Blake2b.{blake2b_digest};
 ghost use Rattle.minisign.specs.Acceptance.{accepts_comments, judge, judge_key};
 ghost use Rattle.minisign.specs.SignatureText.{view_of, SignatureTextRecord, box_of};

@@ -1,20 +1,16 @@
 //! Calls for callers: opening a key with a password, making a pair under one, and signing bytes in
 //! memory, what a reader has ahead, or a file.
 
-ghost use Rattle.std.specs.Prelude.{◌≡◌, ◌≤◌, ◌⊎◌, List, ℕ, false, None, Some, length, string_bytes, IfOk};
-ghost use Rattle.std.specs.Prelude.{IfErr, OnOk, MatchResult};
-ghost use Rattle.std.specs.Option.{option_map};
+ghost use Rattle.std.specs.Prelude.{◌≡◌, ◌≤◌, List, ℕ, false, None, Some, length, string_bytes, IfOk};
+ghost use Rattle.std.specs.Prelude.{IfErr, OnOk};
 ghost use Rattle.minisign_base.specs.Devices.{HasGiven};
-ghost use Rattle.minisign_base.specs.Fault.{Named};
-ghost use Rattle.minisign_base.specs.declared.faults.NamedFault.TheVariants.{OutOfMemory};
 ghost use Rattle.minisign_base.specs.DeviceCalls.{random_call, source_call};
 ghost use Rattle.minisign.specs.Calls.{BytesSigningFails, PasswordPairFails, PathSigningFails};
 ghost use Rattle.minisign.specs.Generation.{IsSealedPair, OpensToPair};
 ghost use Rattle.minisign.specs.Headline.{SigningHeadline};
-ghost use Rattle.minisign.specs.Reading.{ReadsWhole};
 ghost use Rattle.minisign.specs.Sealing.{is_encrypted};
 ghost use Rattle.minisign.specs.Signing.{SigningFails, given_comments};
-ghost use Rattle.minisign.specs.SigningTexts.{HasSignedText, IsSignedText};
+ghost use Rattle.minisign.specs.SigningTexts.{HasSignedText, IsSignedText, HasSignedDataText};
 ghost use Rattle.minisign.specs.Opening.{IsOpenedOrNoMemory, key_with_password};
 
 use crate::keypair::{KeyPair, draw_with_salt, make_sealed_pair};
@@ -182,11 +178,9 @@ pub fn sign_reader<S: Scheme, R: Source, Z: RandomSource>(
     // The text is that of the box that signing makes of all the data ahead, with an opened key; what
     // a genuine key signed is read back as a box that vouches for this data, if neither comment has
     // a line feed and the trusted one is trimmed.
-    ensures signed { IfOk result
-        (λ t. (message : List ℕ) × ReadsWhole R.Source data_reader.old data_reader.new message
-        × HasSignedText S.Scheme scheme.now sk.now message
-        (given_comments trusted_comment.entry None moment)
-        (random_call Z.RandomSource random.old random.new) (string_bytes t)) }
+    ensures signed { IfOk result (λ t. HasSignedDataText S.Scheme scheme.now sk.now
+        (source_call R.Source data_reader.old data_reader.new) (given_comments trusted_comment.entry None
+        moment) (random_call Z.RandomSource random.old random.new) (string_bytes t)) }
     ensures opened { OnOk result (is_encrypted sk.now ≡ false) }
 
     // On success the random source did not fail.
@@ -195,11 +189,9 @@ pub fn sign_reader<S: Scheme, R: Source, Z: RandomSource>(
     // The rejections: a sealed key, with nothing read or drawn; and with an opened one out of memory,
     // with no new error of either, a failing reader, with nothing drawn, and a failing random source,
     // once all was read.
-    ensures refused { IfErr result
-        (SigningFails (S.accepts scheme.now) (S.signature_of scheme.now) None sk.now
-        (given_comments trusted_comment.entry None moment)
-        (source_call R.Source data_reader.old data_reader.new)
-        (random_call Z.RandomSource random.old random.new)) }
+    ensures refused { IfErr result (SigningFails S.Scheme scheme.now None
+        sk.now (given_comments trusted_comment.entry None moment) (source_call R.Source data_reader.old
+        data_reader.new) (random_call Z.RandomSource random.old random.new)) }
 
     // Whatever the result, the reader and the random source lost at most some bytes at their front.
     ensures given { HasGiven (R.ahead data_reader.old) (R.ahead data_reader.new) }
@@ -243,10 +235,9 @@ pub fn sign_file<F: Files, S: Scheme, Z: RandomSource>(
     // genuine key signed is read back as a box that vouches for this data, if neither comment has a
     // line feed and the trusted one is trimmed. No byte of std's files is known: that it is the data of
     // the named file, the code and tests show.
-    ensures signed { IfOk result (λ t. (message : List ℕ)
-        × HasSignedText S.Scheme scheme.now sk.now message
-        (given_comments trusted_comment.entry None moment)
-        (random_call Z.RandomSource random.old random.new) (string_bytes t)) }
+    ensures signed { IfOk result (λ t. (message : List ℕ) × HasSignedText S.Scheme scheme.now sk.now message
+        (given_comments trusted_comment.entry None moment) (random_call Z.RandomSource random.old random.new)
+        (string_bytes t)) }
     ensures opened { OnOk result (is_encrypted sk.now ≡ false) }
 
     // On success the random source did not fail.
@@ -292,8 +283,7 @@ fn sign_opened_file<S: Scheme, R: Source, Z: RandomSource>(
     random: &mut Z,
 ) -> Result<String>
     requires { is_encrypted sk.now ≡ false }
-    ensures signed { IfOk result (λ t. (message : List ℕ)
-        × HasSignedText S.Scheme scheme.now sk.now message
+    ensures signed { IfOk result (λ t. (message : List ℕ) × HasSignedText S.Scheme scheme.now sk.now message
         (given_comments comments.entry.trusted comments.entry.untrusted comments.entry.moment)
         (random_call Z.RandomSource random.old random.new) (string_bytes t)) }
     ensures random_no_new_fault { OnOk result (Z.random_faults random.new ≡ Z.random_faults random.old) }

@@ -1,6 +1,6 @@
 //! Pairs of keys, and how they are made.
 
-ghost use Rattle.std.specs.Prelude.{◌≡◌, ◌⊎◌, ℕ, List, ◌++◌, length, string_bytes, None, Ok, Err, IfSome};
+ghost use Rattle.std.specs.Prelude.{◌≡◌, ℕ, List, ◌++◌, length, string_bytes, None, Ok, Err, IfSome};
 ghost use Rattle.std.specs.Prelude.{IfOk, IfErr, OnOk, OnErr};
 ghost use Rattle.std.specs.Option.{option_copied, option_map};
 ghost use Rattle.std.specs.Str.Iter.{LacksByte};
@@ -22,7 +22,7 @@ ghost use Rattle.minisign.specs.SecretKeyText.{read_secret_key, secret_key_text}
 ghost use Rattle.minisign.specs.Generation.{AreSeedAndKeynum, HasSealed, IsGenuinePair, IsSealedOf};
 ghost use Rattle.minisign.specs.Generation.{IsUnsealedPair, OpensToPair, PartsFail, RawPairFails};
 ghost use Rattle.minisign.specs.Generation.{SealedPairFails, SealedTextsFail, public_key_of, secret_of};
-ghost use Rattle.minisign.specs.Generation.{unsealed_key};
+ghost use Rattle.minisign.specs.Generation.{unsealed_key, SinksFail};
 ghost use Rattle.minisign.specs.Opening.{OpensTo, read_unencrypted_key};
 
 use crate::constants::{MEMLIMIT, OPSLIMIT, SIGALG};
@@ -136,10 +136,8 @@ impl KeyPair {
         // the random source did not fail, neither sink is touched; otherwise a sink failed: the public
         // one with the secret one untouched, or the secret one after the public one took everything
         // and flushed it; a sink that failed took a prefix.
-        ensures refused { IfErr result
-            (RawPairFails (S.public_of scheme.now)
-            (random_call Z.RandomSource random.old random.new)
-            (sink_call P.Sink pk_sink.old pk_sink.new)
+        ensures refused { IfErr result (RawPairFails (S.public_of scheme.now)
+            (random_call Z.RandomSource random.old random.new) (sink_call P.Sink pk_sink.old pk_sink.new)
             (sink_call K.Sink sk_sink.old sk_sink.new)) }
 
         // Whatever the result, the random source lost at most some bytes at its front.
@@ -175,11 +173,9 @@ impl KeyPair {
         // genuine then; each text that reads as it opens too, to this key and no other (`opens`). A
         // password that is passed in leaves the prompt untouched; otherwise what was asked, typed
         // and written is what docs/FORMATS.md says (`prompted`).
-        ensures made { IfOk result
-            (λ pair. HasSealed (S.public_of scheme.now)
-            (random_call Z.RandomSource random.old random.new)
-            (prompt_call R.Source W.Sink prompt.old prompt.new)
-            (option_map string_bytes password) pair.pk pair.sk) }
+        ensures made { IfOk result (λ pair. HasSealed (S.public_of scheme.now)
+            (random_call Z.RandomSource random.old random.new) (prompt_call R.Source W.Sink prompt.old
+            prompt.new) (option_map string_bytes password) pair.pk pair.sk) }
 
         // On success the random source did not fail.
         ensures no_new_fault { OnOk result (Z.random_faults random.new ≡ Z.random_faults random.old) }
@@ -187,10 +183,8 @@ impl KeyPair {
         // A sealed pair fails if the random source did, with nothing asked; otherwise all 72 bytes
         // were drawn, and an allocation failed, the prompt failed, a line gave no password, or two
         // were typed that differ.
-        ensures refused { IfErr result
-            (SealedPairFails (random_call Z.RandomSource random.old random.new)
-            (prompt_call R.Source W.Sink prompt.old prompt.new)
-            (option_map string_bytes password)) }
+        ensures refused { IfErr result (SealedPairFails (random_call Z.RandomSource random.old random.new)
+            (prompt_call R.Source W.Sink prompt.old prompt.new) (option_map string_bytes password)) }
 
         // Whatever the result, the random source lost at most some bytes at its front.
         ensures given { HasGiven (Z.random_ahead random.old) (Z.random_ahead random.new) }
@@ -225,11 +219,9 @@ impl KeyPair {
         prompt: &mut Prompt<R, W>,
     ) -> Result<KeyPair>
         // The pair is made as `KeyPair::generate_encrypted_keypair` says.
-        ensures made { IfOk result
-            (λ pair. HasSealed (S.public_of scheme.now)
-            (random_call Z.RandomSource random.old random.new)
-            (prompt_call R.Source W.Sink prompt.old prompt.new)
-            (option_map string_bytes password) pair.pk pair.sk) }
+        ensures made { IfOk result (λ pair. HasSealed (S.public_of scheme.now)
+            (random_call Z.RandomSource random.old random.new) (prompt_call R.Source W.Sink prompt.old
+            prompt.new) (option_map string_bytes password) pair.pk pair.sk) }
 
         // The sinks took the texts of both keys, and did not fail.
         ensures public { IfOk result
@@ -241,11 +233,9 @@ impl KeyPair {
 
         // The secret key's text opens under the password, to the key of the public one, if the
         // comment has no line feed.
-        ensures opens_again { IfSome comment.entry (λ s. LacksByte 10 s.now)
-            → IfOk result (λ pair. (typed : List ℕ) →
-            OpensToPair (S.public_of scheme.now) typed pair.pk pair.sk →
-            OpensTo (secret_key_text (option_copied comment.entry) pair.sk) typed 1
-            (xored_key pair.sk typed)) }
+        ensures opens_again { IfSome comment.entry (λ s. LacksByte 10 s.now) → IfOk result (λ pair.
+            (typed : List ℕ) → OpensToPair (S.public_of scheme.now) typed pair.pk pair.sk → OpensTo
+            (secret_key_text (option_copied comment.entry) pair.sk) typed 1 (xored_key pair.sk typed)) }
 
         // On success the random source did not fail.
         ensures no_new_fault { OnOk result (Z.random_faults random.new ≡ Z.random_faults random.old) }
@@ -254,14 +244,10 @@ impl KeyPair {
         // the random source did not fail, neither sink is touched; otherwise a sink failed: the public
         // one with the secret one untouched, or the secret one after the public one took everything
         // and flushed it; a sink that failed took a prefix.
-        ensures refused { IfErr result
-            (SealedTextsFail (S.public_of scheme.now)
-            (random_call Z.RandomSource random.old random.new)
-            (prompt_call R.Source W.Sink prompt.old prompt.new)
-            (option_map string_bytes password)
-            (sink_call P.Sink pk_sink.old pk_sink.new)
-            (sink_call K.Sink sk_sink.old sk_sink.new)
-            (option_copied comment.entry)) }
+        ensures refused { IfErr result (SealedTextsFail (S.public_of scheme.now)
+            (random_call Z.RandomSource random.old random.new) (prompt_call R.Source W.Sink prompt.old
+            prompt.new) (option_map string_bytes password) (sink_call P.Sink pk_sink.old pk_sink.new)
+            (sink_call K.Sink sk_sink.old sk_sink.new) (option_copied comment.entry)) }
 
         // Whatever the result, the random source lost at most some bytes at its front.
         ensures given { HasGiven (Z.random_ahead random.old) (Z.random_ahead random.new) }
@@ -280,11 +266,9 @@ fn seal_pair<S: Scheme, R: Source, W: Sink>(
     password: Option<String>,
     prompt: &mut Prompt<R, W>,
 ) -> Result<KeyPair>
-    ensures sealed { IfOk result (λ pair. (typed : List ℕ)
-        × IsSealing (prompt_call R.Source W.Sink prompt.old prompt.new)
-        (option_map string_bytes password) (Ok typed)
-        × IsSealedOf (S.public_of scheme.now) drawn.now.seed drawn.now.keynum drawn.now.salt typed pair.pk
-        pair.sk) }
+    ensures sealed { IfOk result (λ pair. (typed : List ℕ) × IsSealing (prompt_call R.Source W.Sink prompt.old
+        prompt.new) (option_map string_bytes password) (Ok typed) × IsSealedOf (S.public_of scheme.now)
+        drawn.now.seed drawn.now.keynum drawn.now.salt typed pair.pk pair.sk) }
     ensures refused { IfErr result
         (λ e. IsSealing (prompt_call R.Source W.Sink prompt.old prompt.new)
         (option_map string_bytes password) (Err e)) }
@@ -302,11 +286,9 @@ fn ask_and_seal<S: Scheme, R: Source, W: Sink>(
     drawn: &Drawn,
     prompt: &mut Prompt<R, W>,
 ) -> Result<KeyPair>
-    ensures typed { IfOk result
-        (λ pair. (password : List ℕ)
-        × IsSealing (prompt_call R.Source W.Sink prompt.old prompt.new) None (Ok password)
-        × IsSealedOf (S.public_of scheme.now) drawn.now.seed drawn.now.keynum drawn.now.salt password pair.pk
-        pair.sk) }
+    ensures typed { IfOk result (λ pair. (password : List ℕ) × IsSealing (prompt_call R.Source W.Sink
+        prompt.old prompt.new) None (Ok password) × IsSealedOf (S.public_of scheme.now) drawn.now.seed
+        drawn.now.keynum drawn.now.salt password pair.pk pair.sk) }
     ensures refused { IfErr result
         (λ e. IsSealing (prompt_call R.Source W.Sink prompt.old prompt.new) None (Err e)) }
 {
@@ -317,11 +299,9 @@ fn ask_and_seal<S: Scheme, R: Source, W: Sink>(
 // Says what a password is for, and asks for it twice.
 #[tactic(auto, unfolding(crate::specs::Opening::purpose_line, crate::specs::Opening::asking_text, crate::specs::Opening::second_question))]
 fn choose_password<R: Source, W: Sink>(alloc: Global, prompt: &mut Prompt<R, W>) -> Result<String>
-    ensures chosen { IfOk result (λ password. (first : List ℕ) × (second : List ℕ)
-        × (password_of first ≡ Ok (string_bytes password))
-        × (password_of second ≡ Ok (string_bytes password))
-        × ConversationEnds (prompt_call R.Source W.Sink prompt.old prompt.new) (choosing_steps first second)
-        (Ok tt)) }
+    ensures chosen { IfOk result (λ password. (first : List ℕ) × (second : List ℕ) × (password_of first
+        ≡ Ok (string_bytes password)) × (password_of second ≡ Ok (string_bytes password)) × ConversationEnds
+        (prompt_call R.Source W.Sink prompt.old prompt.new) (choosing_steps first second) (Ok tt)) }
     ensures refused { IfErr result (λ e. (first : List ℕ) × (second : List ℕ)
         × ConversationEnds (prompt_call R.Source W.Sink prompt.old prompt.new)
         (choosing_steps first second) (Err e)) }
@@ -415,9 +395,8 @@ fn write_parts<P: Sink, K: Sink>(
     ensures secret { OnOk result
         (TakesPart (sink_call K.Sink sk_sink.old sk_sink.new) secret.now) }
     ensures refused { IfErr result (λ e. (e ≡ Named WritingFailed)
-        × ((FailsAtPart (sink_call P.Sink pk_sink.old pk_sink.new) public.now × (sk_sink.new ≡ sk_sink.old))
-        ⊎ (TakesPart (sink_call P.Sink pk_sink.old pk_sink.new) public.now
-        × FailsAtPart (sink_call K.Sink sk_sink.old sk_sink.new) secret.now))) }
+        × SinksFail (sink_call P.Sink pk_sink.old pk_sink.new) (sink_call K.Sink sk_sink.old sk_sink.new)
+        public.now secret.now) }
 {
     write_part(pk_sink, public)?;
     write_part(sk_sink, secret)

@@ -72,9 +72,8 @@ impl SecretKey {
         ensures sealed { (keynum secret : List ℕ) → self ≡ unsealed_key keynum secret
             → IfOk result (λ sk. sk ≡ made_key keynum secret (Some password.now) sealing) }
         ensures opened { (keynum secret : List ℕ) → self ≡ unsealed_key keynum secret
-            → IfOk result
-            (λ sk. xored_key sk password.now
-            ≡ key_to_seal keynum secret sealing.salt sealing.operations_limit sealing.memory_limit) }
+            → IfOk result (λ sk. xored_key sk password.now ≡ key_to_seal keynum secret sealing.salt
+            sealing.operations_limit sealing.memory_limit) }
         ensures allowed { OnOk result (IsOk (sealing_limits sealing.memory_limit sealing.operations_limit)) }
         ensures refused { IfErr result (λ e. e ≡ making_fault (Some password.now) sealing) }
     {

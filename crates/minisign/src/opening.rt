@@ -279,10 +279,9 @@ impl SecretKey {
         derivation: Derivation,
     ) -> Result<SecretKey>
         requires { 1 ≤ derivation.k }
-        ensures opened { IfOk result (λ v. (bytes : List ℕ) × (password : List ℕ)
-            × (password_of bytes ≡ Ok password) × (open_sealed self password derivation.bound ≡ Ok v)
-            × ConversationEnds (prompt_call R.Source W.Sink prompt.old prompt.new)
-            (opening_steps self derivation.bound bytes) (Ok tt)) }
+        ensures opened { IfOk result (λ v. (bytes password : List ℕ) × (password_of bytes ≡ Ok password)
+            × (open_sealed self password derivation.bound ≡ Ok v) × ConversationEnds (prompt_call R.Source
+            W.Sink prompt.old prompt.new) (opening_steps self derivation.bound bytes) (Ok tt)) }
         ensures refused { IfErr result (λ e. (bytes : List ℕ)
             × ConversationEnds (prompt_call R.Source W.Sink prompt.old prompt.new)
             (opening_steps self derivation.bound bytes) (Err e)) }
@@ -354,9 +353,8 @@ impl SecretKey {
 // Asks for the password.
 #[tactic(auto, unfolding(crate::specs::Opening::asking_text))]
 fn ask_password<R: Source, W: Sink>(alloc: Global, prompt: &mut Prompt<R, W>) -> Result<String>
-    ensures asked { IfOk result (λ password. (bytes : List ℕ)
-        × (password_of bytes ≡ Ok (string_bytes password))
-        × ConversationEnds (prompt_call R.Source W.Sink prompt.old prompt.new)
+    ensures asked { IfOk result (λ password. (bytes : List ℕ) × (password_of bytes
+        ≡ Ok (string_bytes password)) × ConversationEnds (prompt_call R.Source W.Sink prompt.old prompt.new)
         (asking_steps asking_text bytes) (Ok tt)) }
     ensures refused { IfErr result (λ e. (bytes : List ℕ)
         × ConversationEnds (prompt_call R.Source W.Sink prompt.old prompt.new)

@@ -4,11 +4,12 @@ ghost use Rattle.std.specs.Prelude.{◌≡◌, ◌≤◌, ◌+◌, ◌*◌, ◌^
 ghost use Rattle.std.specs.Prelude.{MatchOption, IsSomeAnd, length, nat_lt, take, drop};
 ghost use Rattle.minisign_base.specs.Fault.{Named};
 ghost use Rattle.minisign_base.specs.declared.faults.NamedFault.TheVariants.{OutOfMemory};
-ghost use Rattle.minisign.specs.Records.{prehashed_algorithm};
+ghost use Rattle.minisign.specs.Records.{prehashed_signature};
 ghost use Rattle.minisign_base.specs.Steps.{without_value};
 ghost use Rattle.minisign.specs.Sealing.{allowed_rows, allowed_work, open_sealed, opening_work};
 ghost use Rattle.minisign.specs.Sealing.{sealed_by_scrypt, unencrypted_key, wants_password};
 ghost use Rattle.minisign.specs.Texts.{and_then};
+ghost use Rattle.minisign.specs.SignatureText.{with_comments, box_of};
 
 use crate::constants::{KDF_NONE, SIGALG_PREHASHED};
 use crate::public_key::PublicKey;
@@ -136,10 +137,9 @@ impl SecretKey {
         // A key that was read opens under the password as its text does, whatever number of rows is kept: it
         // is the key opened, or the first error. Only a key that is sealed by scrypt, with limits that are
         // allowed and p within the bound, may meet out of memory.
-        ensures { (result ≡ and_then (sealed_by_scrypt self)
-            (λ sealed. open_sealed sealed password.now (Some max_p)))
-            ⊎ ((result ≡ Err (Named OutOfMemory))
-            × IsOk (and_then (sealed_by_scrypt self) (λ sealed. allowed_work sealed (Some max_p)))) }
+        ensures { (result ≡ and_then (sealed_by_scrypt self) (λ sealed. open_sealed sealed password.now
+            (Some max_p))) ⊎ ((result ≡ Err (Named OutOfMemory)) × IsOk
+            (and_then (sealed_by_scrypt self) (λ sealed. allowed_work sealed (Some max_p)))) }
     {
         self.test_sealed()?;
         let bound = Some(max_p);
@@ -193,16 +193,9 @@ impl SignatureBox {
         comment_signature: &[u8; 64],
     ) -> Result<SignatureBox>
         // A box of parts is the box of these parts; the only error is out of memory.
-        ensures parts { IfOk result (λ x. x ≡ record {
-          signature =
-              record { algorithm = prehashed_algorithm; keynum = key_id.now; signature = signature.now };
-          comments = Some
-              (record {
-                untrusted = untrusted_comment.now;
-                trusted = trusted_comment.now;
-                signature = comment_signature.now;
-              });
-        }) }
+        ensures parts { IfOk result (λ x. x ≡ box_of (with_comments
+            (prehashed_signature key_id.now signature.now) untrusted_comment.now
+            trusted_comment.now comment_signature.now)) }
         ensures refused { IfErr result (λ e. e ≡ Named OutOfMemory) }
     {
         let comments = Comments {

@@ -21,7 +21,7 @@ use crate::public_key_box::PublicKeyBox;
 use crate::reading::read_text_file;
 use crate::secret_key::SecretKey;
 use crate::texts::{encode, push_line};
-use minisign_base::{Identifier, Result};
+use minisign_base::{KeyId, Result};
 use minisign_hash::util::fixed_time_eq;
 use std::alloc::Global;
 use std::marker::Model;
@@ -144,7 +144,7 @@ impl PublicKey {
         let encoded = self.to_base64(alloc)?;
         let text = format!(in alloc;
             "untrusted comment: minisign public key: {}\n{}\n",
-            Identifier(self.keynum_pk.keynum),
+            KeyId(self.keynum_pk.keynum),
             encoded
         )?;
         Ok(PublicKeyBox::from(text))

@@ -99,9 +99,8 @@ fn feed<S: Source>(
 ) -> std::result::Result<(), DeviceFault>
     requires some { 0 < length buf.old }
     requires open { has_finalized hasher.old ≡ false }
-    ensures fed { MatchResult result
-        (λ _. (message : List ℕ) × ReadsWhole S.Source source.old source.new message
-        × ((m : List ℕ) → IsFed hasher.old m → IsFed hasher.new (m ++ message)))
+    ensures fed { MatchResult result (λ _. (message : List ℕ) × ReadsWhole S.Source source.old source.new
+        message × ((m : List ℕ) → IsFed hasher.old m → IsFed hasher.new (m ++ message)))
         (λ _. Rose (S.faults source.old) (S.faults source.new)) }
     ensures length { output_length hasher.new ≡ output_length hasher.old }
     ensures given { HasGiven (S.ahead source.old) (S.ahead source.new) }
@@ -119,10 +118,8 @@ fn feed<S: Source>(
 // Adds all that is ahead, through the buffer.
 fn keep<S: Source>(source: &mut S, buf: &mut [u8], kept: &mut Vec<u8>) -> Result<()>
     requires { 0 < length buf.old }
-    ensures kept { MatchResult result
-        (λ _. (message : List ℕ) × ReadsWhole S.Source source.old source.new message
-        × (kept.new.items ≡ kept.old.items ++ message))
-        (IsReadFault S.Source source.old source.new) }
+    ensures kept { MatchResult result (λ _. (message : List ℕ) × ReadsWhole S.Source source.old source.new
+        message × (kept.new.items ≡ kept.old.items ++ message)) (IsReadFault S.Source source.old source.new) }
     ensures given { HasGiven (S.ahead source.old) (S.ahead source.new) }
     ensures marked { S.is_marked source.new ≡ S.is_marked source.old }
 {

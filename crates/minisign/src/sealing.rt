@@ -128,10 +128,8 @@ fn derive_stream(
 // where there is one.
 #[tactic(auto, using(crate::proofs::SealingLimits::allowed_numbers))]
 pub(crate) fn bounded_params(sk: &SecretKey, bound: Option<u32>) -> Result<Params>
-    ensures { MatchResult result
-        (λ v. (numbers (from_le_bytes w64 sk.now.memory_limit) (from_le_bytes w64 sk.now.operations_limit)
-        ≡ v)
-        × (allowed_work sk.now bound ≡ Ok v))
+    ensures { MatchResult result (λ v. (numbers (from_le_bytes w64 sk.now.memory_limit)
+        (from_le_bytes w64 sk.now.operations_limit) ≡ v) × (allowed_work sk.now bound ≡ Ok v))
         (λ e. allowed_work sk.now bound ≡ Err e) }
 {
     let params = key_params(sk)?;

@@ -16,7 +16,7 @@ ghost use Rattle.minisign.specs.SignatureText.{AreOneLine, AreReadBack, box_read
 ghost use Rattle.minisign.specs.SignatureText.{read_signature, read_signature_box, signature_in_lines};
 ghost use Rattle.minisign.specs.SignatureText.{signature_text, trusted_comment_label};
 ghost use Rattle.minisign.specs.Reading.{IsReadFromFile};
-ghost use Rattle.minisign.specs.Texts.{IsReadOrNoMemory, untrusted_comment_label};
+ghost use Rattle.minisign.specs.Texts.{IsGivenOrNoMemory, untrusted_comment_label};
 
 use crate::constants::{SIGALG, SIGALG_PREHASHED};
 use crate::in_place::read_parts;
@@ -96,7 +96,7 @@ impl SignatureBox {
     pub fn from_string(alloc: Global, text: &str) -> Result<SignatureBox>
         // A signature text is read as the box that its grammar has it, a function of the text, or the first
         // case that fails; otherwise out of memory.
-        ensures { IsReadOrNoMemory result (read_signature_box text.now) }
+        ensures { IsGivenOrNoMemory result (read_signature_box text.now) }
     {
         read_text(alloc, text)
     }
@@ -104,7 +104,7 @@ impl SignatureBox {
     /// As `from_string`, of a text that is handed over.
     pub fn try_from_string(alloc: Global, text: String) -> Result<SignatureBox>
         // The text is read, and rejected, as `SignatureBox::from_string` says.
-        ensures { IsReadOrNoMemory result (read_signature_box (string_bytes text)) }
+        ensures { IsGivenOrNoMemory result (read_signature_box (string_bytes text)) }
     {
         read_text(alloc, text.as_str())
     }
@@ -258,14 +258,10 @@ impl Comments {
 fn written(alloc: Global, signature: &Signature, comments: &Comments) -> Result<String>
     ensures text { IfOk result (λ t. string_bytes t ≡ signature_text signature.now comments.now) }
     ensures reads_back { AreReadBack comments.now.untrusted comments.now.trusted
-        → IsKnownAlgorithm signature.now.algorithm →
-        IfOk result
-        (λ t. read_signature_box (string_bytes t)
+        → IsKnownAlgorithm signature.now.algorithm → IfOk result (λ t. read_signature_box (string_bytes t)
         ≡ Ok (record { signature = signature.now; comments = Some comments.now })) }
     ensures reads { AreOneLine comments.now.untrusted comments.now.trusted
-        → IsKnownAlgorithm signature.now.algorithm →
-        IfOk result
-        (λ t. read_signature_box (string_bytes t)
+        → IsKnownAlgorithm signature.now.algorithm → IfOk result (λ t. read_signature_box (string_bytes t)
         ≡ Ok (record { signature = signature.now; comments = Some (comments_read_back comments.now) })) }
     ensures refused { IfErr result (λ e. e ≡ Named OutOfMemory) }
 {
@@ -290,7 +286,7 @@ pub(crate) struct TextLines<'a> {
 
 // Reads a signature text.
 fn read_text(alloc: Global, text: &str) -> Result<SignatureBox>
-    ensures { IsReadOrNoMemory result (read_signature_box text.now) }
+    ensures { IsGivenOrNoMemory result (read_signature_box text.now) }
 {
     let parts = read_parts(text)?;
     let Some(global_sig) = decode(alloc, parts.comment_signature)? else {
@@ -309,12 +305,9 @@ fn read_text(alloc: Global, text: &str) -> Result<SignatureBox>
 
 // The first four lines of a text.
 pub(crate) fn four_lines(text: &str) -> Result<TextLines<'_>>
-    ensures { MatchResult result
-        (λ l. (read_signature text.now
-        ≡ signature_in_lines
-        (l.untrusted_comment.now ∷ l.signature.now ∷ l.trusted_comment.now ∷ l.global_sig.now ∷ []))
-        × (length l.signature.now + length l.trusted_comment.now ≤ length text.now))
-        (λ e. read_signature text.now ≡ Err e) }
+    ensures { MatchResult result (λ l. (read_signature text.now ≡ signature_in_lines (l.untrusted_comment.now
+        ∷ l.signature.now ∷ l.trusted_comment.now ∷ l.global_sig.now ∷ [])) × (length l.signature.now + length
+        l.trusted_comment.now ≤ length text.now)) (λ e. read_signature text.now ≡ Err e) }
 {
     let mut lines = text.lines();
     let Some(untrusted_comment) = next_line(&mut lines) else {
@@ -340,10 +333,9 @@ pub(crate) fn four_lines(text: &str) -> Result<TextLines<'_>>
 // The comment in the first line.
 #[tactic(auto, unfolding(crate::specs::Texts::untrusted_comment_label))]
 pub(crate) fn untrusted_comment_in(line: &str) -> Result<&str>
-    ensures { MatchResult result
-        (λ c. line.now ≡ untrusted_comment_label ++ c.now)
-        (λ e. (e ≡ Named UntrustedCommentPrefix)
-        × ((comment : List ℕ) → line.now ≢ untrusted_comment_label ++ comment)) }
+    ensures { MatchResult result (λ c. line.now ≡ untrusted_comment_label ++ c.now)
+        (λ e. (e ≡ Named UntrustedCommentPrefix) × ((comment : List ℕ)
+        → line.now ≢ untrusted_comment_label ++ comment)) }
 {
     match line.strip_prefix("untrusted comment: ") {
         Some(comment) => Ok(comment),
@@ -354,10 +346,9 @@ pub(crate) fn untrusted_comment_in(line: &str) -> Result<&str>
 // The comment in the third line.
 #[tactic(auto, unfolding(crate::specs::SignatureText::trusted_comment_label))]
 pub(crate) fn trusted_comment_in(line: &str) -> Result<&str>
-    ensures { MatchResult result
-        (λ c. line.now ≡ trusted_comment_label ++ c.now)
-        (λ e. (e ≡ Named TrustedCommentPrefix)
-        × ((comment : List ℕ) → line.now ≢ trusted_comment_label ++ comment)) }
+    ensures { MatchResult result (λ c. line.now ≡ trusted_comment_label ++ c.now)
+        (λ e. (e ≡ Named TrustedCommentPrefix) × ((comment : List ℕ)
+        → line.now ≢ trusted_comment_label ++ comment)) }
 {
     match line.strip_prefix("trusted comment: ") {
         Some(comment) => Ok(comment),
@@ -367,11 +358,9 @@ pub(crate) fn trusted_comment_in(line: &str) -> Result<&str>
 
 // A signature of an algorithm that is known.
 pub(crate) fn known(signature: Signature) -> Result<Signature>
-    ensures { MatchResult result
-        (λ s. (s ≡ signature) × IsKnownAlgorithm s.algorithm)
-        (λ e. (e ≡ Named UnsupportedSignatureAlgorithm)
-        × ((bytes_eq signature.algorithm legacy_algorithm || bytes_eq signature.algorithm prehashed_algorithm)
-        ≡ false)) }
+    ensures { MatchResult result (λ s. (s ≡ signature) × IsKnownAlgorithm s.algorithm)
+        (λ e. (e ≡ Named UnsupportedSignatureAlgorithm) × ((bytes_eq signature.algorithm legacy_algorithm ||
+        bytes_eq signature.algorithm prehashed_algorithm) ≡ false)) }
 {
     if signature.sig_alg != SIGALG && signature.sig_alg != SIGALG_PREHASHED {
         return Err(NamedFault::UnsupportedSignatureAlgorithm.into());

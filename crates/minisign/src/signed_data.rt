@@ -46,9 +46,8 @@ pub(crate) fn read_signed_data<R: Source>(
     data_reader: &mut R,
     allow_legacy: bool,
 ) -> Result<SignedData>
-    ensures held { MatchResult result
-        (λ d. (message : List ℕ) × ReadsWhole R.Source data_reader.old data_reader.new message
-        × HoldsSigned d signature_box.now allow_legacy message)
+    ensures held { MatchResult result (λ d. (message : List ℕ) × ReadsWhole R.Source data_reader.old
+        data_reader.new message × HoldsSigned d signature_box.now allow_legacy message)
         (IsReadFault R.Source data_reader.old data_reader.new) }
     ensures given { HasGiven (R.ahead data_reader.old) (R.ahead data_reader.new) }
     ensures marked { R.is_marked data_reader.new ≡ R.is_marked data_reader.old }

@@ -9,11 +9,12 @@ ghost use Rattle.minisign_base.specs.DeviceCalls.{random_call, source_call};
 ghost use Rattle.minisign_base.specs.Fault.{Named};
 ghost use Rattle.minisign_base.specs.declared.faults.NamedFault.TheVariants.{OutOfMemory, RandomSourceFailed};
 ghost use Rattle.minisign_base.specs.declared.faults.NamedFault.TheVariants.{RefusedByGivenKey};
-ghost use Rattle.minisign.specs.Reading.{HasFailed, ReadsWhole};
+ghost use Rattle.minisign.specs.Reading.{HasFailed};
 ghost use Rattle.minisign.specs.Sealing.{is_encrypted};
 ghost use Rattle.minisign.specs.Acceptance.{accepts_comments};
 ghost use Rattle.minisign.specs.Signing.{AreChosenReadBack, HasSignedBox, OpenedSigningFails, SigningFails};
 ghost use Rattle.minisign.specs.Signing.{default_trusted_comment, default_untrusted_comment, given_comments};
+ghost use Rattle.minisign.specs.Signing.{comments_of, HasSignedData};
 
 use crate::comment_signature::accepts_comments;
 use crate::constants::{DEFAULT_COMMENT, SIGALG_PREHASHED};
@@ -48,7 +49,7 @@ pub(crate) struct GivenComments<'a> {
 ///
 /// Rejected are, in this order: a sealed key, with nothing read or drawn; a failing `data_reader`; a
 /// failing `random`, once the data was read; and, where `pk` is given, a comment signature that its
-/// 32 key bytes do not accept. Identifiers are not compared. An allocation may fail once the key was
+/// 32 key bytes do not accept. Key IDs are not compared. An allocation may fail once the key was
 /// tested: for the buffer of the reading, the two comments, and the comment signature and what it
 /// is over.
 pub fn sign<S: Scheme, R: Source, Z: RandomSource>(
@@ -65,11 +66,9 @@ pub fn sign<S: Scheme, R: Source, Z: RandomSource>(
     // The box is made from all the bytes that were ahead, the comments or their defaults, and two
     // times 64 random bytes. What a genuine key signed is accepted under its own public key with
     // the same key ID, whatever the comments (`HasSignedBox`).
-    ensures signed { IfOk result
-        (λ x. (message : List ℕ) × ReadsWhole R.Source data_reader.old data_reader.new message
-        × HasSignedBox S.Scheme scheme.now sk.now message
-        (given_comments trusted_comment.entry untrusted_comment.entry moment)
-        (random_call Z.RandomSource random.old random.new) x) }
+    ensures signed { IfOk result (HasSignedData S.Scheme scheme.now sk.now
+        (source_call R.Source data_reader.old data_reader.new) (given_comments trusted_comment.entry
+        untrusted_comment.entry moment) (random_call Z.RandomSource random.old random.new)) }
 
     // On success the key is not sealed.
     ensures opened { OnOk result (is_encrypted sk.now ≡ false) }
@@ -87,12 +86,9 @@ pub fn sign<S: Scheme, R: Source, Z: RandomSource>(
     // nothing drawn; `random source failed` only if that source's count did, once all the data was
     // read; out of memory only if neither count rose (`OpenedSigningFails`); a given public key is
     // rejected exactly when its 32 bytes do not accept the comment signature (`SigningFails`).
-    ensures refused { IfErr result
-        (SigningFails (S.accepts scheme.now) (S.signature_of scheme.now)
-        (option_copied pk.entry) sk.now
-        (given_comments trusted_comment.entry untrusted_comment.entry moment)
-        (source_call R.Source data_reader.old data_reader.new)
-        (random_call Z.RandomSource random.old random.new)) }
+    ensures refused { IfErr result (SigningFails S.Scheme scheme.now (option_copied pk.entry) sk.now
+        (given_comments trusted_comment.entry untrusted_comment.entry moment) (source_call R.Source
+        data_reader.old data_reader.new) (random_call Z.RandomSource random.old random.new)) }
 
     // Whatever the result, the source and the random source lost at most some bytes at their front.
     ensures given { HasGiven (R.ahead data_reader.old) (R.ahead data_reader.new) }
@@ -127,11 +123,9 @@ pub(crate) fn sign_data<S: Scheme, R: Source, Z: RandomSource>(
     comments: GivenComments<'_>,
     random: &mut Z,
 ) -> Result<SignatureBox>
-    ensures signed { IfOk result
-        (λ x. (message : List ℕ) × ReadsWhole R.Source data_reader.old data_reader.new message
-        × HasSignedBox S.Scheme scheme.now sk.now message
-        (given_comments comments.entry.trusted comments.entry.untrusted comments.entry.moment)
-        (random_call Z.RandomSource random.old random.new) x) }
+    ensures signed { IfOk result (HasSignedData S.Scheme scheme.now sk.now
+        (source_call R.Source data_reader.old data_reader.new) (given_comments comments.entry.trusted
+        comments.entry.untrusted comments.entry.moment) (random_call Z.RandomSource random.old random.new)) }
     ensures no_new_fault { OnOk result (Z.random_faults random.new ≡ Z.random_faults random.old) }
     ensures refused { IfErr result
         (OpenedSigningFails (source_call R.Source data_reader.old data_reader.new)
@@ -154,10 +148,9 @@ fn test_given_key<S: Scheme>(
 ) -> Result<()>
     ensures accepted { OnOk result
         (IfSome pk.entry (λ p. accepts_comments (S.accepts scheme.now) p.now signature_box.now ≡ true)) }
-    ensures refused { IfErr result
-        (λ e. (e ≡ Named OutOfMemory)
-        ⊎ IsSomeAnd (option_copied pk.entry) (λ p. (e ≡ Named (RefusedByGivenKey p.keynum))
-        × (accepts_comments (S.accepts scheme.now) p signature_box.now ≡ false))) }
+    ensures refused { IfErr result (λ e. (e ≡ Named OutOfMemory) ⊎ IsSomeAnd (option_copied pk.entry)
+        (λ p. (e ≡ Named (RefusedByGivenKey p.keynum)) × (accepts_comments
+        (S.accepts scheme.now) p signature_box.now ≡ false))) }
 {
     let Some(pk) = pk else {
         return Ok(());
@@ -182,10 +175,9 @@ fn make_box<S: Scheme, Z: RandomSource>(
     untrusted_comment: String,
     random: &mut Z,
 ) -> Result<SignatureBox>
-    ensures signed { IfOk result (λ x. (message : List ℕ) → digest.now ≡ blake2b_digest 64 message →
-        HasSignedBox S.Scheme scheme.now sk.now message
-        (record { trusted = string_bytes trusted_comment; untrusted = string_bytes untrusted_comment })
-        (random_call Z.RandomSource random.old random.new) x) }
+    ensures signed { IfOk result (λ x. (message : List ℕ) → digest.now ≡ blake2b_digest 64 message
+        → HasSignedBox S.Scheme scheme.now sk.now message (comments_of (string_bytes trusted_comment)
+        (string_bytes untrusted_comment)) (random_call Z.RandomSource random.old random.new) x) }
     ensures no_new_fault { OnOk result (Z.random_faults random.new ≡ Z.random_faults random.old) }
     ensures refused { IfErr result
         (λ e. ((e ≡ Named OutOfMemory) × (Z.random_faults random.new ≡ Z.random_faults random.old))

@@ -5,12 +5,12 @@ ghost use Rattle.std.specs.Option.{option_map};
 ghost use Rattle.minisign_base.specs.Devices.{HasGiven};
 ghost use Rattle.minisign_base.specs.DeviceCalls.{prompt_call, random_call, source_call};
 ghost use Rattle.minisign.specs.Records.{SecretKeyRecord};
-ghost use Rattle.minisign.specs.Reading.{IsAhead, ReadsWhole};
+ghost use Rattle.minisign.specs.Reading.{IsAhead};
 ghost use Rattle.minisign.specs.Sealing.{is_encrypted};
 ghost use Rattle.minisign.specs.Signing.{OpenedSigningFails, given_comments};
 ghost use Rattle.minisign.specs.Headline.{SigningHeadline};
-ghost use Rattle.minisign.specs.SigningTexts.{GivesKey, HasSignedText, HasSignedWithText, IsKeyOf};
-ghost use Rattle.minisign.specs.SigningTexts.{TextSigningFails};
+ghost use Rattle.minisign.specs.SigningTexts.{GivesKey, HasSignedWithText, IsKeyOf, TextSigningFails};
+ghost use Rattle.minisign.specs.SigningTexts.{HasSignedDataText};
 
 use crate::constants::KDF_NONE;
 use crate::sealing::Derivation;
@@ -53,10 +53,8 @@ pub fn sign_texts<S: Scheme, P: Source, Q: Sink, R: Source, Z: RandomSource>(
     // The text is that of a key, which it gives under some password, and a genuine key's text is
     // read back as a box that every public key of its seed and key ID vouches with, if neither
     // comment has a line feed and the trusted one is trimmed.
-    ensures headline { IfOk result
-        (λ t. (sk : SecretKeyRecord) × (message : List ℕ)
-        × IsAhead (R.ahead data_reader.old) message
-        × IsKeyOf sk_text.now sk
+    ensures headline { IfOk result (λ t. (sk : SecretKeyRecord) × (message : List ℕ)
+        × IsAhead (R.ahead data_reader.old) message × IsKeyOf sk_text.now sk
         × SigningHeadline (S.accepts scheme.now) (S.public_of scheme.now) sk message
         (given_comments trusted_comment.entry untrusted_comment.entry moment) (string_bytes t)) }
 
@@ -67,9 +65,8 @@ pub fn sign_texts<S: Scheme, P: Source, Q: Sink, R: Source, Z: RandomSource>(
     // signs with a sealed key and its password gets a text that verifies.
     ensures signed { IfOk result (λ t. HasSignedWithText S.Scheme scheme.now
         (prompt_call P.Source Q.Sink prompt.old prompt.new) (option_map string_bytes password) sk_text.now
-        (source_call R.Source data_reader.old data_reader.new)
-        (given_comments trusted_comment.entry untrusted_comment.entry moment)
-        (random_call Z.RandomSource random.old random.new) (string_bytes t)) }
+        (source_call R.Source data_reader.old data_reader.new) (given_comments trusted_comment.entry
+        untrusted_comment.entry moment) (random_call Z.RandomSource random.old random.new) (string_bytes t)) }
 
     // On success the random source did not fail.
     ensures random_no_new_fault { OnOk result (Z.random_faults random.new ≡ Z.random_faults random.old) }
@@ -78,10 +75,8 @@ pub fn sign_texts<S: Scheme, P: Source, Q: Sink, R: Source, Z: RandomSource>(
     // otherwise out of memory, with no new error of the source or of the random source, a failing
     // source with nothing drawn, or a failing random source once everything was read. The error of a
     // sealed key never comes (`GivesKey`, `OpenedSigningFails`).
-    ensures refused { IfErr result
-        (TextSigningFails (prompt_call P.Source Q.Sink prompt.old prompt.new)
-        (option_map string_bytes password) sk_text.now
-        (source_call R.Source data_reader.old data_reader.new)
+    ensures refused { IfErr result (TextSigningFails (prompt_call P.Source Q.Sink prompt.old prompt.new)
+        (option_map string_bytes password) sk_text.now (source_call R.Source data_reader.old data_reader.new)
         (random_call Z.RandomSource random.old random.new)) }
 
     // A password that is passed in leaves the prompt untouched.
@@ -110,11 +105,9 @@ pub(crate) fn sign_opened<S: Scheme, R: Source, Z: RandomSource>(
     random: &mut Z,
 ) -> Result<String>
     requires { is_encrypted sk.now ≡ false }
-    ensures signed { IfOk result
-        (λ t. (message : List ℕ) × ReadsWhole R.Source data_reader.old data_reader.new message
-        × HasSignedText S.Scheme scheme.now sk.now message
-        (given_comments comments.entry.trusted comments.entry.untrusted comments.entry.moment)
-        (random_call Z.RandomSource random.old random.new) (string_bytes t)) }
+    ensures signed { IfOk result (λ t. HasSignedDataText S.Scheme scheme.now sk.now (source_call R.Source
+        data_reader.old data_reader.new) (given_comments comments.entry.trusted comments.entry.untrusted
+        comments.entry.moment) (random_call Z.RandomSource random.old random.new) (string_bytes t)) }
     ensures random_no_new_fault { OnOk result (Z.random_faults random.new ≡ Z.random_faults random.old) }
     ensures refused { IfErr result
         (OpenedSigningFails (source_call R.Source data_reader.old data_reader.new)

@@ -9,11 +9,11 @@ ghost use Rattle.minisign_base.specs.DeviceCalls.{IsWritingFault, Marks, Takes, 
 ghost use Rattle.minisign_base.specs.DeviceCalls.{sink_call, unused};
 ghost use Rattle.minisign.specs.Records.{PublicKeyRecord, SignatureBoxRecord};
 ghost use Rattle.minisign.specs.Acceptance.{Verifier, Vouches, accepts_comments, options_of, judge};
-ghost use Rattle.minisign.specs.Acceptance.{judge_answers, judge_key, judged_parts, status_lines};
+ghost use Rattle.minisign.specs.Acceptance.{judge_key, judged_parts, status_lines, judge_answers};
 ghost use Rattle.minisign.specs.Calls.{TextsVouchWith};
 ghost use Rattle.minisign.specs.Headline.{WhereNothingFails, verdict};
 ghost use Rattle.minisign.specs.Stages.{HoldsSigned, StagesEnd, is_reread, reading_stages};
-ghost use Rattle.minisign.specs.Texts.{IsReadOrNoMemory, IsReading, and_then};
+ghost use Rattle.minisign.specs.Texts.{IsGivenOrNoMemory, IsReading, and_then};
 ghost use Rattle.minisign.specs.Verifying.{VerifyingFails, VerifyingSucceeds, wanted_status};
 
 use crate::comment_signature::accepts_comments;
@@ -61,9 +61,8 @@ pub fn verify<S: Scheme, R: Rereader, W: Sink, O: Sink>(
 ) -> Result<()>
     // Over data that is known, where no device fails, and over a steady source where the data is copied: the
     // answer is that of the function `judge`, of key, box, data and flag, or out of memory.
-    ensures headline { WhereNothingFails output
-        (rereader_call R.Source R.steady data_reader.old data_reader.new)
-        (sink_call W.Sink status.old status.new) (sink_call O.Sink out.old out.new) result
+    ensures headline { WhereNothingFails output (rereader_call R.Source R.steady data_reader.old
+        data_reader.new) (sink_call W.Sink status.old status.new) (sink_call O.Sink out.old out.new) result
         (λ message. judge (S.accepts scheme.now) pk.now signature_box.now message allow_legacy) }
 
     // On success the box vouches for all the bytes that were ahead: the key IDs are equal; the
@@ -89,11 +88,9 @@ pub fn verify<S: Scheme, R: Rereader, W: Sink, O: Sink>(
     //
     // The copy is flushed on success (`flushed` of `HasCopy`), and by clause `refused` (`unflushed`
     // of `Copies`) on no rejection before the digests are compared.
-    ensures accepted { OnOk result
-        (VerifyingSucceeds (S.accepts scheme.now) pk.now signature_box.now
-        (options_of quiet output allow_legacy)
-        (rereader_call R.Source R.steady data_reader.old data_reader.new)
-        (sink_call W.Sink status.old status.new) (sink_call O.Sink out.old out.new)) }
+    ensures accepted { OnOk result (VerifyingSucceeds (S.accepts scheme.now) pk.now signature_box.now
+        (options_of quiet output allow_legacy) (rereader_call R.Source R.steady data_reader.old
+        data_reader.new) (sink_call W.Sink status.old status.new) (sink_call O.Sink out.old out.new)) }
 
     // Otherwise it failed at one of these stages, of which each one before was passed, and none
     // after it was begun (`StagesEnd`): the place is marked, for a prehashed box with `output`;
@@ -130,10 +127,9 @@ pub fn verify<S: Scheme, R: Rereader, W: Sink, O: Sink>(
     // A reading takes at most some bytes off the front of what the source has ahead; going back
     // puts those ahead that the mark keeps, which are what was ahead at first if it is steady
     // (`Read`, `Copy`, `Return`, `Mark`).
-    ensures refused { IfErr result
-        (VerifyingFails (S.accepts scheme.now) pk.now signature_box.now (options_of quiet output allow_legacy)
-        (rereader_call R.Source R.steady data_reader.old data_reader.new)
-        (sink_call W.Sink status.old status.new) (sink_call O.Sink out.old out.new)) }
+    ensures refused { IfErr result (VerifyingFails (S.accepts scheme.now) pk.now signature_box.now
+        (options_of quiet output allow_legacy) (rereader_call R.Source R.steady data_reader.old
+        data_reader.new) (sink_call W.Sink status.old status.new) (sink_call O.Sink out.old out.new)) }
 
     // After a rejection the status took a prefix of the lines of the box.
     ensures said_front { OnErr result
@@ -243,7 +239,7 @@ fn judge<S: Scheme>(
     signed: &[u8],
     allow_legacy: bool,
 ) -> Result<()>
-    ensures { IsReadOrNoMemory result
+    ensures { IsGivenOrNoMemory result
         (and_then (judge_key pk.now.keynum signature_box.now.signature allow_legacy) (λ _.
         judge_answers (S.accepts scheme.now signed.now pk.now.key signature_box.now.signature.signature)
         (accepts_comments (S.accepts scheme.now) pk.now signature_box.now))) }

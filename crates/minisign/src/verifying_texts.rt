@@ -7,7 +7,7 @@ ghost use Rattle.minisign.specs.Acceptance.{options_of};
 ghost use Rattle.minisign.specs.Records.{PublicKeyRecord, SignatureBoxRecord};
 ghost use Rattle.minisign.specs.Verifying.{wanted_status, VerifyingTextsFails, VerifyingTextsSucceeds};
 ghost use Rattle.minisign.specs.Verifying.{read_texts};
-ghost use Rattle.minisign.specs.Texts.{IsReadOrNoMemory, map_ok};
+ghost use Rattle.minisign.specs.Texts.{IsGivenOrNoMemory, map_ok};
 ghost use Rattle.minisign.specs.Headline.{CopyIsVouchedFor, WhereNothingFails, verdict};
 
 use crate::in_place::read_public_key;
@@ -42,19 +42,16 @@ pub fn verify_texts<S: Scheme, R: Rereader, W: Sink, O: Sink>(
     // The headline's first part: over data that is known, where no device fails, and over a steady source
     // where the data is copied, the answer is the verdict, a function of the two texts, the data and the
     // flag; or out of memory.
-    ensures headline { WhereNothingFails output
-        (rereader_call R.Source R.steady data_reader.old data_reader.new)
-        (sink_call W.Sink status.old status.new) (sink_call O.Sink out.old out.new) result
-        (λ message. map_ok (λ _. tt)
-        (verdict (S.accepts scheme.now) pk_text.now sig_text.now message allow_legacy)) }
+    ensures headline { WhereNothingFails output (rereader_call R.Source R.steady data_reader.old
+        data_reader.new) (sink_call W.Sink status.old status.new) (sink_call O.Sink out.old out.new) result
+        (λ bytes. map_ok (λ _. tt)
+        (verdict (S.accepts scheme.now) pk_text.now sig_text.now bytes allow_legacy)) }
 
     // On success both texts were read by the grammar, as a key and a box for which everything holds
     // that `verify` promises on success.
-    ensures accepted { OnOk result
-        (VerifyingTextsSucceeds (S.accepts scheme.now) pk_text.now sig_text.now
-        (options_of quiet output allow_legacy)
-        (rereader_call R.Source R.steady data_reader.old data_reader.new)
-        (sink_call W.Sink status.old status.new) (sink_call O.Sink out.old out.new)) }
+    ensures accepted { OnOk result (VerifyingTextsSucceeds (S.accepts scheme.now) pk_text.now sig_text.now
+        (options_of quiet output allow_legacy) (rereader_call R.Source R.steady data_reader.old
+        data_reader.new) (sink_call W.Sink status.old status.new) (sink_call O.Sink out.old out.new)) }
 
     // On success with `output` the two texts vouch for what the output took, whatever a second
     // reading gave.
@@ -67,17 +64,14 @@ pub fn verify_texts<S: Scheme, R: Rereader, W: Sink, O: Sink>(
     //
     // Otherwise verifying fails as `verify` does, with the key and the box that the texts read as
     // (`VerifyingFails`).
-    ensures refused { IfErr result
-        (VerifyingTextsFails (S.accepts scheme.now) pk_text.now sig_text.now
-        (options_of quiet output allow_legacy)
-        (rereader_call R.Source R.steady data_reader.old data_reader.new)
-        (sink_call W.Sink status.old status.new) (sink_call O.Sink out.old out.new)) }
+    ensures refused { IfErr result (VerifyingTextsFails (S.accepts scheme.now) pk_text.now sig_text.now
+        (options_of quiet output allow_legacy) (rereader_call R.Source R.steady data_reader.old
+        data_reader.new) (sink_call W.Sink status.old status.new) (sink_call O.Sink out.old out.new)) }
 
     // After a rejection the status is untouched, or took a prefix of the lines of the box.
-    ensures said_front { OnErr result
-        ((status.new ≡ status.old) ⊎ ((key : PublicKeyRecord) × (box : SignatureBoxRecord)
-        × (read_texts pk_text.now sig_text.now ≡ Ok (key, box))
-        × TakesFront (sink_call W.Sink status.old status.new) (wanted_status quiet box))) }
+    ensures said_front { OnErr result ((status.new ≡ status.old) ⊎
+        ((key : PublicKeyRecord) × (box : SignatureBoxRecord) × (read_texts pk_text.now sig_text.now
+        ≡ Ok (key, box)) × TakesFront (sink_call W.Sink status.old status.new) (wanted_status quiet box))) }
 
     // Without `output` the source lost at most some bytes at its front.
     ensures given { output ≡ false → HasGiven (R.ahead data_reader.old) (R.ahead data_reader.new) }
@@ -109,7 +103,7 @@ pub(crate) fn read_texts(
     pk_text: &str,
     sig_text: &str,
 ) -> Result<(PublicKey, SignatureBox)>
-    ensures { IsReadOrNoMemory result (read_texts pk_text.now sig_text.now) }
+    ensures { IsGivenOrNoMemory result (read_texts pk_text.now sig_text.now) }
 {
     let pk = read_public_key(pk_text)?;
     let signature_box = SignatureBox::from_string(alloc, sig_text)?;

@@ -13,45 +13,64 @@ nothing_taken : {R W : Type 0} (p : PromptCall R W) (bytes : List ℕ) → p.new
     → AppendsFront (p.sink.taken p.old.writer) (p.sink.taken p.new.writer) bytes
 nothing_taken p bytes same =
     subst (λ w. AppendsFront (p.sink.taken p.old.writer) (p.sink.taken w) bytes) (sym same)
-    (AppendsFront-keeps (p.sink.taken p.old.writer) (p.sink.taken p.old.writer) bytes (Keeps-refl (p.sink.taken p.old.writer)))
+    (AppendsFront-keeps (p.sink.taken p.old.writer) (p.sink.taken p.old.writer) bytes
+    (Keeps-refl (p.sink.taken p.old.writer)))
 
 -- the writer took all that a conversation writes, with no new error
 pub held_taken : {R W : Type 0} (p : PromptCall R W) (steps : List Step) → ConversationEnds p steps (Ok tt)
     → Appends (p.sink.taken p.old.writer) (p.sink.taken p.new.writer) (written steps)
-held_taken p [] same = subst (λ d. Appends (p.sink.taken p.old.writer) (p.sink.taken d.writer) []) (sym same) (Appends-nil (p.sink.taken p.old.writer))
+held_taken p [] same = subst (λ d. Appends (p.sink.taken p.old.writer) (p.sink.taken d.writer) []) (sym same)
+    (Appends-nil (p.sink.taken p.old.writer))
 held_taken p (Allocate ∷ later) (between, (done, same), held) =
-    subst (λ d. Appends (p.sink.taken d.writer) (p.sink.taken p.new.writer) (written later)) same (held_taken (record p { old = between }) later held)
+    subst (λ d. Appends (p.sink.taken d.writer) (p.sink.taken p.new.writer) (written later)) same
+    (held_taken (record p { old = between }) later held)
 held_taken p (Say text ∷ later) (between, (said, same), held) =
-    Appends-trans (p.sink.taken p.old.writer) (p.sink.taken between.writer) (p.sink.taken p.new.writer) text (written later) said.bytes
+    Appends-trans (p.sink.taken p.old.writer) (p.sink.taken between.writer) (p.sink.taken p.new.writer) text
+    (written later) said.bytes
     (held_taken (record p { old = between }) later held)
 held_taken p (Hear bytes ∷ later) (between, (read, same), held) =
-    subst (λ w. Appends (p.sink.taken w) (p.sink.taken p.new.writer) (written later)) same (held_taken (record p { old = between }) later held)
+    subst (λ w. Appends (p.sink.taken w) (p.sink.taken p.new.writer) (written later)) same
+    (held_taken (record p { old = between }) later held)
 held_taken p (Test refusal ∷ later) (between, (none, same), held) =
-    subst (λ d. Appends (p.sink.taken d.writer) (p.sink.taken p.new.writer) (written later)) same (held_taken (record p { old = between }) later held)
+    subst (λ d. Appends (p.sink.taken d.writer) (p.sink.taken p.new.writer) (written later)) same
+    (held_taken (record p { old = between }) later held)
 
-pub held_no_new_fault : {R W : Type 0} (p : PromptCall R W) (steps : List Step) → ConversationEnds p steps (Ok tt)
+pub held_no_new_fault : {R W : Type 0} (p : PromptCall R W) (steps : List Step)
+    → ConversationEnds p steps (Ok tt)
     → p.sink.sink_faults p.new.writer ≡ p.sink.sink_faults p.old.writer
 held_no_new_fault p [] same = ap (λ d. p.sink.sink_faults d.writer) same
-held_no_new_fault p (Allocate ∷ later) (between, (done, same), held) = held_no_new_fault (record p { old = between }) later held ∙ ap (λ d. p.sink.sink_faults d.writer) same
-held_no_new_fault p (Say text ∷ later) (between, (said, same), held) = held_no_new_fault (record p { old = between }) later held ∙ said.no_new_fault
-held_no_new_fault p (Hear bytes ∷ later) (between, (read, same), held) = held_no_new_fault (record p { old = between }) later held ∙ ap p.sink.sink_faults same
-held_no_new_fault p (Test refusal ∷ later) (between, (none, same), held) = held_no_new_fault (record p { old = between }) later held ∙ ap (λ d. p.sink.sink_faults d.writer) same
+held_no_new_fault p (Allocate ∷ later) (between, (done, same), held) =
+    held_no_new_fault (record p { old = between }) later held ∙ ap (λ d. p.sink.sink_faults d.writer) same
+held_no_new_fault p (Say text ∷ later) (between, (said, same), held) =
+    held_no_new_fault (record p { old = between }) later held ∙ said.no_new_fault
+held_no_new_fault p (Hear bytes ∷ later) (between, (read, same), held) =
+    held_no_new_fault (record p { old = between }) later held ∙ ap p.sink.sink_faults same
+held_no_new_fault p (Test refusal ∷ later) (between, (none, same), held) =
+    held_no_new_fault (record p { old = between }) later held ∙ ap (λ d. p.sink.sink_faults d.writer) same
 
 -- where it stopped, the writer holds a prefix of that
-pub stopped_taken : {R W : Type 0} (p : PromptCall R W) (steps : List Step) (e : Fault) → ConversationEnds p steps (Err e)
+pub stopped_taken : {R W : Type 0} (p : PromptCall R W) (steps : List Step) (e : Fault)
+    → ConversationEnds p steps (Err e)
     → AppendsFront (p.sink.taken p.old.writer) (p.sink.taken p.new.writer) (written steps)
 stopped_taken p [] e stopped = absurd stopped
-stopped_taken p (Allocate ∷ later) e (inl (is, same)) = nothing_taken p (written later) (ap (λ d. d.writer) same)
+stopped_taken p (Allocate ∷ later) e (inl (is, same)) =
+    nothing_taken p (written later) (ap (λ d. d.writer) same)
 stopped_taken p (Allocate ∷ later) e (inr (between, (done, same), stopped)) =
-    subst (λ d. AppendsFront (p.sink.taken d.writer) (p.sink.taken p.new.writer) (written later)) same (stopped_taken (record p { old = between }) later e stopped)
+    subst (λ d. AppendsFront (p.sink.taken d.writer) (p.sink.taken p.new.writer) (written later)) same
+    (stopped_taken (record p { old = between }) later e stopped)
 stopped_taken p (Say text ∷ later) e (inl ((is, failed), same)) =
-    AppendsFront-more (p.sink.taken p.old.writer) (p.sink.taken p.new.writer) text (written later) failed.front
+    AppendsFront-more (p.sink.taken p.old.writer) (p.sink.taken p.new.writer) text
+    (written later) failed.front
 stopped_taken p (Say text ∷ later) e (inr (between, (said, same), stopped)) =
-    AppendsFront-after (p.sink.taken p.old.writer) (p.sink.taken between.writer) (p.sink.taken p.new.writer) text (written later) said.bytes
+    AppendsFront-after (p.sink.taken p.old.writer) (p.sink.taken between.writer) (p.sink.taken p.new.writer)
+    text (written later) said.bytes
     (stopped_taken (record p { old = between }) later e stopped)
 stopped_taken p (Hear bytes ∷ later) e (inl (failed, same)) = nothing_taken p (written later) same
 stopped_taken p (Hear bytes ∷ later) e (inr (between, (read, same), stopped)) =
-    subst (λ w. AppendsFront (p.sink.taken w) (p.sink.taken p.new.writer) (written later)) same (stopped_taken (record p { old = between }) later e stopped)
-stopped_taken p (Test refusal ∷ later) e (inl (is, same)) = nothing_taken p (written later) (ap (λ d. d.writer) same)
+    subst (λ w. AppendsFront (p.sink.taken w) (p.sink.taken p.new.writer) (written later)) same
+    (stopped_taken (record p { old = between }) later e stopped)
+stopped_taken p (Test refusal ∷ later) e (inl (is, same)) =
+    nothing_taken p (written later) (ap (λ d. d.writer) same)
 stopped_taken p (Test refusal ∷ later) e (inr (between, (none, same), stopped)) =
-    subst (λ d. AppendsFront (p.sink.taken d.writer) (p.sink.taken p.new.writer) (written later)) same (stopped_taken (record p { old = between }) later e stopped)
+    subst (λ d. AppendsFront (p.sink.taken d.writer) (p.sink.taken p.new.writer) (written later)) same
+    (stopped_taken (record p { old = between }) later e stopped)

@@ -3,21 +3,22 @@ use Rattle.std.proofs.Common.{◌≡◌, ℕ, [], ◌∷◌, ◌++◌, drop, rep
 use Rattle.std.specs.Fmt.{char_count, digits, padded_integral}
 use Rattle.std.specs.Str.{chars, is_utf8}
 use lib.Utf8.{encode}
-use Rattle.minisign_base.specs.Identifiers.{identifier_text}
+use Rattle.minisign_base.specs.KeyIds.{key_id_text}
 use Rattle.minisign_base.specs.Fault.{Named}
-use Rattle.minisign_base.specs.declared.faults.NamedFault.TheVariants.{EndOfInput, InvalidParameters, NotUtf8, ParametersTooHigh, PasswordTooLong}
+use Rattle.minisign_base.specs.declared.faults.NamedFault.TheVariants.{EndOfInput, InvalidParameters, NotUtf8}
+use Rattle.minisign_base.specs.declared.faults.NamedFault.TheVariants.{ParametersTooHigh, PasswordTooLong}
 use Rattle.minisign_base.specs.Limits.{cost_log2, limits, numbers, sealing_limits}
 use Rattle.minisign_base.specs.Passwords.{accepted_line, first_line, password_of, read_count}
 
 -- the key ID of the bytes 1 to 8
-pub identifier_of_counted_bytes : identifier_text (1 ∷ 2 ∷ 3 ∷ 4 ∷ 5 ∷ 6 ∷ 7 ∷ 8 ∷ []) ≡ codes "0807060504030201"
-unfolding identifier_text padded_integral digits char_count
-identifier_of_counted_bytes = refl
+pub key_id_of_counted_bytes : key_id_text (1 ∷ 2 ∷ 3 ∷ 4 ∷ 5 ∷ 6 ∷ 7 ∷ 8 ∷ []) ≡ codes "0807060504030201"
+unfolding key_id_text padded_integral digits char_count
+key_id_of_counted_bytes = refl
 
 -- zeros stand in front
-pub identifier_of_one_byte : identifier_text (0xab ∷ 0 ∷ 0 ∷ 0 ∷ 0 ∷ 0 ∷ 0 ∷ 0 ∷ []) ≡ codes "00000000000000AB"
-unfolding identifier_text padded_integral digits char_count
-identifier_of_one_byte = refl
+pub key_id_of_one_byte : key_id_text (0xab ∷ 0 ∷ 0 ∷ 0 ∷ 0 ∷ 0 ∷ 0 ∷ 0 ∷ []) ≡ codes "00000000000000AB"
+unfolding key_id_text padded_integral digits char_count
+key_id_of_one_byte = refl
 
 -- the limits of generated keys
 pub limits_of_generated_keys : sealing_limits 33554432 1048576 ≡ Ok (record { n_log2 = 15; r = 8; p = 1 })
@@ -86,11 +87,13 @@ password_of_1025_bytes = refl
 
 -- 1025 letters, a carriage return and a line feed: the line feed is not read
 pub password_of_1026_bytes : (password_of (replicate 1025 97 ++ 13 ∷ 10 ∷ []) ≡ Err (Named PasswordTooLong))
-    × (drop {A = ℕ} (read_count (replicate 1025 97 ++ 13 ∷ 10 ∷ [])) (replicate 1025 97 ++ 13 ∷ 10 ∷ []) ≡ 10 ∷ [])
+    × (drop {A = ℕ} (read_count (replicate 1025 97 ++ 13 ∷ 10 ∷ [])) (replicate 1025 97 ++ 13 ∷ 10 ∷ []) ≡ 10
+    ∷ [])
 unfolding password_of
 password_of_1026_bytes = (refl, refl)
 
 -- 1026 bytes without a line feed are too many before they are no text, 1025 bytes are no text first
-pub password_of_bytes_that_are_no_text : (password_of (replicate 1026 255) ≡ Err (Named PasswordTooLong)) × (password_of (replicate 1025 255) ≡ Err (Named NotUtf8))
+pub password_of_bytes_that_are_no_text : (password_of (replicate 1026 255) ≡ Err (Named PasswordTooLong))
+    × (password_of (replicate 1025 255) ≡ Err (Named NotUtf8))
 unfolding password_of first_line accepted_line is_utf8 chars encode
 password_of_bytes_that_are_no_text = (refl, refl)

@@ -5,7 +5,8 @@ use Rattle.std.proofs.Math.Seq.{take-add}
 
 -- the rest begins with what is given next
 pub rest_given : (at n : ℕ) (xs : List ℕ) → drop at xs ≡ take n (drop at xs) ++ drop (at + n) xs
-rest_given at n xs = sym (take-append-drop n (drop at xs)) ∙ ap (λ l. take n (drop at xs) ++ l) (drop-drop n at xs)
+rest_given at n xs = sym (take-append-drop n (drop at xs)) ∙ ap (λ l. take n (drop at xs) ++ l)
+    (drop-drop n at xs)
 
 -- the front ends with what was given last
 pub front_given : (at n : ℕ) (xs : List ℕ) → take (at + n) xs ≡ take at xs ++ take n (drop at xs)

@@ -1,5 +1,6 @@
 -- The logarithm of the cost: the one number that is described as the least, and a power of two gives it.
-use Rattle.std.proofs.Common.{◌≡◌, ℕ, ◌+◌, ◌*◌, ◌/◌, ◌^◌, ◌<◌, ◌≤◌, zero, suc, Some, None, inl, inr, false, true, max, refl, sym, ap, ◌∙◌, add-one, arith}
+use Rattle.std.proofs.Common.{◌≡◌, ℕ, ◌+◌, ◌*◌, ◌/◌, ◌^◌, ◌<◌, ◌≤◌, zero, suc, Some, None, inl, inr, false}
+use Rattle.std.proofs.Common.{true, max, refl, sym, ap, ◌∙◌, add-one, arith}
 use Rattle.std.proofs.Math.Nat.{pow-suc}
 use Rattle.std.proofs.Math.Pow.{pow_mono}
 use Rattle.std.proofs.lemmas.Bool.{cases_lt, lt-ltb, le-ltb}
@@ -15,8 +16,10 @@ find_least : (bound n start len : ℕ) → start ≤ n → n < start + len
 find_least bound n start zero from below smaller enough = absurd (omega arith)
 find_least bound n start (suc len) from below smaller enough = elim (cases_lt start n) [
   | inl less ↦
-      let passes : nat_lt bound (2 ^ start) ≡ false = le-ltb bound (2 ^ start) (smaller start (omega arith) less) in
-      rw passes (find_least bound n (start + 1) len (omega arith) (omega arith) (λ k l. smaller k (omega arith)) enough)
+      let passes : nat_lt bound (2 ^ start) ≡ false = le-ltb bound (2 ^ start)
+      (smaller start (omega arith) less) in
+      rw passes (find_least bound n (start + 1) len (omega arith) (omega arith)
+      (λ k l. smaller k (omega arith)) enough)
   | inr least ↦
       let same : start ≡ n = omega arith in
       let found : nat_lt bound (2 ^ start) ≡ true = rw same (lt-ltb bound (2 ^ n) enough) in
@@ -28,7 +31,8 @@ find_none : (bound start len : ℕ) → ((k : ℕ) → start ≤ k → k < start
     → find (λ m. nat_lt bound (2 ^ m)) (range_with_len start len) ≡ None
 find_none bound start zero smaller = refl
 find_none bound start (suc len) smaller =
-    let passes : nat_lt bound (2 ^ start) ≡ false = le-ltb bound (2 ^ start) (smaller start (omega arith) (omega arith)) in
+    let passes : nat_lt bound (2 ^ start) ≡ false = le-ltb bound (2 ^ start)
+    (smaller start (omega arith) (omega arith)) in
     rw passes (find_none bound (start + 1) len (λ k l b. smaller k (omega arith) (omega arith)))
 
 -- what is described as the least number is the one that is found
@@ -37,10 +41,12 @@ unfolding cost_log2
 cost_log2_unique greatest n least = elim (cases_lt n 63) [
   | inl below ↦
       let enough : greatest / 2 < 2 ^ n = elim least.enough [ inl e ↦ e | inr last ↦ absurd (omega arith) ] in
-      sym (ap (λ o. unwrap_or o 63) (find_least (greatest / 2) n 1 62 least.from_one (omega arith) least.none_smaller enough))
+      sym (ap (λ o. unwrap_or o 63)
+      (find_least (greatest / 2) n 1 62 least.from_one (omega arith) least.none_smaller enough))
   | inr above ↦
       let last : n ≡ 63 = omega (arith, least.at_most) in
-      last ∙ sym (ap (λ o. unwrap_or o 63) (find_none (greatest / 2) 1 62 (λ k l b. least.none_smaller k l (omega arith))))
+      last ∙ sym (ap (λ o. unwrap_or o 63)
+      (find_none (greatest / 2) 1 62 (λ k l b. least.none_smaller k l (omega arith))))
 ]
 
 -- the power of two at or below half of the greatest cost is that of the number before

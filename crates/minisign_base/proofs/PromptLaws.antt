@@ -17,7 +17,8 @@ typed_is bytes password e = ap (λ r. result_unwrap_or r []) e
 pub stopped_first : {R W : Type 0} (p : PromptCall R W) (first second : List Step) (e : Fault)
     → ConversationEnds p first (Err e) → ConversationEnds p (first ++ second) (Err e)
 stopped_first p first second e =
-    first_stopped (λ step old new. StepEnds (record p { old = old; new = new }) step) first second p.old p.new e
+    first_stopped (λ step old new. StepEnds (record p { old = old; new = new }) step) first second p.old p.new
+    e
 
 -- the first one was held, and the second one ended so
 pub second_ended : {R W : Type 0} (p : PromptCall R W) (between : Prompt R W) (first second : List Step)

@@ -1,5 +1,6 @@
 -- What follows for a sink from one write after another, for callers that write a text in parts.
-use Rattle.std.proofs.Common.{ℕ, ◌+◌, min, Option, None, Some, List, ◌++◌, length, take, ap, sym, ◌∙◌, append_assoc}
+use Rattle.std.proofs.Common.{ℕ, ◌+◌, min, Option, None, Some, List, ◌++◌, length, take, ap, sym, ◌∙◌}
+use Rattle.std.proofs.Common.{append_assoc}
 use Rattle.std.proofs.Common.{append-nil, arith}
 use Rattle.std.proofs.lemmas.List.{take-append-le, take_all, take_min}
 use Rattle.std.proofs.Math.Seq.{take-append-add}
@@ -24,7 +25,8 @@ AppendsFront-after (Some x) (Some y) c bs cs p (n, q) = (
 )
 
 -- a prefix of a part is one of the whole text
-pub AppendsFront-more : (a b : Option (List ℕ)) (bs cs : List ℕ) → AppendsFront a b bs → AppendsFront a b (bs ++ cs)
+pub AppendsFront-more : (a b : Option (List ℕ)) (bs cs : List ℕ) → AppendsFront a b bs
+    → AppendsFront a b (bs ++ cs)
 AppendsFront-more None b bs cs p = (0, tt)
 AppendsFront-more (Some x) b bs cs (n, p) = (
   min n (length bs),
@@ -32,7 +34,8 @@ AppendsFront-more (Some x) b bs cs (n, p) = (
 )
 
 -- a whole text is a prefix of itself
-pub AppendsFront-whole : (a b c : Option (List ℕ)) (bs : List ℕ) → Appends a b bs → Keeps b c → AppendsFront a c bs
+pub AppendsFront-whole : (a b c : Option (List ℕ)) (bs : List ℕ) → Appends a b bs → Keeps b c
+    → AppendsFront a c bs
 AppendsFront-whole None b c bs p k = (0, tt)
 AppendsFront-whole (Some x) None c bs p k = absurd p
 AppendsFront-whole (Some x) (Some y) None bs p k = absurd k

@@ -5,7 +5,8 @@ use Rattle.minisign_base.specs.Steps.{StepsEnd}
 
 -- the first one stopped
 pub first_stopped : {Step D E : Type 0} (Ends : Step → D → D → Result ⊤ E → Type 0) (first second : List Step)
-    (old new : D) (e : E) → StepsEnd Ends first old new (Err e) → StepsEnd Ends (first ++ second) old new (Err e)
+    (old new : D) (e : E) → StepsEnd Ends first old new (Err e)
+    → StepsEnd Ends (first ++ second) old new (Err e)
 first_stopped Ends [] second old new e h = absurd h
 first_stopped Ends (step ∷ later) second old new e (inl h) = inl h
 first_stopped Ends (step ∷ later) second old new e (inr (d, done, h)) =

@@ -1,7 +1,7 @@
 -- The named errors: of each the number by which a program in another language knows it, the kind, and the
 -- text.
 use Rattle.std.specs.Prelude.{ℕ, List, ◌++◌, codes}
-use Rattle.minisign_base.specs.Identifiers.{identifier_text}
+use Rattle.minisign_base.specs.KeyIds.{key_id_text}
 use Rattle.minisign_base.specs.declared.errors.ErrorKind.{ErrorKind}
 use Rattle.minisign_base.specs.declared.errors.ErrorKind.TheVariants as kind
 use Rattle.minisign_base.specs.declared.faults.NamedFault.{NamedFault}
@@ -80,10 +80,10 @@ fault_row fault.InvalidUtf8 = row 80 kind.Encoding (codes "invalid UTF-8")
 -- the text: but for three errors it is the summary
 abbrev pub named_text : NamedFault → List ℕ
 named_text (fault.DifferentKeyIds signature key) =
-    codes "Signature key id: " ++ (identifier_text signature ++
-    (codes " is different from public key: " ++ identifier_text key))
+    codes "Signature key id: " ++ (key_id_text signature ++
+    (codes " is different from public key: " ++ key_id_text key))
 named_text (fault.RefusedByGivenKey key) =
-    codes "Could not verify signature with the provided public key ID: " ++ identifier_text key
+    codes "Could not verify signature with the provided public key ID: " ++ key_id_text key
 named_text fault.EncryptedKeyRefused =
     codes "Cannot sign with an encrypted secret key. The key must be decrypted first. Options include: "
     ++ (codes "SecretKeyBox::into_secret_key(password), SecretKey::from_box(box, password), "

@@ -4,7 +4,7 @@ pub mod DeviceCalls
 pub mod Devices
 pub mod Fault
 pub mod Faults
-pub mod Identifiers
+pub mod KeyIds
 pub mod Limits
 pub mod Members
 pub mod Passwords

@@ -8,7 +8,7 @@ use crate::errors::ErrorKind::{
     self, Encoding, EncryptedKey, Generate, Io, KDF, Misc, RNG, Verify,
 };
 use crate::helpers::joined;
-use crate::identifiers::Identifier;
+use crate::key_ids::KeyId;
 use std::{fmt, str};
 
 /// How many bytes a text with key IDs takes at most.
@@ -205,15 +205,15 @@ impl NamedFault {
             NamedFault::DifferentKeyIds { signature, key } => joined(
                 room,
                 b"Signature key id: ",
-                &Identifier(*signature).digits(),
+                &KeyId(*signature).digits(),
                 b" is different from public key: ",
-                &Identifier(*key).digits(),
+                &KeyId(*key).digits(),
             ),
             NamedFault::RefusedByGivenKey { key } => joined(
                 room,
                 self.summary().as_bytes(),
                 b": ",
-                &Identifier(*key).digits(),
+                &KeyId(*key).digits(),
                 b"",
             ),
             NamedFault::EncryptedKeyRefused =>

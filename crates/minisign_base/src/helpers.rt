@@ -90,9 +90,8 @@ pub fn get_password<R: Source, W: Sink>(
     // The password is the one in the first line of the bytes ahead, by its definition
     // (`specs/Passwords`); the text was written and then, if the password is empty, the mark of an
     // empty one, and all of it was flushed; no more than the line was read, and no error came.
-    ensures asked { IfOk result (λ password. (bytes : List ℕ)
-        × (password_of bytes ≡ Ok (string_bytes password))
-        × ConversationEnds (prompt_call R.Source W.Sink prompt.old prompt.new)
+    ensures asked { IfOk result (λ password. (bytes : List ℕ) × (password_of bytes
+        ≡ Ok (string_bytes password)) × ConversationEnds (prompt_call R.Source W.Sink prompt.old prompt.new)
         (asking_steps text.now bytes) (Ok tt)) }
 
     // Otherwise it stopped at the first of these steps that was not done: an allocation failed, with

@@ -7,7 +7,7 @@ pub mod devices;
 pub mod errors;
 pub mod faults;
 pub mod helpers;
-pub mod identifiers;
+pub mod key_ids;
 pub mod prompt;
 pub mod scheme;
 pub mod toy;
@@ -21,7 +21,7 @@ pub use devices::sources::{
 pub use errors::{ErrorKind, PError, Result};
 pub use faults::NamedFault;
 pub use helpers::{get_password, load_u64_le, raw_scrypt_params, store_u64_le, unix_timestamp};
-pub use identifiers::Identifier;
+pub use key_ids::KeyId;
 pub use minisign_kdf::Params;
 pub use prompt::Prompt;
 pub use scheme::Scheme;

@@ -83,12 +83,9 @@ impl<R: Source, W: Sink> Prompt<R, W> {
         ensures password { IfOk result (λ password. (bytes : List ℕ)
             × HasReadLine (source_call R.Source self.old.reader self.new.reader) bytes
             × (password_of bytes ≡ Ok (string_bytes password))) }
-        ensures refused { IfErr result (λ e.
-            ((e ≡ Named ReadingFailed)
-            × HasFailedInLine (source_call R.Source self.old.reader self.new.reader))
-            ⊎ ((bytes : List ℕ)
-            × HasReadLine (source_call R.Source self.old.reader self.new.reader) bytes
-            × (password_of bytes ≡ Err e))) }
+        ensures refused { IfErr result (λ e. ((e ≡ Named ReadingFailed) × HasFailedInLine (source_call
+            R.Source self.old.reader self.new.reader)) ⊎ ((bytes : List ℕ) × HasReadLine (source_call R.Source
+            self.old.reader self.new.reader) bytes × (password_of bytes ≡ Err e))) }
     {
         let mut line = line;
         let length = read_line(&mut self.reader, &mut line)?;
@@ -130,11 +127,9 @@ fn read_line<R: Source>(source: &mut R, line: &mut [u8]) -> Result<usize>
     ensures read { IfOk result (λ n. (bytes : List ℕ)
         × HasReadLine (source_call R.Source source.old source.new) bytes
         × (n ≤ length line.new) × (password_of bytes ≡ accepted_line (take n line.new))) }
-    ensures refused { IfErr result (λ e.
-        ((e ≡ Named ReadingFailed) × HasFailedInLine (source_call R.Source source.old source.new))
-        ⊎ ((bytes : List ℕ)
-        × HasReadLine (source_call R.Source source.old source.new) bytes
-        × (password_of bytes ≡ Err e))) }
+    ensures refused { IfErr result (λ e. ((e ≡ Named ReadingFailed) × HasFailedInLine
+        (source_call R.Source source.old source.new)) ⊎ ((bytes : List ℕ) × HasReadLine
+        (source_call R.Source source.old source.new) bytes × (password_of bytes ≡ Err e))) }
 {
     let mut used = 0;
     'bytes: while used < line.len() {
@@ -151,11 +146,9 @@ fn read_line<R: Source>(source: &mut R, line: &mut [u8]) -> Result<usize>
 
 // The next byte, or none at the end.
 fn next_byte<R: Source>(source: &mut R) -> Result<Option<u8>>
-    ensures byte { IfOk result (λ next. MatchOption next
-        (Consumes (R.ahead source.old) (R.ahead source.new) [] × IsAtEnd (R.ahead source.new)
-        × (R.left source.new ≡ R.left source.old))
-        (λ b. Consumes (R.ahead source.old) (R.ahead source.new) (b ∷ [])
-        × (R.left source.new + 1 ≡ R.left source.old))) }
+    ensures byte { IfOk result (λ next. MatchOption next (Consumes (R.ahead source.old) (R.ahead source.new)
+        [] × IsAtEnd (R.ahead source.new) × (R.left source.new ≡ R.left source.old)) (λ b. Consumes
+        (R.ahead source.old) (R.ahead source.new) (b ∷ []) × (R.left source.new + 1 ≡ R.left source.old))) }
     ensures no_new_fault { OnOk result (R.faults source.new ≡ R.faults source.old) }
     ensures refused { IfErr result
         (λ e. (e ≡ Named ReadingFailed) × Rose (R.faults source.old) (R.faults source.new)) }

@@ -2,7 +2,7 @@
 
 ghost use Rattle.std.specs.Prelude.{None};
 ghost use Rattle.minisign.specs.Opening.{open_key};
-ghost use Rattle.minisign.specs.Texts.{IsReadOrNoMemory};
+ghost use Rattle.minisign.specs.Texts.{IsGivenOrNoMemory};
 
 use minisign::{Prompt, Result, SecretKey, SecretKeyBox};
 use std::alloc::Global;
@@ -14,7 +14,7 @@ const KEPT_EVERY: u64 = 8;
 /// otherwise: 4 MiB with the usual limits. What is opened and what is rejected is the same.
 pub fn open_in_little_memory(alloc: Global, sk_text: &str, password: &str) -> Result<SecretKey>
     // A key opens in an eighth of the memory exactly when it opens.
-    ensures { IsReadOrNoMemory result (open_key sk_text.now password.now None) }
+    ensures { IsGivenOrNoMemory result (open_key sk_text.now password.now None) }
 {
     let sk_box = SecretKeyBox::from_string(alloc, sk_text)?;
     let passed_in = Some(String::from_str(alloc, password)?);

@@ -1,5 +1,7 @@
 -- A signature that was read from a text: asking with it is asking about the text.
-use Rattle.std.proofs.Common.{◌≡◌, ◌∙◌, ◌==◌, ◌+◌, ℕ, Bool, true, false, if◌then◌else◌, List, length, take, drop, Result, Ok, Err, ap, sym, refl, subst, le-leb, IfOk, IfErr, ◌≤◌, ◌++◌, ◌&&◌}
+use Rattle.std.proofs.Common.{◌≡◌, ◌∙◌, ◌==◌, ◌+◌, ℕ, Bool, true, false, if◌then◌else◌, List, length, take}
+use Rattle.std.proofs.Common.{drop, Result, Ok, Err, ap, sym, refl, subst, le-leb, IfOk, IfErr, ◌≤◌, ◌++◌}
+use Rattle.std.proofs.Common.{◌&&◌}
 use Rattle.std.specs.Prelude.{⊤, bytes_eq, nat_le}
 use Rattle.std.specs.Str.{IsUtf8, is_utf8}
 use Rattle.std.proofs.lemmas.Slice.Eq.{bytes_eq-Decides}
@@ -12,8 +14,12 @@ use Rattle.minisign.specs.CommentPlace.{StandsAt}
 use Rattle.minisign.specs.Texts.{and_then, map_ok}
 use Rattle.minisign_external.specs.PublicKeys.{read_utf8}
 use Rattle.minisign_external.specs.Questions.{HoldsMessage, has_whole_signature, read_under}
-use Rattle.minisign_external.specs.Signatures.{IsReadFrom, comment_bytes, comment_of, is_text_of, read_signature_value, signature_mark, signature_of_value, signature_value}
-use Rattle.minisign_external.specs.States.{HasAsked, IsTextRefusal, asked_about, asked_of, asked_under, asking_misuse, asking_result, asking_under, judged_before, may_ask, placed_before, questions_about, questions_of, room_for}
+use Rattle.minisign_external.specs.Signatures.{IsReadFrom, comment_bytes, comment_of, is_text_of}
+use Rattle.minisign_external.specs.Signatures.{read_signature_value, signature_mark, signature_of_value}
+use Rattle.minisign_external.specs.Signatures.{signature_value}
+use Rattle.minisign_external.specs.States.{HasAsked, IsTextRefusal, asked_about, asked_of, asked_under}
+use Rattle.minisign_external.specs.States.{asking_misuse, asking_result, asking_under, judged_before, may_ask}
+use Rattle.minisign_external.specs.States.{placed_before, questions_about, questions_of, room_for}
 use Rattle.minisign_external.specs.declared.public_keys.PublicKeyValue.{PublicKeyValue}
 use Rattle.minisign_external.specs.declared.signatures.SignatureValue.{SignatureValue}
 use Rattle.minisign_external.specs.declared.state.Misuse.{Misuse}
@@ -36,7 +42,8 @@ last_fails true false c is = refl
 last_fails false b c is = refl
 
 chosen : (a b : Bool) (x y : List ℕ) → a ≡ true → b ≡ true → x ≡ y
-    → ◌≡◌ {A = Result (List ℕ) Misuse} (if a then if b then Ok x else Err OtherSignatureText else Err SignatureNotRead) (Ok y)
+    → ◌≡◌ {A = Result (List ℕ) Misuse}
+    (if a then if b then Ok x else Err OtherSignatureText else Err SignatureNotRead) (Ok y)
 chosen true true x y p q same = ap (λ c. Ok c) same
 chosen true false x y p q same = cc q
 chosen false b x y p q same = cc p
@@ -50,21 +57,26 @@ judged_as : (j : Result ⊤ Fault) (t : SignatureTextRecord) (room : ℕ)
 judged_as (Ok u) t room = refl
 judged_as (Err e) t room = refl
 
-judged_ok : (j : Result ⊤ Fault) (t : SignatureTextRecord) (room : ℕ) → asked_under (and_then j (λ _. Ok t)) room ≡ Ok tt
+judged_ok : (j : Result ⊤ Fault) (t : SignatureTextRecord) (room : ℕ)
+    → asked_under (and_then j (λ _. Ok t)) room ≡ Ok tt
     → ◌≡◌ {A = Result SignatureTextRecord Fault} (and_then j (λ _. Ok t)) (Ok t)
 judged_ok (Ok u) t room h = refl
 judged_ok (Err e) t room h = cc h
 
 -- what is found of the text of a value
-pub is_same : (s : SignatureValue) (text part : List ℕ) → bytes_eq (blake2b_digest 32 text) s.text_digest ≡ true → nat_le (s.comment_offset + s.comment_len) (length text) ≡ true
+pub is_same : (s : SignatureValue) (text part : List ℕ) → bytes_eq (blake2b_digest 32 text) s.text_digest
+    ≡ true → nat_le (s.comment_offset + s.comment_len) (length text) ≡ true
     → part ≡ comment_bytes s text → IsUtf8 part → is_text_of s text ≡ true
 is_same s text part digest fits is utf8 =
-    all_hold (bytes_eq (blake2b_digest 32 text) s.text_digest) (nat_le (s.comment_offset + s.comment_len) (length text)) (is_utf8 (comment_bytes s text))
+    all_hold (bytes_eq (blake2b_digest 32 text) s.text_digest)
+    (nat_le (s.comment_offset + s.comment_len) (length text)) (is_utf8 (comment_bytes s text))
     digest fits (ap is_utf8 (sym is) ∙ is_utf8-from_IsUtf8 part utf8)
 
-pub is_other : (s : SignatureValue) (text part : List ℕ) → part ≡ comment_bytes s text → ¬ (IsUtf8 part) → is_text_of s text ≡ false
+pub is_other : (s : SignatureValue) (text part : List ℕ) → part ≡ comment_bytes s text → ¬ (IsUtf8 part)
+    → is_text_of s text ≡ false
 is_other s text part is other =
-    last_fails (bytes_eq (blake2b_digest 32 text) s.text_digest) (nat_le (s.comment_offset + s.comment_len) (length text)) (is_utf8 (comment_bytes s text))
+    last_fails (bytes_eq (blake2b_digest 32 text) s.text_digest)
+    (nat_le (s.comment_offset + s.comment_len) (length text)) (is_utf8 (comment_bytes s text))
     (ap is_utf8 (sym is) ∙ not_true (is_utf8 part) (λ u. other (IsUtf8-from_is_utf8 part u)))
 
 module _ (s : SignatureValue) (text : List ℕ) (t : SignatureTextRecord) (from : IsReadFrom s text t) where
@@ -77,30 +89,41 @@ module _ (s : SignatureValue) (text : List ℕ) (t : SignatureTextRecord) (from 
   text_is : is_text_of s text ≡ true
   text_is =
       is_same s text t.comments.trusted
-      ((bytes_eq-Decides (blake2b_digest 32 text) s.text_digest).1 (sym (ap (λ (x : SignatureValue). x.text_digest) from.value)))
-      (le-leb _ _ (subst (λ (n : ℕ). s.comment_offset + n ≤ length text) (sym len_is) from.comment.within)) (sym bytes_are) from.utf8
+      ((bytes_eq-Decides (blake2b_digest 32 text) s.text_digest).1
+      (sym (ap (λ (x : SignatureValue). x.text_digest) from.value)))
+      (le-leb _ _ (subst (λ (n : ℕ). s.comment_offset + n ≤ length text) (sym len_is) from.comment.within))
+      (sym bytes_are) from.utf8
 
   -- the comment that is asked about is that of the text
   pub comment_is : comment_of s text ≡ Ok t.comments.trusted
-  comment_is = chosen (s.mark == signature_mark) (is_text_of s text) _ _ (ap (λ (x : SignatureValue). x.mark == signature_mark) from.value) text_is bytes_are
+  comment_is = chosen (s.mark == signature_mark) (is_text_of s text) _ _
+      (ap (λ (x : SignatureValue). x.mark == signature_mark) from.value) text_is bytes_are
 
-  under : (v : PublicKeyValue) (legacy : Bool) → and_then (judge_key v.key_id t.signature legacy) (λ _. Ok t) ≡ read_under v legacy text
-  under v legacy = sym (ap (λ r. and_then r (λ x. and_then (judge_key v.key_id x.signature legacy) (λ _. Ok x))) from.read)
+  under : (v : PublicKeyValue) (legacy : Bool) → and_then (judge_key v.key_id t.signature legacy) (λ _. Ok t)
+      ≡ read_under v legacy text
+  under v legacy = sym (ap
+      (λ r. and_then r (λ x. and_then (judge_key v.key_id x.signature legacy) (λ _. Ok x))) from.read)
 
   -- what is rejected is what the text is rejected for
-  pub asked_as : (v : PublicKeyValue) (legacy : Bool) (room : ℕ) → asked_of v s text legacy room ≡ asked_under (read_under v legacy text) room
+  pub asked_as : (v : PublicKeyValue) (legacy : Bool) (room : ℕ) → asked_of v s text legacy room
+      ≡ asked_under (read_under v legacy text) room
   asked_as v legacy room =
-      ap (λ c. placed_before c (judged_before (judge_key v.key_id (signature_of_value s) legacy) (room_for s.comment_len room))) comment_is
-      ∙ ap (λ (x : SignatureValue). judged_before (judge_key v.key_id (signature_of_value x) legacy) (room_for x.comment_len room)) from.value
+      ap (λ c. placed_before c
+      (judged_before (judge_key v.key_id (signature_of_value s) legacy) (room_for s.comment_len room)))
+      comment_is
+      ∙ ap (λ (x : SignatureValue). judged_before (judge_key v.key_id (signature_of_value x) legacy)
+      (room_for x.comment_len room)) from.value
       ∙ judged_as (judge_key v.key_id t.signature legacy) t room
       ∙ ap (λ r. asked_under r room) (under v legacy)
 
   pub asking_as : (state : State) (v : PublicKeyValue) (legacy : Bool) (room : ℕ)
       → asking_result state v s text legacy room ≡ asking_under state v text legacy room
-  asking_as state v legacy room = ap (λ x. if may_ask state then x else Err (WrongUse (asking_misuse state))) (asked_as v legacy room)
+  asking_as state v legacy room = ap (λ x. if may_ask state then x else Err (WrongUse (asking_misuse state)))
+      (asked_as v legacy room)
 
   -- where nothing is rejected, this is what the text reads as under the key
-  pub reads_under : (v : PublicKeyValue) (legacy : Bool) (room : ℕ) → asked_of v s text legacy room ≡ Ok tt → read_under v legacy text ≡ Ok t
+  pub reads_under : (v : PublicKeyValue) (legacy : Bool) (room : ℕ) → asked_of v s text legacy room ≡ Ok tt
+      → read_under v legacy text ≡ Ok t
   reads_under v legacy room h =
       sym (under v legacy) ∙ judged_ok (judge_key v.key_id t.signature legacy) t room
       (ap (λ r. asked_under r room) (under v legacy) ∙ sym (asked_as v legacy room) ∙ h)
@@ -110,32 +133,39 @@ module _ (s : SignatureValue) (text : List ℕ) (t : SignatureTextRecord) (from 
   questions_are v = ap (questions_about v) from.value
 
   -- and the message of the second one
-  pub message_is : (c message : List ℕ) (len : ℕ) → comment_of s text ≡ Ok c → len ≡ 64 + length c → len ≤ length message
-      → take len message ≡ s.signature ++ c → (c ≡ t.comments.trusted) × HoldsMessage t.signature t.comments.trusted message len
+  pub message_is : (c message : List ℕ) (len : ℕ) → comment_of s text ≡ Ok c → len ≡ 64 + length c
+      → len ≤ length message
+      → take len message ≡ s.signature ++ c → (c ≡ t.comments.trusted)
+      × HoldsMessage t.signature t.comments.trusted message len
   message_is c message len is many fits same =
       let both : Ok c ≡ Ok t.comments.trusted = sym is ∙ comment_is in
       let one : c ≡ t.comments.trusted = cc both in (
         one,
         record {
           fits = fits;
-          message = same ∙ ap (λ (x : List ℕ). x ++ c) (ap (λ (x : SignatureValue). x.signature) from.value) ∙ ap (λ (x : List ℕ). t.signature.signature ++ x) one;
+          message = same ∙ ap (λ (x : List ℕ). x ++ c) (ap (λ (x : SignatureValue). x.signature) from.value)
+              ∙ ap (λ (x : List ℕ). t.signature.signature ++ x) one;
         },
       )
 
   -- they are then asked
-  pub has_asked : (state : State) (v : PublicKeyValue) (legacy : Bool) → read_under v legacy text ≡ Ok t → HasAsked (asked_about state s) v text legacy
+  pub has_asked : (state : State) (v : PublicKeyValue) (legacy : Bool) → read_under v legacy text ≡ Ok t
+      → HasAsked (asked_about state s) v text legacy
   has_asked state v legacy read = record {
     asked = refl;
     signed = t;
     read = read;
-    whole = ap (λ (x : SignatureValue). x.whole == 1) from.value ∙ one_or_zero (has_whole_signature t.comments);
+    whole = ap (λ (x : SignatureValue). x.whole == 1) from.value
+        ∙ one_or_zero (has_whole_signature t.comments);
   }
 
 -- == What is read of bytes ==
 
 -- bytes that are a text
-pub from_text : (r : Result SignatureValue Fault) (text bytes : List ℕ) → r ≡ map_ok (signature_value text) (read_signature text) → text ≡ bytes → IsUtf8 bytes
-    → IfOk r (λ s. (t : SignatureTextRecord) × (read_signature text ≡ Ok t) × StandsAt t.comments.trusted text s.comment_offset × IsUtf8 t.comments.trusted
+pub from_text : (r : Result SignatureValue Fault) (text bytes : List ℕ)
+    → r ≡ map_ok (signature_value text) (read_signature text) → text ≡ bytes → IsUtf8 bytes
+    → IfOk r (λ s. (t : SignatureTextRecord) × (read_signature text ≡ Ok t)
+    × StandsAt t.comments.trusted text s.comment_offset × IsUtf8 t.comments.trusted
     × (64 + length t.comments.trusted ≤ length text))
     → IfOk r (λ s. (t : SignatureTextRecord) × IsReadFrom s bytes t)
 from_text (Ok s) text bytes h same utf8 (t, read, stands, comment, room) =
@@ -151,12 +181,14 @@ from_text (Ok s) text bytes h same utf8 (t, read, stands, comment, room) =
     (t, subst (λ (b : List ℕ). IsReadFrom s b t) same from)
 from_text (Err e) text bytes h same utf8 more = tt
 
-unread_of : (text : List ℕ) (e : Fault) (r : Result SignatureTextRecord Fault) → Err e ≡ map_ok (signature_value text) r → r ≡ Err e
+unread_of : (text : List ℕ) (e : Fault) (r : Result SignatureTextRecord Fault)
+    → Err e ≡ map_ok (signature_value text) r → r ≡ Err e
 unread_of text e (Ok t) h = cc h
 unread_of text e (Err f) h = let same : f ≡ e = cc h in ap (λ x. Err x) same
 
 -- what is rejected of bytes is rejected by the texts
-pub unread_texts : (v : PublicKeyValue) (legacy : Bool) (bytes : List ℕ) (r : Result SignatureValue Fault) → r ≡ read_signature_value bytes
+pub unread_texts : (v : PublicKeyValue) (legacy : Bool) (bytes : List ℕ) (r : Result SignatureValue Fault)
+    → r ≡ read_signature_value bytes
     → IfErr r (λ e. IsTextRefusal v bytes legacy (Refused e))
 unread_texts v legacy bytes (Ok s) h = tt
 unread_texts v legacy bytes (Err e) h =

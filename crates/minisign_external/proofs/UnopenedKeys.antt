@@ -10,13 +10,16 @@ use Rattle.minisign_external.specs.PublicKeys.{read_utf8}
 use Rattle.minisign_external.specs.SecretKeys.{OpensAs, open_unsealed, open_within, unopened_record}
 use Rattle.minisign_external.specs.declared.unopened_keys.UnopenedKeyValue.{UnopenedKeyValue}
 
-required : {V : Type 0} (b : Bool) (f : NamedFault) (r : Result V Fault) (v : V) → require b f r ≡ Ok v → r ≡ Ok v
+required : {V : Type 0} (b : Bool) (f : NamedFault) (r : Result V Fault) (v : V) → require b f r ≡ Ok v
+    → r ≡ Ok v
 required true f r v h = h
 required false f r v h = cc h
 
-pub opens_as : (v : UnopenedKeyValue) (text : List ℕ) → read_utf8 read_secret_key text ≡ Ok (unopened_record v) → OpensAs v text
+pub opens_as : (v : UnopenedKeyValue) (text : List ℕ) → read_utf8 read_secret_key text
+    ≡ Ok (unopened_record v) → OpensAs v text
 opens_as v text read =
-    let same : read_secret_key text ≡ Ok (unopened_record v) = required (is_utf8 text) NotUtf8 (read_secret_key text) (unopened_record v) read in (
+    let same : read_secret_key text ≡ Ok (unopened_record v) = required (is_utf8 text) NotUtf8
+    (read_secret_key text) (unopened_record v) read in (
       sym (ap (λ x. and_then x open_unsealed) same),
       λ password most_rows. sym (ap (λ x. and_then x (λ k. open_within k password most_rows)) same),
     )

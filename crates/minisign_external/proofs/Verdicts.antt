@@ -1,5 +1,7 @@
 -- What a key and the text of a signature decide is what every text that reads as the key decides with it.
-use Rattle.std.proofs.Common.{◌≡◌, ◌⊎◌, ℕ, Bool, true, false, ◌||◌, ◌&&◌, ◌==◌, not, ◌+◌, if◌then◌else◌, List, ◌++◌, Result, Ok, Err, IsTrue, bytes_eq, inl, inr, ap, sym, subst, refl, ◌∙◌, nat_le, length, take, arith}
+use Rattle.std.proofs.Common.{◌≡◌, ◌⊎◌, ℕ, Bool, true, false, ◌||◌, ◌&&◌, ◌==◌, not, ◌+◌, if◌then◌else◌, List}
+use Rattle.std.proofs.Common.{◌++◌, Result, Ok, Err, IsTrue, bytes_eq, inl, inr, ap, sym, subst, refl, ◌∙◌}
+use Rattle.std.proofs.Common.{nat_le, length, take, arith}
 use Rattle.std.specs.Prelude.{⊤}
 use Rattle.std.specs.Str.{IsUtf8, is_utf8}
 use Rattle.std.proofs.lemmas.Str.{IsUtf8-from_is_utf8, is_utf8-from_IsUtf8}
@@ -7,16 +9,20 @@ use Rattle.std.proofs.lemmas.Slice.Eq.{bytes_eq-Decides}
 use Rattle.std.proofs.lemmas.Bool.Decides.{nat_tests}
 use Rattle.minisign_base.specs.Fault.{Fault}
 use Rattle.minisign_base.specs.declared.faults.NamedFault.{NamedFault}
-use Rattle.minisign_base.specs.declared.faults.NamedFault.TheVariants.{DifferentKeyIds, LegacyNotAccepted, NotUtf8}
+use Rattle.minisign_base.specs.declared.faults.NamedFault.TheVariants.{DifferentKeyIds, LegacyNotAccepted}
+use Rattle.minisign_base.specs.declared.faults.NamedFault.TheVariants.{NotUtf8}
 use Rattle.minisign.specs.Records.{PublicKeyRecord, is_prehashed, prehashed_algorithm}
-use Rattle.minisign.specs.Acceptance.{Verifier, Vouches, accepts_comments, judge_answers, judge_key, signed_bytes}
+use Rattle.minisign.specs.Acceptance.{Verifier, Vouches, accepts_comments, judge_answers, judge_key}
+use Rattle.minisign.specs.Acceptance.{signed_bytes}
 use Rattle.minisign.specs.Headline.{TextsVouchFor, verdict}
 use Rattle.minisign.specs.PublicKeyText.{read_public_key}
 use Rattle.minisign.specs.SignatureText.{SignatureTextRecord, box_of, read_signature}
 use Rattle.minisign.specs.Texts.{and_then, map_ok, require}
 use Rattle.minisign_external.specs.PublicKeys.{key_of, read_utf8, value_of}
-use Rattle.minisign_external.specs.Questions.{Answers, IsKeyText, has_whole_signature, read_under, verdict_under}
-use Rattle.minisign_external.specs.States.{IsTextRefusal, asked_under, asking_misuse, asking_under, fed_mark, is_asked}
+use Rattle.minisign_external.specs.Questions.{Answers, IsKeyText, has_whole_signature, read_under}
+use Rattle.minisign_external.specs.Questions.{verdict_under}
+use Rattle.minisign_external.specs.States.{IsTextRefusal, asked_under, asking_misuse, asking_under, fed_mark}
+use Rattle.minisign_external.specs.States.{is_asked}
 use Rattle.minisign_external.specs.declared.public_keys.PublicKeyValue.{PublicKeyValue}
 use Rattle.minisign_external.specs.declared.state.Misuse.{Misuse}
 use Rattle.minisign_external.specs.declared.state.Misuse.TheVariants.{NoRoom, NotBegun}
@@ -26,7 +32,8 @@ use Rattle.minisign_external.specs.declared.state.State.{State}
 
 -- == Reading under a key ==
 
-required : {V : Type 0} (b : Bool) (f : NamedFault) (r : Result V Fault) (v : V) → require b f r ≡ Ok v → (b ≡ true) × (r ≡ Ok v)
+required : {V : Type 0} (b : Bool) (f : NamedFault) (r : Result V Fault) (v : V) → require b f r ≡ Ok v
+    → (b ≡ true) × (r ≡ Ok v)
 required true f r v h = (refl, h)
 required false f r v h = cc h
 
@@ -34,20 +41,24 @@ then_same : {T : Type 0} (j : Result ⊤ Fault) (s t : T) → and_then j (λ _. 
 then_same (Ok _) s t h = cc h
 then_same (Err e) s t h = cc h
 
-opened_of : (r : Result SignatureTextRecord Fault) (v : PublicKeyValue) (legacy : Bool) (t : SignatureTextRecord)
+opened_of : (r : Result SignatureTextRecord Fault) (v : PublicKeyValue) (legacy : Bool)
+    (t : SignatureTextRecord)
     → and_then r (λ s. and_then (judge_key v.key_id s.signature legacy) (λ _. Ok s)) ≡ Ok t → r ≡ Ok t
 opened_of (Ok s) v legacy t h = ap (λ x. Ok x) (then_same (judge_key v.key_id s.signature legacy) s t h)
 opened_of (Err e) v legacy t h = cc h
 
 -- what the text reads as under a key it reads as, and is UTF-8
-pub opened : (v : PublicKeyValue) (legacy : Bool) (sig_text : List ℕ) (t : SignatureTextRecord) → read_under v legacy sig_text ≡ Ok t
+pub opened : (v : PublicKeyValue) (legacy : Bool) (sig_text : List ℕ) (t : SignatureTextRecord)
+    → read_under v legacy sig_text ≡ Ok t
     → read_utf8 read_signature sig_text ≡ Ok t
 opened v legacy sig_text t h = opened_of (read_utf8 read_signature sig_text) v legacy t h
 
-pub opened_text : (v : PublicKeyValue) (legacy : Bool) (sig_text : List ℕ) (t : SignatureTextRecord) → read_under v legacy sig_text ≡ Ok t
+pub opened_text : (v : PublicKeyValue) (legacy : Bool) (sig_text : List ℕ) (t : SignatureTextRecord)
+    → read_under v legacy sig_text ≡ Ok t
     → IsUtf8 sig_text × (read_signature sig_text ≡ Ok t)
 opened_text v legacy sig_text t h =
-    let (is, read) = required (is_utf8 sig_text) NotUtf8 (read_signature sig_text) t (opened v legacy sig_text t h) in
+    let (is, read) = required (is_utf8 sig_text) NotUtf8 (read_signature sig_text) t
+    (opened v legacy sig_text t h) in
     (IsUtf8-from_is_utf8 sig_text is, read)
 
 -- == The four conditions ==
@@ -82,7 +93,8 @@ both_true : (a b : Bool) → (a && b) ≡ true → (a ≡ true) × (b ≡ true)
 both_true true b h = (refl, h)
 both_true false b h = cc h
 
-module _ (accepts : Verifier) (key : PublicKeyRecord) (t : SignatureTextRecord) (message : List ℕ) (legacy : Bool) where
+module _ (accepts : Verifier) (key : PublicKeyRecord) (t : SignatureTextRecord) (message : List ℕ)
+    (legacy : Bool) where
   abbrev is_same : Bool
   is_same = bytes_eq t.signature.keynum key.keynum
 
@@ -96,11 +108,13 @@ module _ (accepts : Verifier) (key : PublicKeyRecord) (t : SignatureTextRecord) 
   is_comment_signed = accepts_comments accepts (key_of (value_of key)) (box_of t)
 
   abbrev tested : Result (List ℕ) Fault
-  tested = tests is_same is_allowed is_signed is_comment_signed (DifferentKeyIds t.signature.keynum key.keynum) t t.comments.trusted
+  tested = tests is_same is_allowed is_signed is_comment_signed
+      (DifferentKeyIds t.signature.keynum key.keynum) t t.comments.trusted
 
   vouched_by : (w : List ℕ) → tested ≡ Ok w → Vouches accepts key (box_of t) message legacy
   vouched_by w h =
-      let (same, allowed, signed, commented) = pass is_same is_allowed is_signed is_comment_signed _ t t.comments.trusted w h in
+      let (same, allowed, signed, commented) = pass is_same is_allowed is_signed is_comment_signed _ t
+      t.comments.trusted w h in
       let (long, accepted) = both_true (nat_le 64 (length t.comments.signature)) _ commented in
       record {
         same_key = (bytes_eq-Decides t.signature.keynum key.keynum).0 same;
@@ -120,7 +134,8 @@ chained : {T W : Type 0} (j : Result ⊤ Fault) (t : T) (more : T → Result W F
 chained (Ok _) t more = refl
 chained (Err e) t more = refl
 
-module _ (accepts : Verifier) (pk_text sig_text message : List ℕ) (legacy : Bool) (key : PublicKeyRecord) (key_read : read_public_key pk_text ≡ Ok key)
+module _ (accepts : Verifier) (pk_text sig_text message : List ℕ) (legacy : Bool) (key : PublicKeyRecord)
+    (key_read : read_public_key pk_text ≡ Ok key)
     (utf8 : IsUtf8 sig_text) where
   as_read : read_signature sig_text ≡ read_utf8 read_signature sig_text
   as_read = rw (is_utf8-from_IsUtf8 sig_text utf8) refl
@@ -129,15 +144,19 @@ module _ (accepts : Verifier) (pk_text sig_text message : List ℕ) (legacy : Bo
       → verdict_under accepts (value_of key) sig_text message legacy ≡ tested accepts key t message legacy
   as_tested t read = rw (sym as_read ∙ read)
       (chained (judge_key (value_of key).key_id t.signature legacy) t
-      (λ (s : SignatureTextRecord). and_then (judge_answers (accepts (signed_bytes (box_of s) message) key.key s.signature.signature)
+      (λ (s : SignatureTextRecord). and_then
+      (judge_answers (accepts (signed_bytes (box_of s) message) key.key s.signature.signature)
       (accepts_comments accepts (key_of (value_of key)) (box_of s))) (λ _. Ok s.comments.trusted)))
 
-  unread : (e f : Fault) → read_signature sig_text ≡ Err f → verdict_under accepts (value_of key) sig_text message legacy ≡ Err e → f ≡ e
+  unread : (e f : Fault) → read_signature sig_text ≡ Err f
+      → verdict_under accepts (value_of key) sig_text message legacy ≡ Err e → f ≡ e
   unread e f read h =
-      let g : verdict_under accepts (value_of key) sig_text message legacy ≡ Err f = rw (sym as_read ∙ read) refl in
+      let g : verdict_under accepts (value_of key) sig_text message legacy
+      ≡ Err f = rw (sym as_read ∙ read) refl in
       let same = sym g ∙ h in cc same
 
-  vouch_of : (r : Result SignatureTextRecord Fault) (w : List ℕ) → read_signature sig_text ≡ r → verdict_under accepts (value_of key) sig_text message legacy ≡ Ok w
+  vouch_of : (r : Result SignatureTextRecord Fault) (w : List ℕ) → read_signature sig_text ≡ r
+      → verdict_under accepts (value_of key) sig_text message legacy ≡ Ok w
       → TextsVouchFor accepts pk_text sig_text message legacy
   vouch_of (Ok t) w read h = record {
     key = key;
@@ -147,7 +166,8 @@ module _ (accepts : Verifier) (pk_text sig_text message : List ℕ) (legacy : Bo
     vouches = vouched_by accepts key t message legacy w (sym (as_tested t read) ∙ h);
   }
   vouch_of (Err e) w read h =
-      let g : verdict_under accepts (value_of key) sig_text message legacy ≡ Err e = rw (sym as_read ∙ read) refl in
+      let g : verdict_under accepts (value_of key) sig_text message legacy
+      ≡ Err e = rw (sym as_read ∙ read) refl in
       let no = sym g ∙ h in cc no
 
   -- the verdict on both texts is that on the key and the text of the signature
@@ -155,27 +175,37 @@ module _ (accepts : Verifier) (pk_text sig_text message : List ℕ) (legacy : Bo
       → verdict accepts pk_text sig_text message legacy ≡ tested accepts key t message legacy
   unfolding verdict
   as_verdict t read = rw (key_read, read)
-      (reordered (is_same accepts key t message legacy) (is_allowed accepts key t message legacy) (is_signed accepts key t message legacy)
-      (is_comment_signed accepts key t message legacy) (DifferentKeyIds t.signature.keynum key.keynum) t t.comments.trusted)
+      (reordered (is_same accepts key t message legacy) (is_allowed accepts key t message legacy)
+      (is_signed accepts key t message legacy)
+      (is_comment_signed accepts key t message legacy) (DifferentKeyIds t.signature.keynum key.keynum) t
+      t.comments.trusted)
 
-  unread_verdict : (f : Fault) → read_signature sig_text ≡ Err f → verdict accepts pk_text sig_text message legacy ≡ Err f
+  unread_verdict : (f : Fault) → read_signature sig_text ≡ Err f
+      → verdict accepts pk_text sig_text message legacy ≡ Err f
   unfolding verdict
   unread_verdict f read = rw (key_read, read) refl
 
-  refuse_of : (r : Result SignatureTextRecord Fault) (e : Fault) → read_signature sig_text ≡ r → verdict_under accepts (value_of key) sig_text message legacy ≡ Err e
+  refuse_of : (r : Result SignatureTextRecord Fault) (e : Fault) → read_signature sig_text ≡ r
+      → verdict_under accepts (value_of key) sig_text message legacy ≡ Err e
       → verdict accepts pk_text sig_text message legacy ≡ Err e
   refuse_of (Ok t) e read h = as_verdict t read ∙ (sym (as_tested t read) ∙ h)
-  refuse_of (Err f) e read h = let same : f ≡ e = unread e f read h in unread_verdict f read ∙ ap (λ x. Err x) same
+  refuse_of (Err f) e read h = let same : f ≡ e = unread e f read h in unread_verdict f read
+      ∙ ap (λ x. Err x) same
 
-module _ (accepts : Verifier) (pk_text sig_text message : List ℕ) (legacy : Bool) (v : PublicKeyValue) (keyed : IsKeyText pk_text v) (utf8 : IsUtf8 sig_text) where
-  pub vouch : (w : List ℕ) → verdict_under accepts v sig_text message legacy ≡ Ok w → TextsVouchFor accepts pk_text sig_text message legacy
+module _ (accepts : Verifier) (pk_text sig_text message : List ℕ) (legacy : Bool) (v : PublicKeyValue)
+    (keyed : IsKeyText pk_text v) (utf8 : IsUtf8 sig_text) where
+  pub vouch : (w : List ℕ) → verdict_under accepts v sig_text message legacy ≡ Ok w
+      → TextsVouchFor accepts pk_text sig_text message legacy
   vouch w h =
-      vouch_of accepts pk_text sig_text message legacy keyed.key keyed.read utf8 (read_signature sig_text) w refl
+      vouch_of accepts pk_text sig_text message legacy keyed.key keyed.read utf8 (read_signature sig_text) w
+      refl
       (subst (λ u. verdict_under accepts u sig_text message legacy ≡ Ok w) keyed.same h)
 
-  pub refuse : (e : Fault) → verdict_under accepts v sig_text message legacy ≡ Err e → verdict accepts pk_text sig_text message legacy ≡ Err e
+  pub refuse : (e : Fault) → verdict_under accepts v sig_text message legacy ≡ Err e
+      → verdict accepts pk_text sig_text message legacy ≡ Err e
   refuse e h =
-      refuse_of accepts pk_text sig_text message legacy keyed.key keyed.read utf8 (read_signature sig_text) e refl
+      refuse_of accepts pk_text sig_text message legacy keyed.key keyed.read utf8 (read_signature sig_text) e
+      refl
       (subst (λ u. verdict_under accepts u sig_text message legacy ≡ Err e) keyed.same h)
 
 -- == The answers ==
@@ -185,21 +215,28 @@ same_and true x y h = h refl
 same_and false x y h = refl
 
 -- what the second answer says is whether the comment signature is accepted
-pub comment_answer : (accepts : Verifier) (v : PublicKeyValue) (t : SignatureTextRecord) (whole second : Bool) → whole ≡ has_whole_signature t.comments
-    → (IsTrue (has_whole_signature t.comments) → accepts (t.signature.signature ++ t.comments.trusted) v.key (take 64 t.comments.signature) ≡ second)
+pub comment_answer : (accepts : Verifier) (v : PublicKeyValue) (t : SignatureTextRecord) (whole second : Bool)
+    → whole ≡ has_whole_signature t.comments
+    → (IsTrue (has_whole_signature t.comments) → accepts (t.signature.signature ++ t.comments.trusted) v.key
+    (take 64 t.comments.signature) ≡ second)
     → accepts_comments accepts (key_of v) (box_of t) ≡ (whole && second)
 comment_answer accepts v t whole second is answer =
     same_and (has_whole_signature t.comments) _ second answer ∙ ap (λ w. w && second) (sym is)
 
 -- the verdict is what the answers decide
-pub decided : (accepts : Verifier) (v : PublicKeyValue) (sig_text message : List ℕ) (legacy : Bool) (t : SignatureTextRecord) (whole first second : Bool)
-    → read_under v legacy sig_text ≡ Ok t → whole ≡ has_whole_signature t.comments → Answers accepts v sig_text message first second
-    → verdict_under accepts v sig_text message legacy ≡ and_then (judge_answers first (whole && second)) (λ _. Ok t.comments.trusted)
+pub decided : (accepts : Verifier) (v : PublicKeyValue) (sig_text message : List ℕ) (legacy : Bool)
+    (t : SignatureTextRecord) (whole first second : Bool)
+    → read_under v legacy sig_text ≡ Ok t → whole ≡ has_whole_signature t.comments
+    → Answers accepts v sig_text message first second
+    → verdict_under accepts v sig_text message legacy ≡ and_then (judge_answers first (whole && second))
+    (λ _. Ok t.comments.trusted)
 decided accepts v sig_text message legacy t whole first second opens is answers =
     let (utf8, read) = opened_text v legacy sig_text t opens in
     rw opens
-    (ap (λ (x : Bool). and_then (judge_answers x (accepts_comments accepts (key_of v) (box_of t))) (λ _. Ok t.comments.trusted)) (answers.to_first t read)
-    ∙ ap (λ (x : Bool). and_then (judge_answers first x) (λ _. Ok t.comments.trusted)) (comment_answer accepts v t whole second is (answers.to_second t read)))
+    (ap (λ (x : Bool). and_then (judge_answers x (accepts_comments accepts (key_of v) (box_of t)))
+    (λ _. Ok t.comments.trusted)) (answers.to_first t read)
+    ∙ ap (λ (x : Bool). and_then (judge_answers first x) (λ _. Ok t.comments.trusted))
+    (comment_answer accepts v t whole second is (answers.to_second t read)))
 
 -- == What asking rejects ==
 
@@ -224,12 +261,15 @@ pub opening_refusal : (v : PublicKeyValue) (sig_text : List ℕ) (legacy : Bool)
     → asked_under (read_under v legacy sig_text) room ≡ Err r → IsTextRefusal v sig_text legacy r
 opening_refusal v sig_text legacy room (WrongUse m) h = tt
 opening_refusal v sig_text legacy room (Refused e) h = λ utf8 pk_text message accepts keyed.
-    refuse accepts pk_text sig_text message legacy v keyed utf8 e (rw (refused_text true (read_under v legacy sig_text) room NotBegun e h) refl)
+    refuse accepts pk_text sig_text message legacy v keyed utf8 e
+    (rw (refused_text true (read_under v legacy sig_text) room NotBegun e h) refl)
 
-pub text_refusal : (s : State) (v : PublicKeyValue) (sig_text : List ℕ) (legacy : Bool) (room : ℕ) (r : Refusal Fault)
+pub text_refusal : (s : State) (v : PublicKeyValue) (sig_text : List ℕ) (legacy : Bool) (room : ℕ)
+    (r : Refusal Fault)
     → asking_under s v sig_text legacy room ≡ Err r → IsTextRefusal v sig_text legacy r
 text_refusal s v sig_text legacy room (WrongUse m) h = tt
 text_refusal s v sig_text legacy room (Refused e) h = λ utf8 pk_text message accepts keyed.
     let failed : read_under v legacy sig_text ≡ Err e =
-    refused_text ((s.mark == fed_mark) && not (is_asked s)) (read_under v legacy sig_text) room (asking_misuse s) e h in
+    refused_text ((s.mark == fed_mark) && not (is_asked s)) (read_under v legacy sig_text) room
+    (asking_misuse s) e h in
     refuse accepts pk_text sig_text message legacy v keyed utf8 e (rw failed refl)

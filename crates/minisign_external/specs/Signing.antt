@@ -1,19 +1,25 @@
 -- What a signature scheme has to be asked for a signature of a message, and the text that its answers make.
 use Rattle.std.specs.Prelude.{◌≡◌, ◌⊎◌, ◌<◌, ◌≤◌, ℕ, true, false, List, ◌++◌, length, take, None, Some, Ok}
+use Rattle.std.specs.Prelude.{Option, drop}
 use Rattle.std.specs.Str.{IsUtf8}
 use Rattle.std.specs.Str.Iter.{LacksByte}
 use Rattle.minisign_hash.specs.Blake2b.{blake2b_digest}
+use Rattle.std.specs.List.{flat_map}
+use denote.Ref.{Bor}
 use Rattle.minisign_base.specs.Fault.{Fault, Named}
+use Rattle.minisign_base.specs.Members.{SchemeOf}
 use Rattle.minisign_base.specs.Scheme.{IsBytes}
 use Rattle.minisign_base.specs.declared.faults.NamedFault.TheVariants.{OutOfMemory, NotUtf8}
 use Rattle.minisign.specs.Records.{CommentsRecord, SecretKeyRecord, SignatureRecord, SignatureBoxRecord}
 use Rattle.minisign.specs.Records.{prehashed_algorithm}
 use Rattle.minisign.specs.Acceptance.{Verifier, VouchesUnderEachKey}
 use Rattle.minisign.specs.Headline.{SigningHeadline}
+pub use Rattle.minisign.specs.Signing.{comments_of}
 use Rattle.minisign.specs.Signing.{AreChosenReadBack, ChosenComments, IsGenuine, Signer, signed_box}
 use Rattle.minisign.specs.SignatureText.{read_signature_box, signature_text}
 use Rattle.minisign_external.specs.Numbers.{fault_number, refusal_number}
-use Rattle.minisign_external.specs.SecretKeys.{is_opened}
+use Rattle.minisign_external.specs.Questions.{verdict_under}
+use Rattle.minisign_external.specs.SecretKeys.{IsTextOpeningRefusal, is_opened, opened_text, taken_key}
 use Rattle.minisign_external.specs.declared.secrets.SecretKeyValue.{SecretKeyValue}
 use Rattle.minisign_external.specs.declared.state.Misuse.{Misuse}
 use Rattle.minisign_external.specs.declared.state.Misuse.TheVariants.{BadComment, KeyNotOpened, NoRoom}
@@ -83,10 +89,6 @@ pub record IsAnsweredText (key_id : List ℕ) (chosen : ChosenComments) (first s
       → AcceptsAnswers accepts (public_of seed) message chosen.trusted first second)
       → SigningHeadline accepts public_of key message chosen text
 
--- the two comments, by their names
-abbrev pub comments_of : List ℕ → List ℕ → ChosenComments
-comments_of trusted untrusted = record { trusted = trusted; untrusted = untrusted }
-
 -- Minisign's own program, of version 0.11, reads the comments back as they are: each line fits its buffer,
 -- which has 1,024 bytes for the untrusted comment and 8,192 for the trusted one, and in them a label of 19 or
 -- 17 bytes, a line feed and a zero; and no line is cut at a zero byte or a carriage return
@@ -139,3 +141,42 @@ IsWritingRefusal v chosen first second bytes (Refused e) =
 abbrev pub IsWritingNumber : SecretKeyValue → ChosenComments → List ℕ → List ℕ → List ℕ → ℕ → Type 0
 IsWritingNumber v chosen first second bytes n =
     (r : Refusal Fault) × (n ≡ refusal_number fault_number r) × IsWritingRefusal v chosen first second bytes r
+
+-- == Signing pieces ==
+
+-- the bytes of the pieces, one after another
+abbrev pub joined : List (Bor (List ℕ)) → List ℕ
+joined pieces = flat_map (λ piece. piece.now) pieces
+
+-- the text of the two signatures that the scheme makes of a message with an opened key
+abbrev pub HoldsOwnText : {S : Type 0} → SchemeOf S → S → SecretKeyValue → ChosenComments → List ℕ → List ℕ
+    → ℕ
+    → Type 0
+HoldsOwnText s scheme v chosen message bytes len = (is_opened v ≡ true)
+    × HoldsText v.key_id chosen (first_signature (s.signature_of scheme) v.secret message)
+    (second_signature (s.signature_of scheme) v.secret message chosen.trusted) bytes len
+
+-- it is not written: as above
+abbrev pub IsOwnRefusal : {S : Type 0} → SchemeOf S → S → SecretKeyValue → ChosenComments → List ℕ → List ℕ
+    → Refusal Fault → Type 0
+IsOwnRefusal s scheme v chosen message bytes r =
+    IsWritingRefusal v chosen (first_signature (s.signature_of scheme) v.secret message)
+    (second_signature (s.signature_of scheme) v.secret message chosen.trusted) bytes r
+
+-- the same with the key of a text, which may also not open
+abbrev pub IsTextSigningRefusal : {S : Type 0} → SchemeOf S → S → List ℕ → Option (List ℕ) → ℕ
+    → ChosenComments → List ℕ → List ℕ → Refusal Fault → Type 0
+IsTextSigningRefusal s scheme text password most_rows chosen message bytes r =
+    IsTextOpeningRefusal text password most_rows r
+    ⊎ ((k : SecretKeyRecord) × (opened_text text password most_rows ≡ Ok k)
+    × IsOwnRefusal s scheme (taken_key k.keynum k.secret) chosen message bytes r)
+
+-- where the key is one of a seed, the verdict on the text and the message under its public half is the
+-- trusted comment
+abbrev pub OwnTextVerifies : {S : Type 0} → SchemeOf S → S → SecretKeyRecord → List ℕ → List ℕ → List ℕ
+    → Type 0
+OwnTextVerifies s scheme k message trusted text = (seed : List ℕ)
+    → IsPairOf (s.public_of scheme) seed (taken_key k.keynum k.secret)
+    → verdict_under (s.accepts scheme) (record { key = drop 32 k.secret; key_id = k.keynum }) text message
+    false
+    ≡ Ok trusted

@@ -1,6 +1,6 @@
 //! Asking, and the verdict, over the state that a program in another language holds.
 
-ghost use Rattle.std.specs.Prelude.{◌≡◌, ◌⊎◌, ◌<◌, ◌≤◌, ◌+◌, ℕ, Bool, List, Ok, Err, true, false, OnOk};
+ghost use Rattle.std.specs.Prelude.{◌≡◌, ◌<◌, ◌≤◌, ◌+◌, ℕ, Bool, List, Ok, Err, true, OnOk};
 ghost use Rattle.std.specs.Prelude.{OnErr, IfOk, IfErr, MatchResult, ◌++◌, length, drop, take};
 ghost use Rattle.minisign_hash.specs.Blake2b.{blake2b_digest};
 ghost use Rattle.minisign.specs.Acceptance.{Verifier};
@@ -9,10 +9,10 @@ ghost use Rattle.minisign_external.specs.Questions.{Answers, AnswersComment, IsK
 ghost use Rattle.minisign_external.specs.Questions.{comment_verdict_under, read_under, verdict_under};
 ghost use Rattle.minisign_external.specs.Signatures.{IsReadFrom, comment_of};
 ghost use Rattle.minisign_external.specs.States.{AreAsked, AreQuestions, GivesVerdict, HasAsked};
-ghost use Rattle.minisign_external.specs.States.{HasToldDigest, IsAskFedRefusal, IsFedState, IsMarkedFed};
+ghost use Rattle.minisign_external.specs.States.{HasToldDigest, IsAskFedRefusal, IsFedState};
 ghost use Rattle.minisign_external.specs.States.{IsMarkedTold, IsTextRefusal, asked_about, asked_of};
 ghost use Rattle.minisign_external.specs.States.{asking_misuse, asking_result, asking_under, comment_result};
-ghost use Rattle.minisign_external.specs.States.{fed_mark, given_verdict, is_asked, is_begun};
+ghost use Rattle.minisign_external.specs.States.{given_verdict, is_asked, is_begun};
 ghost use Rattle.minisign_external.specs.States.{questions_about, told_verdict, verdict_misuse};
 ghost use Rattle.minisign_external.specs.declared.public_keys.PublicKeyValue.{PublicKeyValue};
 ghost use Rattle.minisign_external.specs.declared.state.Refusal.TheVariants.{WrongUse};
@@ -54,9 +54,8 @@ impl State {
         // The questions are then those of the key and of what the text reads as, with zeros for the digest;
         // the message of the second stands at the start of the buffer. They are asked; what was fed stays.
         ensures asked { OnOk result ((t : SignatureTextRecord) → IsReadFrom signature.now sig_text.now t
-            → (read_under key.now allow_legacy sig_text.now ≡ Ok t)
-            × AreAsked questions.new message.new key.now t
-            × HasAsked self.new key.now sig_text.now allow_legacy) }
+            → (read_under key.now allow_legacy sig_text.now ≡ Ok t) × AreAsked questions.new message.new
+            key.now t × HasAsked self.new key.now sig_text.now allow_legacy) }
         ensures fed { (m : List ℕ) → IsFedState self.old m → IsFedState self.new m }
 
         // The texts reject what is rejected of them: of every text that reads as the key, under every scheme
@@ -95,9 +94,8 @@ impl State {
         // text reads as; the comment is the one that was asked about. The digest is that of everything the
         // state was fed, which it has then told.
         ensures asked { IfOk result (λ c. (t : SignatureTextRecord) → IsReadFrom signature.now sig_text.now t
-            → (read_under key.now allow_legacy sig_text.now ≡ Ok t)
-            × AreQuestions questions.new message.new key.now t
-            × HasAsked self.new key.now sig_text.now allow_legacy × (c.now ≡ t.comments.trusted)) }
+            → (read_under key.now allow_legacy sig_text.now ≡ Ok t) × AreQuestions questions.new message.new
+            key.now t × HasAsked self.new key.now sig_text.now allow_legacy × (c.now ≡ t.comments.trusted)) }
         ensures digest { OnOk result
             ((m : List ℕ) → IsFedState self.old m → (questions.new.digest ≡ blake2b_digest 64 m)
             × HasToldDigest self.new m) }
@@ -146,8 +144,7 @@ impl State {
             (λ r. asked_of key.now signature.now sig_text.now allow_legacy (length message.old) ≡ Err r) }
         ensures questions { OnOk result (questions.new ≡ questions_about key.now signature.now) }
         ensures comment { IfOk result (λ c. (comment_of signature.now sig_text.now ≡ Ok c.now)
-            × (length c.now ≡ signature.now.comment_len)
-            × (64 + length c.now ≤ length message.old)
+            × (length c.now ≡ signature.now.comment_len) × (64 + length c.now ≤ length message.old)
             × (take (64 + length c.now) message.new ≡ signature.now.signature ++ c.now)) }
         ensures asked { OnOk result (self.new ≡ asked_about self.old signature.now) }
         ensures kept { OnErr result
@@ -173,9 +170,8 @@ impl State {
         // For every relation that answers the second question so: success exactly when the trusted comment
         // was signed, together with the first signature, by the key.
         ensures verdict { (v : PublicKeyValue) (sig_text : List ℕ) (legacy : Bool) (accepts : Verifier)
-            → HasAsked self.now v sig_text legacy → AnswersComment accepts v sig_text second
-            → is_begun self.now ≡ true
-            → result ≡ given_verdict (comment_verdict_under accepts v sig_text legacy) }
+            → HasAsked self.now v sig_text legacy → AnswersComment accepts v sig_text second → is_begun
+            self.now ≡ true → result ≡ given_verdict (comment_verdict_under accepts v sig_text legacy) }
 
         // What is answered is a function of the state and the answer: a state that has not asked, or was
         // ended, is rejected, and otherwise the comment signature has its 64 bytes and is accepted, or else
@@ -199,18 +195,14 @@ impl State {
     pub fn verdict(&mut self, first: bool, second: bool) -> Result<(), Refusal>
         // For every relation that answers the two questions as the caller says, and every message: the
         // verdict on the key, the text and the message.
-        ensures verdict { (v : PublicKeyValue) (sig_text message : List ℕ) (legacy : Bool)
-            (accepts : Verifier)
-            → HasAsked self.old v sig_text legacy → IsMarkedTold self.old
-            → Answers accepts v sig_text message first second
-            → result ≡ given_verdict (verdict_under accepts v sig_text message legacy) }
+        ensures verdict { (v : PublicKeyValue) (sig message : List ℕ) (legacy : Bool) (accepts : Verifier)
+            → HasAsked self.old v sig legacy → IsMarkedTold self.old → Answers accepts v sig message first
+            second → result ≡ given_verdict (verdict_under accepts v sig message legacy) }
 
         // So for every text that reads as the key: success exactly where both texts vouch for the message.
-        ensures texts { (v : PublicKeyValue) (pk_text sig_text message : List ℕ) (legacy : Bool)
-            (accepts : Verifier)
-            → HasAsked self.old v sig_text legacy → IsMarkedTold self.old → IsKeyText pk_text v
-            → Answers accepts v sig_text message first second
-            → GivesVerdict accepts pk_text sig_text message legacy result }
+        ensures texts { (v : PublicKeyValue) (pk sig message : List ℕ) (legacy : Bool) (accepts : Verifier)
+            → HasAsked self.old v sig legacy → IsMarkedTold self.old → IsKeyText pk v
+            → Answers accepts v sig message first second → GivesVerdict accepts pk sig message legacy result }
 
         // What is answered, and the state after it, are a function of the state and the answers. One that has
         // not asked or not told its digest is rejected, and stays as it was; otherwise the state is ended,

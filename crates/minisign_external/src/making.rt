@@ -1,12 +1,9 @@
 //! The texts of keys that were opened or taken in, written to a buffer: so a key gets another
 //! password, or its public key is written again.
 
-ghost use Rattle.std.specs.Prelude.{◌≡◌, ◌⊎◌, ◌<◌, ◌≤◌, ◌+◌, List, ℕ, Some, length, drop, true, false, OnOk};
+ghost use Rattle.std.specs.Prelude.{◌≡◌, ◌<◌, ◌≤◌, ◌+◌, Some, drop, true, false, OnOk};
 ghost use Rattle.std.specs.Prelude.{OnErr, IfOk, IfErr};
-ghost use Rattle.std.specs.Option.{option_map};
-ghost use Rattle.minisign_base.specs.Fault.{Named};
-ghost use Rattle.minisign_base.specs.declared.faults.NamedFault.TheVariants.{OutOfMemory};
-ghost use Rattle.minisign.specs.Making.{making_fault};
+ghost use Rattle.std.specs.Option.{option_copied};
 ghost use Rattle.minisign_external.specs.Making.{HoldsPublicKey, HoldsSecretKey, IsMadeRefusal};
 ghost use Rattle.minisign_external.specs.Making.{IsMakingRefusal, IsPublicKeyRefusal, IsReadInKey};
 ghost use Rattle.minisign_external.specs.Making.{IsUnwritable, IsWritable};
@@ -49,7 +46,7 @@ pub fn write_secret_key(
     // without one, to the key with exactly this key ID and these 64 secret bytes, and to no other.
     ensures opened { OnOk result (is_opened key.now ≡ true) }
     ensures text { IfOk result (HoldsSecretKey key.now.key_id key.now.secret
-        (option_map (λ p. p.now) password.entry) sealing.now comment.now to.new) }
+        (option_copied password.entry) sealing.now comment.now to.new) }
 
     // What stands behind the text stays: no byte of a secret is left there.
     ensures rest { IfOk result (λ len. drop len to.new ≡ drop len to.old) }
@@ -59,7 +56,7 @@ pub fn write_secret_key(
     // bytes, which Minisign does not read whole; too short a buffer; with a password limits that sealing does
     // not allow; out of memory. The buffer is then as it was.
     ensures refused { IfErr result
-        (IsMakingRefusal key.now (option_map (λ p. p.now) password.entry) sealing.now comment.now to.old) }
+        (IsMakingRefusal key.now (option_copied password.entry) sealing.now comment.now to.old) }
     ensures kept { OnErr result (to.new ≡ to.old) }
 {
     if !key.is_opened() {
@@ -99,11 +96,11 @@ fn write_made(
     comment: &str,
     to: &mut [u8],
 ) -> std::result::Result<usize, Refusal>
-    ensures text { IfOk result (HoldsSecretKey key_id secret (option_map (λ p. p.now) password.entry)
+    ensures text { IfOk result (HoldsSecretKey key_id secret (option_copied password.entry)
         sealing.now comment.now to.new) }
     ensures rest { IfOk result (λ len. drop len to.new ≡ drop len to.old) }
     ensures refused { IfErr result
-        (IsMadeRefusal (option_map (λ p. p.now) password.entry) sealing.now comment.now to.old) }
+        (IsMadeRefusal (option_copied password.entry) sealing.now comment.now to.old) }
     ensures kept { OnErr result (to.new ≡ to.old) }
 {
     test_writable(comment.as_bytes(), SECRET_KEY_BYTES, to)?;

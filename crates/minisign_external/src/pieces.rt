@@ -1,20 +1,20 @@
 //! Verifying and signing data that comes in pieces, by the calls that a host of another language makes, in
 //! its order: what they come to together, whatever the pieces are.
 
-ghost use Rattle.std.specs.Prelude.{◌≡◌, ◌⊎◌, ◌≤◌, ◌+◌, ◌++◌, ℕ, List, [], Bool, None, Ok, true, false};
+ghost use Rattle.std.specs.Prelude.{◌≡◌, ◌≤◌, ◌+◌, ◌++◌, ℕ, List, [], Bool, None, Ok, true, false};
 ghost use Rattle.std.specs.Prelude.{length, take, drop, OnErr, IfOk, IfErr, MatchResult};
-ghost use Rattle.std.specs.List.{flat_map};
 ghost use Rattle.minisign_hash.specs.Blake2b.{blake2b_digest};
 ghost use Rattle.minisign.specs.Acceptance.{Verifier};
 ghost use Rattle.minisign.specs.SignatureText.{SignatureTextRecord};
 ghost use Rattle.minisign_external.specs.Questions.{Answers, read_under, verdict_under};
-ghost use Rattle.minisign_external.specs.SecretKeys.{IsTextOpeningRefusal, is_opened, opened_text};
-ghost use Rattle.minisign_external.specs.SecretKeys.{public_value_of, taken_key};
+ghost use Rattle.minisign_external.specs.SecretKeys.{is_opened, opened_text};
+ghost use Rattle.minisign_external.specs.SecretKeys.{public_value_of};
 ghost use Rattle.minisign.specs.Records.{SecretKeyRecord};
-ghost use Rattle.std.specs.Option.{option_map};
+ghost use Rattle.std.specs.Option.{option_copied};
 ghost use Rattle.minisign_external.specs.Signatures.{IsReadFrom};
-ghost use Rattle.minisign_external.specs.Signing.{HoldsText, IsPairOf, IsWritingRefusal, comments_of};
-ghost use Rattle.minisign_external.specs.Signing.{first_signature, second_signature};
+ghost use Rattle.minisign_external.specs.Signing.{HoldsText, IsPairOf, comments_of, HoldsOwnText};
+ghost use Rattle.minisign_external.specs.Signing.{IsOwnRefusal, OwnTextVerifies, joined};
+ghost use Rattle.minisign_external.specs.Signing.{IsTextSigningRefusal};
 ghost use Rattle.minisign_external.specs.States.{AreAsked, HasAsked, IsFedState, KeepsAsked, given_verdict};
 ghost use Rattle.minisign_external.specs.declared.public_keys.PublicKeyValue.{PublicKeyValue};
 ghost use Rattle.minisign_external.specs.declared.secrets.SecretKeyValue.{SecretKeyValue};
@@ -46,7 +46,7 @@ pub fn verify_pieces<S: Scheme>(
     // text and the joined pieces: success exactly where they vouch for the data, otherwise the first case
     // that fails.**
     ensures { result ≡ given_verdict
-        (verdict_under (S.accepts scheme.now) key.now sig_text.now (flat_map (λ piece. piece.now) pieces.now)
+        (verdict_under (S.accepts scheme.now) key.now sig_text.now (joined pieces.now)
         false) }
 {
     match SignatureValue::read(sig_text) {
@@ -73,29 +73,20 @@ pub fn sign_pieces<S: Scheme>(
 
     // **Of every scheme, key of a seed, data, however it is cut, and comments, the text verifies: the verdict
     // on it and the joined pieces, under the public key of the key, is the trusted comment.**
-    ensures verifies { IfOk result
-        (λ len. (seed : List ℕ) (w : PublicKeyValue) → IsPairOf (S.public_of scheme.now) seed key.now
-        → public_value_of key.now ≡ Ok w
-        → verdict_under (S.accepts scheme.now) w (take len to.new) (flat_map (λ piece. piece.now) pieces.now)
-        false ≡ Ok trusted.now) }
+    ensures verifies { IfOk result (λ len. (seed : List ℕ) (w : PublicKeyValue) → IsPairOf (S.public_of
+        scheme.now) seed key.now → public_value_of key.now ≡ Ok w → verdict_under (S.accepts scheme.now) w
+        (take len to.new) (joined pieces.now) false ≡ Ok trusted.now) }
 
     // It is the text of the two signatures that the scheme makes with the key: of the digest of the joined
     // pieces, and of that signature followed by the trusted comment. What stands behind it stays.
-    ensures text { IfOk result (λ len. (is_opened key.now ≡ true)
-        × HoldsText key.now.key_id (comments_of trusted.now untrusted.now)
-        (first_signature (S.signature_of scheme.now) key.now.secret
-        (flat_map (λ piece. piece.now) pieces.now))
-        (second_signature (S.signature_of scheme.now) key.now.secret
-        (flat_map (λ piece. piece.now) pieces.now) trusted.now) to.new len) }
+    ensures text { IfOk result (HoldsOwnText S.Scheme scheme.now key.now
+        (comments_of trusted.now untrusted.now) (joined pieces.now) to.new) }
     ensures rest { IfOk result (λ len. drop len to.new ≡ drop len to.old) }
 
     // Nothing is rejected but what `write_signed_text` rejects of this key, these comments and this room. The
     // buffer is then as it was.
-    ensures refused { IfErr result (IsWritingRefusal key.now (comments_of trusted.now untrusted.now)
-        (first_signature (S.signature_of scheme.now) key.now.secret
-        (flat_map (λ piece. piece.now) pieces.now))
-        (second_signature (S.signature_of scheme.now) key.now.secret
-        (flat_map (λ piece. piece.now) pieces.now) trusted.now) to.old) }
+    ensures refused { IfErr result (IsOwnRefusal S.Scheme scheme.now key.now
+        (comments_of trusted.now untrusted.now) (joined pieces.now) to.old) }
     ensures kept { OnErr result (to.new ≡ to.old) }
 {
     let digest = digest_of(pieces)?;
@@ -120,26 +111,15 @@ pub fn sign_pieces_by_text<S: Scheme>(
     // **Of every scheme, text of a key, data, however it is cut, and comments: the text opens to a key, and
     // if that is one of a seed, the text of the signature verifies: the verdict on it and the joined pieces,
     // under the public half of the key, is the trusted comment.**
-    ensures verifies { IfOk result (λ len. (k : SecretKeyRecord)
-        × (opened_text key_text.now.text.now (option_map (λ p. p.now) key_text.now.password)
-        key_text.now.most_rows ≡ Ok k)
-        × ((seed : List ℕ) → IsPairOf (S.public_of scheme.now) seed (taken_key k.keynum k.secret)
-        → verdict_under (S.accepts scheme.now) (record { key = drop 32 k.secret; key_id = k.keynum })
-        (take len to.new)
-        (flat_map (λ piece. piece.now) pieces.now) false ≡ Ok trusted.now)) }
+    ensures verifies { IfOk result (λ len. (k : SecretKeyRecord) ×
+        (opened_text key_text.now.text.now (option_copied key_text.now.password) key_text.now.most_rows
+        ≡ Ok k) × OwnTextVerifies S.Scheme scheme.now k (joined pieces.now) trusted.now (take len to.new)) }
 
     // Nothing is rejected but a text that does not open, and what `sign_pieces` rejects with the key of it.
     // The buffer is then as it was, and what stands behind a text that is written stays.
-    ensures refused { IfErr result
-        (λ r. IsTextOpeningRefusal key_text.now.text.now (option_map (λ p. p.now) key_text.now.password)
-        key_text.now.most_rows r
-        ⊎ ((k : SecretKeyRecord)
-        × (opened_text key_text.now.text.now (option_map (λ p. p.now) key_text.now.password)
-        key_text.now.most_rows ≡ Ok k)
-        × IsWritingRefusal (taken_key k.keynum k.secret) (comments_of trusted.now untrusted.now)
-        (first_signature (S.signature_of scheme.now) k.secret (flat_map (λ piece. piece.now) pieces.now))
-        (second_signature (S.signature_of scheme.now) k.secret (flat_map (λ piece. piece.now) pieces.now)
-        trusted.now) to.old r)) }
+    ensures refused { IfErr result (IsTextSigningRefusal S.Scheme scheme.now key_text.now.text.now
+        (option_copied key_text.now.password) key_text.now.most_rows
+        (comments_of trusted.now untrusted.now) (joined pieces.now) to.old) }
     ensures kept { OnErr result (to.new ≡ to.old) }
     ensures rest { IfOk result (λ len. drop len to.new ≡ drop len to.old) }
 {
@@ -161,7 +141,7 @@ fn verify_read<S: Scheme>(
     requires room { length sig_text.now ≤ length room.old }
     requires read { (t : SignatureTextRecord) × IsReadFrom signature.now sig_text.now t }
     ensures { result ≡ given_verdict
-        (verdict_under (S.accepts scheme.now) key.now sig_text.now (flat_map (λ piece. piece.now) pieces.now)
+        (verdict_under (S.accepts scheme.now) key.now sig_text.now (joined pieces.now)
         false) }
 {
     let mut state = State::new();
@@ -178,7 +158,7 @@ fn verify_read<S: Scheme>(
 // Feeds one piece after another.
 fn feed(state: &mut State, pieces: &[&[u8]]) -> Result<(), Misuse>
     requires { IsFedState state.old [] }
-    ensures fed { MatchResult result (λ _. IsFedState state.new (flat_map (λ piece. piece.now) pieces.now))
+    ensures fed { MatchResult result (λ _. IsFedState state.new (joined pieces.now))
         (λ _. ⊥) }
     ensures asked { KeepsAsked state.old state.new }
 {
@@ -197,9 +177,8 @@ fn finish<S: Scheme>(
 ) -> Result<(), Refusal>
     requires { questions.now.message_len ≤ length room.now }
     ensures { (v : PublicKeyValue) (text m : List ℕ) (t : SignatureTextRecord) → IsFedState state.old m
-        → HasAsked state.old v text false → read_under v false text ≡ Ok t
-        → AreAsked questions.now room.now v t
-        → result ≡ given_verdict (verdict_under (S.accepts scheme.now) v text m false) }
+        → HasAsked state.old v text false → read_under v false text ≡ Ok t → AreAsked questions.now room.now v
+        t → result ≡ given_verdict (verdict_under (S.accepts scheme.now) v text m false) }
 {
     let mut digest = [0u8; 64];
     state.digest(&mut digest)?;
@@ -215,7 +194,7 @@ fn finish<S: Scheme>(
 // The digest of the joined pieces.
 fn digest_of(pieces: &[&[u8]]) -> Result<[u8; 64], Misuse>
     ensures { MatchResult result
-        (λ digest. digest ≡ blake2b_digest 64 (flat_map (λ piece. piece.now) pieces.now)) (λ _. ⊥) }
+        (λ digest. digest ≡ blake2b_digest 64 (joined pieces.now)) (λ _. ⊥) }
 {
     let mut state = State::new();
     feed(&mut state, pieces)?;
@@ -253,22 +232,17 @@ pub fn answers_decide()
     // What a scheme answers to the questions that were asked, with the digest of a message, it answers to
     // those of the key, the text and the message.
     ensures given { (accepts : Verifier) (v : PublicKeyValue) (text message room digest : List ℕ)
-        (t : SignatureTextRecord) (q : Questions)
-        → read_under v false text ≡ Ok t → AreAsked q room v t → digest ≡ blake2b_digest 64 message
-        → (first second : Bool)
-        → first ≡ accepts digest q.public_key q.signature
-        → second ≡ accepts (take q.message_len room) q.public_key q.comment_signature
+        (t : SignatureTextRecord) (q : Questions) → read_under v false text ≡ Ok t → AreAsked q room v t
+        → digest ≡ blake2b_digest 64 message → (first second : Bool) → first ≡ accepts digest q.public_key
+        q.signature → second ≡ accepts (take q.message_len room) q.public_key q.comment_signature
         → Answers accepts v text message first second }
 
     // The text of two signatures that a scheme accepts under the public half of a key verifies under it: the
     // verdict is the trusted comment.
     ensures own { (accepts : Verifier) (public_of : List ℕ → List ℕ) (seed : List ℕ) (v : SecretKeyValue)
-        (w : PublicKeyValue)
-        → IsPairOf public_of seed v → is_opened v ≡ true → public_value_of v ≡ Ok w
-        → (message digest trusted untrusted first second bytes : List ℕ) (len : ℕ)
-        → digest ≡ blake2b_digest 64 message → length second ≡ 64
-        → HoldsText v.key_id (comments_of trusted untrusted) first second bytes len
-        → (accepts digest (public_of seed) first ≡ true)
-        × (accepts (first ++ trusted) (public_of seed) second ≡ true)
-        → verdict_under accepts w (take len bytes) message false ≡ Ok trusted }
+        (w : PublicKeyValue) → IsPairOf public_of seed v → is_opened v ≡ true → public_value_of v ≡ Ok w
+        → (message digest trusted untrusted first second bytes : List ℕ) (len : ℕ) → digest ≡ blake2b_digest
+        64 message → length second ≡ 64 → HoldsText v.key_id (comments_of trusted untrusted) first second
+        bytes len → (accepts digest (public_of seed) first ≡ true) × (accepts (first ++ trusted) (public_of
+        seed) second ≡ true) → verdict_under accepts w (take len bytes) message false ≡ Ok trusted }
 {}

@@ -1,7 +1,7 @@
 //! A signature as a value, read once from its text: all that asking takes but the trusted comment, which
 //! stays in the text. None of it allocates.
 
-ghost use Rattle.std.specs.Prelude.{◌≡◌, ◌+◌, ◌≤◌, Bool, List, ℕ, Ok, Err, false, true, IfOk, IfErr};
+ghost use Rattle.std.specs.Prelude.{◌≡◌, ◌+◌, ◌≤◌, Bool, Ok, Err, false, true, IfOk, IfErr};
 ghost use Rattle.std.specs.Prelude.{MatchOption, MatchResult, if◌then◌else◌, bytes_eq, nat_le, length, take};
 ghost use Rattle.std.specs.Prelude.{drop};
 ghost use Rattle.std.specs.Str.{IsUtf8};

@@ -45,9 +45,8 @@ pub fn signed_text(
     // Minisign 0.11 would not read back: an untrusted one of 1,004 bytes or more, a trusted one of 8,174 or
     // more, one with a zero byte or a carriage return. For all others there is a text, unless an allocation
     // fails: no comment that is rejected is called out of memory.
-    ensures refused { IfErr result
-        (λ r. ((r ≡ Refused (Named OutOfMemory)) × AreChosenReadBack (comments_of trusted.now untrusted.now)
-        × AreReadByMinisign (comments_of trusted.now untrusted.now))
+    ensures refused { IfErr result (λ r. ((r ≡ Refused (Named OutOfMemory)) × AreChosenReadBack
+        (comments_of trusted.now untrusted.now) × AreReadByMinisign (comments_of trusted.now untrusted.now))
         ⊎ ((m : Misuse) × (r ≡ WrongUse m) × IsCommentMisuse (comments_of trusted.now untrusted.now) m)) }
     ensures kept { OnOk result (AreChosenReadBack (comments_of trusted.now untrusted.now)
         × AreReadByMinisign (comments_of trusted.now untrusted.now)) }
@@ -137,8 +136,7 @@ pub fn write_comment_message(
 
 // Tests comments: whether they are read back as they are written, and by Minisign's own program too.
 fn test_comments(trusted: &str, untrusted: &str) -> Result<(), Misuse>
-    ensures { MatchResult result
-        (λ _. AreChosenReadBack (comments_of trusted.now untrusted.now)
+    ensures { MatchResult result (λ _. AreChosenReadBack (comments_of trusted.now untrusted.now)
         × AreReadByMinisign (comments_of trusted.now untrusted.now))
         (IsCommentMisuse (comments_of trusted.now untrusted.now)) }
 {

@@ -1,7 +1,7 @@
 //! A state of fixed size that a program in another language holds: it is asked about a key and a signature,
 //! is fed the data in pieces, tells the digest, and gives the verdict.
 
-ghost use Rattle.std.specs.Prelude.{◌≡◌, ◌++◌, ℕ, List, [], false, true, Ok, OnOk, IfOk, IfErr, MatchResult};
+ghost use Rattle.std.specs.Prelude.{◌≡◌, ◌++◌, ℕ, List, [], false, Ok, OnOk, IfOk, IfErr, MatchResult};
 ghost use Rattle.std.specs.Prelude.{length};
 ghost use Rattle.minisign_hash.specs.Blake2b.{blake2b_digest};
 ghost use Rattle.minisign_hash.specs.Fed.{IsFed, has_finalized, output_length};

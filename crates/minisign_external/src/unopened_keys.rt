@@ -2,8 +2,8 @@
 //! that.
 
 ghost use Rattle.std.specs.Prelude.{◌≡◌, ◌⊎◌, if◌then◌else◌, true, false, None, Some, MatchResult, Ok, Err};
-ghost use Rattle.std.specs.Prelude.{OnOk, OnErr, IfOk, IfErr, IsOk, length, replicate};
-ghost use Rattle.std.specs.Option.{option_map};
+ghost use Rattle.std.specs.Prelude.{OnOk, OnErr, IfErr, IsOk, length, replicate};
+ghost use Rattle.std.specs.Option.{option_copied};
 ghost use Rattle.std.specs.Str.{IsUtf8};
 ghost use Rattle.minisign_base.specs.Fault.{Named};
 ghost use Rattle.minisign_base.specs.Steps.{without_value};
@@ -75,12 +75,9 @@ impl<'a> KeyText<'a> {
     pub fn open(&self, alloc: Global) -> std::result::Result<SecretKeyValue, Refusal>
         // The key is the one that the text opens to, with the mark of one that was opened; otherwise the
         // first case that fails is told, or, where opening derives, a failed allocation.
-        ensures { MatchResult result
-            (λ v. (k : SecretKeyRecord)
-            × (opened_text self.now.text.now (option_map (λ p. p.now) self.now.password) self.now.most_rows
-            ≡ Ok k) × (v ≡ taken_key k.keynum k.secret))
-            (IsTextOpeningRefusal self.now.text.now (option_map (λ p. p.now) self.now.password)
-            self.now.most_rows) }
+        ensures { MatchResult result (λ v. (k : SecretKeyRecord) × (opened_text self.now.text.now
+            (option_copied self.now.password) self.now.most_rows ≡ Ok k) × (v ≡ taken_key k.keynum k.secret))
+            (IsTextOpeningRefusal self.now.text.now (option_copied self.now.password) self.now.most_rows) }
     {
         let mut unopened = UnopenedKeyValue::of_bytes([0; 158]);
         match read_unopened_key(self.text, &mut unopened) {
@@ -93,25 +90,17 @@ impl<'a> KeyText<'a> {
     fn open_read(
         &self,
         alloc: Global,
-        unopened: &UnopenedKeyValue,
+        key: &UnopenedKeyValue,
     ) -> std::result::Result<SecretKeyValue, Refusal>
-        requires { is_read unopened.now ≡ true }
-        ensures { MatchResult result
-            (λ v. (k : SecretKeyRecord)
-            × (open_record (unopened_record unopened.now) (option_map (λ p. p.now) self.now.password)
-            self.now.most_rows ≡ Ok k) × (v ≡ taken_key k.keynum k.secret))
-            (IsOpeningRefusal (unopened_record unopened.now) (option_map (λ p. p.now) self.now.password)
-            self.now.most_rows) }
+        requires { is_read key.now ≡ true }
+        ensures { MatchResult result (λ v. (k : SecretKeyRecord) × (open_record (unopened_record key.now)
+            (option_copied self.now.password) self.now.most_rows ≡ Ok k)
+            × (v ≡ taken_key k.keynum k.secret)) (IsOpeningRefusal (unopened_record key.now)
+            (option_copied self.now.password) self.now.most_rows) }
     {
         match self.password {
-            Some(password) => open_sealed(
-                alloc,
-                unopened,
-                password,
-                self.keep_every,
-                self.most_rows,
-            ),
-            None => open_unsealed_read(unopened),
+            Some(password) => open_sealed(alloc, key, password, self.keep_every, self.most_rows),
+            None => open_unsealed_read(key),
         }
     }
 }
@@ -125,10 +114,8 @@ fn open_sealed(
     most_rows: u64,
 ) -> std::result::Result<SecretKeyValue, Refusal>
     requires { is_read unopened.now ≡ true }
-    ensures { MatchResult result
-        (λ v. (k : SecretKeyRecord)
-        × (open_record (unopened_record unopened.now) (Some password.now) most_rows ≡ Ok k)
-        × (v ≡ taken_key k.keynum k.secret))
+    ensures { MatchResult result (λ v. (k : SecretKeyRecord) × (open_record (unopened_record unopened.now)
+        (Some password.now) most_rows ≡ Ok k) × (v ≡ taken_key k.keynum k.secret))
         (IsOpeningRefusal (unopened_record unopened.now) (Some password.now) most_rows) }
 {
     let mut key = SecretKeyValue::take(&[0; 8], &[0; 64]);
@@ -141,9 +128,8 @@ fn open_sealed(
 // Opens a key that was read and was never sealed.
 fn open_unsealed_read(unopened: &UnopenedKeyValue) -> std::result::Result<SecretKeyValue, Refusal>
     requires { is_read unopened.now ≡ true }
-    ensures { MatchResult result
-        (λ v. (k : SecretKeyRecord) × (open_record (unopened_record unopened.now) None 0 ≡ Ok k)
-        × (v ≡ taken_key k.keynum k.secret))
+    ensures { MatchResult result (λ v. (k : SecretKeyRecord) × (open_record
+        (unopened_record unopened.now) None 0 ≡ Ok k) × (v ≡ taken_key k.keynum k.secret))
         (IsOpeningRefusal (unopened_record unopened.now) None 0) }
 {
     let mut key = SecretKeyValue::take(&[0; 8], &[0; 64]);
@@ -286,9 +272,8 @@ pub fn open_sealed_key(
     // What is answered, and the key, whatever number of rows is kept: a key that was read and that the
     // password opens is the one opened, with the mark of one that was; otherwise it is the first reason, and
     // the key as it was. Only where opening derives is it possibly out of memory instead.
-    ensures { ((result, value.new)
-        ≡ opened_or_kept (opened_sealed unopened.now password.now most_rows) value.old)
-        ⊎ (((result, value.new) ≡ opened_or_kept (Err (Refused (Named OutOfMemory))) value.old)
+    ensures { ((result, value.new) ≡ opened_or_kept (opened_sealed unopened.now password.now most_rows)
+        value.old) ⊎ (((result, value.new) ≡ opened_or_kept (Err (Refused (Named OutOfMemory))) value.old)
         × DerivesWithin unopened.now password.now most_rows) }
 {
     if unopened.is_read() {
@@ -331,10 +316,8 @@ pub fn open_sealed_key_in_place(
     // What is answered, and the key, whatever the memory held and whatever number of rows is kept: a key that
     // was read and that the password opens is the one opened, with the mark of one that was; otherwise it is
     // the first reason, which is never out of memory, and the key as it was.
-    ensures opened { (result, value.new)
-        ≡ opened_or_kept
-        (opened_in_place unopened.now password.now keep_every most_rows (length words.old) (length bytes.old))
-        value.old }
+    ensures opened { (result, value.new) ≡ opened_or_kept (opened_in_place unopened.now password.now
+        keep_every most_rows (length words.old) (length bytes.old)) value.old }
 
     // That memory then holds zeros, all of it, whatever the result.
     ensures words_cleared { words.new ≡ replicate (length words.old) 0 }

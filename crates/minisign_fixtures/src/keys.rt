@@ -4,16 +4,16 @@
 //! with random bytes that are zeros is 32 zeros, and then the public key xored with the folded
 //! message; the values here were worked out so from digests of Python's hashlib.
 
-/// The identifier of key A.
-pub const IDENTIFIER: [u8; 8] = [1, 2, 3, 4, 5, 6, 7, 8];
+/// The key ID of key A.
+pub const KEY_ID: [u8; 8] = [1, 2, 3, 4, 5, 6, 7, 8];
 
-/// Another identifier, shown as `E7620F1842B4E81F`.
-pub const OTHER_IDENTIFIER: [u8; 8] = [0x1f, 0xe8, 0xb4, 0x42, 0x18, 0x0f, 0x62, 0xe7];
+/// Another key ID, shown as `E7620F1842B4E81F`.
+pub const OTHER_KEY_ID: [u8; 8] = [0x1f, 0xe8, 0xb4, 0x42, 0x18, 0x0f, 0x62, 0xe7];
 
 /// The public bytes of key A.
 pub const PUBLIC_BYTES: [u8; 32] = [0x5a; 32];
 
-/// The checksum of key A: Blake2b with 32 bytes of `Ed`, the identifier and the secret.
+/// The checksum of key A: Blake2b with 32 bytes of `Ed`, the key ID and the secret.
 pub const CHECKSUM: [u8; 32] = [
     0xce, 0x87, 0x83, 0x74, 0x79, 0xb6, 0x1e, 0xbf, 0xe9, 0x46, 0x5b, 0x8a, 0x3b, 0x70, 0xd8, 0xcc,
     0xfd, 0x75, 0x53, 0xf5, 0x83, 0x3d, 0xd6, 0x56, 0x49, 0xd6, 0x4a, 0x12, 0x7c, 0x7a, 0x89, 0xf8,
@@ -26,24 +26,24 @@ pub const TIED_TO_ABC: [u8; 32] = [
 ];
 
 /// The record of a public key.
-pub fn public_record(identifier: &[u8; 8], key: &[u8; 32]) -> [u8; 42] {
+pub fn public_record(key_id: &[u8; 8], key: &[u8; 32]) -> [u8; 42] {
     let mut record = [0u8; 42];
     let (algorithm_part, rest) = record.split_at_mut(2);
-    let (identifier_part, key_part) = rest.split_at_mut(8);
+    let (key_id_part, key_part) = rest.split_at_mut(8);
     algorithm_part.copy_from_slice(b"Ed");
-    identifier_part.copy_from_slice(identifier);
+    key_id_part.copy_from_slice(key_id);
     key_part.copy_from_slice(key);
     record
 }
 
 /// The record of a signature that has 32 zeros in front of `tied`.
-pub fn signature_record(algorithm: &[u8; 2], identifier: &[u8; 8], tied: &[u8; 32]) -> [u8; 74] {
+pub fn signature_record(algorithm: &[u8; 2], key_id: &[u8; 8], tied: &[u8; 32]) -> [u8; 74] {
     let mut record = [0u8; 74];
     let (front, tied_part) = record.split_at_mut(42);
     let (algorithm_part, rest) = front.split_at_mut(2);
-    let (identifier_part, _) = rest.split_at_mut(8);
+    let (key_id_part, _) = rest.split_at_mut(8);
     algorithm_part.copy_from_slice(algorithm);
-    identifier_part.copy_from_slice(identifier);
+    key_id_part.copy_from_slice(key_id);
     tied_part.copy_from_slice(tied);
     record
 }
@@ -54,11 +54,11 @@ pub fn secret_record(kdf: &[u8; 2], checksum: &[u8; 32]) -> [u8; 158] {
     let mut record = [0u8; 158];
     let (front, back) = record.split_at_mut(62);
     let (algorithms, rest) = front.split_at_mut(6);
-    let (_, identifier_part) = rest.split_at_mut(48);
+    let (_, key_id_part) = rest.split_at_mut(48);
     let (secret, checksum_part) = back.split_at_mut(64);
     let (_, public_part) = secret.split_at_mut(32);
     algorithms.copy_from_slice(&[b'E', b'd', kdf[0], kdf[1], b'B', b'2']);
-    identifier_part.copy_from_slice(&IDENTIFIER);
+    key_id_part.copy_from_slice(&KEY_ID);
     public_part.copy_from_slice(&PUBLIC_BYTES);
     checksum_part.copy_from_slice(checksum);
     record

@@ -16,7 +16,7 @@ pub enum Outcome {
 }
 
 /// Whether the answer is a value where one is expected, and otherwise the very error, with its
-/// identifiers. An error with a kind and a text of its caller's own is none that can be expected.
+/// key IDs. An error with a kind and a text of its caller's own is none that can be expected.
 pub fn comes_to<T>(answer: &Result<T>, expected: Outcome) -> bool {
     match answer {
         Ok(_) => expected == Outcome::Accepted,

@@ -6,7 +6,8 @@ use Rattle.std.specs.Int.Bits.{xor_assoc, xor_self, xor_zero_l, xor_zero_r}
 -- numbers whose exclusive or is zero are equal
 pub same_from_xor : (x y : ℕ) → bit_xor x y ≡ 0 → x ≡ y
 same_from_xor x y h =
-    sym (xor_zero_r x) ∙ ap (bit_xor x) (sym h) ∙ sym (xor_assoc x x y) ∙ ap (λ (n : ℕ). bit_xor n y) (xor_self x) ∙ xor_zero_l y
+    sym (xor_zero_r x) ∙ ap (bit_xor x) (sym h) ∙ sym (xor_assoc x x y) ∙ ap (λ (n : ℕ). bit_xor n y)
+    (xor_self x) ∙ xor_zero_l y
 
 -- and the other way round
 pub xor_from_same : (x y : ℕ) → x ≡ y → bit_xor x y ≡ 0

@@ -1,6 +1,6 @@
--- Values of the definitions that are known from outside: where the initialization vector comes from, and digests
--- of 64 and of 32 bytes, which Python's hashlib and b2sum give too. A wrong constant or step in a definition does
--- not check, nor does a wrong byte here.
+-- Values of the definitions that are known from outside: where the initialization vector comes from, and
+-- digests of 64 and of 32 bytes, which Python's hashlib and b2sum give too. A wrong constant or step in a
+-- definition does not check, nor does a wrong byte here.
 use Rattle.std.proofs.Common.{◌≡◌, refl, ℕ, ◌+◌, ◌-◌, ◌*◌, ◌^◌, ◌&&◌, nat_le, nat_lt, Bool, true}
 use Rattle.std.proofs.Common.{if◌then◌else◌, List, [], ◌∷◌, ◌++◌, codes, slice_index}
 use Prim.Native.String.{String}
@@ -22,8 +22,8 @@ is_root p k x =
     let root = k * 2 ^ 64 + x in
     nat_le (root ^ 2) (p * 2 ^ 128) && nat_lt (p * 2 ^ 128) ((root + 1) ^ 2) && nat_lt x (2 ^ 64)
 
--- the words of the initialization vector are these bits of the first eight primes (RFC 7693, 2.6), as the first
--- words of SHA-512 are
+-- the words of the initialization vector are these bits of the first eight primes (RFC 7693, 2.6), as the
+-- first words of SHA-512 are
 pub iv-square_roots :
     list_all (λ i. is_root (slice_index primes i) (slice_index whole_roots i) (slice_index iv i))
     (range_with_len 0 8)

@@ -1,5 +1,7 @@
 -- Rows of four words as their members, a rotation as two shifts, and words as the numbers of their bytes.
-use Rattle.std.proofs.Common.{◌≡◌, ℕ, ◌+◌, ◌-◌, ◌*◌, ◌/◌, ◌%◌, ◌^◌, ◌<◌, ◌≤◌, List, [], ◌∷◌, ◌++◌, length, take, drop, slice_index, bit_or, bit_xor, arith, refl, sym, ap, ◌∙◌, w8, w64, Fits}
+use Rattle.std.proofs.Common.{◌≡◌, ℕ, ◌+◌, ◌-◌, ◌*◌, ◌/◌, ◌%◌, ◌^◌, ◌<◌, ◌≤◌, List, [], ◌∷◌, ◌++◌, length}
+use Rattle.std.proofs.Common.{take, drop, slice_index, bit_or, bit_xor, arith, refl, sym, ap, ◌∙◌, w8, w64}
+use Rattle.std.proofs.Common.{Fits}
 use Rattle.std.proofs.lemmas.List.{drop-drop, drop-take, take-take}
 use Rattle.std.proofs.lemmas.Simd.{below_from_Fits, chunk-fits, get_or_wider, length-chunk, pick_l_whole}
 use Rattle.std.specs.Int.{from_le_bytes, rotate_right}
@@ -7,10 +9,12 @@ use Rattle.std.specs.Simd.Lanes.{Each1, chunk, digits_l, number_l, zip2}
 use Rattle.minisign_hash.specs.Blake2b.{add64, mix}
 use Rattle.minisign_hash.proofs.Lists.{eight_of}
 
-pub four_of : (xs : List ℕ) → length xs ≡ 4 → xs ≡ slice_index xs 0 ∷ slice_index xs 1 ∷ slice_index xs 2 ∷ slice_index xs 3 ∷ []
+pub four_of : (xs : List ℕ) → length xs ≡ 4 → xs ≡ slice_index xs 0 ∷ slice_index xs 1 ∷ slice_index xs 2
+    ∷ slice_index xs 3 ∷ []
 four_of xs h = sym (pick_l_whole 0 xs 4 h)
 
-pub sixteen_of : (xs : List ℕ) → length xs ≡ 16 → xs ≡ slice_index xs 0 ∷ slice_index xs 1 ∷ slice_index xs 2 ∷ slice_index xs 3
+pub sixteen_of : (xs : List ℕ) → length xs ≡ 16 → xs ≡ slice_index xs 0 ∷ slice_index xs 1 ∷ slice_index xs 2
+    ∷ slice_index xs 3
     ∷ slice_index xs 4 ∷ slice_index xs 5 ∷ slice_index xs 6 ∷ slice_index xs 7
     ∷ slice_index xs 8 ∷ slice_index xs 9 ∷ slice_index xs 10 ∷ slice_index xs 11
     ∷ slice_index xs 12 ∷ slice_index xs 13 ∷ slice_index xs 14 ∷ slice_index xs 15 ∷ []
@@ -42,7 +46,8 @@ pub lanes_mixed : (v x y a d c b a' d' c' b' : List ℕ) → length v ≡ 16 →
     → a' ≡ zip2 add64 (zip2 add64 a b) y → d' ≡ zip2 (xor_right 16) d a'
     → c' ≡ zip2 add64 c d' → b' ≡ zip2 (xor_right 63) b c'
     → row a' 0 ++ (row b' 0 ++ (row c' 0 ++ row d' 0))
-    ≡ mix (mix (mix (mix v 0 4 8 12 (slice_index x 0) (slice_index y 0)) 1 5 9 13 (slice_index x 1) (slice_index y 1))
+    ≡ mix (mix (mix (mix v 0 4 8 12 (slice_index x 0) (slice_index y 0)) 1 5 9 13 (slice_index x 1)
+    (slice_index y 1))
     2 6 10 14 (slice_index x 2) (slice_index y 2)) 3 7 11 15 (slice_index x 3) (slice_index y 3)
 unfolding mix
 lanes_mixed v x y a d c b a' d' c' b' lv lx ly ea ed ec eb ea' ed' ec' eb' =
@@ -61,12 +66,17 @@ part_of_part xs i j n m fits =
     ∙ ap (take m) (drop-drop j i xs)
 
 -- four words of the bytes that were read as one vector
-pub words_read : (bytes : List ℕ) (row j : ℕ) → 32 * row + 32 ≤ length bytes → ((k : ℕ) → Fits w8 (slice_index bytes k)) → j < 4
-    → slice_index (digits_l (2 ^ 64) 4 (number_l 256 (chunk (32 * row) 32 bytes))) j ≡ from_le_bytes w64 (take 8 (drop (8 * (4 * row + j)) bytes))
+pub words_read : (bytes : List ℕ) (row j : ℕ) → 32 * row + 32 ≤ length bytes
+    → ((k : ℕ) → Fits w8 (slice_index bytes k)) → j < 4
+    → slice_index (digits_l (2 ^ 64) 4 (number_l 256 (chunk (32 * row) 32 bytes))) j
+    ≡ from_le_bytes w64 (take 8 (drop (8 * (4 * row + j)) bytes))
 words_read bytes row j fits below lt =
-    let lanes : Each1 (λ x. x < 256) (chunk (32 * row) 32 bytes) = below_from_Fits w8 _ (chunk-fits w8 (32 * row) 32 bytes below) in
-    let part : chunk (8 * j) 8 (chunk (32 * row) 32 bytes) ≡ chunk (32 * row + 8 * j) 8 bytes = part_of_part bytes (32 * row) (8 * j) 32 8 (omega arith) in
+    let lanes : Each1 (λ x. x < 256) (chunk (32 * row) 32 bytes) = below_from_Fits w8 _
+    (chunk-fits w8 (32 * row) 32 bytes below) in
+    let part : chunk (8 * j) 8 (chunk (32 * row) 32 bytes) ≡ chunk (32 * row + 8 * j) 8 bytes = part_of_part
+    bytes (32 * row) (8 * j) 32 8 (omega arith) in
     let place : 32 * row + 8 * j ≡ 8 * (4 * row + j) = omega arith in
     get_or_wider 256 8 (2 ^ 64) 4 (chunk (32 * row) 32 bytes) j refl lanes lt
     ∙ ap (number_l 256) (part ∙ ap (λ (k : ℕ). chunk k 8 bytes) place)
-    ∙ bytes_number (chunk (8 * (4 * row + j)) 8 bytes) (length-chunk (8 * (4 * row + j)) 8 bytes (omega arith))
+    ∙ bytes_number (chunk (8 * (4 * row + j)) 8 bytes)
+    (length-chunk (8 * (4 * row + j)) 8 bytes (omega arith))

@@ -1,6 +1,7 @@
 -- Blocks of a list: those of a list that is joined from two, or from many, and those of two lists taken
 -- member by member.
-use Rattle.std.proofs.Common.{◌≡◌, ℕ, zero, suc, ◌+◌, ◌-◌, ◌*◌, ◌<◌, ◌≤◌, List, [], ◌∷◌, ◌++◌, length, take, drop, refl, sym, ap, ◌∙◌, arith, inl, inr, add-one, length-drop}
+use Rattle.std.proofs.Common.{◌≡◌, ℕ, zero, suc, ◌+◌, ◌-◌, ◌*◌, ◌<◌, ◌≤◌, List, [], ◌∷◌, ◌++◌, length, take}
+use Rattle.std.proofs.Common.{drop, refl, sym, ap, ◌∙◌, arith, inl, inr, add-one, length-drop}
 use Rattle.std.proofs.Math.Nat.{mul-le-mul, mul-suc}
 use Rattle.std.proofs.Math.Seq.{drop-append-add}
 use Rattle.std.proofs.lemmas.Bool.{cases_lt}
@@ -12,18 +13,21 @@ use Rattle.minisign_kdf.proofs.Joined.{joined_lists_next, length-joined_lists}
 -- a block before the i-th lies before it whole
 pub row_before : (len i k : ℕ) → k < i → len * k + len ≤ len * i
 row_before len i k lt =
-    let h : len * suc k ≤ len * i = mul-le-mul {n₁ = len} {m₁ = suc k} {n₂ = len} {m₂ = i} (omega arith) (omega arith) in
+    let h : len * suc k ≤ len * i = mul-le-mul {n₁ = len} {m₁ = suc k} {n₂ = len} {m₂ = i} (omega arith)
+    (omega arith) in
     rw (← mul-suc len k) h
 
 -- a block of the front of a list
-pub block_front : (len i k : ℕ) (p q : List ℕ) → length p ≡ len * i → k < i → block len (p ++ q) k ≡ block len p k
+pub block_front : (len i k : ℕ) (p q : List ℕ) → length p ≡ len * i → k < i
+    → block len (p ++ q) k ≡ block len p k
 block_front len i k p q lp lt =
     let fits : len * k + len ≤ len * i = row_before len i k lt in
     ap (take len) (drop-append-le (len * k) p q (omega arith))
     ∙ take-append-le len (drop (len * k) p) q (omega (arith, length-drop (len * k) p))
 
 -- a block after the front
-pub block_behind : (len i k : ℕ) (p q : List ℕ) → length p ≡ len * i → block len (p ++ q) (i + k) ≡ block len q k
+pub block_behind : (len i k : ℕ) (p q : List ℕ) → length p ≡ len * i → block len (p ++ q) (i + k)
+    ≡ block len q k
 block_behind len i k p q lp =
     let at : len * (i + k) ≡ length p + len * k = grind (arith, lp) in
     ap (λ (m : ℕ). take len (drop m (p ++ q))) at ∙ ap (take len) (drop-append-add p q (len * k))
@@ -39,14 +43,16 @@ pub block_new : (len i : ℕ) (p y : List ℕ) → length p ≡ len * i → leng
 block_new len i p y lp ly = ap (take len) (drop_at p y (len * i) lp) ∙ take_all len y (omega arith)
 
 -- the last block, as what is left of the list from it on
-pub block_end : (len n m w : ℕ) (xs : List ℕ) → length xs ≡ len * n → 1 ≤ n → m ≡ len * (n - 1) → w ≡ length xs - m → take w (drop m xs) ≡ block len xs (n - 1)
+pub block_end : (len n m w : ℕ) (xs : List ℕ) → length xs ≡ len * n → 1 ≤ n → m ≡ len * (n - 1)
+    → w ≡ length xs - m → take w (drop m xs) ≡ block len xs (n - 1)
 block_end len n m w xs lx some em ew =
     let one : n ≡ suc (n - 1) = omega arith in
     let last : len * n ≡ len * (n - 1) + len = ap (λ (j : ℕ). len * j) one ∙ mul-suc len (n - 1) in
     let width : w ≡ len = omega arith in
     rw (width, em) refl
 
-pub length_end : (len n m : ℕ) (xs : List ℕ) → length xs ≡ len * n → 1 ≤ n → m ≡ len * (n - 1) → length (take (length xs - m) (drop m xs)) ≡ len
+pub length_end : (len n m : ℕ) (xs : List ℕ) → length xs ≡ len * n → 1 ≤ n → m ≡ len * (n - 1)
+    → length (take (length xs - m) (drop m xs)) ≡ len
 length_end len n m xs lx some em =
     let one : n ≡ suc (n - 1) = omega arith in
     let last : len * n ≡ len * (n - 1) + len = ap (λ (j : ℕ). len * j) one ∙ mul-suc len (n - 1) in
@@ -54,13 +60,15 @@ length_end len n m xs lx some em =
     length-take-le (length xs - m) (drop m xs) (omega arith) ∙ omega arith
 
 -- a member of a joined list
-pub block-joined_lists : (f : ℕ → List ℕ) (len n i : ℕ) → ((j : ℕ) → length (f j) ≡ len) → i < n → block len (joined_lists f n) i ≡ f i
+pub block-joined_lists : (f : ℕ → List ℕ) (len n i : ℕ) → ((j : ℕ) → length (f j) ≡ len) → i < n
+    → block len (joined_lists f n) i ≡ f i
 block-joined_lists f len zero i each lt = absurd (omega arith)
 block-joined_lists f len (suc n) i each lt =
     let front : length (joined_lists f n) ≡ len * n = length-joined_lists f len n each ∙ grind arith in
     ap (λ (l : List ℕ). block len l i) (ap (joined_lists f) (sym (add-one n)) ∙ joined_lists_next f n)
     ∙ (elim (cases_lt i n) [
-      | inl before ↦ block_front len n i (joined_lists f n) (f n) front before ∙ block-joined_lists f len n i each before
+      | inl before ↦ block_front len n i (joined_lists f n) (f n) front before
+          ∙ block-joined_lists f len n i each before
       | inr past ↦
           let e : i ≡ n = omega arith in
           rw e (block_new len n (joined_lists f n) (f n) front (each n))
@@ -72,30 +80,37 @@ take-zip2 f (suc n) [] ys = refl
 take-zip2 f (suc n) (x ∷ xs) [] = refl
 take-zip2 f (suc n) (x ∷ xs) (y ∷ ys) = ap (λ (l : List ℕ). f x y ∷ l) (take-zip2 f n xs ys)
 
-drop-zip2 : (f : ℕ → ℕ → ℕ) (n : ℕ) (xs ys : List ℕ) → length xs ≡ length ys → drop n (zip2 f xs ys) ≡ zip2 f (drop n xs) (drop n ys)
+drop-zip2 : (f : ℕ → ℕ → ℕ) (n : ℕ) (xs ys : List ℕ) → length xs ≡ length ys
+    → drop n (zip2 f xs ys) ≡ zip2 f (drop n xs) (drop n ys)
 drop-zip2 f zero xs ys e = refl
 drop-zip2 f (suc n) [] ys e = refl
 drop-zip2 f (suc n) (x ∷ xs) [] e = absurd (omega arith)
 drop-zip2 f (suc n) (x ∷ xs) (y ∷ ys) e = drop-zip2 f n xs ys (omega arith)
 
 -- a part of two lists taken member by member
-pub cut-zip2 : (f : ℕ → ℕ → ℕ) (n k : ℕ) (xs ys : List ℕ) → length xs ≡ length ys → take n (drop k (zip2 f xs ys)) ≡ zip2 f (take n (drop k xs)) (take n (drop k ys))
+pub cut-zip2 : (f : ℕ → ℕ → ℕ) (n k : ℕ) (xs ys : List ℕ) → length xs ≡ length ys
+    → take n (drop k (zip2 f xs ys)) ≡ zip2 f (take n (drop k xs)) (take n (drop k ys))
 cut-zip2 f n k xs ys e = ap (take n) (drop-zip2 f k xs ys e) ∙ take-zip2 f n (drop k xs) (drop k ys)
 
-pub zip2-append : (f : ℕ → ℕ → ℕ) (a b c d : List ℕ) → length a ≡ length b → zip2 f (a ++ c) (b ++ d) ≡ zip2 f a b ++ zip2 f c d
+pub zip2-append : (f : ℕ → ℕ → ℕ) (a b c d : List ℕ) → length a ≡ length b → zip2 f (a ++ c) (b ++ d)
+    ≡ zip2 f a b ++ zip2 f c d
 zip2-append f [] [] c d e = refl
 zip2-append f [] (y ∷ b) c d e = absurd (omega arith)
 zip2-append f (x ∷ a) [] c d e = absurd (omega arith)
 zip2-append f (x ∷ a) (y ∷ b) c d e = ap (λ (l : List ℕ). f x y ∷ l) (zip2-append f a b c d (omega arith))
 
 -- lists joined from blocks of one length, taken member by member
-pub joined_lists-zip2 : (f : ℕ → ℕ → ℕ) (g h : ℕ → List ℕ) (len n : ℕ) → ((j : ℕ) → length (g j) ≡ len) → ((j : ℕ) → length (h j) ≡ len)
+pub joined_lists-zip2 : (f : ℕ → ℕ → ℕ) (g h : ℕ → List ℕ) (len n : ℕ) → ((j : ℕ) → length (g j) ≡ len)
+    → ((j : ℕ) → length (h j) ≡ len)
     → joined_lists (λ j. zip2 f (g j) (h j)) n ≡ zip2 f (joined_lists g n) (joined_lists h n)
 unfolding joined_lists
 joined_lists-zip2 f g h len zero lg lh = refl
 joined_lists-zip2 f g h len (suc n) lg lh =
-    let front : length (joined_lists g n) ≡ length (joined_lists h n) = length-joined_lists g len n lg ∙ sym (length-joined_lists h len n lh) in
-    ap (joined_lists (λ (j : ℕ). zip2 f (g j) (h j))) (sym (add-one n)) ∙ joined_lists_next (λ (j : ℕ). zip2 f (g j) (h j)) n
+    let front : length (joined_lists g n) ≡ length (joined_lists h n) = length-joined_lists g len n lg
+    ∙ sym (length-joined_lists h len n lh) in
+    ap (joined_lists (λ (j : ℕ). zip2 f (g j) (h j))) (sym (add-one n))
+    ∙ joined_lists_next (λ (j : ℕ). zip2 f (g j) (h j)) n
     ∙ ap (λ (l : List ℕ). l ++ zip2 f (g n) (h n)) (joined_lists-zip2 f g h len n lg lh)
     ∙ sym (zip2-append f (joined_lists g n) (joined_lists h n) (g n) (h n) front)
-    ∙ (λ t. zip2 f ((sym (joined_lists_next g n) ∙ ap (joined_lists g) (add-one n)) t) ((sym (joined_lists_next h n) ∙ ap (joined_lists h) (add-one n)) t))
+    ∙ (λ t. zip2 f ((sym (joined_lists_next g n) ∙ ap (joined_lists g) (add-one n)) t)
+    ((sym (joined_lists_next h n) ∙ ap (joined_lists h) (add-one n)) t))

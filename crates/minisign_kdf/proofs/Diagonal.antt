@@ -1,9 +1,11 @@
 -- Facts of the diagonal order: it commutes with xor and with wrapping sums, eight rounds on ordered words
 -- are the standard's, and the low 64 bits of a block stand at the places 0 and 13.
-use Rattle.std.proofs.Common.{◌≡◌, ℕ, zero, suc, ◌+◌, ◌*◌, ◌%◌, ◌^◌, ◌<◌, List, [], ◌∷◌, ◌++◌, length, map, slice_index, bit_xor, lit<, refl, ap, ◌∙◌}
+use Rattle.std.proofs.Common.{◌≡◌, ℕ, zero, suc, ◌+◌, ◌*◌, ◌%◌, ◌^◌, ◌<◌, List, [], ◌∷◌, ◌++◌, length, map}
+use Rattle.std.proofs.Common.{slice_index, bit_xor, lit<, refl, ap, ◌∙◌}
 use Rattle.std.specs.List.{range_with_len}
 use Rattle.std.specs.Simd.Lanes.{number_l, zip2}
-use Rattle.minisign_kdf.specs.Diagonal.{column_round, row_round, salsa_words, standard_order, transposed_square}
+use Rattle.minisign_kdf.specs.Diagonal.{column_round, row_round, salsa_words, standard_order}
+use Rattle.minisign_kdf.specs.Diagonal.{transposed_square}
 use Rattle.minisign_kdf.specs.Salsa20.{add32, bytes_of_words32, double_round, quarter_at}
 use Rattle.minisign_kdf.proofs.Bytes.{low_words}
 use Rattle.minisign_kdf.proofs.Sixteen.{sixteen_of}
@@ -29,7 +31,8 @@ unfolding transposed_square
 length-transposed_square xs = refl
 
 -- the round on the rows is that on the columns of the transposed square
-pub row_round-transposed_square : (xs : List ℕ) → length xs ≡ 16 → row_round xs ≡ transposed_square (column_round (transposed_square xs))
+pub row_round-transposed_square : (xs : List ℕ) → length xs ≡ 16
+    → row_round xs ≡ transposed_square (column_round (transposed_square xs))
 unfolding row_round column_round quarter_at transposed_square
 row_round-transposed_square xs l = rw (sixteen_of xs l) refl
 
@@ -43,14 +46,17 @@ salsa_words-ordered xs ys lx ly e =
 
 -- the low 64 bits of a block stand at the places 0 and 13
 pub low_bits_places : (xs : List ℕ) → slice_index xs 0 < 2 ^ 32 → slice_index xs 13 < 2 ^ 32
-    → number_l 256 (bytes_of_words32 (standard_order xs)) % 2 ^ 64 ≡ slice_index xs 0 + slice_index xs 13 * 2 ^ 32 % 2 ^ 64
+    → number_l 256 (bytes_of_words32 (standard_order xs)) % 2 ^ 64
+    ≡ slice_index xs 0 + slice_index xs 13 * 2 ^ 32 % 2 ^ 64
 unfolding standard_order
 low_bits_places xs f0 f13 =
-    low_words (slice_index xs 0) (slice_index xs 13) (map (λ w. slice_index xs (13 * w % 16)) (range_with_len 2 14)) f0 f13
+    low_words (slice_index xs 0) (slice_index xs 13)
+    (map (λ w. slice_index xs (13 * w % 16)) (range_with_len 2 14)) f0 f13
 
 -- ---- the words fit 32 bits
 
-append_fits : (xs ys : List ℕ) → ((k : ℕ) → slice_index xs k < 2 ^ 32) → ((k : ℕ) → slice_index ys k < 2 ^ 32) → (k : ℕ) → slice_index (xs ++ ys) k < 2 ^ 32
+append_fits : (xs ys : List ℕ) → ((k : ℕ) → slice_index xs k < 2 ^ 32) → ((k : ℕ) → slice_index ys k < 2 ^ 32)
+    → (k : ℕ) → slice_index (xs ++ ys) k < 2 ^ 32
 append_fits [] ys fx fy k = fy k
 append_fits (x ∷ xs) ys fx fy zero = fx zero
 append_fits (x ∷ xs) ys fx fy (suc k) = append_fits xs ys (λ j. fx (suc j)) fy k
@@ -60,8 +66,10 @@ map_fits g [] fits i = lit< tt
 map_fits g (k ∷ ks) fits zero = fits k
 map_fits g (k ∷ ks) fits (suc i) = map_fits g ks fits i
 
-pub standard_order-fits : (a b c d : List ℕ) → ((k : ℕ) → slice_index a k < 2 ^ 32) → ((k : ℕ) → slice_index b k < 2 ^ 32) → ((k : ℕ) → slice_index c k < 2 ^ 32)
-    → ((k : ℕ) → slice_index d k < 2 ^ 32) → (i : ℕ) → slice_index (standard_order (a ++ b ++ c ++ d)) i < 2 ^ 32
+pub standard_order-fits : (a b c d : List ℕ) → ((k : ℕ) → slice_index a k < 2 ^ 32)
+    → ((k : ℕ) → slice_index b k < 2 ^ 32) → ((k : ℕ) → slice_index c k < 2 ^ 32)
+    → ((k : ℕ) → slice_index d k < 2 ^ 32) → (i : ℕ)
+    → slice_index (standard_order (a ++ b ++ c ++ d)) i < 2 ^ 32
 unfolding standard_order
 standard_order-fits a b c d fa fb fc fd =
     map_fits (λ w. slice_index (a ++ b ++ c ++ d) (13 * w % 16)) (range_with_len 0 16)

@@ -1,5 +1,5 @@
--- Values of the definitions that the standards print. A wrong constant or step in a definition does not check, nor
--- does a wrong byte here.
+-- Values of the definitions that the standards print. A wrong constant or step in a definition does not
+-- check, nor does a wrong byte here.
 use Rattle.std.proofs.Common.{◌≡◌, ◌∙◌, ap, refl, ℕ, ◌+◌, ◌*◌, ◌-◌, if◌then◌else◌, nat_le}
 use Rattle.std.proofs.Common.{List, [], ◌∷◌, ◌++◌, codes}
 use Prim.Native.String.{String}

@@ -1,10 +1,12 @@
 -- scryptROMix over the rows that are kept is the standard's.
-use Rattle.std.proofs.Common.{◌≡◌, ℕ, zero, suc, ◌+◌, ◌-◌, ◌*◌, ◌/◌, ◌%◌, ◌<◌, ◌≤◌, List, [], length, get_or, inl, inr, sym, ap, ◌∙◌, arith, add-zero, zero-add}
+use Rattle.std.proofs.Common.{◌≡◌, ℕ, zero, suc, ◌+◌, ◌-◌, ◌*◌, ◌/◌, ◌%◌, ◌<◌, ◌≤◌, List, [], length, get_or}
+use Rattle.std.proofs.Common.{inl, inr, sym, ap, ◌∙◌, arith, add-zero, zero-add}
 use Rattle.std.proofs.Math.Nat.{div-lt_iff_lt-mul, mul_comm, mul-suc}
 use Rattle.std.proofs.lemmas.Bool.{cases_lt}
 use Rattle.std.proofs.lemmas.Grind.{div_ceil_times}
 use Rattle.std.proofs.lemmas.List.{get_or-map}
-use Rattle.std.proofs.lemmas.List.FromFn.{get_or-range_with_len, length-map-range_with_len, length-range_with_len}
+use Rattle.std.proofs.lemmas.List.FromFn.{get_or-range_with_len, length-map-range_with_len}
+use Rattle.std.proofs.lemmas.List.FromFn.{length-range_with_len}
 use Rattle.std.specs.Int.{div_ceil}
 use Rattle.std.specs.List.{range_with_len}
 use Rattle.minisign_kdf.specs.Kept.{kept_rows, remade_row, rom_mix_from}
@@ -54,7 +56,8 @@ quotient_kept n k j some lt =
     (div-lt_iff_lt-mul {k = k} {x = j} {y = c} (omega arith)).1 below
 
 -- the i-th kept row
-kept_row : (r n k : ℕ) (b : List ℕ) (i : ℕ) → i < div_ceil n k → get_or (kept_rows r n k b) i [] ≡ row_at r b (k * i)
+kept_row : (r n k : ℕ) (b : List ℕ) (i : ℕ) → i < div_ceil n k → get_or (kept_rows r n k b) i []
+    ≡ row_at r b (k * i)
 unfolding kept_rows
 kept_row r n k b i lt =
     let c : ℕ = div_ceil n k in
@@ -67,15 +70,18 @@ unfolding kept_rows
 length-kept_rows r n k b = length-map-range_with_len (λ (i : ℕ). row_at r b (k * i)) 0 (div_ceil n k)
 
 -- each row is made again
-remade : (r n k : ℕ) (b : List ℕ) → 1 ≤ k → (j : ℕ) → j < n → remade_row r k (kept_rows r n k b) j ≡ row_at r b j
+remade : (r n k : ℕ) (b : List ℕ) → 1 ≤ k → (j : ℕ) → j < n → remade_row r k (kept_rows r n k b) j
+    ≡ row_at r b j
 unfolding remade_row
 remade r n k b some j lt =
     let within : j / k < div_ceil n k = quotient_kept n k j some lt in
     let all : k * (j / k) + j % k ≡ j = omega arith in
-    ap (λ (l : List ℕ). row_at r l (j % k)) (kept_row r n k b (j / k) within) ∙ row_at-add r b (k * (j / k)) (j % k) ∙ ap (row_at r b) all
+    ap (λ (l : List ℕ). row_at r l (j % k)) (kept_row r n k b (j / k) within) ∙ row_at-add r b (k * (j / k))
+    (j % k) ∙ ap (row_at r b) all
 
 -- the law of kept rows: scryptROMix over them is the standard's, for every k from 1
-pub rom_mix_from-kept_rows : (r n k : ℕ) (b : List ℕ) → 1 ≤ k → 1 ≤ n → rom_mix_from r n k (kept_rows r n k b) ≡ rom_mix r n b
+pub rom_mix_from-kept_rows : (r n k : ℕ) (b : List ℕ) → 1 ≤ k → 1 ≤ n → rom_mix_from r n k (kept_rows r n k b)
+    ≡ rom_mix r n b
 unfolding rom_mix_from rom_mix
 rom_mix_from-kept_rows r n k b some rows =
     let c : ℕ = div_ceil n k in

@@ -1,5 +1,6 @@
 -- What callers need of a derived key: its length, and that it is bytes.
-use Rattle.std.proofs.Common.{◌≡◌, ℕ, zero, suc, ◌+◌, ◌/◌, ◌^◌, ◌<◌, List, [], ◌∷◌, ◌++◌, length, slice_index, All, mod-lt, lit<, subst, refl, sym, ap, ◌∙◌, arith, add-one}
+use Rattle.std.proofs.Common.{◌≡◌, ℕ, zero, suc, ◌+◌, ◌/◌, ◌^◌, ◌<◌, List, [], ◌∷◌, ◌++◌, length, slice_index}
+use Rattle.std.proofs.Common.{All, mod-lt, lit<, subst, refl, sym, ap, ◌∙◌, arith, add-one}
 use Rattle.std.proofs.lemmas.List.{length-take-le}
 use Rattle.std.proofs.lemmas.List.Elements.{All-append, All-get_or, All-take}
 use Rattle.std.specs.Int.{w32, to_be_bytes}
@@ -17,8 +18,10 @@ length-hmac key text = refl
 pub length-pbkdf2 : (password salt : List ℕ) (len : ℕ) → length (pbkdf2 password salt len) ≡ len
 unfolding pbkdf2
 length-pbkdf2 password salt len =
-    let whole = length-joined_lists (λ (i : ℕ). hmac password (salt ++ to_be_bytes w32 (i + 1))) 32 ((len + 31) / 32) (λ i. length-hmac password _) in
-    length-take-le len (joined_lists (λ i. hmac password (salt ++ to_be_bytes w32 (i + 1))) ((len + 31) / 32)) (omega (arith, whole))
+    let whole = length-joined_lists (λ (i : ℕ). hmac password (salt ++ to_be_bytes w32 (i + 1))) 32
+    ((len + 31) / 32) (λ i. length-hmac password _) in
+    length-take-le len (joined_lists (λ i. hmac password (salt ++ to_be_bytes w32 (i + 1))) ((len + 31) / 32))
+    (omega (arith, whole))
 
 pub length-scrypt : (password salt : List ℕ) (n r p len : ℕ) → length (scrypt password salt n r p len) ≡ len
 unfolding scrypt
@@ -37,12 +40,14 @@ four_are w x y z hw hx hy hz (suc (suc (suc zero))) d lt = hz
 four_are w x y z hw hx hy hz (suc (suc (suc (suc k)))) d lt = absurd (omega arith)
 
 word_is : (n : ℕ) → All IsByte (to_be_bytes w32 n)
-word_is n = four_are _ _ _ _ (mod-lt (n / 2 ^ 24) (lit< tt)) (mod-lt (n / 2 ^ 16) (lit< tt)) (mod-lt (n / 2 ^ 8) (lit< tt)) (mod-lt n (lit< tt))
+word_is n = four_are _ _ _ _ (mod-lt (n / 2 ^ 24) (lit< tt)) (mod-lt (n / 2 ^ 16) (lit< tt))
+    (mod-lt (n / 2 ^ 8) (lit< tt)) (mod-lt n (lit< tt))
 
 digest_is : (h : List ℕ) (n : ℕ) → All IsByte (digest_bytes h n)
 unfolding digest_bytes
 digest_is h zero = λ k d lt. absurd (omega arith)
-digest_is h (suc n) = All-append IsByte (digest_bytes h n) (to_be_bytes w32 (slice_index h n)) (digest_is h n) (word_is (slice_index h n))
+digest_is h (suc n) = All-append IsByte (digest_bytes h n) (to_be_bytes w32 (slice_index h n)) (digest_is h n)
+    (word_is (slice_index h n))
 
 hmac_is : (key text : List ℕ) → All IsByte (hmac key text)
 unfolding hmac sha256
@@ -51,15 +56,19 @@ hmac_is key text = digest_is _ 8
 joined_lists_is : (f : ℕ → List ℕ) (n : ℕ) → ((i : ℕ) → All IsByte (f i)) → All IsByte (joined_lists f n)
 joined_lists_is f zero each = subst (All IsByte) (sym (joined_lists_none f)) (λ k d lt. absurd (omega arith))
 joined_lists_is f (suc n) each =
-    subst (All IsByte) (sym (joined_lists_next f n) ∙ ap (joined_lists f) (add-one n)) (All-append IsByte (joined_lists f n) (f n) (joined_lists_is f n each) (each n))
+    subst (All IsByte) (sym (joined_lists_next f n) ∙ ap (joined_lists f) (add-one n))
+    (All-append IsByte (joined_lists f n) (f n) (joined_lists_is f n each) (each n))
 
 pbkdf2_is : (password salt : List ℕ) (len : ℕ) → All IsByte (pbkdf2 password salt len)
 unfolding pbkdf2
 pbkdf2_is password salt len =
-    All-take IsByte len _ (joined_lists_is (λ (i : ℕ). hmac password (salt ++ to_be_bytes w32 (i + 1))) ((len + 31) / 32) (λ i. hmac_is password _))
+    All-take IsByte len _ (joined_lists_is (λ (i : ℕ). hmac password (salt ++ to_be_bytes w32 (i + 1)))
+    ((len + 31) / 32) (λ i. hmac_is password _))
 
-pub scrypt_bytes : (password salt : List ℕ) (n r p len : ℕ) (i : ℕ) → i < len → slice_index (scrypt password salt n r p len) i < 2 ^ 8
+pub scrypt_bytes : (password salt : List ℕ) (n r p len : ℕ) (i : ℕ) → i < len
+    → slice_index (scrypt password salt n r p len) i < 2 ^ 8
 unfolding scrypt
 scrypt_bytes password salt n r p len i lt =
-    let l : i < length (scrypt password salt n r p len) = omega (arith, length-scrypt password salt n r p len) in
+    let l : i < length (scrypt password salt n r p len) = omega
+    (arith, length-scrypt password salt n r p len) in
     All-get_or IsByte _ i 0 l (pbkdf2_is password _ len)

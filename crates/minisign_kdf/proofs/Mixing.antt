@@ -1,5 +1,6 @@
 -- scryptBlockMix, block by block.
-use Rattle.std.proofs.Common.{◌≡◌, ℕ, zero, suc, ◌+◌, ◌-◌, ◌*◌, ◌<◌, ◌≤◌, List, ◌++◌, length, take, drop, bit_xor, refl, sym, ap, ◌∙◌, arith, add-one}
+use Rattle.std.proofs.Common.{◌≡◌, ℕ, zero, suc, ◌+◌, ◌-◌, ◌*◌, ◌<◌, ◌≤◌, List, ◌++◌, length, take, drop}
+use Rattle.std.proofs.Common.{bit_xor, refl, sym, ap, ◌∙◌, arith, add-one}
 use Rattle.std.specs.Simd.Lanes.{zip2}
 use Rattle.std.proofs.lemmas.List.{length-take-le, take_all}
 use Rattle.std.proofs.lemmas.Slice.{take-put_mid}
@@ -17,7 +18,8 @@ unfoldable pub before : ℕ → List ℕ → ℕ → List ℕ
 before r b zero = block 64 b (2 * r - 1)
 before r b (suc i) = mixed_block r b i
 
-pub mixed_block_is : (r : ℕ) (b : List ℕ) (i : ℕ) → mixed_block r b i ≡ salsa20_8 (zip2 bit_xor (before r b i) (block 64 b i))
+pub mixed_block_is : (r : ℕ) (b : List ℕ) (i : ℕ)
+    → mixed_block r b i ≡ salsa20_8 (zip2 bit_xor (before r b i) (block 64 b i))
 unfolding before mixed_block
 mixed_block_is r b zero = refl
 mixed_block_is r b (suc i) = refl
@@ -27,26 +29,32 @@ unfolding before
 before_next r b i = rw add-one refl
 
 -- the next block, mixed
-pub mixed_next : (r : ℕ) (xs x y c : List ℕ) (i n k : ℕ) → length xs ≡ 32 * r → i < 2 * r → x ≡ before r (diagonal_bytes xs) i → n ≡ 16 → k ≡ 16 * i
-    → c ≡ take n (drop k xs) → y ≡ salsa20_8 (zip2 bit_xor x (bytes_of_words32 (standard_order c))) → y ≡ mixed_block r (diagonal_bytes xs) i
+pub mixed_next : (r : ℕ) (xs x y c : List ℕ) (i n k : ℕ) → length xs ≡ 32 * r → i < 2 * r
+    → x ≡ before r (diagonal_bytes xs) i → n ≡ 16 → k ≡ 16 * i
+    → c ≡ take n (drop k xs) → y ≡ salsa20_8 (zip2 bit_xor x (bytes_of_words32 (standard_order c)))
+    → y ≡ mixed_block r (diagonal_bytes xs) i
 mixed_next r xs x y c i n k len lt ex en ek ec ey =
     let cut : bytes_of_words32 (standard_order c) ≡ block 64 (diagonal_bytes xs) i =
     rw (ec, en, ek) (sym (block-diagonal_bytes xs (2 * r) i (omega arith) lt)) in
     rw (ey, ex, cut) (sym (mixed_block_is r (diagonal_bytes xs) i))
 
 -- sixteen more words are written
-pub written_next : (f : ℕ → List ℕ) (i k : ℕ) (xs ys y : List ℕ) → diagonal_bytes (take (16 * i) xs) ≡ joined_lists f i → ys ≡ y → bytes_of_words32 (standard_order y) ≡ f i
-    → length ys ≡ 16 → 16 * i ≤ length xs → diagonal_bytes (take (16 * (i + 1)) (put_mid (16 * i) k xs ys)) ≡ joined_lists f (i + 1)
+pub written_next : (f : ℕ → List ℕ) (i k : ℕ) (xs ys y : List ℕ) → diagonal_bytes (take (16 * i) xs)
+    ≡ joined_lists f i → ys ≡ y → bytes_of_words32 (standard_order y) ≡ f i
+    → length ys ≡ 16 → 16 * i ≤ length xs → diagonal_bytes (take (16 * (i + 1)) (put_mid (16 * i) k xs ys))
+    ≡ joined_lists f (i + 1)
 written_next f i k xs ys y done ey ef len fits =
     let front : length (take (16 * i) xs) ≡ 16 * i = length-take-le (16 * i) xs fits in
     ap diagonal_bytes (take-put_mid (16 * i) k xs ys (16 * (i + 1)) (omega arith) fits)
     ∙ diagonal_bytes-append (take (16 * i) xs) ys i 1 front len
-    ∙ (λ t. done t ++ (diagonal_bytes-block ys len ∙ ap (λ (l : List ℕ). bytes_of_words32 (standard_order l)) ey ∙ ef) t)
+    ∙ (λ t. done t ++ (diagonal_bytes-block ys len ∙ ap (λ (l : List ℕ). bytes_of_words32 (standard_order l))
+    ey ∙ ef) t)
     ∙ sym (joined_lists_next f i)
 
 -- all blocks are written
 pub written_all : (r i : ℕ) (b even odd : List ℕ) → i ≡ r → length even ≡ 16 * r → length odd ≡ 16 * r
-    → diagonal_bytes (take (16 * i) even) ≡ joined_lists (λ j. mixed_block r b (2 * j)) i → diagonal_bytes (take (16 * i) odd) ≡ joined_lists (λ j. mixed_block r b (2 * j + 1)) i
+    → diagonal_bytes (take (16 * i) even) ≡ joined_lists (λ j. mixed_block r b (2 * j)) i
+    → diagonal_bytes (take (16 * i) odd) ≡ joined_lists (λ j. mixed_block r b (2 * j + 1)) i
     → diagonal_bytes (even ++ odd) ≡ block_mix r b
 unfolding block_mix
 written_all r i b even odd ei le lo he ho =
@@ -57,7 +65,8 @@ written_all r i b even odd ei le lo he ho =
     ++ (ap diagonal_bytes (sym wo) ∙ ho ∙ ap (joined_lists (λ (j : ℕ). mixed_block r b (2 * j + 1))) ei) t)
 
 -- the first block is xored with the last
-pub before_first : (r : ℕ) (xs x : List ℕ) (n k : ℕ) → length xs ≡ 32 * r → 1 ≤ r → n ≡ 16 → k ≡ 32 * r - 16 → x ≡ take n (drop k xs)
+pub before_first : (r : ℕ) (xs x : List ℕ) (n k : ℕ) → length xs ≡ 32 * r → 1 ≤ r → n ≡ 16 → k ≡ 32 * r - 16
+    → x ≡ take n (drop k xs)
     → bytes_of_words32 (standard_order x) ≡ before r (diagonal_bytes xs) (2 * 0)
 unfolding before
 before_first r xs x n k len some en ek ex =
@@ -65,5 +74,8 @@ before_first r xs x n k len some en ek ex =
     rw (ex, en, ek, e) (sym (block-diagonal_bytes xs (2 * r) (2 * r - 1) (omega arith) (omega arith)))
 
 -- a block of two lists taken member by member, whose blocks were cut one by one
-pub xored_block : (x y z : List ℕ) (k n m : ℕ) → length x ≡ length y → n ≡ 16 → m ≡ 16 → z ≡ zip2 bit_xor (take n (drop k x)) (take m (drop k y)) → z ≡ take 16 (drop k (zip2 bit_xor x y))
-xored_block x y z k n m e en em ez = ez ∙ (λ t. zip2 bit_xor (take (en t) (drop k x)) (take (em t) (drop k y))) ∙ sym (cut-zip2 bit_xor 16 k x y e)
+pub xored_block : (x y z : List ℕ) (k n m : ℕ) → length x ≡ length y → n ≡ 16 → m ≡ 16
+    → z ≡ zip2 bit_xor (take n (drop k x)) (take m (drop k y)) → z ≡ take 16 (drop k (zip2 bit_xor x y))
+xored_block x y z k n m e en em ez = ez
+    ∙ (λ t. zip2 bit_xor (take (en t) (drop k x)) (take (em t) (drop k y)))
+    ∙ sym (cut-zip2 bit_xor 16 k x y e)

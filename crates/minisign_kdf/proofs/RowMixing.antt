@@ -1,5 +1,7 @@
 -- The last block as a number, mixing so many times, and the second loop of scryptROMix.
-use Rattle.std.proofs.Common.{◌≡◌, ℕ, zero, suc, ◌+◌, ◌-◌, ◌*◌, ◌/◌, ◌%◌, ◌^◌, ◌<◌, ◌≤◌, List, length, take, drop, slice_index, bit_xor, lit<, refl, sym, ap, ◌∙◌, arith, add-one, add-zero, mod-lt}
+use Rattle.std.proofs.Common.{◌≡◌, ℕ, zero, suc, ◌+◌, ◌-◌, ◌*◌, ◌/◌, ◌%◌, ◌^◌, ◌<◌, ◌≤◌, List, length, take}
+use Rattle.std.proofs.Common.{drop, slice_index, bit_xor, lit<, refl, sym, ap, ◌∙◌, arith, add-one, add-zero}
+use Rattle.std.proofs.Common.{mod-lt}
 use Rattle.std.proofs.Math.Nat.{mod-mod, mul-add-mod_self_right, pow-succ'}
 use Rattle.std.proofs.lemmas.List.{get_or-drop, get_or-take}
 use Rattle.std.proofs.lemmas.Nat.{mod-pow-add}
@@ -12,14 +14,18 @@ use Rattle.minisign_kdf.proofs.Ordered.{block-diagonal_bytes}
 
 -- ---- the last block as a number
 
-pub integerify_low : (r : ℕ) (xs : List ℕ) (x y : ℕ) → 1 ≤ r → length xs ≡ 32 * r → ((i : ℕ) → slice_index xs i < 2 ^ 32)
-    → x ≡ slice_index xs (32 * r - 16) → y ≡ slice_index xs (32 * r - 16 + 13) → x + y * 2 ^ 32 % 2 ^ 64 ≡ integerify r (diagonal_bytes xs) % 2 ^ 64
+pub integerify_low : (r : ℕ) (xs : List ℕ) (x y : ℕ) → 1 ≤ r → length xs ≡ 32 * r
+    → ((i : ℕ) → slice_index xs i < 2 ^ 32)
+    → x ≡ slice_index xs (32 * r - 16) → y ≡ slice_index xs (32 * r - 16 + 13) → x + y * 2 ^ 32 % 2 ^ 64
+    ≡ integerify r (diagonal_bytes xs) % 2 ^ 64
 integerify_low r xs x y some len fits ex ey =
     let n : ℕ = 32 * r - 16 in
     let at : 16 * (2 * r - 1) ≡ n = omega arith in
     let last : List ℕ = take 16 (drop n xs) in
-    let first : slice_index last 0 ≡ x = get_or-take 16 (drop n xs) 0 0 (lit< tt) ∙ get_or-drop n xs 0 0 ∙ ap (slice_index xs) (add-zero n) ∙ sym ex in
-    let second : slice_index last 13 ≡ y = get_or-take 16 (drop n xs) 13 0 (lit< tt) ∙ get_or-drop n xs 13 0 ∙ sym ey in
+    let first : slice_index last 0 ≡ x = get_or-take 16 (drop n xs) 0 0 (lit< tt) ∙ get_or-drop n xs 0 0
+    ∙ ap (slice_index xs) (add-zero n) ∙ sym ex in
+    let second : slice_index last 13 ≡ y = get_or-take 16 (drop n xs) 13 0 (lit< tt) ∙ get_or-drop n xs 13 0
+    ∙ sym ey in
     let fx : slice_index last 0 < 2 ^ 32 = rw (first, ex) (fits n) in
     let fy : slice_index last 13 < 2 ^ 32 = rw (second, ey) (fits (n + 13)) in
     rw (block-diagonal_bytes xs (2 * r) (2 * r - 1) (omega arith) (omega arith), at)
@@ -50,9 +56,11 @@ unfolding mixed_part
 mixed_part_none r n v x = refl
 
 -- one more step
-pub step_next : (r n t : ℕ) (v : ℕ → List ℕ) (x0 x z : List ℕ) → x ≡ mixed_part r n v x0 t → z ≡ block_mix r (zip2 bit_xor x (v (integerify r x % n))) → z ≡ mixed_part r n v x0 (t + 1)
+pub step_next : (r n t : ℕ) (v : ℕ → List ℕ) (x0 x z : List ℕ) → x ≡ mixed_part r n v x0 t
+    → z ≡ block_mix r (zip2 bit_xor x (v (integerify r x % n))) → z ≡ mixed_part r n v x0 (t + 1)
 unfolding mixed_part
-step_next r n t v x0 x z ex ez = rw add-one (ez ∙ ap (λ (l : List ℕ). block_mix r (zip2 bit_xor l (v (integerify r l % n)))) ex)
+step_next r n t v x0 x z ex ez = rw add-one
+    (ez ∙ ap (λ (l : List ℕ). block_mix r (zip2 bit_xor l (v (integerify r l % n)))) ex)
 
 -- steps in pairs
 pub even_power : (k : ℕ) → 1 ≤ k → 2 * (2 ^ k / 2) ≡ 2 ^ k
@@ -62,7 +70,8 @@ even_power k some =
     omega arith
 
 -- only the rows below n count
-pub mixed_part_same : (r n : ℕ) (v w : ℕ → List ℕ) (x : List ℕ) (t : ℕ) → 0 < n → ((j : ℕ) → j < n → v j ≡ w j) → mixed_part r n v x t ≡ mixed_part r n w x t
+pub mixed_part_same : (r n : ℕ) (v w : ℕ → List ℕ) (x : List ℕ) (t : ℕ) → 0 < n
+    → ((j : ℕ) → j < n → v j ≡ w j) → mixed_part r n v x t ≡ mixed_part r n w x t
 unfolding mixed_part
 mixed_part_same r n v w x zero some same = refl
 mixed_part_same r n v w x (suc t) some same =

@@ -1,5 +1,5 @@
--- scryptROMix with r 1 and N 16, by a form that computes each row V_j and each X once: the checker has the memory for
--- that, and not for the definition's own, which makes a row anew each time that it is named.
+-- scryptROMix with r 1 and N 16, by a form that computes each row V_j and each X once: the checker has the
+-- memory for that, and not for the definition's own, which makes a row anew each time that it is named.
 use Rattle.std.proofs.Common.{◌≡◌, ◌∙◌, ap, sym, refl, arith, ℕ, zero, suc, ◌<◌, ◌%◌, List, [], ◌∷◌, bit_xor}
 use Rattle.std.specs.Simd.Lanes.{zip2, number_l}
 use Rattle.minisign_kdf.specs.Blocks.{block}
@@ -46,7 +46,8 @@ is_mixed_part b x zero = refl
 is_mixed_part b x (suc t) =
     let y = steps (rows 17 b) x t in
     let j = number_l 256 (block 64 y 1) % 16 in
-    ap (λ z. block_mix 1 (zip2 bit_xor z (row_at 1 b (number_l 256 (block 64 z 1) % 16)))) (is_mixed_part b x t)
+    ap (λ z. block_mix 1 (zip2 bit_xor z (row_at 1 b (number_l 256 (block 64 z 1) % 16))))
+    (is_mixed_part b x t)
     ∙ ap (λ v. block_mix 1 (zip2 bit_xor y v)) (sym (is_row 17 j b (omega arith)))
 
 pub rom_mix-once : (b : List ℕ) → rom_mix 1 16 b ≡ mixed (rows 17 b)

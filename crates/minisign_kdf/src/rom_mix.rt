@@ -113,10 +113,8 @@ fn mix_with_row(
     requires x_len { length x.now ≡ 32 * r }
     requires row_len { length row.old ≡ 32 * r }
     requires out_len { length out.old ≡ 32 * r }
-    ensures { let b = diagonal_bytes x.now in
-        diagonal_bytes out.new
-        ≡ block_mix r (zip2 bit_xor b
-        (remade_row r k (rows_of r (div_ceil (2 ^ n_log2) k) rows.now)
+    ensures { let b = diagonal_bytes x.now in diagonal_bytes out.new
+        ≡ block_mix r (zip2 bit_xor b (remade_row r k (rows_of r (div_ceil (2 ^ n_log2) k) rows.now)
         (integerify r b % 2 ^ n_log2))) }
 {
     let j = integerify(r, x) as usize % row_count(n_log2);

@@ -131,13 +131,11 @@ pub extern "C" fn page_ask(
     ensures number { result ≡ asking_number state.old key.now signature.now sig_text.now allow_legacy
         (length message.old) }
     ensures text { (t : SignatureTextRecord) → IsReadFrom signature.now sig_text.now t → allow_legacy < 2
-        → result
-        ≡ result_number
-        (asking_under state.old key.now sig_text.now (allow_legacy == 1) (length message.old)) }
+        → result ≡ result_number (asking_under state.old key.now sig_text.now (allow_legacy == 1)
+        (length message.old)) }
     ensures asked { result ≡ 0 → (t : SignatureTextRecord) → IsReadFrom signature.now sig_text.now t
-        → (read_under key.now (allow_legacy == 1) sig_text.now ≡ Ok t)
-        × AreAsked questions.new message.new key.now t
-        × HasAsked state.new key.now sig_text.now (allow_legacy == 1) }
+        → (read_under key.now (allow_legacy == 1) sig_text.now ≡ Ok t) × AreAsked questions.new message.new
+        key.now t × HasAsked state.new key.now sig_text.now (allow_legacy == 1) }
     ensures fed { (m : List ℕ) → IsFedState state.old m → IsFedState state.new m }
     ensures rest { result ≡ 0 → drop questions.new.message_len message.new
         ≡ drop questions.new.message_len message.old }
@@ -168,9 +166,8 @@ pub extern "C" fn page_verdict(state: &mut State, first: u32, second: u32) -> u3
         → IsAnswered state.old accepts v sig_text message legacy first second
         → result ≡ verdict_number (verdict_under accepts v sig_text message legacy) }
     ensures texts { (v : PublicKeyValue) (pk_text sig_text message : List ℕ) (legacy : Bool)
-        (accepts : Verifier)
-        → IsAnswered state.old accepts v sig_text message legacy first second → IsKeyText pk_text v
-        → GivesNumber accepts pk_text sig_text message legacy result }
+        (accepts : Verifier) → IsAnswered state.old accepts v sig_text message legacy first second
+        → IsKeyText pk_text v → GivesNumber accepts pk_text sig_text message legacy result }
     ensures number { (result, state.new) ≡ told_verdict_number state.old first second }
 {
     if !is_answer(first) || !is_answer(second) {

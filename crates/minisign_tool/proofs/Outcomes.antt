@@ -5,7 +5,8 @@ pub on_ok_both : {T E : Type 0} (P Q : Type 0) (r : Result T E) → OnOk r P →
 on_ok_both P Q (Ok x) p q = (p, q)
 on_ok_both P Q (Err e) p q = tt
 
-pub if_err_both : {T E : Type 0} (P : E → Type 0) (Q : Type 0) (r : Result T E) → IfErr r P → OnErr r Q → IfErr r (λ e. P e × Q)
+pub if_err_both : {T E : Type 0} (P : E → Type 0) (Q : Type 0) (r : Result T E) → IfErr r P → OnErr r Q
+    → IfErr r (λ e. P e × Q)
 if_err_both P Q (Ok x) p q = tt
 if_err_both P Q (Err e) p q = (p, q)
 

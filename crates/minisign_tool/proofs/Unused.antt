@@ -10,20 +10,30 @@ use Rattle.minisign_tool.specs.Verify.{says_only}
 
 -- an output of which no stage speaks
 abbrev pub silent : {O : Type 0} → O → O → SinkCall O
-silent old new = record { sink = record { taken = λ _. None; flushed = λ _. None; sink_faults = λ _. 0 }; old = old; new = new }
+silent old new = record {
+  sink = record { taken = λ _. None; flushed = λ _. None; sink_faults = λ _. 0 };
+  old = old;
+  new = new;
+}
 
 -- with a key and a box
-pub box_fails : {T R W O : Type 0} (accepts : Verifier) (key : PublicKeyRecord) (box : SignatureBoxRecord) (reader : RereaderCall R) (status : SinkCall W)
-    (old new : O) (r : Result T Fault) → IfErr r (VerifyingFails accepts key box says_only reader status (silent old new))
+pub box_fails : {T R W O : Type 0} (accepts : Verifier) (key : PublicKeyRecord) (box : SignatureBoxRecord)
+    (reader : RereaderCall R) (status : SinkCall W)
+    (old new : O) (r : Result T Fault)
+    → IfErr r (VerifyingFails accepts key box says_only reader status (silent old new))
     → IfErr r (VerifyingFails accepts key box says_only reader status unused)
 box_fails accepts key box reader status old new (Ok x) h = tt
-box_fails accepts key box reader status old new (Err e) h = fails_without_output accepts key box false reader status (silent old new) e h
+box_fails accepts key box reader status old new (Err e) h =
+    fails_without_output accepts key box false reader status (silent old new) e h
 
 -- with two texts
-pub texts_fail : {T R W O : Type 0} (accepts : Verifier) (pk sig : List ℕ) (reader : RereaderCall R) (status : SinkCall W)
-    (out : SinkCall O) (r : Result T Fault) → IfErr r (VerifyingTextsFails accepts pk sig says_only reader status out)
+pub texts_fail : {T R W O : Type 0} (accepts : Verifier) (pk sig : List ℕ) (reader : RereaderCall R)
+    (status : SinkCall W)
+    (out : SinkCall O) (r : Result T Fault)
+    → IfErr r (VerifyingTextsFails accepts pk sig says_only reader status out)
     → IfErr r (VerifyingTextsFails accepts pk sig says_only reader status unused)
 texts_fail accepts pk sig reader status out (Ok x) h = tt
-texts_fail accepts pk sig reader status out (Err e) (inl (why, unread, unsaid, uncopied)) = inl (why, unread, unsaid, refl)
+texts_fail accepts pk sig reader status out (Err e) (inl (why, unread, unsaid, uncopied)) =
+    inl (why, unread, unsaid, refl)
 texts_fail accepts pk sig reader status out (Err e) (inr (key, box, read, h)) =
     inr (key, box, read, fails_without_output accepts key box false reader status out e h)

@@ -34,19 +34,17 @@ SaysAfterWarning {S = S} sink old new text =
     (warned : S) × TakesOrFails sink old warned warning_line
     × Appends (sink.taken warned) (sink.taken new) text × (sink.sink_faults new ≡ sink.sink_faults warned)
 
--- the line of an error was said
-abbrev pub ShowsFault : {S : Type 0} → SinkOf S → S → S → Fault → Type 0
-ShowsFault sink old new e = TakesOrFails sink old new (fault_line e)
-
 -- a run ends with an error: the warning was said, what Fails says went on, and the line of the error was said
 abbrev pub EndsWithFault : {S : Type 0} → SinkOf S → S → S → (SinkCall S → Fault → Type 0) → Type 0
 EndsWithFault {S = S} sink old new Fails =
-    (e : Fault) × (warned told : S) × TakesOrFails sink old warned warning_line × ShowsFault sink told new e
+    (e : Fault) × (warned told : S) × TakesOrFails sink old warned warning_line × TakesOrFails sink told new
+    (fault_line e)
     × Fails (sink_call sink warned told) e
 
 -- a run that says nothing else ends with an error for which Fails holds: the warning was said, and then its
 -- line
 abbrev pub ShowsOnlyFault : {S : Type 0} → SinkOf S → S → S → (Fault → Type 0) → Type 0
 ShowsOnlyFault {S = S} sink old new Fails =
-    (e : Fault) × (warned : S) × TakesOrFails sink old warned warning_line × ShowsFault sink warned new e
+    (e : Fault) × (warned : S) × TakesOrFails sink old warned warning_line × TakesOrFails sink warned new
+    (fault_line e)
     × Fails e

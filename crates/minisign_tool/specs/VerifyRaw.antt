@@ -53,13 +53,6 @@ VerifyRawFails accepts key_file signature_file reader status e =
 abbrev pub SaysLineFront : {W : Type 0} → SinkCall W → Type 0
 SaysLineFront status = (status.new ≡ status.old) ⊎ TakesFront status (line verified_text)
 
--- one of two files was not read whole; the second is left alone where it is the first
-abbrev pub EitherIsUnread : {P Q : Type 0} → SourceCall P → SourceCall Q → Fault → Type 0
-EitherIsUnread first second e =
-    (IsReadFault first.source first.old first.new e × (second.new ≡ second.old))
-    ⊎ ((first_bytes : List ℕ) × ReadsWhole first.source first.old first.new first_bytes
-    × IsReadFault second.source second.old second.new e)
-
 -- what both files held vouches for all of the data, and the status line was said as Said says
 pub record RawFilesVouch {P Q R : Type 0} (accepts : Verifier) (pk_file : SourceCall P)
     (sig_file : SourceCall Q)
@@ -72,11 +65,15 @@ pub record RawFilesVouch {P Q R : Type 0} (accepts : Verifier) (pk_file : Source
   pub vouched : VouchesRaw accepts key_file signature_file message
   pub said : Said (line verified_text)
 
--- a file was not read whole, with no data read, or verifying with the bytes of both failed
+-- a file was not read whole, with no data read and, where it is the first, the second left alone; or
+-- verifying with the bytes of both failed
 abbrev pub RawFilesFail : {P Q R W : Type 0} → Verifier → SourceCall P → SourceCall Q → RereaderCall R
     → SinkCall W
     → Fault → Type 0
 RawFilesFail accepts pk_file sig_file reader status e =
-    (EitherIsUnread pk_file sig_file e × (reader.new ≡ reader.old) × (status.new ≡ status.old))
+    (((IsReadFault pk_file.source pk_file.old pk_file.new e × (sig_file.new ≡ sig_file.old))
+    ⊎ ((key_file : List ℕ) × ReadsWhole pk_file.source pk_file.old pk_file.new key_file
+    × IsReadFault sig_file.source sig_file.old sig_file.new e)) × (reader.new ≡ reader.old)
+    × (status.new ≡ status.old))
     ⊎ ((key_file signature_file : List ℕ) × ReadsBoth pk_file sig_file key_file signature_file
     × VerifyRawFails accepts key_file signature_file reader status e × SaysLineFront status)

@@ -41,9 +41,8 @@ pub fn run_cat<S: Scheme, P: Source, Q: Source, R: Rereader, O: Sink, W: Sink>(
     // The exit status is 1 only because a file gave no text, with no data read, or verifying fails,
     // as `verify_texts` says, between the warning and the line of the error.
     ensures refused { result ≡ 1 → EndsWithFault W.Sink errors.old errors.new
-        (FilesFailToCopy (S.accepts scheme.now)
-        (verifying_call P.Source Q.Source R.Source R.steady devices.old devices.new)
-        (sink_call O.Sink out.old out.new)) }
+        (FilesFailToCopy (S.accepts scheme.now) (verifying_call P.Source Q.Source R.Source R.steady
+        devices.old devices.new) (sink_call O.Sink out.old out.new)) }
 {
     warn(errors);
     match copy_with_files(alloc, scheme, devices, out, errors) {

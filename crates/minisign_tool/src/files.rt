@@ -9,7 +9,7 @@ ghost use Rattle.minisign_tool.specs.Copying.{input_is_output};
 ghost use Rattle.minisign_tool.specs.Endings.{SaysOnlyFaults, SaysRawVerdict, SaysVerdict, SomeBytesVouch};
 ghost use Rattle.minisign_tool.specs.Endings.{SomeTextsVouch};
 ghost use Rattle.minisign_tool.specs.Replacing.{HoldsContents, for_all, for_the_owner};
-ghost use Rattle.minisign_tool.specs.Report.{ShowsFault};
+ghost use Rattle.minisign_tool.specs.Report.{TakesOrFails, fault_line};
 
 use crate::cat::run_cat;
 use crate::keygen::run_keygen;
@@ -265,7 +265,7 @@ fn end_replacing<W: Sink>(errors: &mut W, replaced: Result<()>) -> u8
     ensures status { result ≤ 1 }
     ensures silent { result ≡ 0 → IsOk replaced × (errors.new ≡ errors.old) }
     ensures shown { result ≡ 1 → (e : Fault) × (replaced ≡ Err e)
-        × ShowsFault W.Sink errors.old errors.new e }
+        × TakesOrFails W.Sink errors.old errors.new (fault_line e) }
 {
     match replaced {
         Ok(()) => 0,

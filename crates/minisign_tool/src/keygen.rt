@@ -39,19 +39,15 @@ pub fn run_keygen<S: Scheme, Z: RandomSource, R: Source, W: Sink, P: Sink, K: Si
     // password that was typed twice, and both texts were written; the secret key's text opens under
     // that password, to the key of the public one. The warning is said before.
     ensures made { result ≡ 0 → MakesKeys (S.public_of scheme.now)
-        (random_call Z.RandomSource random.old random.new)
-        (prompt_call R.Source W.Sink prompt.old prompt.new)
-        (sink_call P.Sink pk_sink.old pk_sink.new)
-        (sink_call K.Sink sk_sink.old sk_sink.new) }
+        (random_call Z.RandomSource random.old random.new) (prompt_call R.Source W.Sink prompt.old prompt.new)
+        (sink_call P.Sink pk_sink.old pk_sink.new) (sink_call K.Sink sk_sink.old sk_sink.new) }
     ensures warned { result ≡ 0 → TakesOrFails E.Sink errors.old errors.new warning_line }
 
     // The exit status is 1 only because no pair was made, with neither sink touched, or as
     // `KeyPair::generate_and_write_encrypted_keypair` says.
     ensures refused { result ≡ 1 → ShowsOnlyFault E.Sink errors.old errors.new
-        (SealedTextsFail (S.public_of scheme.now)
-        (random_call Z.RandomSource random.old random.new)
-        (prompt_call R.Source W.Sink prompt.old prompt.new) None
-        (sink_call P.Sink pk_sink.old pk_sink.new)
+        (SealedTextsFail (S.public_of scheme.now) (random_call Z.RandomSource random.old random.new)
+        (prompt_call R.Source W.Sink prompt.old prompt.new) None (sink_call P.Sink pk_sink.old pk_sink.new)
         (sink_call K.Sink sk_sink.old sk_sink.new) None) }
 {
     warn(errors);

@@ -63,10 +63,9 @@ fn run<S: Scheme, W: Sink>(
     // after the warning.
     //
     // Arguments of which one is not UTF-8 ask for the usage.
-    ensures ended { IfOk result (λ s. IfOk arguments (λ a. (command : Command)
-        × ReadAsksFor (option_map (λ v. map (λ w. string_bytes w) (drop 1 v.items)) a) command
-        × ShowsCommand (S.accepts scheme.now) command s
-        × SaysCommand W.Sink command errors.old errors.new s)) }
+    ensures ended { IfOk result (λ s. IfOk arguments (λ a. (command : Command) × ReadAsksFor
+        (option_map (λ v. map (λ w. string_bytes w) (drop 1 v.items)) a) command × ShowsCommand
+        (S.accepts scheme.now) command s × SaysCommand W.Sink command errors.old errors.new s)) }
 {
     match arguments? {
         Some(arguments) => run_arguments(rt, scheme, &arguments, errors),
@@ -89,9 +88,8 @@ fn run_arguments<S: Scheme, W: Sink>(
     // vouch, and one of `verify-raw` only where the bytes of a key, of a bare signature and data
     // are; the usage exits with status 2. What is said is what the command says that ends so, or the usage
     // after the warning.
-    ensures ended { IfOk result
-        (λ s. (command : Command) × AsksFor (map (λ a. string_bytes a) (drop 1 arguments.now)) command
-        × ShowsCommand (S.accepts scheme.now) command s
+    ensures ended { IfOk result (λ s. (command : Command) × AsksFor (map (λ a. string_bytes a)
+        (drop 1 arguments.now)) command × ShowsCommand (S.accepts scheme.now) command s
         × SaysCommand W.Sink command errors.old errors.new s) }
 {
     let words = words_of(rt.alloc(), arguments)?;

@@ -5,7 +5,7 @@ ghost use Rattle.std.specs.Prelude.{◌≡◌, ◌++◌, codes, MatchResult, OnO
 ghost use Rattle.std.specs.Io.KnownBytes.{Appends};
 ghost use Rattle.minisign.specs.Devices.{Rose, AppendsFront};
 ghost use Rattle.minisign.specs.Texts.{line};
-ghost use Rattle.minisign_tool.specs.Report.{TakesOrFails, ShowsFault, usage_line, warning_line};
+ghost use Rattle.minisign_tool.specs.Report.{TakesOrFails, fault_line, usage_line, warning_line};
 
 use minisign::base::devices::DeviceFault;
 use minisign::base::devices::sinks::{Sink, write_all};
@@ -44,7 +44,7 @@ pub fn report<W: Sink>(errors: &mut W, fault: &PError) -> u8
     // error that there is; it is written whole, or the error stream failed and took a prefix.
     // Its exit status is 1.
     ensures status { result ≡ 1 }
-    ensures said { ShowsFault W.Sink errors.old errors.new fault.now }
+    ensures said { TakesOrFails W.Sink errors.old errors.new (fault_line fault.now) }
 {
     let mut room = [0; TEXT_ROOM];
     let _ = put_fault(errors, fault.text(&mut room));
@@ -58,7 +58,7 @@ pub fn end<W: Sink>(errors: &mut W, answer: Result<u8>) -> u8
     // the error are shown, and it is 1.
     ensures { MatchResult answer (λ s. (result ≡ s) × (errors.new ≡ errors.old))
         (λ e. (result ≡ 1) × ((warned : W) × TakesOrFails W.Sink errors.old warned warning_line
-        × ShowsFault W.Sink warned errors.new e)) }
+        × TakesOrFails W.Sink warned errors.new (fault_line e))) }
 {
     match answer {
         Ok(status) => status,

@@ -75,9 +75,8 @@ pub fn run_sign<
     // The exit status is 1 only because the key's file gave no text, with nothing else touched, or
     // signing failed, with nothing written, or the text was not written whole.
     ensures refused { result ≡ 1 → ShowsOnlyFault W.Sink errors.old errors.new
-        (FileSigningFails S.Scheme scheme.now
-        (signing_call K.Source R.Source Z.RandomSource A.Source B.Sink devices.old devices.new)
-        (sink_call G.Sink signature.old signature.new) moment) }
+        (FileSigningFails S.Scheme scheme.now (signing_call K.Source R.Source Z.RandomSource A.Source B.Sink
+        devices.old devices.new) (sink_call G.Sink signature.old signature.new) moment) }
 
     // Whatever the result, the source and the random source lost at most a prefix.
     ensures given { HasGiven (R.ahead devices.old.data_reader) (R.ahead devices.new.data_reader) }

@@ -9,7 +9,7 @@ ghost use Rattle.minisign_tool.specs.Verify.{FilesFail, FilesVouch, verifying_ca
 
 use crate::report::{report, warn};
 use crate::text_files::read_both_texts;
-use minisign::base::devices::sinks::{Sink, VecSink};
+use minisign::base::devices::sinks::{NoSink, Sink};
 use minisign::base::devices::sources::{Rereader, Source};
 use minisign::base::scheme::Scheme;
 use minisign::{Result, verify_texts};
@@ -77,7 +77,6 @@ fn verify_with_files<S: Scheme, P: Source, Q: Source, R: Rereader, W: Sink>(
 {
     let (pk_text, sig_text) = read_both_texts(alloc, &mut devices.pk_file, &mut devices.sig_file)?;
     let (quiet, output, allow_legacy) = (false, false, false);
-    let mut nowhere = VecSink::new(alloc);
     verify_texts(
         alloc,
         scheme,
@@ -88,6 +87,6 @@ fn verify_with_files<S: Scheme, P: Source, Q: Source, R: Rereader, W: Sink>(
         output,
         allow_legacy,
         errors,
-        &mut nowhere,
+        &mut NoSink,
     )
 }

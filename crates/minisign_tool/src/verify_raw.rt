@@ -13,7 +13,7 @@ ghost use Rattle.minisign_tool.specs.VerifyRaw.{RawFilesFail, RawFilesVouch, Say
 ghost use Rattle.minisign_tool.specs.VerifyRaw.{VouchesRaw};
 
 use crate::report::{report, warn};
-use minisign::base::devices::sinks::{Sink, VecSink};
+use minisign::base::devices::sinks::{NoSink, Sink};
 use minisign::base::devices::sources::{Rereader, Source};
 use minisign::base::scheme::Scheme;
 use minisign::reading::read_to_end;
@@ -39,22 +39,18 @@ pub fn run_verify_raw<S: Scheme, P: Source, Q: Source, R: Rereader, W: Sink>(
     // The exit status is 0 only if the two files and the data were read whole, without an error, and
     // what the files held vouches for the data, with the warning written, or the prefix that the
     // error stream took, and then the status line, and nothing else.
-    ensures accepted { result ≡ 0 → RawFilesVouch (S.accepts scheme.now)
-        (source_call P.Source pk_file.old pk_file.new)
-        (source_call Q.Source sig_file.old sig_file.new)
-        (rereader_call R.Source R.steady data_reader.old data_reader.new)
-        (SaysAfterWarning W.Sink errors.old errors.new) }
+    ensures accepted { result ≡ 0 → RawFilesVouch (S.accepts scheme.now) (source_call P.Source pk_file.old
+        pk_file.new) (source_call Q.Source sig_file.old sig_file.new) (rereader_call R.Source R.steady
+        data_reader.old data_reader.new) (SaysAfterWarning W.Sink errors.old errors.new) }
 
     // The exit status is 1 only if the key file was not read whole (an allocation failed, or it failed),
     // with the signature file left alone, or the signature file was not, after the key file was,
     // both with no data read; or because verifying with the bytes of both fails, as `verify_raw`
     // says. Between the warning and the line of that error at most a prefix of the status line
     // was written.
-    ensures refused { result ≡ 1 → EndsWithFault W.Sink errors.old errors.new
-        (RawFilesFail (S.accepts scheme.now)
-        (source_call P.Source pk_file.old pk_file.new)
-        (source_call Q.Source sig_file.old sig_file.new)
-        (rereader_call R.Source R.steady data_reader.old data_reader.new)) }
+    ensures refused { result ≡ 1 → EndsWithFault W.Sink errors.old errors.new (RawFilesFail
+        (S.accepts scheme.now) (source_call P.Source pk_file.old pk_file.new) (source_call Q.Source
+        sig_file.old sig_file.new) (rereader_call R.Source R.steady data_reader.old data_reader.new)) }
     ensures given { HasGiven (R.ahead data_reader.old) (R.ahead data_reader.new) }
 {
     warn(errors);
@@ -73,17 +69,13 @@ fn verify_with_files<S: Scheme, P: Source, Q: Source, R: Rereader, W: Sink>(
     data_reader: &mut R,
     errors: &mut W,
 ) -> Result<()>
-    ensures accepted { OnOk result (RawFilesVouch (S.accepts scheme.now)
-        (source_call P.Source pk_file.old pk_file.new)
-        (source_call Q.Source sig_file.old sig_file.new)
-        (rereader_call R.Source R.steady data_reader.old data_reader.new)
-        (Takes (sink_call W.Sink errors.old errors.new))) }
+    ensures accepted { OnOk result (RawFilesVouch (S.accepts scheme.now) (source_call P.Source pk_file.old
+        pk_file.new) (source_call Q.Source sig_file.old sig_file.new) (rereader_call R.Source R.steady
+        data_reader.old data_reader.new) (Takes (sink_call W.Sink errors.old errors.new))) }
     ensures no_new_fault { OnOk result (W.sink_faults errors.new ≡ W.sink_faults errors.old) }
-    ensures refused { IfErr result (RawFilesFail (S.accepts scheme.now)
-        (source_call P.Source pk_file.old pk_file.new)
-        (source_call Q.Source sig_file.old sig_file.new)
-        (rereader_call R.Source R.steady data_reader.old data_reader.new)
-        (sink_call W.Sink errors.old errors.new)) }
+    ensures refused { IfErr result (RawFilesFail (S.accepts scheme.now) (source_call P.Source pk_file.old
+        pk_file.new) (source_call Q.Source sig_file.old sig_file.new) (rereader_call R.Source R.steady
+        data_reader.old data_reader.new) (sink_call W.Sink errors.old errors.new)) }
     ensures given { HasGiven (R.ahead data_reader.old) (R.ahead data_reader.new) }
 {
     let key = read_to_end(alloc, pk_file)?;
@@ -128,7 +120,6 @@ pub fn verify_raw<S: Scheme, R: Rereader, W: Sink>(
     let bones = SignatureBones::from_bytes(signature)?;
     let signature_box = SignatureBox::from_bones(bones);
     let (quiet, output, allow_legacy) = (false, false, false);
-    let mut nowhere = VecSink::new(alloc);
     verify(
         alloc,
         scheme,
@@ -139,6 +130,6 @@ pub fn verify_raw<S: Scheme, R: Rereader, W: Sink>(
         output,
         allow_legacy,
         errors,
-        &mut nowhere,
+        &mut NoSink,
     )
 }

@@ -19,7 +19,7 @@ use minisign_examples::rotating::{NewKey, check_with_new_key};
 use minisign_examples::small_device::open_in_little_memory;
 use minisign_examples::updating::check_update;
 use minisign_fixtures::folders::{folder_path, make_empty, path_of, put};
-use minisign_fixtures::keys::{IDENTIFIER, PUBLIC_BYTES, public_record};
+use minisign_fixtures::keys::{KEY_ID, PUBLIC_BYTES, public_record};
 use minisign_fixtures::outcomes::Outcome::{self, Accepted, Refused};
 use minisign_fixtures::outcomes::{comes_to, ends_in, gives_text, holds, is_so};
 use minisign_fixtures::texts::{KEY_TEXT, LEGACY_TEXT, SEALED, SECRET_TEXT, SIGNATURE_TEXT};
@@ -395,7 +395,7 @@ fn what_a_sealed_key_signs_verifies(rt: HostRuntime) {
 // What the example of a caller returns for `abc` with key A and these bytes of a public key.
 fn example(alloc: Global, public_bytes: &[u8; 32]) -> Result<String> {
     let sk = key_a()?;
-    let pk = PublicKey::from_bytes(&public_record(&IDENTIFIER, public_bytes))?;
+    let pk = PublicKey::from_bytes(&public_record(&KEY_ID, public_bytes))?;
     let mut random = FixedRandom::new(&[0; 128]);
     sign_and_verify(
         alloc,

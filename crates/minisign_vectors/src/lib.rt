@@ -1,7 +1,7 @@
 //! Tests where no request to `minisign_compare` says it: calls that no request makes, devices that fail in
 //! ways that none describes, failed allocations, and callers. All else of the library is rows of
-//! `tests/rows/`, what stands over a scheme outside is called from C in `tests/c`, and installing is tried over
-//! real files by `tests/installer`.
+//! `tests/rows/`, what stands over a scheme outside is called from C in `tests/c`, and installing is tried
+//! over real files by `tests/installer`.
 //!
 //! Each expected value comes from outside: from a standard, from Python's hashlib, from the upstream tool, or
 //! worked out by hand from a definition. None is what a crate of this repository answered.

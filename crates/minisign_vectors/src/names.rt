@@ -3,7 +3,7 @@
 //! values. `hash` has those of `minisign_hash`.
 
 use minisign::minisign_base::{
-    Identifier, fill_from, get_password, load_u64_le, put_and_flush, put_line, raw_scrypt_params,
+    KeyId, fill_from, get_password, load_u64_le, put_and_flush, put_line, raw_scrypt_params,
     store_u64_le, unix_timestamp, write_all,
 };
 use minisign::{
@@ -12,7 +12,7 @@ use minisign::{
     SIG_DEFAULT_PKFILE, SIG_DEFAULT_SKFILE, SIG_SUFFIX, Scheme, Sink, SliceSource, Source,
     SourceRandom, ToyScheme, Triple, VecSink, WriterSink, sign_texts, verify_texts,
 };
-use minisign_fixtures::keys::IDENTIFIER;
+use minisign_fixtures::keys::KEY_ID;
 use minisign_fixtures::outcomes::Outcome::Accepted;
 use minisign_fixtures::outcomes::{ends_in, gives_text, is_so};
 use minisign_fixtures::texts::{KEY_TEXT, SAID, SECRET_TEXT, SIGNATURE_TEXT};
@@ -148,9 +148,9 @@ fn limits_are_usual() -> bool {
     }
 }
 
-// Whether an identifier is shown as the tools show it.
-fn is_identifier_shown(alloc: Global) -> Result<bool> {
-    let shown = format!(in alloc; "{}", Identifier(IDENTIFIER))?;
+// Whether a key ID is shown as the tools show it.
+fn is_key_id_shown(alloc: Global) -> Result<bool> {
+    let shown = format!(in alloc; "{}", KeyId(KEY_ID))?;
     Ok(shown.as_str() == "0807060504030201")
 }
 
@@ -160,7 +160,7 @@ fn the_helpers_through_the_library(rt: HostRuntime) {
     assert!(rt; store_u64_le(255) == [255, 0, 0, 0, 0, 0, 0, 0]);
     assert!(rt; load_u64_le(&store_u64_le(255)) == 255);
     assert!(rt; matches!(unix_timestamp(&rt), Ok(moment) if moment > 1700000000));
-    assert!(rt; is_so(is_identifier_shown(rt.alloc())));
+    assert!(rt; is_so(is_key_id_shown(rt.alloc())));
     assert!(rt; is_filled());
 }
 

@@ -10,7 +10,7 @@ use minisign_base::faults::NamedFault::{
     RefusedByGivenKey, SecretKeyNotBase64,
 };
 use minisign_base::faults::TEXT_ROOM;
-use minisign_fixtures::keys::{IDENTIFIER, OTHER_IDENTIFIER};
+use minisign_fixtures::keys::{KEY_ID, OTHER_KEY_ID};
 use minisign_fixtures::outcomes::Outcome::Refused;
 use minisign_fixtures::outcomes::comes_to;
 use minisign_kdf::{InvalidOutputLen, InvalidParams, KdfError};
@@ -27,15 +27,13 @@ const SHOWN: [(NamedFault, &str); 4] = [
     (OutOfMemory, "out of memory"),
     (EncryptedKeyRefused, ENCRYPTED),
     (
-        RefusedByGivenKey {
-            key: OTHER_IDENTIFIER,
-        },
+        RefusedByGivenKey { key: OTHER_KEY_ID },
         "Could not verify signature with the provided public key ID: E7620F1842B4E81F",
     ),
     (
         DifferentKeyIds {
-            signature: IDENTIFIER,
-            key: OTHER_IDENTIFIER,
+            signature: KEY_ID,
+            key: OTHER_KEY_ID,
         },
         "Signature key id: 0807060504030201 is different from public key: E7620F1842B4E81F",
     ),

@@ -11,7 +11,7 @@ use minisign_base::prompt::Prompt;
 use minisign_base::scheme::Scheme;
 use minisign_base::toy::ToyScheme;
 use minisign_fixtures::devices::sinks::LimitedSink;
-use minisign_fixtures::keys::{CHECKSUM, IDENTIFIER, PUBLIC_BYTES, public_record, secret_record};
+use minisign_fixtures::keys::{CHECKSUM, KEY_ID, PUBLIC_BYTES, public_record, secret_record};
 use minisign_fixtures::outcomes::{Outcome, ends_in};
 use std::alloc::Global;
 
@@ -152,7 +152,7 @@ pub fn key_a() -> Result<SecretKey> {
 
 /// Key A's public key.
 pub fn public_a() -> Result<PublicKey> {
-    PublicKey::from_bytes(&public_record(&IDENTIFIER, &PUBLIC_BYTES))
+    PublicKey::from_bytes(&public_record(&KEY_ID, &PUBLIC_BYTES))
 }
 
 /// What is signed beside the data: the trusted comment, the untrusted one, and the moment.

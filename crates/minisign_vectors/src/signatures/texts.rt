@@ -4,7 +4,7 @@
 
 use minisign::{Result, Signature, SignatureBones, SignatureBox};
 use minisign_base::faults::NamedFault::SignatureBoxIncomplete;
-use minisign_fixtures::keys::{IDENTIFIER, TIED_TO_ABC, signature_record};
+use minisign_fixtures::keys::{KEY_ID, TIED_TO_ABC, signature_record};
 use minisign_fixtures::outcomes::Outcome::{self, Refused};
 use minisign_fixtures::outcomes::{ends_in, gives_record, gives_text, is_so};
 use minisign_fixtures::texts::SIGNATURE_TEXT;
@@ -32,7 +32,7 @@ fn is_shown(alloc: Global, record: &[u8; 74], letters: &str) -> Result<bool> {
 #[test]
 fn a_signature_is_shown_in_base64(rt: HostRuntime) {
     let alloc = rt.alloc();
-    let record = signature_record(b"ED", &IDENTIFIER, &TIED_TO_ABC);
+    let record = signature_record(b"ED", &KEY_ID, &TIED_TO_ABC);
     assert!(rt; is_so(is_shown(alloc, &record, SIGNED)));
     let mut record = [0u8; 74];
     record[..48].copy_from_slice(&LETTERS);
@@ -54,7 +54,7 @@ const INCOMPLETE: Outcome = Refused(SignatureBoxIncomplete);
 
 // Whether a box from bones has no text as bytes or as a copy.
 fn has_no_text(alloc: Global) -> Result<bool> {
-    let record = signature_record(b"ED", &IDENTIFIER, &TIED_TO_ABC);
+    let record = signature_record(b"ED", &KEY_ID, &TIED_TO_ABC);
     let bare = SignatureBox::from_bones(SignatureBones::from_bytes(&record)?);
     let bytes = ends_in(bare.to_bytes(alloc), INCOMPLETE);
     let copied = ends_in(bare.try_clone(alloc)?.into_string(alloc), INCOMPLETE);

@@ -16,7 +16,7 @@ use minisign_fixtures::outcomes::{ends_in, gives_record};
 use minisign_fixtures::texts::{KEY_TEXT, LEGACY_TEXT, SAID, SIGNATURE_TEXT};
 use std::alloc::Global;
 
-// Key A's bytes under another identifier.
+// Key A's bytes under another key ID.
 const RENAMED_KEY_TEXT: &str =
     "untrusted comment: minisign public key: E7620F1842B4E81F\nRWQf6LRCGA9i51paWlpaWlpaWlpaWlpaWlpaWlpaWlpaWlpaWlpaWlpa\n";
 

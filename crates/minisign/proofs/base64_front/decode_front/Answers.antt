@@ -1,4 +1,5 @@
-use Rattle.std.proofs.Common.{◌≡◌, ◌%◌, ◌*◌, ◌/◌, ◌++◌, length, sym, subst, ◌∙◌, arith, length-append, take_at}
+use Rattle.std.proofs.Common.{◌≡◌, ◌%◌, ◌*◌, ◌/◌, ◌++◌, length, sym, subst, ◌∙◌, arith, length-append}
+use Rattle.std.proofs.Common.{take_at}
 use Rattle.minisign.specs.Texts.{IsBase64Of, base64_bytes}
 use Rattle.minisign.proofs.Base64Texts.{reads, joined, piece_refused, piece_padded, rest_refused, rejoined}
 use Rattle.minisign.proofs.base64_front.decode_front.Goals as goal
@@ -16,7 +17,8 @@ returns-then-count-room c =
     let (bytes, read, count, _, _) = c.in-Some.ensures in
     let same : length c.decode_piece-2.new.room ≡ length c.args.room.now = omega arith in
     let whole : length c.split_at.result.0.now / 4 * 3 ≡ length c.args.room.now = omega (arith, long) in
-    piece_padded _ _ _ is (omega (arith, long)) (omega arith) bytes _ read count (λ e. c.if-count-room.true (e ∙ whole ∙ sym same))
+    piece_padded _ _ _ is (omega (arith, long)) (omega arith) bytes _ read count
+    (λ e. c.if-count-room.true (e ∙ whole ∙ sym same))
 
 pub returns-then-is_base64 : goal.returns-then-is_base64
 returns-then-is_base64 c =
@@ -37,4 +39,5 @@ pub returns-else-is_base64 : goal.returns-else-is_base64
 returns-else-is_base64 c =
     let is = rejoined c.args.text.now _ _ _ c.split_at.ensures.front c.split_at.ensures.back in
     let long : length c.split_at.result.0.now ≡ length c.args.room.now / 3 * 4 = omega arith in
-    rest_refused c.split_at.result.0.now c.split_at.result.1.now c.args.text.now is (omega (arith, long)) (omega arith) (sym c.is_base64.ensures ∙ c.if-is_base64.false)
+    rest_refused c.split_at.result.0.now c.split_at.result.1.now c.args.text.now is (omega (arith, long))
+    (omega arith) (sym c.is_base64.ensures ∙ c.if-is_base64.false)

@@ -14,7 +14,8 @@ returns-then-count-ne-PIECE_BYTES c =
     let long : length c.split_at.result.0.now ≡ 64 = omega arith in
     let (bytes, read, count, _, _) = c.in-Some.ensures in
     let whole : length c.split_at.result.0.now / 4 * 3 ≡ 48 = omega (arith, long) in
-    sym (c.pieces.invariant ∙ piece_padded _ _ _ is (omega (arith, long)) (omega arith) bytes _ read count (λ e. c.if-count-ne-PIECE_BYTES.true (e ∙ whole)))
+    sym (c.pieces.invariant ∙ piece_padded _ _ _ is (omega (arith, long)) (omega arith) bytes _ read count
+    (λ e. c.if-count-ne-PIECE_BYTES.true (e ∙ whole)))
 
 pub pieces-preserved : goal.pieces-preserved
 pieces-preserved c =
@@ -22,7 +23,9 @@ pieces-preserved c =
     let long : length c.split_at.result.0.now ≡ 64 = omega arith in
     let (bytes, read, count, _, _) = c.in-Some.ensures in
     let whole : length c.split_at.result.0.now / 4 * 3 ≡ 48 = omega (arith, long) in
-    c.pieces.invariant ∙ piece_judged _ _ _ is (omega (arith, long)) (omega arith) bytes read (sym count ∙ c.if-count-ne-PIECE_BYTES.false ∙ sym whole)
+    c.pieces.invariant ∙ piece_judged _ _ _ is (omega (arith, long)) (omega arith) bytes read
+    (sym count ∙ c.if-count-ne-PIECE_BYTES.false ∙ sym whole)
 
 pub returns : goal.returns
-returns c = c.is_some.ensures ∙ judged c.pieces.rest.now _ c.decode_piece-2.result c.decode_piece-2.ensures ∙ sym c.pieces.invariant
+returns c = c.is_some.ensures ∙ judged c.pieces.rest.now _ c.decode_piece-2.result c.decode_piece-2.ensures
+    ∙ sym c.pieces.invariant

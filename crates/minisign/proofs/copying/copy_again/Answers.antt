@@ -6,7 +6,8 @@ use Rattle.minisign.proofs.copying.copy_again.Goals as goal
 
 pub returns-in_err-second : goal.returns-in_err-second
 returns-in_err-second g c =
-    let p = err_from_is_err_and c.from_residual-in_err-second.result c.from_residual-in_err-second.ensures.1 in
+    let p = err_from_is_err_and c.from_residual-in_err-second.result
+    c.from_residual-in_err-second.ensures.1 in
     let (second, copies) = c.in_err-second.ensures.refused in
     rw (p.1, p.2) (
       second,
@@ -26,18 +27,25 @@ returns g c =
     let reader = rereader_call g.R.Source g.R.Rereader.steady c.args.data_reader.now end in
     let out = sink_call g.O.Sink c.args.out.now c.flush.new.out in (
       second,
-      next_stage reader unused out (record { reader = back; status = tt; out = c.args.out.now }) Return (Copy second ∷ Compare c.args.digest.now second ∷ Flush ∷ []) c.flush.result
+      next_stage reader unused out (record { reader = back; status = tt; out = c.args.out.now }) Return
+          (Copy second ∷ Compare c.args.digest.now second ∷ Flush ∷ []) c.flush.result
           (c.in_ok-go_back.ensures, refl, refl)
-          (next_stage (record reader { old = back }) unused out (record { reader = end; status = tt; out = taken }) (Copy second) (Compare c.args.digest.now second ∷ Flush ∷ []) c.flush.result
+          (next_stage (record reader { old = back }) unused out
+          (record { reader = end; status = tt; out = taken }) (Copy second)
+          (Compare c.args.digest.now second ∷ Flush ∷ []) c.flush.result
           (copies, refl)
-          (next_stage (record reader { old = end }) unused (record out { old = taken }) (record { reader = end; status = tt; out = taken }) (Compare c.args.digest.now second) (Flush ∷ []) c.flush.result
+          (next_stage (record reader { old = end }) unused (record out { old = taken })
+          (record { reader = end; status = tt; out = taken }) (Compare c.args.digest.now second)
+          (Flush ∷ []) c.flush.result
           (sym digest ∙ (bytes_eq-Decides _ _).0 c.in_ok-test_same.ensures, refl, refl, refl)
-          (last_stage (record reader { old = end }) unused (record out { old = taken }) Flush c.flush.result (c.flush.ensures, refl, refl)))),
+          (last_stage (record reader { old = end }) unused (record out { old = taken }) Flush c.flush.result
+          (c.flush.ensures, refl, refl)))),
     )
 
 pub returns-in_err-test_same : goal.returns-in_err-test_same
 returns-in_err-test_same g c =
-    let p = err_from_is_err_and c.from_residual-in_err-test_same.result c.from_residual-in_err-test_same.ensures.1 in
+    let p = err_from_is_err_and c.from_residual-in_err-test_same.result
+    c.from_residual-in_err-test_same.ensures.1 in
     let (second, digest, copies) = c.in_ok-second.ensures.copied in
     let (fault, unlike) = c.in_err-test_same.ensures in
     rw (p.1, p.2) (
@@ -48,7 +56,12 @@ returns-in_err-test_same g c =
         inr (
           record { reader = c.copy_hashed.new.data_reader; status = tt; out = c.copy_hashed.new.out },
           (copies, refl),
-          inl ((fault, λ same. true≢false (sym ((bytes_eq-Decides _ _).1 (digest ∙ same)) ∙ unlike)), refl, refl, refl),
+          inl (
+            (fault, λ same. true≢false (sym ((bytes_eq-Decides _ _).1 (digest ∙ same)) ∙ unlike)),
+            refl,
+            refl,
+            refl,
+          ),
         ),
       ),
     )

@@ -59,7 +59,11 @@ returns-in_err-put_bytes-in-Ok-clause-refused g c =
         since = tt;
         all = tt;
         no_new_fault = tt;
-        failed = inr (inr (fault, subst (λ (n : ℕ). Rose n (g.O.Sink.sink_faults c.put_bytes.new.out)) c.pieces.invariant.out_no_new_fault rose));
+        failed = inr (inr (
+          fault,
+          subst (λ (n : ℕ). Rose n (g.O.Sink.sink_faults c.put_bytes.new.out))
+              c.pieces.invariant.out_no_new_fault rose,
+        ));
         ahead = ahead;
         left = consumed _ _ _ more;
         front = front;
@@ -73,7 +77,8 @@ pub returns-in-Err-clause-refused : goal.returns-in-Err-clause-refused
 returns-in-Err-clause-refused g c =
     let (done, given, taken, fed, since) = c.pieces.invariant.given in
     let put = front_of_all _ (g.O.Sink.taken c.pieces.out) _ done taken (keeps_same _) in
-    let (message, ahead, front) = front_of_ahead _ (g.R.Source.ahead c.pieces.data_reader) _ _ done given put in (
+    let (message, ahead, front) = front_of_ahead _ (g.R.Source.ahead c.pieces.data_reader) _ _ done given
+    put in (
       message,
       record {
         read = tt;

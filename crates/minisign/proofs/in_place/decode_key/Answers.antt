@@ -7,4 +7,5 @@ pub returns : goal.returns
 returns c =
     let (bytes, base64, count, fits, front) = c.in-Some.ensures in
     let read = subst (λ (t : List ℕ). IsBase64Of t bytes) c.as_bytes.ensures.value base64 in
-    front_read c.args.not_base64 c.args.text.now _ bytes _ c.from_bytes.result read count fits front c.from_bytes.ensures
+    front_read c.args.not_base64 c.args.text.now _ bytes _ c.from_bytes.result read count fits front
+    c.from_bytes.ensures

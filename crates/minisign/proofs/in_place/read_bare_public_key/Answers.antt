@@ -9,4 +9,5 @@ returns-then-trim-ne-ENCODED_BYTES c =
 
 pub returns : goal.returns
 returns c =
-    c.decode_key.ensures ∙ sym (bare_length c.args.text.now (ap length (sym c.trim.ensures.trim) ∙ c.if-trim-ne-ENCODED_BYTES.false))
+    c.decode_key.ensures ∙ sym
+    (bare_length c.args.text.now (ap length (sym c.trim.ensures.trim) ∙ c.if-trim-ne-ENCODED_BYTES.false))

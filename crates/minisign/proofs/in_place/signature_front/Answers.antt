@@ -9,4 +9,5 @@ pub returns-in-Some : goal.returns-in-Some
 returns-in-Some c = λ read.
     let (bytes, base64, count, fits, front) = c.in-Some.ensures in
     let decoded = subst (λ (t : List ℕ). IsBase64Of t bytes) c.as_bytes.ensures.value base64 in
-    c.first_64.ensures ∙ front_64 bytes _ _ count fits front ∙ ap first_64 (sym (bytes_read c.args.text.now bytes decoded))
+    c.first_64.ensures ∙ front_64 bytes _ _ count fits front
+    ∙ ap first_64 (sym (bytes_read c.args.text.now bytes decoded))

@@ -5,7 +5,8 @@ use Rattle.minisign.specs.NewPassword.{choosing_steps, sealing_steps}
 use Rattle.minisign.proofs.keypair.ask_and_seal.Goals as goal
 
 -- what holds of an answer, with a fact about the prompt
-told_of : {T E : Type 0} (r : Result T E) (A : Type 0) (P Q : T → Type 0) → ((t : T) → A → P t → Q t) → OnOk r A → IfOk r P → IfOk r Q
+told_of : {T E : Type 0} (r : Result T E) (A : Type 0) (P Q : T → Type 0) → ((t : T) → A → P t → Q t)
+    → OnOk r A → IfOk r P → IfOk r Q
 told_of (Ok t) A P Q f a p = f t a p
 told_of (Err e) A P Q f a p = tt
 
@@ -16,7 +17,8 @@ returns-in_err-password-clause-refused g c =
       first,
       second,
       tt,
-      stopped_first (prompt_call g.R.Source g.W.Sink c.args.prompt.now c.choose_password.new.prompt) (choosing_steps first second) sealing_steps _ stopped,
+      stopped_first (prompt_call g.R.Source g.W.Sink c.args.prompt.now c.choose_password.new.prompt)
+          (choosing_steps first second) sealing_steps _ stopped,
     )
 
 pub returns-clause-typed : goal.returns-clause-typed
@@ -25,7 +27,13 @@ returns-clause-typed g c =
     let p = prompt_call g.R.Source g.W.Sink c.args.prompt.now c.seal_aloud.new.prompt in
     told_of c.seal_aloud.result _ _ _ (λ pair told sealed. (
       string_bytes c.in_ok-password.password,
-      (first, second, (typed, again), second_ended p c.choose_password.new.prompt (choosing_steps first second) sealing_steps (Ok tt) chosen told),
+      (
+        first,
+        second,
+        (typed, again),
+        second_ended p c.choose_password.new.prompt
+            (choosing_steps first second) sealing_steps (Ok tt) chosen told,
+      ),
       rw (c.as_bytes.ensures.value) at sealed,
     )) c.seal_aloud.ensures.told c.seal_aloud.ensures.sealed
 
@@ -33,5 +41,12 @@ pub returns-clause-refused : goal.returns-clause-refused
 returns-clause-refused g c =
     let (first, second, typed, again, chosen) = c.in_ok-password.ensures.chosen in
     let p = prompt_call g.R.Source g.W.Sink c.args.prompt.now c.seal_aloud.new.prompt in
-    IfErr-weaker c.seal_aloud.result _ _ (λ e stopped. (first, second, tt, second_ended p c.choose_password.new.prompt (choosing_steps first second) sealing_steps (Err e) chosen stopped))
+    IfErr-weaker c.seal_aloud.result _ _
+    (λ e stopped. (
+      first,
+      second,
+      tt,
+      second_ended p c.choose_password.new.prompt
+          (choosing_steps first second) sealing_steps (Err e) chosen stopped,
+    ))
     c.seal_aloud.ensures.refused

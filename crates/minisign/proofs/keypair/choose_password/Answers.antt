@@ -1,5 +1,7 @@
-use Rattle.std.proofs.Common.{Ok, Err, Bool, true, false, not, ◌≡◌, ◌∷◌, ◌++◌, [], string_bytes, sym, inl, inr, refl}
-use Rattle.minisign.proofs.Common.{bytes_eq-Decides, prompt_call, second_ended, stopped_first, typed_is, Test, asking_steps, typed_password}
+use Rattle.std.proofs.Common.{Ok, Err, Bool, true, false, not, ◌≡◌, ◌∷◌, ◌++◌, [], string_bytes, sym, inl}
+use Rattle.std.proofs.Common.{inr, refl}
+use Rattle.minisign.proofs.Common.{bytes_eq-Decides, prompt_call, second_ended, stopped_first, typed_is, Test}
+use Rattle.minisign.proofs.Common.{asking_steps, typed_password}
 use Rattle.minisign.proofs.Beginnings.{passed_up}
 use Rattle.minisign.specs.NewPassword.{difference}
 use Rattle.minisign.specs.Opening.{asking_text, purpose_line, second_question}
@@ -15,13 +17,16 @@ unfolding purpose_line asking_text
 returns-in_err-password-clause-refused g c =
     let (first, stopped) = c.in_err-password.ensures.refused in
     let p = prompt_call g.R.Source g.W.Sink c.say.new.self c.get_password.new.prompt in
-    passed_up c.from_residual-in_err-password.result c.in_err-password.field-0.0 _ c.from_residual-in_err-password.ensures.1 (
+    passed_up c.from_residual-in_err-password.result c.in_err-password.field-0.0 _
+    c.from_residual-in_err-password.ensures.1 (
       first,
       [],
       inr (
         c.say.new.self,
         c.in_ok-say.ensures.ended,
-        stopped_first p (asking_steps asking_text first) (asking_steps second_question [] ++ Test (difference (typed_password first) (typed_password [])) ∷ []) _ stopped,
+        stopped_first p (asking_steps asking_text first)
+            (asking_steps second_question [] ++ Test (difference (typed_password first) (typed_password []))
+            ∷ []) _ stopped,
       ),
     )
 
@@ -33,13 +38,15 @@ returns-in_err-again-clause-refused g c =
     let both = prompt_call g.R.Source g.W.Sink c.say.new.self c.get_password-2.new.prompt in
     let p = prompt_call g.R.Source g.W.Sink c.get_password.new.prompt c.get_password-2.new.prompt in
     let test = Test (difference (typed_password first) (typed_password second)) ∷ [] in
-    passed_up c.from_residual-in_err-again.result c.in_err-again.field-0.0 _ c.from_residual-in_err-again.ensures.1 (
+    passed_up c.from_residual-in_err-again.result c.in_err-again.field-0.0 _
+    c.from_residual-in_err-again.ensures.1 (
       first,
       second,
       inr (
         c.say.new.self,
         c.in_ok-say.ensures.ended,
-        second_ended both c.get_password.new.prompt (asking_steps asking_text first) (asking_steps second_question second ++ test) (Err _) asked
+        second_ended both c.get_password.new.prompt (asking_steps asking_text first)
+            (asking_steps second_question second ++ test) (Err _) asked
             (stopped_first p (asking_steps second_question second) test _ stopped),
       ),
     )
@@ -58,9 +65,14 @@ returns-then-ne-clause-refused g c =
       inr (
         c.say.new.self,
         c.in_ok-say.ensures.ended,
-        second_ended both c.get_password.new.prompt (asking_steps asking_text first) (asking_steps second_question second ++ test) (Err _) asked
+        second_ended both c.get_password.new.prompt (asking_steps asking_text first)
+            (asking_steps second_question second ++ test) (Err _) asked
             (second_ended p end (asking_steps second_question second) test (Err _) asked_again
-            (inl (two_differ first second _ _ _ (typed_is first _ answered) (typed_is second _ answered_again) c.if-ne.ensures c.into.ensures, refl))),
+            (inl (
+              two_differ first second _ _ _ (typed_is first _ answered) (typed_is second _ answered_again)
+                  c.if-ne.ensures c.into.ensures,
+              refl,
+            ))),
       ),
     )
 
@@ -69,7 +81,9 @@ unfolding purpose_line asking_text second_question
 returns-clause-chosen g c =
     let (first, answered, asked) = c.in_ok-password.ensures.asked in
     let (second, answered_again, asked_again) = c.in_ok-again.ensures.asked in
-    let same : string_bytes c.in_ok-again.again ≡ string_bytes c.in_ok-password.password = sym ((bytes_eq-Decides (string_bytes c.in_ok-password.password) (string_bytes c.in_ok-again.again)).0 (not_false _ c.if-ne.ensures)) in
+    let same : string_bytes c.in_ok-again.again ≡ string_bytes c.in_ok-password.password = sym
+    ((bytes_eq-Decides (string_bytes c.in_ok-password.password) (string_bytes c.in_ok-again.again)).0
+    (not_false _ c.if-ne.ensures)) in
     let end = c.get_password-2.new.prompt in
     let both = prompt_call g.R.Source g.W.Sink c.say.new.self end in
     let p = prompt_call g.R.Source g.W.Sink c.get_password.new.prompt end in
@@ -81,8 +95,16 @@ returns-clause-chosen g c =
       (
         c.say.new.self,
         c.in_ok-say.ensures.ended,
-        second_ended both c.get_password.new.prompt (asking_steps asking_text first) (asking_steps second_question second ++ test) (Ok tt) asked
-            (second_ended p end (asking_steps second_question second) test (Ok tt) asked_again
-            (end, (two_agree first second _ _ (typed_is first _ answered) (typed_is second _ answered_again) c.if-ne.ensures, refl), refl)),
+        second_ended both c.get_password.new.prompt (asking_steps asking_text first)
+            (asking_steps second_question second ++ test) (Ok tt) asked
+            (second_ended p end (asking_steps second_question second) test (Ok tt) asked_again (
+              end,
+              (
+                two_agree first second _ _ (typed_is first _ answered) (typed_is second _ answered_again)
+                    c.if-ne.ensures,
+                refl,
+              ),
+              refl,
+            )),
       ),
     )

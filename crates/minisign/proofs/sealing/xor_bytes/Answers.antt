@@ -5,8 +5,10 @@ use Rattle.minisign.proofs.sealing.xor_bytes.Goals as goal
 
 pub bytes-preserved : goal.bytes-preserved
 bytes-preserved c = record {
-  done = xored_next c.args.bytes.now c.args.stream.now c.bytes.bytes c.bytes.i c.bytes.invariant.done (c.bytes.invariant.rest c.bytes.i (omega arith)) (omega arith) (omega arith) (omega arith);
-  rest = λ k above. let other : k ≢ c.bytes.i = omega arith in rw get_or-set_other (c.bytes.invariant.rest k (omega arith));
+  done = xored_next c.args.bytes.now c.args.stream.now c.bytes.bytes c.bytes.i c.bytes.invariant.done
+      (c.bytes.invariant.rest c.bytes.i (omega arith)) (omega arith) (omega arith) (omega arith);
+  rest = λ k above. let other : k ≢ c.bytes.i = omega arith in
+      rw get_or-set_other (c.bytes.invariant.rest k (omega arith));
 }
 
 pub returns : goal.returns
@@ -14,4 +16,5 @@ returns c =
     let x = c.args.bytes.now in
     let y = c.args.stream.now in
     let len : length (zip2 bit_xor x y) ≡ length x = length-zip2 bit_xor x y c.requires in
-    sym (take_all c.bytes.i c.bytes.bytes (omega arith)) ∙ c.bytes.invariant.done ∙ take_all c.bytes.i (zip2 bit_xor x y) (omega arith)
+    sym (take_all c.bytes.i c.bytes.bytes (omega arith)) ∙ c.bytes.invariant.done
+    ∙ take_all c.bytes.i (zip2 bit_xor x y) (omega arith)

@@ -8,11 +8,13 @@ pub returns-then-count-lt158 : goal.returns-then-count-lt158
 returns-then-count-lt158 c =
     let (bytes, base64, count, fits, front) = c.in-Some.ensures in
     let read = subst (λ (t : List ℕ). IsBase64Of t bytes) c.as_bytes.ensures.value base64 in
-    rw c.into-then-count-lt158.ensures (front_refused c.args.encoded.now _ bytes _ read count fits c.if-count-lt158.true)
+    rw c.into-then-count-lt158.ensures
+    (front_refused c.args.encoded.now _ bytes _ read count fits c.if-count-lt158.true)
 
 pub returns : goal.returns
 returns c =
     let (bytes, base64, count, fits, front) = c.in-Some.ensures in
     let read = subst (λ (t : List ℕ). IsBase64Of t bytes) c.as_bytes.ensures.value base64 in
     front_read c.args.encoded.now _ bytes _ read count fits front c.if-count-lt158.false
-    ∙ ap (λ (x : List ℕ). Ok (secret_key_of_bytes x)) (sym (c.copy_from_slice.ensures.after ∙ c.split_at.ensures.front))
+    ∙ ap (λ (x : List ℕ). Ok (secret_key_of_bytes x))
+    (sym (c.copy_from_slice.ensures.after ∙ c.split_at.ensures.front))

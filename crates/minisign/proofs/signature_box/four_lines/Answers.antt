@@ -12,7 +12,9 @@ pub returns-in_default-next_line : goal.returns-in_default-next_line
 returns-in_default-next_line c =
     let start = ap lines (sym c.lines-lines.ensures.rest) in
     let a = c.in-Some.untrusted_comment.now in
-    rw c.into-in_default-next_line.ensures (of_lines c.args.text.now _ (start ∙ c.in-Some.ensures.some ∙ ap (λ l. a ∷ l) c.in_default-next_line.ensures.none))
+    rw c.into-in_default-next_line.ensures
+    (of_lines c.args.text.now _
+    (start ∙ c.in-Some.ensures.some ∙ ap (λ l. a ∷ l) c.in_default-next_line.ensures.none))
 
 pub returns-in_default-next_line-2 : goal.returns-in_default-next_line-2
 returns-in_default-next_line-2 c =
@@ -20,7 +22,8 @@ returns-in_default-next_line-2 c =
     let a = c.in-Some.untrusted_comment.now in
     let b = c.in-Some-next_line.signature.now in
     rw c.into-in_default-next_line-2.ensures (of_lines c.args.text.now _
-    (start ∙ c.in-Some.ensures.some ∙ ap (λ l. a ∷ l) c.in-Some-next_line.ensures.some ∙ ap (λ l. a ∷ b ∷ l) c.in_default-next_line-2.ensures.none))
+    (start ∙ c.in-Some.ensures.some ∙ ap (λ l. a ∷ l) c.in-Some-next_line.ensures.some
+    ∙ ap (λ l. a ∷ b ∷ l) c.in_default-next_line-2.ensures.none))
 
 pub returns-in_default-next_line-3 : goal.returns-in_default-next_line-3
 returns-in_default-next_line-3 c =
@@ -29,7 +32,8 @@ returns-in_default-next_line-3 c =
     let b = c.in-Some-next_line.signature.now in
     let d = c.in-Some-next_line-2.trusted_comment.now in
     rw c.into-in_default-next_line-3.ensures (of_lines c.args.text.now _
-    (start ∙ c.in-Some.ensures.some ∙ ap (λ l. a ∷ l) c.in-Some-next_line.ensures.some ∙ ap (λ l. a ∷ b ∷ l) c.in-Some-next_line-2.ensures.some
+    (start ∙ c.in-Some.ensures.some ∙ ap (λ l. a ∷ l) c.in-Some-next_line.ensures.some
+    ∙ ap (λ l. a ∷ b ∷ l) c.in-Some-next_line-2.ensures.some
     ∙ ap (λ l. a ∷ b ∷ d ∷ l) c.in_default-next_line-3.ensures.none))
 
 pub returns : goal.returns
@@ -39,7 +43,14 @@ returns c =
     let b = c.in-Some-next_line.signature.now in
     let d = c.in-Some-next_line-2.trusted_comment.now in (
       of_lines c.args.text.now _
-          (start ∙ c.in-Some.ensures.some ∙ ap (λ l. a ∷ l) c.in-Some-next_line.ensures.some ∙ ap (λ l. a ∷ b ∷ l) c.in-Some-next_line-2.ensures.some
+          (start ∙ c.in-Some.ensures.some ∙ ap (λ l. a ∷ l) c.in-Some-next_line.ensures.some
+          ∙ ap (λ l. a ∷ b ∷ l) c.in-Some-next_line-2.ensures.some
           ∙ ap (λ l. a ∷ b ∷ d ∷ l) c.in-Some-next_line-3.ensures.some),
-      omega (arith, ap length c.lines-lines.ensures.rest, c.in-Some.ensures.size, c.in-Some-next_line.ensures.size, c.in-Some-next_line-2.ensures.size),
+      omega (
+        arith,
+        ap length c.lines-lines.ensures.rest,
+        c.in-Some.ensures.size,
+        c.in-Some-next_line.ensures.size,
+        c.in-Some-next_line-2.ensures.size,
+      ),
     )

@@ -13,8 +13,22 @@ returns-clause-signed g c =
       message,
       read,
       (
-        record { box = c.in_ok-signature_box.signature_box; comments = _; signed = made; both = both; written = written },
-        λ seed owner one. (box_read_back c.in_ok-signature_box.signature_box, back one, vouched_back (g.S.Scheme.accepts c.args.scheme.now) _ _ message c.in_ok-signature_box.signature_box _ _ both (genuine seed owner)),
+        record {
+          box = c.in_ok-signature_box.signature_box;
+          comments = _;
+          signed = made;
+          both =
+              both;
+          written = written;
+        },
+        λ seed owner one. (
+          box_read_back c.in_ok-signature_box.signature_box,
+          back one,
+          vouched_back
+              (g.S.Scheme.accepts c.args.scheme.now) _ _ message c.in_ok-signature_box.signature_box _ _ both
+              (genuine seed owner),
+        ),
       ),
     ))
-    (written_text string_bytes c.to_string.result c.in_ok-signature_box.signature_box _ _ both c.to_string.ensures.text c.to_string.ensures.reads)
+    (written_text string_bytes c.to_string.result c.in_ok-signature_box.signature_box _ _ both
+    c.to_string.ensures.text c.to_string.ensures.reads)

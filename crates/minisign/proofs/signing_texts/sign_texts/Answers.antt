@@ -9,7 +9,8 @@ returns-clause-headline g c =
     let p = prompt_call g.P.Source g.Q.Sink c.args.prompt.now c.key_of_text.new.prompt in
     let password = option_map (λ s. string_bytes s) c.args.password in
     let gives : GivesKey p password c.args.sk_text.now (Ok c.in_ok-sk.sk) =
-    subst (λ given. GivesKey p given c.args.sk_text.now (Ok c.in_ok-sk.sk)) c.as_deref.ensures.value c.in_ok-sk.ensures.gives in
+    subst (λ given. GivesKey p given c.args.sk_text.now (Ok c.in_ok-sk.sk)) c.as_deref.ensures.value
+    c.in_ok-sk.ensures.gives in
     IfOk-weaker c.sign_opened.result _ _
     (λ t (message, read, (signed, headline)). (
       c.in_ok-sk.sk,
@@ -25,7 +26,8 @@ returns-clause-signed g c =
     let p = prompt_call g.P.Source g.Q.Sink c.args.prompt.now c.key_of_text.new.prompt in
     let password = option_map (λ s. string_bytes s) c.args.password in
     let gives : GivesKey p password c.args.sk_text.now (Ok c.in_ok-sk.sk) =
-    subst (λ given. GivesKey p given c.args.sk_text.now (Ok c.in_ok-sk.sk)) c.as_deref.ensures.value c.in_ok-sk.ensures.gives in
+    subst (λ given. GivesKey p given c.args.sk_text.now (Ok c.in_ok-sk.sk)) c.as_deref.ensures.value
+    c.in_ok-sk.ensures.gives in
     IfOk-weaker c.sign_opened.result _ _
     (λ t (message, read, (signed, headline)). (c.in_ok-sk.sk, message, gives, read, (signed, headline)))
     c.sign_opened.ensures.signed

@@ -4,7 +4,8 @@ use Rattle.minisign_base.proofs.helpers.cost_log2.Goals as goal
 
 pub returns-clause-least : goal.returns-clause-least
 returns-clause-least c =
-    cost_log2_next c.args.greatest c.ilog2.result c.requires (rw (← c.max-half.ensures) c.ilog2.ensures.power_le)
+    cost_log2_next c.args.greatest c.ilog2.result c.requires
+    (rw (← c.max-half.ensures) c.ilog2.ensures.power_le)
     (rw (← c.max-half.ensures) c.ilog2.ensures.next_power_gt)
 
 pub returns-clause-value : goal.returns-clause-value

@@ -16,9 +16,26 @@ returns-in_err-password-clause-refused g c =
     let begun = c.args.prompt.now in
     let said = c.say.new.self in
     let writer = c.read_password.ensures.writer in
-    handed_on c.from_residual-in_err-password.result c.in_err-password.field-0.0 _ c.from_residual-in_err-password.ensures.1 (⊎_elim
-    (λ (is, failed). ([], inr (begun, (tt, refl), inr (said, c.in_ok-say.ensures.ended, inl ((is, failed), writer)))))
-    (λ (bytes, read, none). (bytes, inr (begun, (tt, refl), inr (said, c.in_ok-say.ensures.ended, inr (c.read_password.new.self, (read, writer), inl (ap result_err none, refl))))))
+    handed_on c.from_residual-in_err-password.result c.in_err-password.field-0.0 _
+    c.from_residual-in_err-password.ensures.1 (⊎_elim
+    (λ (is, failed). (
+      [],
+      inr
+          (begun, (tt, refl), inr (said, c.in_ok-say.ensures.ended, inl ((is, failed), writer))),
+    ))
+    (λ (bytes, read, none). (
+      bytes,
+      inr (
+        begun,
+        (tt, refl),
+        inr (
+          said,
+          c.in_ok-say.ensures.ended,
+          inr
+              (c.read_password.new.self, (read, writer), inl (ap result_err none, refl)),
+        ),
+      ),
+    ))
     c.in_err-password.ensures.refused)
 
 pub returns-in_err-mark_empty-clause-refused : goal.returns-in_err-mark_empty-clause-refused
@@ -27,7 +44,8 @@ returns-in_err-mark_empty-clause-refused g c =
     let failed = rw c.deref.ensures at c.in_err-mark_empty.ensures.ended in
     let said = c.say.new.self in
     let heard = c.read_password.new.self in
-    handed_on c.from_residual-in_err-mark_empty.result c.in_err-mark_empty.field-0.0 _ c.from_residual-in_err-mark_empty.ensures.1 (
+    handed_on c.from_residual-in_err-mark_empty.result c.in_err-mark_empty.field-0.0 _
+    c.from_residual-in_err-mark_empty.ensures.1 (
       bytes,
       inr (
         c.args.prompt.now,
@@ -41,7 +59,9 @@ returns-in_err-mark_empty-clause-refused g c =
             inr (
               heard,
               (ap result_err answered, refl),
-              subst (λ password. ConversationEnds (prompt_call g.R.Source g.W.Sink heard c.mark_empty.new.self) (marking_steps password) (Err c.in_err-mark_empty.field-0.0))
+              subst (λ password. ConversationEnds
+                  (prompt_call g.R.Source g.W.Sink heard c.mark_empty.new.self) (marking_steps password)
+                  (Err c.in_err-mark_empty.field-0.0))
                   (sym (typed_is bytes _ answered)) failed,
             ),
           ),
@@ -68,7 +88,9 @@ returns-clause-asked g c =
             (
               heard,
               (ap result_err answered, refl),
-              subst (λ password. ConversationEnds (prompt_call g.R.Source g.W.Sink heard c.mark_empty.new.self) (marking_steps password) (Ok tt)) (sym (typed_is bytes _ answered)) marked,
+              subst (λ password. ConversationEnds
+                  (prompt_call g.R.Source g.W.Sink heard c.mark_empty.new.self) (marking_steps password)
+                  (Ok tt)) (sym (typed_is bytes _ answered)) marked,
             ),
           ),
         ),

@@ -10,21 +10,25 @@ unfolding numbers
 few_numbers memlimit opslimit few = rw (lt-ltb (max 32768 opslimit) (memlimit / 32) few) refl
 
 -- the least number is the one that is found
-least_found : (measure n : ℕ) → IsCostLog2 measure n → n ≡ cost_log2 measure → IsCostLog2 measure (cost_log2 measure)
+least_found : (measure n : ℕ) → IsCostLog2 measure n → n ≡ cost_log2 measure
+    → IsCostLog2 measure (cost_log2 measure)
 least_found measure n least value = rw (← value) least
 
 pub returns-then-operations-memlimit-clause-outcome : goal.returns-then-operations-memlimit-clause-outcome
 returns-then-operations-memlimit-clause-outcome c =
     let counted : max 32768 c.args.opslimit ≡ c.max-operations.result = omega arith in
-    rw (few_numbers c.args.memlimit c.args.opslimit (omega arith), counted) (cc (c.checked_params.ensures, c.cost_log2.ensures.value))
+    rw (few_numbers c.args.memlimit c.args.opslimit (omega arith), counted)
+    (cc (c.checked_params.ensures, c.cost_log2.ensures.value))
 
 pub returns-then-operations-memlimit-clause-least : goal.returns-then-operations-memlimit-clause-least
 unfolding numbers
 returns-then-operations-memlimit-clause-least c =
     let counted : c.max-operations.result ≡ max 32768 c.args.opslimit = omega arith in
-    rw (lt-ltb (max 32768 c.args.opslimit) (c.args.memlimit / 32) (omega arith), ← counted) (least_found _ _ c.cost_log2.ensures.least c.cost_log2.ensures.value)
+    rw (lt-ltb (max 32768 c.args.opslimit) (c.args.memlimit / 32) (omega arith), ← counted)
+    (least_found _ _ c.cost_log2.ensures.least c.cost_log2.ensures.value)
 
 pub returns-clause-least : goal.returns-clause-least
 unfolding numbers
 returns-clause-least c =
-    rw (le-ltb (max 32768 c.args.opslimit) (c.args.memlimit / 32) (omega arith)) (least_found _ _ c.cost_log2-n_log2.ensures.least c.cost_log2-n_log2.ensures.value)
+    rw (le-ltb (max 32768 c.args.opslimit) (c.args.memlimit / 32) (omega arith))
+    (least_found _ _ c.cost_log2-n_log2.ensures.least c.cost_log2-n_log2.ensures.value)

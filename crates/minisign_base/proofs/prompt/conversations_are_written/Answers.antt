@@ -6,7 +6,8 @@ pub returns-clause-taken : goal.returns-clause-taken
 returns-clause-taken g c = λ old new steps. held_taken (prompt_call g.R.Source g.W.Sink old new) steps
 
 pub returns-clause-no_new_fault : goal.returns-clause-no_new_fault
-returns-clause-no_new_fault g c = λ old new steps. held_no_new_fault (prompt_call g.R.Source g.W.Sink old new) steps
+returns-clause-no_new_fault g c = λ old new steps. held_no_new_fault (prompt_call g.R.Source g.W.Sink old new)
+    steps
 
 pub returns-clause-front : goal.returns-clause-front
 returns-clause-front g c = λ old new steps. stopped_taken (prompt_call g.R.Source g.W.Sink old new) steps

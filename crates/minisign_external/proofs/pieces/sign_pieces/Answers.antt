@@ -8,8 +8,10 @@ told (Ok v) p more = more v p
 told (Err e) p more = tt
 
 pub returns-clause-verifies : goal.returns-clause-verifies
-returns-clause-verifies g c = told c.write_signed_text.result c.write_signed_text.ensures.text (λ len (opened, holds) seed w pair public.
+returns-clause-verifies g c = told c.write_signed_text.result c.write_signed_text.ensures.text
+    (λ len (opened, holds) seed w pair public.
     let message = flat_map (λ piece. piece.now) c.args.pieces.now in
-    own_verdict (g.S.Scheme.accepts c.args.scheme.now) (g.S.Scheme.public_of c.args.scheme.now) seed c.args.key.now w pair opened public
+    own_verdict (g.S.Scheme.accepts c.args.scheme.now) (g.S.Scheme.public_of c.args.scheme.now) seed
+    c.args.key.now w pair opened public
     message _ c.args.trusted.now c.args.untrusted.now _ _ _ len c.in_ok-digest.ensures (omega arith) holds
     (c.in_ok-first.ensures.accepted seed pair))

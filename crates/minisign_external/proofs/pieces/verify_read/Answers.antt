@@ -7,7 +7,8 @@ use Rattle.minisign_external.proofs.pieces.verify_read.Goals as goal
 pub returns-in-Err : goal.returns-in-Err
 returns-in-Err g c =
     let (t, from) = c.requires.read in
-    unasked (g.S.Scheme.accepts c.args.scheme.now) c.args.key.now c.args.sig_text.now (flat_map (λ piece. piece.now) c.args.pieces.now) _ c.in-Err.refusal
+    unasked (g.S.Scheme.accepts c.args.scheme.now) c.args.key.now c.args.sig_text.now
+    (flat_map (λ piece. piece.now) c.args.pieces.now) _ c.in-Err.refusal
     (λ s read.
     let both = sym from.read ∙ opened c.args.key.now false c.args.sig_text.now s read in
     let same : length t.comments.trusted ≡ length s.comments.trusted = cc both in

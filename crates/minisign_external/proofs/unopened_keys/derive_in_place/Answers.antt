@@ -6,7 +6,9 @@ use Rattle.minisign_external.proofs.unopened_keys.derive_in_place.Goals as goal
 
 pub returns-in_default-clause-opened : goal.returns-in_default-clause-opened
 returns-in_default-clause-opened c =
-    rw c.into-refused.ensures (no_text (λ p. open_within (unopened_record c.args.unopened.now) p c.args.most_rows) c.args.password.now c.in_default.ensures.cases.0)
+    rw c.into-refused.ensures
+    (no_text (λ p. open_within (unopened_record c.args.unopened.now) p c.args.most_rows)
+    c.args.password.now c.in_default.ensures.cases.0)
 
 pub returns-clause-opened : goal.returns-clause-opened
 returns-clause-opened c =
@@ -14,5 +16,6 @@ returns-clause-opened c =
     let held = c.in_ok-key.ensures in
     let is : c.in_ok-key.key ≡ unopened_record c.args.unopened.now = cc held in
     c.open_in_place.ensures.result
-    ∙ opens_text c.in_ok-key.key (unopened_record c.args.unopened.now) c.as_bytes.result.now c.args.password.now c.times_within-times.result c.args.most_rows
+    ∙ opens_text c.in_ok-key.key (unopened_record c.args.unopened.now) c.as_bytes.result.now
+    c.args.password.now c.times_within-times.result c.args.most_rows
     is (c.as_bytes.ensures.value ∙ same) utf8 c.times_within-times.ensures

@@ -9,4 +9,5 @@ returns-in-Ok c =
     sym (of_text read_secret_key c.args.sk_text.now c.in-Ok.text.now same utf8) ∙ c.read_secret_key.ensures
 
 pub returns-in-Err : goal.returns-in-Err
-returns-in-Err c = rw c.into.ensures (sym (no_text read_secret_key c.args.sk_text.now c.in-Err.ensures.cases.0))
+returns-in-Err c = rw c.into.ensures
+    (sym (no_text read_secret_key c.args.sk_text.now c.in-Err.ensures.cases.0))

@@ -5,4 +5,5 @@ use Rattle.minisign_external.proofs.unopened_keys.read_unopened_key.Goals as goa
 
 pub returns-in-Ok-clause-opens : goal.returns-in-Ok-clause-opens
 returns-in-Ok-clause-opens c =
-    opens_as c.of_bytes.result c.args.sk_text.now (c.in-Ok.ensures ∙ ap (λ v. Ok (unopened_record v)) (sym c.of_bytes.ensures))
+    opens_as c.of_bytes.result c.args.sk_text.now
+    (c.in-Ok.ensures ∙ ap (λ v. Ok (unopened_record v)) (sym c.of_bytes.ensures))

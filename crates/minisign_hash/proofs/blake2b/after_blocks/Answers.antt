@@ -21,13 +21,15 @@ ahead-preserved c =
     let (whole, start, _) = c.ahead.invariant in (
       λ flag step n m behind i ahead state count.
           let before = whole flag step n m behind i ahead state count in (
-            state_next n m blocks behind i k _ _ _ ahead (omega arith) before.0 (omega (arith, before.1, step)) (rw flag at next),
+            state_next n m blocks behind i k _ _ _ ahead (omega arith) before.0
+                (omega (arith, before.1, step)) (rw flag at next),
             omega (arith, before.1, step),
           ),
       λ end. absurd (omega arith),
       λ one len.
           let first : k ≡ 0 = omega arith in
-          let all : take 128 (drop (128 * k) blocks) ≡ blocks = rw first (take_all 128 blocks (omega arith)) in
+          let all : take 128 (drop (128 * k) blocks)
+          ≡ blocks = rw first (take_all 128 blocks (omega arith)) in
           next ∙ rw (c.counted-taken_in.ensures, all, (start first).0, (start first).1) refl,
     )
 

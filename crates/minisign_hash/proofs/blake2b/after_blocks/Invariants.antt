@@ -5,7 +5,9 @@ use Rattle.minisign_hash.proofs.blake2b.after_blocks.Given as goal
 
 abbrev pub invariant-ahead : goal.invariant-ahead
 invariant-ahead l = (l.last ≡ false → l.bytes ≡ 128
-    → (n : ℕ) (m behind : List ℕ) (i : ℕ) → drop (128 * i) m ≡ l.blocks ++ behind → l.fn.h ≡ state_after n m i → l.fn.count ≡ 128 * i % 2 ^ 128
+    → (n : ℕ) (m behind : List ℕ) (i : ℕ) → drop (128 * i) m ≡ l.blocks ++ behind → l.fn.h ≡ state_after n m i
+    → l.fn.count ≡ 128 * i % 2 ^ 128
     → (l.state ≡ state_after n m (i + l.k)) × (l.taken_in ≡ 128 * (i + l.k) % 2 ^ 128))
     × (l.k ≡ 0 → (l.state ≡ l.fn.h) × (l.taken_in ≡ l.fn.count))
-    × (l.k ≡ 1 → length l.blocks ≡ 128 → l.state ≡ compress l.fn.h (words64_of l.blocks) ((l.fn.count + l.bytes) % 2 ^ 128) l.last)
+    × (l.k ≡ 1 → length l.blocks ≡ 128 → l.state ≡ compress l.fn.h (words64_of l.blocks)
+    ((l.fn.count + l.bytes) % 2 ^ 128) l.last)

@@ -8,6 +8,8 @@ pub returns : goal.returns
 unfolding compress
 returns c =
     let h : List ℕ = c.args.h in
-    let all : c.twelve_rounds-v.result ≡ rounds (work_vector h c.args.count c.args.last) (words64_of c.args.block.now) 12 =
+    let all : c.twelve_rounds-v.result ≡ rounds (work_vector h c.args.count c.args.last)
+    (words64_of c.args.block.now) 12 =
     rw (c.twelve_rounds-v.ensures, c.work_vector.ensures, c.read_words-words.ensures) refl in
-    ap (λ (v : List ℕ). map (λ (i : ℕ). bit_xor (bit_xor (slice_index h i) (slice_index v i)) (slice_index v (i + 8))) (range_with_len 0 8)) all
+    ap (λ (v : List ℕ). map (λ (i : ℕ). bit_xor (bit_xor (slice_index h i) (slice_index v i))
+    (slice_index v (i + 8))) (range_with_len 0 8)) all

@@ -3,4 +3,5 @@ use Rattle.std.specs.Int.{w64, from_le_bytes}
 use Rattle.minisign_hash.proofs.cryptoutil.read_u64v_le.Given as goal
 
 abbrev pub invariant-words : goal.invariant-words
-invariant-words l = (k : ℕ) → k < l.i → slice_index l.dst k ≡ from_le_bytes w64 (take 8 (drop (8 * k) l.input))
+invariant-words l = (k : ℕ) → k < l.i
+    → slice_index l.dst k ≡ from_le_bytes w64 (take 8 (drop (8 * k) l.input))

@@ -21,4 +21,5 @@ returns c =
     let xs : List ℕ = c.args.input.now in
     let end : c.words.i ≡ length xs = omega arith in
     let whole : take (8 * c.words.i) c.words.dst ≡ bytes_of_words64 (take c.words.i xs) = c.words.invariant in
-    sym (take_all (8 * c.words.i) c.words.dst (omega arith)) ∙ whole ∙ ap bytes_of_words64 (take_all c.words.i xs (omega arith))
+    sym (take_all (8 * c.words.i) c.words.dst (omega arith)) ∙ whole
+    ∙ ap bytes_of_words64 (take_all c.words.i xs (omega arith))

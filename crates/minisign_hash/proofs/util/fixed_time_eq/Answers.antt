@@ -20,7 +20,8 @@ bytes-preserved c =
             let here : k ≡ i = omega arith in
             rw here (same_from_xor x y (right_from_or d (bit_xor x y) none))
       ],
-      λ same. rw (c.bytes.invariant.1 same, xor_from_same x y (ap (λ (l : List ℕ). slice_index l i) same)) refl,
+      λ same. rw (c.bytes.invariant.1 same, xor_from_same x y (ap (λ (l : List ℕ). slice_index l i) same))
+          refl,
     )
 
 pub returns : goal.returns
@@ -30,7 +31,8 @@ returns c =
     let d : ℕ = c.bytes.differing in
     let zero_iff = Decides-eqb d 0 in
     same_from_decides {P = lhs ≡ rhs} (nat_eq d 0) (bytes_eq lhs rhs) (
-      λ t. same_number_lists lhs rhs (omega arith) (λ k below. c.bytes.invariant.0 (zero_iff.0 t) k (omega arith)),
+      λ t. same_number_lists lhs rhs (omega arith)
+          (λ k below. c.bytes.invariant.0 (zero_iff.0 t) k (omega arith)),
       λ same. zero_iff.1 (c.bytes.invariant.1 same),
     )
     (bytes_eq-Decides lhs rhs)

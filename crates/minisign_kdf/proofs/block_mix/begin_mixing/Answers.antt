@@ -16,5 +16,6 @@ returns-else-times-eq1 c =
     let r : ℕ = c.args.r in
     let b : List ℕ = diagonal_bytes c.args.from.now in
     let twice : 2 ≡ 2 - c.args.times % 2 = omega arith in
-    row_at_more r 1 b _ _ (row_at_more r 0 b b _ (sym (row_at_none r b)) c.block_mix-else-times-eq1.ensures) c.block_mix-else-times-eq1-2.ensures
+    row_at_more r 1 b _ _ (row_at_more r 0 b b _ (sym (row_at_none r b)) c.block_mix-else-times-eq1.ensures)
+    c.block_mix-else-times-eq1-2.ensures
     ∙ ap (row_at r b) twice

@@ -12,9 +12,13 @@ returns c =
     let x = c.args.x in
     let y = c.args.block in
     let z = c.xor_of.result in
-    let lx : length (placed_words x) ≡ 16 = length_rows x.a x.b x.c x.d (omega arith) (omega arith) (omega arith) (omega arith) in
-    let ly : length (placed_words y) ≡ 16 = length_rows y.a y.b y.c y.d (omega arith) (omega arith) (omega arith) (omega arith) in
-    let fits : (i : ℕ) → slice_index (block_words z) i < 2 ^ 32 = standard_order-fits z.a z.b z.c z.d (search rules) (search rules) (search rules) (search rules) in
-    let xored : block_words z ≡ zip2 bit_xor (block_words x) (block_words y) = ap standard_order c.xor_of.ensures ∙ standard_order-xor (placed_words x) (placed_words y) lx ly in
+    let lx : length (placed_words x) ≡ 16 = length_rows x.a x.b x.c x.d (omega arith) (omega arith)
+    (omega arith) (omega arith) in
+    let ly : length (placed_words y) ≡ 16 = length_rows y.a y.b y.c y.d (omega arith) (omega arith)
+    (omega arith) (omega arith) in
+    let fits : (i : ℕ) → slice_index (block_words z) i < 2 ^ 32 = standard_order-fits z.a z.b z.c z.d
+    (search rules) (search rules) (search rules) (search rules) in
+    let xored : block_words z ≡ zip2 bit_xor (block_words x) (block_words y) = ap standard_order
+    c.xor_of.ensures ∙ standard_order-xor (placed_words x) (placed_words y) lx ly in
     ap bytes_of_words32 c.salsa20_8.ensures ∙ sym (salsa20_8-bytes_of_words32 (block_words z) fits)
     ∙ ap salsa20_8 (ap bytes_of_words32 xored ∙ bytes_of_words32-xor (block_words x) (block_words y))

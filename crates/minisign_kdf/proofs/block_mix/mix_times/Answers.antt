@@ -17,7 +17,8 @@ pairs-preserved c =
     let b : List ℕ = diagonal_bytes c.args.from.now in
     let m : ℕ = 2 - c.args.times % 2 + 2 * c.pairs._pair in
     let next : m + 1 + 1 ≡ 2 - c.args.times % 2 + 2 * (c.pairs._pair + 1) = omega arith in
-    row_at_more r (m + 1) b _ _ (row_at_more r m b _ _ c.pairs.invariant c.block_mix.ensures) c.block_mix-in-pairs.ensures
+    row_at_more r (m + 1) b _ _ (row_at_more r m b _ _ c.pairs.invariant c.block_mix.ensures)
+    c.block_mix-in-pairs.ensures
     ∙ ap (row_at r b) next
 
 pub returns : goal.returns

@@ -10,5 +10,7 @@ use Rattle.minisign_kdf.proofs.block_mix.xor_block_mix.Given as goal
 abbrev pub invariant-pairs : goal.invariant-pairs
 invariant-pairs l =
     (bytes_of_words32 (block_words l.x) ≡ before l.r (diagonal_bytes (zip2 bit_xor l.from l.row)) (2 * l.i))
-    × (diagonal_bytes (take (16 * l.i) l.even) ≡ joined_lists (λ j. mixed_block l.r (diagonal_bytes (zip2 bit_xor l.from l.row)) (2 * j)) l.i)
-    × (diagonal_bytes (take (16 * l.i) l.odd) ≡ joined_lists (λ j. mixed_block l.r (diagonal_bytes (zip2 bit_xor l.from l.row)) (2 * j + 1)) l.i)
+    × (diagonal_bytes (take (16 * l.i) l.even)
+    ≡ joined_lists (λ j. mixed_block l.r (diagonal_bytes (zip2 bit_xor l.from l.row)) (2 * j)) l.i)
+    × (diagonal_bytes (take (16 * l.i) l.odd)
+    ≡ joined_lists (λ j. mixed_block l.r (diagonal_bytes (zip2 bit_xor l.from l.row)) (2 * j + 1)) l.i)

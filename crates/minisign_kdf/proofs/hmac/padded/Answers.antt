@@ -14,4 +14,5 @@ pub returns : goal.returns
 returns c =
     let (len, done) = c.bytes.invariant in
     let whole = length-map c.args.block.now (λ (b : ℕ). bit_xor b c.args.pad) in
-    sym (take_all c.bytes.i c.bytes.padded (omega arith)) ∙ done ∙ take_all c.bytes.i (map (λ b. bit_xor b c.args.pad) c.args.block.now) (omega arith)
+    sym (take_all c.bytes.i c.bytes.padded (omega arith)) ∙ done
+    ∙ take_all c.bytes.i (map (λ b. bit_xor b c.args.pad) c.args.block.now) (omega arith)

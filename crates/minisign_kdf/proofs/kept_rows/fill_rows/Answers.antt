@@ -9,10 +9,12 @@ use Rattle.minisign_kdf.proofs.kept_rows.fill_rows.Goals as goal
 pub rows-init : goal.rows-init
 rows-init g c =
     let x : List ℕ = c.args.x.now in
-    let items : (g.S.RowRoom.words c.push.new.self) ≡ x = c.push.ensures.words ∙ ap (λ (l : List ℕ). l ++ x) c.clear.ensures.words in
+    let items : (g.S.RowRoom.words c.push.new.self) ≡ x = c.push.ensures.words
+    ∙ ap (λ (l : List ℕ). l ++ x) c.clear.ensures.words in
     record {
       len = omega arith;
-      rows = λ j lt. kept_first c.args.r c.args.k j (g.S.RowRoom.words c.push.new.self) x items c.requires.x_len lt;
+      rows = λ j lt. kept_first c.args.r c.args.k j (g.S.RowRoom.words c.push.new.self) x items
+          c.requires.x_len lt;
       room = omega arith;
     }
 
@@ -34,7 +36,8 @@ push-requires-in-rows g c = omega (arith, row_before (32 * c.args.r) c.args.coun
 
 pub mix_times-requires-clause-from_len : goal.mix_times-requires-clause-from_len
 mix_times-requires-clause-from_len g c =
-    let len : length c.words.result.now ≡ 32 * c.args.r * c.rows.i = c.words.ensures.len ∙ c.rows.invariant.len in
+    let len : length c.words.result.now ≡ 32 * c.args.r * c.rows.i = c.words.ensures.len
+    ∙ c.rows.invariant.len in
     length_end (32 * c.args.r) c.rows.i _ c.words.result.now len (omega arith) refl
 
 pub rows-preserved : goal.rows-preserved
@@ -46,14 +49,17 @@ rows-preserved g c =
     let made = c.rows.invariant in
     let seen : length c.words.result.now ≡ 32 * r * i = c.words.ensures.len ∙ made.len in
     let len : length xs ≡ 32 * r * i = ap length (sym c.words.ensures.value) ∙ seen in
-    let mixed : diagonal_bytes c.mix_times.new.into ≡ row_at r (diagonal_bytes (block (32 * r) xs (i - 1))) k =
-    c.mix_times.ensures ∙ ap (λ (l : List ℕ). row_at r (diagonal_bytes l) k) (block_end (32 * r) i _ _ c.words.result.now seen (omega arith) refl refl)
+    let mixed : diagonal_bytes c.mix_times.new.into ≡ row_at r (diagonal_bytes (block (32 * r) xs (i - 1)))
+    k =
+    c.mix_times.ensures ∙ ap (λ (l : List ℕ). row_at r (diagonal_bytes l) k)
+    (block_end (32 * r) i _ _ c.words.result.now seen (omega arith) refl refl)
     ∙ ap (λ (l : List ℕ). row_at r (diagonal_bytes (block (32 * r) l (i - 1))) k) c.words.ensures.value in
     let wide : length c.mix_times.new.into ≡ 32 * r = omega arith in
     let next : 32 * r * (i + 1) ≡ 32 * r * i + 32 * r = grind arith in
     record {
       len = omega arith;
       rows = λ j lt. ap (λ (l : List ℕ). diagonal_bytes (block (32 * r) l j)) c.push-in-rows.ensures.words
-          ∙ kept_next r k i j (diagonal_bytes c.args.x.now) xs c.mix_times.new.into made.rows len (omega arith) wide mixed lt;
+          ∙ kept_next r k i j (diagonal_bytes c.args.x.now) xs c.mix_times.new.into made.rows len
+          (omega arith) wide mixed lt;
       room = omega arith;
     }

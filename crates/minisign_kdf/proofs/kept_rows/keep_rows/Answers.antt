@@ -23,6 +23,8 @@ returns-clause-rows g c =
     let n : ℕ = 2 ^ c.args.n_log2 in
     let words : List ℕ = g.S.RowRoom.words c.fill_rows.new.rows in
     let size : length b / 4 / 32 ≡ length b / 128 = omega arith in
-    let each : (i : ℕ) → i < div_ceil n k → diagonal_bytes (block (32 * (length b / 128)) words i) ≡ row_at (length b / 128) b (k * i) =
-    λ i lt. rw size at (c.fill_rows.ensures.rows i (rw c.kept_count.ensures lt) ∙ ap (λ (l : List ℕ). row_at (length b / 4 / 32) l (k * i)) c.load_part.ensures) in
+    let each : (i : ℕ) → i < div_ceil n k → diagonal_bytes (block (32 * (length b / 128)) words i)
+    ≡ row_at (length b / 128) b (k * i) =
+    λ i lt. rw size at (c.fill_rows.ensures.rows i (rw c.kept_count.ensures lt)
+    ∙ ap (λ (l : List ℕ). row_at (length b / 4 / 32) l (k * i)) c.load_part.ensures) in
     kept_rows_of (length b / 128) n k b words each

@@ -5,4 +5,5 @@ use Rattle.minisign_kdf.proofs.order.load_block.Goals as goal
 
 pub returns : goal.returns
 returns c =
-    ap (λ (l : List ℕ). bytes_of_words32 (standard_order l)) c.copy_from_slice.ensures.after ∙ ap bytes_of_words32 c.in_diagonal_order.ensures ∙ c.load_words.ensures
+    ap (λ (l : List ℕ). bytes_of_words32 (standard_order l)) c.copy_from_slice.ensures.after
+    ∙ ap bytes_of_words32 c.in_diagonal_order.ensures ∙ c.load_words.ensures

@@ -10,9 +10,11 @@ block-init c = sym diagonal_bytes-none
 
 pub block-preserved : goal.block-preserved
 block-preserved c =
-    stored_next c.args.words.now c.block.bytes c.store_words.new.bytes c.block.i _ _ c.block.invariant (omega arith) (omega arith) (omega arith) (omega arith)
+    stored_next c.args.words.now c.block.bytes c.store_words.new.bytes c.block.i _ _ c.block.invariant
+    (omega arith) (omega arith) (omega arith) (omega arith)
     (c.store_words.ensures ∙ ap bytes_of_words32 c.in_standard_order-plain.ensures)
 
 pub returns : goal.returns
 returns c =
-    sym (take_all (64 * c.block.i) c.block.bytes (omega arith)) ∙ c.block.invariant ∙ ap diagonal_bytes (take_all (16 * c.block.i) c.args.words.now (omega arith))
+    sym (take_all (64 * c.block.i) c.block.bytes (omega arith)) ∙ c.block.invariant
+    ∙ ap diagonal_bytes (take_all (16 * c.block.i) c.args.words.now (omega arith))

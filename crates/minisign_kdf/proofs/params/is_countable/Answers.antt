@@ -5,4 +5,5 @@ use Rattle.minisign_kdf.proofs.params.is_countable.Goals as goal
 
 pub returns-then-n_log2-ge64 : goal.returns-then-n_log2-ge64
 returns-then-n_log2-ge64 c =
-    sym (le-ltb (128 * c.args.r * 2 ^ c.args.n_log2) (2 ^ 64) (table_full c.args.n_log2 c.args.r (omega arith) (omega arith)))
+    sym (le-ltb (128 * c.args.r * 2 ^ c.args.n_log2) (2 ^ 64)
+    (table_full c.args.n_log2 c.args.r (omega arith) (omega arith)))

@@ -7,13 +7,16 @@ pub returns-then-not-is_empty : goal.returns-then-not-is_empty
 returns-then-not-is_empty c =
     let rest : List ℕ = c.split_at_mut-whole.result.1.now in
     let some : 0 < length rest = grind (arith, nat_tests) in
-    pbkdf2_cut c.args.password.now c.args.salt.now c.write_blocks.new.out c.copy_from_slice.new.self (length c.args.out.now / 32) (length rest) (length c.args.out.now)
+    pbkdf2_cut c.args.password.now c.args.salt.now c.write_blocks.new.out c.copy_from_slice.new.self
+    (length c.args.out.now / 32) (length rest) (length c.args.out.now)
     c.write_blocks.ensures (omega arith) (omega arith) some (omega arith)
-    (c.copy_from_slice.ensures.after ∙ c.split_at.ensures.front ∙ ap (take (length rest)) c.derived_block-last.ensures)
+    (c.copy_from_slice.ensures.after ∙ c.split_at.ensures.front
+    ∙ ap (take (length rest)) c.derived_block-last.ensures)
 
 pub returns-else-not-is_empty : goal.returns-else-not-is_empty
 returns-else-not-is_empty c =
     let rest : List ℕ = c.split_at_mut-whole.result.1.now in
     let none : length rest ≡ 0 = grind (arith, nat_tests) in
-    pbkdf2_whole c.args.password.now c.args.salt.now c.write_blocks.new.out rest (length c.args.out.now / 32) (length c.args.out.now)
+    pbkdf2_whole c.args.password.now c.args.salt.now c.write_blocks.new.out rest (length c.args.out.now / 32)
+    (length c.args.out.now)
     c.write_blocks.ensures (omega arith) (omega arith) none

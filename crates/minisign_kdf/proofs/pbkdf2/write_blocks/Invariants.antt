@@ -5,4 +5,5 @@ use Rattle.minisign_kdf.specs.Hmac.{hmac}
 use Rattle.minisign_kdf.proofs.pbkdf2.write_blocks.Given as goal
 
 abbrev pub invariant-whole : goal.invariant-whole
-invariant-whole l = take (32 * l.i) l.out ≡ joined_lists (λ j. hmac l.password (l.salt ++ to_be_bytes w32 (j + 1))) l.i
+invariant-whole l = take (32 * l.i) l.out
+    ≡ joined_lists (λ j. hmac l.password (l.salt ++ to_be_bytes w32 (j + 1))) l.i

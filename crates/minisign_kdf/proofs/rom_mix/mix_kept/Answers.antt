@@ -17,7 +17,8 @@ returns-clause-mixed c =
     let n : ℕ = 2 ^ c.args.n_log2 in
     let k : ℕ = c.args.k in
     let size : length c.args.out.now / 4 / 32 ≡ length c.args.out.now / 128 = omega arith in
-    c.store_part.ensures ∙ c.mix_with_rows.ensures ∙ ap (λ (r : ℕ). rom_mix_from r n k (rows_of r (div_ceil n k) c.args.rows.now)) size
+    c.store_part.ensures ∙ c.mix_with_rows.ensures
+    ∙ ap (λ (r : ℕ). rom_mix_from r n k (rows_of r (div_ceil n k) c.args.rows.now)) size
 
 pub returns-clause-standard : goal.returns-clause-standard
 returns-clause-standard c = λ b filled.
@@ -26,5 +27,6 @@ returns-clause-standard c = λ b filled.
     let r : ℕ = length c.args.out.now / 128 in
     let some : 0 < n = pow_pos c.args.n_log2 in
     let size : length c.args.out.now / 4 / 32 ≡ r = omega arith in
-    c.store_part.ensures ∙ c.mix_with_rows.ensures ∙ ap (λ (m : ℕ). rom_mix_from m n k (rows_of m (div_ceil n k) c.args.rows.now)) size
+    c.store_part.ensures ∙ c.mix_with_rows.ensures
+    ∙ ap (λ (m : ℕ). rom_mix_from m n k (rows_of m (div_ceil n k) c.args.rows.now)) size
     ∙ ap (rom_mix_from r n k) filled ∙ rom_mix_from-kept_rows r n k b c.requires.kept (omega arith)

@@ -13,7 +13,8 @@ returns-then-times-eq0 c =
     let b : List ℕ = diagonal_bytes c.args.kept.now in
     c.xor_block_mix.ensures
     ∙ ap (block_mix r) (diagonal_bytes-xor x c.args.kept.now (2 * r) (omega arith) (omega arith)
-    ∙ ap (zip2 bit_xor (diagonal_bytes x)) (sym (row_at_none r b) ∙ ap (row_at r b) (sym c.if-times-eq0.true)))
+    ∙ ap (zip2 bit_xor (diagonal_bytes x))
+    (sym (row_at_none r b) ∙ ap (row_at r b) (sym c.if-times-eq0.true)))
 
 pub returns-else-times-eq0 : goal.returns-else-times-eq0
 returns-else-times-eq0 c =

@@ -17,7 +17,9 @@ turns-preserved c =
     let words : List ℕ = c.args.rows.now in
     let v : ℕ → List ℕ = remade_row r k (rows_of r (div_ceil n k) words) in
     let e : 2 * (c.turns._turn + 1) ≡ 2 * c.turns._turn + 1 + 1 = omega arith in
-    step_next r n (2 * c.turns._turn + 1) v _ _ _ (step_next r n (2 * c.turns._turn) v _ _ _ c.turns.invariant c.mix_with_row.ensures) c.mix_with_row-in-turns.ensures
+    step_next r n (2 * c.turns._turn + 1) v _ _ _
+    (step_next r n (2 * c.turns._turn) v _ _ _ c.turns.invariant c.mix_with_row.ensures)
+    c.mix_with_row-in-turns.ensures
     ∙ ap (mixed_part r n v (last_row_mixed r n k words)) (sym e)
 
 pub returns : goal.returns
@@ -29,5 +31,8 @@ returns c =
     let v : ℕ → List ℕ = remade_row r k (rows_of r (div_ceil n k) words) in
     let some : 0 < n = pow_pos c.args.n_log2 in
     let turns : c.turns._turn ≡ c.row_count-turn-end.result / 2 = omega arith in
-    let all : 2 * c.turns._turn ≡ n = ap (λ (t : ℕ). 2 * t) (turns ∙ ap (λ (m : ℕ). m / 2) c.row_count-turn-end.ensures) ∙ even_power c.args.n_log2 c.requires.even in
-    mixed_from r n k words _ c.requires.kept (omega arith) (c.turns.invariant ∙ ap (mixed_part r n v (last_row_mixed r n k words)) all)
+    let all : 2 * c.turns._turn ≡ n = ap (λ (t : ℕ). 2 * t)
+    (turns ∙ ap (λ (m : ℕ). m / 2) c.row_count-turn-end.ensures)
+    ∙ even_power c.args.n_log2 c.requires.even in
+    mixed_from r n k words _ c.requires.kept (omega arith)
+    (c.turns.invariant ∙ ap (mixed_part r n v (last_row_mixed r n k words)) all)

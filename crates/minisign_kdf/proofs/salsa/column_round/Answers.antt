@@ -12,4 +12,13 @@ returns c =
     let lb : length x.b ≡ 4 = omega arith in
     let lc : length x.c ≡ 4 = omega arith in
     let ld : length x.d ≡ 4 = omega arith in
-    rw (c.xor_rotated_sum-a.ensures, c.xor_rotated_sum-d.ensures, c.xor_rotated_sum-c.ensures, c.xor_rotated_sum-b.ensures, four_of x.a la, four_of x.b lb, four_of x.c lc, four_of x.d ld) refl
+    rw (
+      c.xor_rotated_sum-a.ensures,
+      c.xor_rotated_sum-d.ensures,
+      c.xor_rotated_sum-c.ensures,
+      c.xor_rotated_sum-b.ensures,
+      four_of x.a la,
+      four_of x.b lb,
+      four_of x.c lc,
+      four_of x.d ld,
+    ) refl

@@ -5,5 +5,6 @@ use Rattle.minisign_kdf.proofs.salsa.row_round.Goals as goal
 
 pub returns : goal.returns
 returns c =
-    c.transposed-2.ensures ∙ ap transposed_square (c.column_round.ensures ∙ ap column_round c.transposed.ensures)
+    c.transposed-2.ensures ∙ ap transposed_square
+    (c.column_round.ensures ∙ ap column_round c.transposed.ensures)
     ∙ sym (row_round-transposed_square _ (length-standard_order (placed_words c.args.x)))

@@ -7,4 +7,5 @@ pub returns : goal.returns
 returns c =
     let x = c.args.x in
     let y = c.args.y in
-    zip2_rows add32 x.a x.b x.c x.d y.a y.b y.c y.d (omega arith) (omega arith) (omega arith) (omega arith) (omega arith) (omega arith) (omega arith) (omega arith)
+    zip2_rows add32 x.a x.b x.c x.d y.a y.b y.c y.d (omega arith) (omega arith) (omega arith) (omega arith)
+    (omega arith) (omega arith) (omega arith) (omega arith)

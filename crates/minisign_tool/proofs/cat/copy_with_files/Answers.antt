@@ -16,7 +16,14 @@ returns-clause-accepted g c =
         pk_held = rw c.deref.ensures texts.first_read.given;
         sig_held = rw c.deref-2.ensures texts.second_read.given;
         given = h.verified.given;
-        vouched = record { key = h.key; box = h.box; key_read = h.key_read; box_read = h.box_read; vouches = h.verified.vouches };
+        vouched = record {
+          key = h.key;
+          box = h.box;
+          key_read = h.key_read;
+          box_read = h.box_read;
+          vouches =
+              h.verified.vouches;
+        };
         said = h.verified.said;
       };
       copied = copied;
@@ -24,7 +31,14 @@ returns-clause-accepted g c =
         copy = copied.copy;
         taken = copied.all;
         flushed = copied.flushed;
-        vouched = record { key = h.key; box = h.box; key_read = h.key_read; box_read = h.box_read; vouches = copied.vouched };
+        vouched = record {
+          key = h.key;
+          box = h.box;
+          key_read = h.key_read;
+          box_read = h.box_read;
+          vouches =
+              copied.vouched;
+        };
       };
     })
     c.verify_texts.ensures.accepted
@@ -38,7 +52,11 @@ returns-clause-refused g c =
     (λ e both. inr (
       c.deref.result.now,
       c.deref-2.result.now,
-      record { first_read = rw c.deref.ensures texts.first_read; second_read = rw c.deref-2.ensures texts.second_read },
+      record {
+        first_read = rw c.deref.ensures texts.first_read;
+        second_read =
+            rw c.deref-2.ensures texts.second_read;
+      },
       both.0,
       both.1,
     ))

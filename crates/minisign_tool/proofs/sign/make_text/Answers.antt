@@ -5,7 +5,8 @@ use Rattle.minisign_tool.proofs.sign.make_text.Goals as goal
 
 pub returns-clause-headline : goal.returns-clause-headline
 returns-clause-headline g c =
-    let read : ReadsWhole g.K.Source c.args.devices.now.sk_file c.read_text.new.source c.deref.result.now = rw c.deref.ensures c.in_ok-sk_text.ensures.text in
+    let read : ReadsWhole g.K.Source c.args.devices.now.sk_file c.read_text.new.source c.deref.result.now = rw
+    c.deref.ensures c.in_ok-sk_text.ensures.text in
     IfOk-weaker c.sign_texts.result _ _
     (λ t h. record {
       sk_text = c.deref.result.now;
@@ -37,5 +38,6 @@ returns-clause-signed g c =
 
 pub returns-clause-refused : goal.returns-clause-refused
 returns-clause-refused g c =
-    let read : ReadsWhole g.K.Source c.args.devices.now.sk_file c.read_text.new.source c.deref.result.now = rw c.deref.ensures c.in_ok-sk_text.ensures.text in
+    let read : ReadsWhole g.K.Source c.args.devices.now.sk_file c.read_text.new.source c.deref.result.now = rw
+    c.deref.ensures c.in_ok-sk_text.ensures.text in
     MatchResult-weaker c.sign_texts.result c.sign_texts.ensures.refused (λ t ok. ok) (λ e h. inr (_, read, h))

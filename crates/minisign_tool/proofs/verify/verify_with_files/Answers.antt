@@ -16,7 +16,14 @@ returns-clause-accepted g c =
       pk_held = rw c.deref.ensures texts.first_read.given;
       sig_held = rw c.deref-2.ensures texts.second_read.given;
       given = h.verified.given;
-      vouched = record { key = h.key; box = h.box; key_read = h.key_read; box_read = h.box_read; vouches = h.verified.vouches };
+      vouched = record {
+        key = h.key;
+        box = h.box;
+        key_read = h.key_read;
+        box_read = h.box_read;
+        vouches =
+            h.verified.vouches;
+      };
       said = h.verified.said;
     })
     c.verify_texts.ensures.accepted
@@ -26,14 +33,19 @@ returns-clause-refused g c =
     let texts = c.in_ok-pk_text.ensures.texts in
     MatchResult-weaker c.verify_texts.result
     (if_err_both _ _ c.verify_texts.result
-    (texts_fail (g.S.Scheme.accepts c.args.scheme.now) c.deref.result.now c.deref-2.result.now (rereader_call g.R.Source g.R.Rereader.steady _ _)
+    (texts_fail (g.S.Scheme.accepts c.args.scheme.now) c.deref.result.now c.deref-2.result.now
+    (rereader_call g.R.Source g.R.Rereader.steady _ _)
     (sink_call g.W.Sink _ _) (silent _ _) c.verify_texts.result c.verify_texts.ensures.refused)
     c.verify_texts.ensures.said_front)
     (λ x ok. ok)
     (λ e both. inr (
       c.deref.result.now,
       c.deref-2.result.now,
-      record { first_read = rw c.deref.ensures texts.first_read; second_read = rw c.deref-2.ensures texts.second_read },
+      record {
+        first_read = rw c.deref.ensures texts.first_read;
+        second_read =
+            rw c.deref-2.ensures texts.second_read;
+      },
       both.0,
       both.1,
     ))

@@ -14,7 +14,7 @@ use minisign_base::prompt::Prompt;
 use minisign_base::toy::ToyScheme;
 use minisign_examples::example::sign_and_verify;
 use minisign_fixtures::devices::sinks::Counting;
-use minisign_fixtures::keys::{IDENTIFIER, TIED_TO_ABC, signature_record};
+use minisign_fixtures::keys::{KEY_ID, TIED_TO_ABC, signature_record};
 use minisign_fixtures::outcomes::{is_so_or_out_of_memory, is_so_or_unwritten};
 use minisign_fixtures::texts::{KEY_TEXT, LEGACY_TEXT, SAID, SEALED, SECRET_TEXT, SIGNATURE_TEXT};
 use std::alloc::Global;
@@ -140,7 +140,7 @@ fn box_verified(alloc: Global) -> Result<SignatureBox> {
 // Whether the bones of the box have the record that was worked out.
 fn has_record(alloc: Global, signature_box: SignatureBox) -> Result<bool> {
     let bytes = SignatureBones::from(signature_box).to_bytes(alloc)?;
-    let record = signature_record(b"ED", &IDENTIFIER, &TIED_TO_ABC);
+    let record = signature_record(b"ED", &KEY_ID, &TIED_TO_ABC);
     Ok(bytes.as_slice() == record.as_slice())
 }
 

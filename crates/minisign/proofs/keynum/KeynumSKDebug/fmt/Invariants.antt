@@ -5,4 +5,5 @@ use Rattle.minisign.proofs.keynum.KeynumSKDebug.fmt.Given as goal
 
 abbrev pub invariant-bytes : goal.invariant-bytes
 invariant-bytes g l =
-    IsPlainFormatter l.initial.f → HasWritten g.W.Write.write_str_gives l.initial.f (secret_text (take l.byte-index l.self.sk)) l.f
+    IsPlainFormatter l.initial.f → HasWritten g.W.Write.write_str_gives l.initial.f
+    (secret_text (take l.byte-index l.self.sk)) l.f

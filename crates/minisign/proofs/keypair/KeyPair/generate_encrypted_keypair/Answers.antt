@@ -13,14 +13,43 @@ returns-clause-made g c =
     let salt : List ℕ = c.in_ok-drawn.drawn.salt in
     IfOk-weaker c.seal_pair.result _ _ (λ pair (typed, prompted, sealed).
     let made : IsSealedPair public_of typed z pair.pk pair.sk =
-    record { seed = seed; keynum = keynum; salt = salt; lengths = c.in_ok-drawn.ensures.lengths; salt_length = c.in_ok-drawn.ensures.salt; drawn = c.in_ok-drawn.ensures.drawn; sealed = sealed } in
-    record { password = typed; prompted = prompted; pair = made; opens = sealed_pair public_of typed z pair.pk pair.sk made }) c.seal_pair.ensures.sealed
+    record {
+      seed = seed;
+      keynum = keynum;
+      salt = salt;
+      lengths = c.in_ok-drawn.ensures.lengths;
+      salt_length =
+          c.in_ok-drawn.ensures.salt;
+      drawn = c.in_ok-drawn.ensures.drawn;
+      sealed = sealed;
+    } in
+    record {
+      password = typed;
+      prompted = prompted;
+      pair = made;
+      opens =
+          sealed_pair public_of typed z pair.pk pair.sk made;
+    }) c.seal_pair.ensures.sealed
 
 pub returns-clause-refused : goal.returns-clause-refused
 returns-clause-refused g c =
     let seed : List ℕ = c.in_ok-drawn.drawn.seed in
     let keynum : List ℕ = c.in_ok-drawn.drawn.keynum in
     let salt : List ℕ = c.in_ok-drawn.drawn.salt in
-    let count : length (seed ++ keynum ++ salt) ≡ 72 = simp length-append (omega (arith, c.in_ok-drawn.ensures.lengths.seed_length, c.in_ok-drawn.ensures.lengths.keynum_length, c.in_ok-drawn.ensures.salt)) in
+    let count : length (seed ++ keynum ++ salt) ≡ 72 = simp length-append
+    (omega (
+      arith,
+      c.in_ok-drawn.ensures.lengths.seed_length,
+      c.in_ok-drawn.ensures.lengths.keynum_length,
+      c.in_ok-drawn.ensures.salt,
+    )) in
     IfErr-weaker c.seal_pair.result _ _ (λ e failed.
-    inr (record { bytes = seed ++ keynum ++ salt; count = count; drawn = c.in_ok-drawn.ensures.drawn; no_new_fault = c.in_ok-drawn.ensures.no_new_fault }, failed)) c.seal_pair.ensures.refused
+    inr (
+      record {
+        bytes = seed ++ keynum ++ salt;
+        count = count;
+        drawn = c.in_ok-drawn.ensures.drawn;
+        no_new_fault = c.in_ok-drawn.ensures.no_new_fault;
+      },
+      failed,
+    )) c.seal_pair.ensures.refused

@@ -10,7 +10,16 @@ returns-clause-opens g c =
     let drawn = c.in_ok-drawn.ensures in
     IfOk-weaker c.make_sealed_pair.result _ _
     (λ pair sealed. sealed_pair public_of c.args.password.now z pair.pk pair.sk
-    (record { seed = _; keynum = _; salt = _; lengths = drawn.lengths; salt_length = drawn.salt; drawn = drawn.drawn; sealed = rw (c.as_bytes.ensures.value) at sealed }))
+    (record {
+      seed = _;
+      keynum = _;
+      salt = _;
+      lengths = drawn.lengths;
+      salt_length = drawn.salt;
+      drawn =
+          drawn.drawn;
+      sealed = rw (c.as_bytes.ensures.value) at sealed;
+    }))
     c.make_sealed_pair.ensures.sealed
 
 pub returns-clause-refused : goal.returns-clause-refused
@@ -19,8 +28,21 @@ returns-clause-refused g c =
     let seed : List ℕ = c.in_ok-drawn.drawn.seed in
     let keynum : List ℕ = c.in_ok-drawn.drawn.keynum in
     let salt : List ℕ = c.in_ok-drawn.drawn.salt in
-    let count : length (seed ++ keynum ++ salt) ≡ 72 = simp length-append (omega (arith, drawn.lengths.seed_length, drawn.lengths.keynum_length, drawn.salt)) in
+    let count : length (seed ++ keynum ++ salt) ≡ 72 = simp length-append
+    (omega (arith, drawn.lengths.seed_length, drawn.lengths.keynum_length, drawn.salt)) in
     let short : length c.args.password.now ≤ 1024 = omega (arith, c.if-password-gt-PASSWORD_BYTES.false) in
     IfErr-weaker c.make_sealed_pair.result _ _
-    (λ e memory. inr (short, inr (record { bytes = seed ++ keynum ++ salt; count = count; drawn = drawn.drawn; no_new_fault = drawn.no_new_fault }, memory)))
+    (λ e memory. inr (
+      short,
+      inr (
+        record {
+          bytes = seed ++ keynum ++ salt;
+          count = count;
+          drawn = drawn.drawn;
+          no_new_fault =
+              drawn.no_new_fault;
+        },
+        memory,
+      ),
+    ))
     c.make_sealed_pair.ensures.refused

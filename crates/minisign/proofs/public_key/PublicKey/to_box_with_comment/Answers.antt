@@ -13,11 +13,15 @@ returns-clause-text c = search rules
 pub returns-clause-reads_back : goal.returns-clause-reads_back
 returns-clause-reads_back c = λ lacks.
     let k : PublicKeyRecord = c.args.self.now in
-    let bare = read_bare _ k (subst (λ (t : List ℕ). read_bare_public_key t ≡ Ok k) c.in_ok-encoded.ensures.text c.in_ok-encoded.ensures.reads_back) in
+    let bare = read_bare _ k
+    (subst (λ (t : List ℕ). read_bare_public_key t ≡ Ok k) c.in_ok-encoded.ensures.text
+    c.in_ok-encoded.ensures.reads_back) in
     commented_public_key k c.args.comment.now c.from.result bare lacks (returns-clause-text c)
 
 pub returns-clause-size : goal.returns-clause-size
 returns-clause-size c =
     let k : PublicKeyRecord = c.args.self.now in
-    let bare = read_bare _ k (subst (λ (t : List ℕ). read_bare_public_key t ≡ Ok k) c.in_ok-encoded.ensures.text c.in_ok-encoded.ensures.reads_back) in
+    let bare = read_bare _ k
+    (subst (λ (t : List ℕ). read_bare_public_key t ≡ Ok k) c.in_ok-encoded.ensures.text
+    c.in_ok-encoded.ensures.reads_back) in
     public_key_size c.args.comment.now c.from.result k bare (returns-clause-text c)

@@ -14,5 +14,9 @@ returns c = sym (bytes_are_read c.args.bytes.now _ (record {
   keynum_length = c.in_ok-keynum.ensures.first;
   secret_length = c.in_ok-keynum.ensures.second;
   checksum_length = c.in_ok-keynum.ensures.third;
-  front = (_, joined_fields _ _ _ _ _ _ _ c.in_ok-sig_alg.ensures.cut c.in_ok-kdf_salt.ensures.cut c.in_ok-keynum.ensures.cut);
+  front = (
+    _,
+    joined_fields _ _ _ _ _ _ _ c.in_ok-sig_alg.ensures.cut c.in_ok-kdf_salt.ensures.cut
+        c.in_ok-keynum.ensures.cut,
+  );
 }))

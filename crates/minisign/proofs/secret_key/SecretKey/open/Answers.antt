@@ -17,10 +17,13 @@ returns-in-Some-clause-opens g c = λ text read.
     let opened = rw c.as_bytes.ensures.value at c.open_with.ensures in
     let sealed = sealed_passed c.args.self c.in_ok-test_sealed.ensures in
     rw c.in-Some.is (given_opening (prompt_call g.R.Source g.W.Sink c.args.prompt.now c.args.prompt.now)
-    c.in-Some.password.now text c.args.derivation.bound c.args.self c.open_with.result refl (sealed_text text c.args.self _ read sealed) opened)
+    c.in-Some.password.now text c.args.derivation.bound c.args.self c.open_with.result refl
+    (sealed_text text c.args.self _ read sealed) opened)
 
 pub returns-in-None-clause-opens : goal.returns-in-None-clause-opens
 returns-in-None-clause-opens g c = λ text read.
     let sealed = sealed_passed c.args.self c.in_ok-test_sealed.ensures in
-    rw c.in-None.is (asked_opening (prompt_call g.R.Source g.W.Sink c.args.prompt.now c.open_asking.new.prompt)
-    text c.args.derivation.bound c.args.self c.open_asking.result (sealed_text text c.args.self _ read sealed) c.open_asking.ensures.opened c.open_asking.ensures.refused)
+    rw c.in-None.is (asked_opening
+    (prompt_call g.R.Source g.W.Sink c.args.prompt.now c.open_asking.new.prompt)
+    text c.args.derivation.bound c.args.self c.open_asking.result (sealed_text text c.args.self _ read sealed)
+    c.open_asking.ensures.opened c.open_asking.ensures.refused)

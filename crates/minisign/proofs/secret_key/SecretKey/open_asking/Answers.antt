@@ -1,5 +1,6 @@
 use Rattle.std.proofs.Common.{Ok, Err, string_bytes, sym, subst}
-use Rattle.minisign.proofs.Common.{prompt_call, second_ended, stopped_first, typed_is, ConversationEnds, asking_steps, typed_password}
+use Rattle.minisign.proofs.Common.{prompt_call, second_ended, stopped_first, typed_is, ConversationEnds}
+use Rattle.minisign.proofs.Common.{asking_steps, typed_password}
 use Rattle.minisign.proofs.Beginnings.{passed_up, told_fault, told_value}
 use Rattle.minisign.specs.Opening.{telling_steps, asking_text}
 use Rattle.minisign.proofs.secret_key.SecretKey.open_asking.Goals as goal
@@ -9,7 +10,9 @@ returns-in_err-password-clause-refused g c =
     let (bytes, stopped) = c.in_err-password.ensures.refused in
     passed_up c.from_residual.result c.in_err-password.field-0.0 _ c.from_residual.ensures.1 (
       bytes,
-      stopped_first (prompt_call g.R.Source g.W.Sink c.args.prompt.now c.ask_password.new.prompt) (asking_steps asking_text bytes) (telling_steps c.args.self (typed_password bytes) c.args.derivation.bound) _ stopped,
+      stopped_first (prompt_call g.R.Source g.W.Sink c.args.prompt.now c.ask_password.new.prompt)
+          (asking_steps asking_text bytes)
+          (telling_steps c.args.self (typed_password bytes) c.args.derivation.bound) _ stopped,
     )
 
 pub returns-clause-opened : goal.returns-clause-opened
@@ -18,14 +21,20 @@ returns-clause-opened g c =
     let opened = rw c.as_bytes.ensures.value at c.open_telling.ensures.opened in
     let ended = rw c.as_bytes.ensures.value at c.open_telling.ensures.ended in
     let p = prompt_call g.R.Source g.W.Sink c.args.prompt.now c.open_telling.new.prompt in
-    let telling = telling_steps c.args.self (string_bytes c.in_ok-password.password) c.args.derivation.bound in
-    told_value c.open_telling.result _ (λ a. ConversationEnds (record p { old = c.ask_password.new.prompt }) telling a) _ opened ended (λ v opens told. (
+    let telling = telling_steps c.args.self (string_bytes c.in_ok-password.password)
+    c.args.derivation.bound in
+    told_value c.open_telling.result _
+    (λ a. ConversationEnds (record p { old = c.ask_password.new.prompt }) telling a) _ opened ended
+    (λ v opens told. (
       bytes,
       string_bytes c.in_ok-password.password,
       answered,
       opens,
-      second_ended p c.ask_password.new.prompt (asking_steps asking_text bytes) (telling_steps c.args.self (typed_password bytes) c.args.derivation.bound) (Ok tt) asked
-          (subst (λ password. ConversationEnds (record p { old = c.ask_password.new.prompt }) (telling_steps c.args.self password c.args.derivation.bound) (Ok tt)) (sym (typed_is bytes _ answered)) told),
+      second_ended p c.ask_password.new.prompt (asking_steps asking_text bytes)
+          (telling_steps c.args.self (typed_password bytes) c.args.derivation.bound) (Ok tt) asked
+          (subst (λ password. ConversationEnds (record p { old = c.ask_password.new.prompt })
+          (telling_steps c.args.self password c.args.derivation.bound) (Ok tt))
+          (sym (typed_is bytes _ answered)) told),
     ))
 
 pub returns-clause-refused : goal.returns-clause-refused
@@ -33,9 +42,15 @@ returns-clause-refused g c =
     let (bytes, answered, asked) = c.in_ok-password.ensures.asked in
     let ended = rw c.as_bytes.ensures.value at c.open_telling.ensures.ended in
     let p = prompt_call g.R.Source g.W.Sink c.args.prompt.now c.open_telling.new.prompt in
-    let telling = telling_steps c.args.self (string_bytes c.in_ok-password.password) c.args.derivation.bound in
-    told_fault c.open_telling.result (λ a. ConversationEnds (record p { old = c.ask_password.new.prompt }) telling a) _ ended (λ e stopped. (
+    let telling = telling_steps c.args.self (string_bytes c.in_ok-password.password)
+    c.args.derivation.bound in
+    told_fault c.open_telling.result
+    (λ a. ConversationEnds (record p { old = c.ask_password.new.prompt }) telling a) _ ended
+    (λ e stopped. (
       bytes,
-      second_ended p c.ask_password.new.prompt (asking_steps asking_text bytes) (telling_steps c.args.self (typed_password bytes) c.args.derivation.bound) (Err e) asked
-          (subst (λ password. ConversationEnds (record p { old = c.ask_password.new.prompt }) (telling_steps c.args.self password c.args.derivation.bound) (Err e)) (sym (typed_is bytes _ answered)) stopped),
+      second_ended p c.ask_password.new.prompt (asking_steps asking_text bytes)
+          (telling_steps c.args.self (typed_password bytes) c.args.derivation.bound) (Err e) asked
+          (subst (λ password. ConversationEnds (record p { old = c.ask_password.new.prompt })
+          (telling_steps c.args.self password c.args.derivation.bound) (Err e))
+          (sym (typed_is bytes _ answered)) stopped),
     ))

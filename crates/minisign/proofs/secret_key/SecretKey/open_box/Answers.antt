@@ -15,13 +15,18 @@ returns-in_err-sk-clause-opens g c =
 pub returns-in_err-sk-clause-headline : goal.returns-in_err-sk-clause-headline
 returns-in_err-sk-clause-headline g c =
     headline_of (prompt_call g.R.Source g.W.Sink c.args.prompt.now c.args.prompt.now)
-    (option_map (λ s. string_bytes s) c.args.password) c.args.sk_box c.args.derivation.bound c.from_residual.result (returns-in_err-sk-clause-opens g c)
+    (option_map (λ s. string_bytes s) c.args.password) c.args.sk_box c.args.derivation.bound
+    c.from_residual.result (returns-in_err-sk-clause-opens g c)
 
 pub returns-clause-opens : goal.returns-clause-opens
 returns-clause-opens g c =
-    subst (λ given. IsOpening (prompt_call g.R.Source g.W.Sink c.args.prompt.now c.open.new.prompt) given c.args.sk_box c.args.derivation.bound c.open.result)
-    c.as_deref.ensures.value (c.open.ensures.opens c.args.sk_box (sym (rw c.as_str.ensures at c.in_ok-sk.ensures)))
+    subst (λ given. IsOpening (prompt_call g.R.Source g.W.Sink c.args.prompt.now c.open.new.prompt) given
+    c.args.sk_box c.args.derivation.bound c.open.result)
+    c.as_deref.ensures.value
+    (c.open.ensures.opens c.args.sk_box (sym (rw c.as_str.ensures at c.in_ok-sk.ensures)))
 
 pub returns-clause-headline : goal.returns-clause-headline
-returns-clause-headline g c = headline_of (prompt_call g.R.Source g.W.Sink c.args.prompt.now c.open.new.prompt)
-    (option_map (λ s. string_bytes s) c.args.password) c.args.sk_box c.args.derivation.bound c.open.result (returns-clause-opens g c)
+returns-clause-headline g c = headline_of
+    (prompt_call g.R.Source g.W.Sink c.args.prompt.now c.open.new.prompt)
+    (option_map (λ s. string_bytes s) c.args.password) c.args.sk_box c.args.derivation.bound c.open.result
+    (returns-clause-opens g c)

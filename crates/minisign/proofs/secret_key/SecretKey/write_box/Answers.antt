@@ -16,12 +16,21 @@ unfolding secret_key_text
 returns-clause-reads_back c = λ lacks.
     let k : SecretKeyRecord = c.args.self.now in
     let base64 : IsBase64Of (base64_of (secret_key_bytes k)) (secret_key_bytes k) =
-    record { each = subst IsBytes (c.deref.ensures.value ∙ c.in_ok-bytes.ensures.bytes) c.in_ok-encoded.ensures.base64.each; encoded = refl } in
-    let stored : ReadsSecretKey (secret_key_bytes k) k = ((bytes_read_as (secret_key_bytes k)).value k).0 (subst (λ b. read_secret_key_bytes b ≡ Ok k) c.in_ok-bytes.ensures.bytes c.in_ok-bytes.ensures.reads_back) in
-    written_secret_key c.args.comment.now (base64_of (secret_key_bytes k)) (secret_key_bytes k) c.from.result k lacks base64 stored (returns-clause-text c)
+    record {
+      each = subst IsBytes (c.deref.ensures.value ∙ c.in_ok-bytes.ensures.bytes)
+          c.in_ok-encoded.ensures.base64.each;
+      encoded = refl;
+    } in
+    let stored : ReadsSecretKey (secret_key_bytes k) k = ((bytes_read_as (secret_key_bytes k)).value k).0
+    (subst (λ b. read_secret_key_bytes b ≡ Ok k) c.in_ok-bytes.ensures.bytes
+    c.in_ok-bytes.ensures.reads_back) in
+    written_secret_key c.args.comment.now (base64_of (secret_key_bytes k)) (secret_key_bytes k) c.from.result
+    k lacks base64 stored (returns-clause-text c)
 
 pub returns-clause-size : goal.returns-clause-size
 returns-clause-size c =
     let k : SecretKeyRecord = c.args.self.now in
-    let stored : ReadsSecretKey (secret_key_bytes k) k = ((bytes_read_as (secret_key_bytes k)).value k).0 (subst (λ b. read_secret_key_bytes b ≡ Ok k) c.in_ok-bytes.ensures.bytes c.in_ok-bytes.ensures.reads_back) in
+    let stored : ReadsSecretKey (secret_key_bytes k) k = ((bytes_read_as (secret_key_bytes k)).value k).0
+    (subst (λ b. read_secret_key_bytes b ≡ Ok k) c.in_ok-bytes.ensures.bytes
+    c.in_ok-bytes.ensures.reads_back) in
     secret_key_size c.args.comment.now c.from.result k stored (returns-clause-text c)

@@ -21,6 +21,8 @@ returns c =
     }) = record { keynum = omega arith; secret = omega arith; checksum = omega arith } in
     let behind : c.split_at.result.1.now ≡ drop 8 stream = c.split_at.ensures.back in
     let (once, twice) = xored_parts _ c.args.self.now stream a b d _ _ _ c.self.view_is len (omega arith)
-    c.split_at.ensures.front (c.split_at-2.ensures.front ∙ ap (take 64) behind) (c.split_at-2.ensures.back ∙ ap (drop 64) behind)
-    (omega arith) (omega arith) (omega arith) c.xor_bytes.ensures c.xor_bytes-2.ensures c.xor_bytes-3.ensures in
+    c.split_at.ensures.front (c.split_at-2.ensures.front ∙ ap (take 64) behind)
+    (c.split_at-2.ensures.back ∙ ap (drop 64) behind)
+    (omega arith) (omega arith) (omega arith) c.xor_bytes.ensures c.xor_bytes-2.ensures
+    c.xor_bytes-3.ensures in
     record { xored = once; restores = twice }

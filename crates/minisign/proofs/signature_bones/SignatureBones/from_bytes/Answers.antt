@@ -5,7 +5,8 @@ use Rattle.minisign.proofs.signature_bones.SignatureBones.from_bytes.Goals as go
 pub returns-then-ne-2-clause-refused : goal.returns-then-ne-2-clause-refused
 returns-then-ne-2-clause-refused c =
     let reads = c.in_ok-signature.ensures in
-    let algorithm : take 2 c.args.bytes.now ≡ c.signature.inside.sig_alg = stored_algorithm _ _ reads ∙ sym (ap (λ s. s.algorithm) c.signature.view_is) in
+    let algorithm : take 2 c.args.bytes.now ≡ c.signature.inside.sig_alg = stored_algorithm _ _ reads
+    ∙ sym (ap (λ s. s.algorithm) c.signature.view_is) in
     inr (
       c.into.ensures,
       stored_length _ _ reads,

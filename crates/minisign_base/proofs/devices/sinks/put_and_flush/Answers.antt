@@ -2,4 +2,5 @@ use Rattle.minisign_base.proofs.SinkLaws.{AppendsFront-whole}
 use Rattle.minisign_base.proofs.devices.sinks.put_and_flush.Goals as goal
 
 pub returns-in-Err-clause-front : goal.returns-in-Err-clause-front
-returns-in-Err-clause-front g c = AppendsFront-whole _ _ _ _ c.in_ok-write_all.ensures.bytes c.flush.ensures.bytes
+returns-in-Err-clause-front g c = AppendsFront-whole _ _ _ _ c.in_ok-write_all.ensures.bytes
+    c.flush.ensures.bytes

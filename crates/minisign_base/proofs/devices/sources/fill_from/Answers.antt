@@ -10,6 +10,7 @@ rest-preserved g c =
     let (within, given, no_new_fault) = c.rest.invariant in
     let bound = c.in_ok-n.ensures.bound in (
       omega (arith, bound, length-drop at c.rest.buf),
-      rw (take-filled at n c.rest.buf c.read.new.buf within bound) (Consumes-trans _ _ _ _ _ given c.in_ok-n.ensures.bytes),
+      rw (take-filled at n c.rest.buf c.read.new.buf within bound)
+          (Consumes-trans _ _ _ _ _ given c.in_ok-n.ensures.bytes),
       c.in_ok-n.ensures.no_new_fault ∙ no_new_fault,
     )

@@ -8,11 +8,17 @@ use Rattle.minisign_base.specs.Prompts.{ConversationEnds, Say, StepEnds, empty_m
 use Rattle.minisign_base.proofs.prompt.Prompt.mark_empty.Goals as goal
 
 -- a conversation of one step ends as that step does
-marked : {R W : Type 0} (p : PromptCall R W) (answer : Result ⊤ Fault) → StepEnds p (Say empty_mark) answer → ConversationEnds p (marking_steps []) answer
+marked : {R W : Type 0} (p : PromptCall R W) (answer : Result ⊤ Fault) → StepEnds p (Say empty_mark) answer
+    → ConversationEnds p (marking_steps []) answer
 marked p (Ok _) said = (p.new, said, refl)
 marked p (Err e) said = inl said
 
 pub returns : goal.returns
 returns g c =
-    let none : c.args.password.now ≡ [] = nil_from_length c.args.password.now (eqb-true (length c.args.password.now) 0 (sym c.if-not-is_empty.ensures)) in
-    record { ended = rw none (marked (prompt_call g.R.Source g.W.Sink c.args.self.now c.say.new.self) c.say.result c.say.ensures.ended) }
+    let none : c.args.password.now ≡ [] = nil_from_length c.args.password.now
+    (eqb-true (length c.args.password.now) 0 (sym c.if-not-is_empty.ensures)) in
+    record {
+      ended = rw none
+          (marked (prompt_call g.R.Source g.W.Sink c.args.self.now c.say.new.self) c.say.result
+          c.say.ensures.ended);
+    }

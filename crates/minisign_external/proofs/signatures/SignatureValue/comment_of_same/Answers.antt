@@ -8,7 +8,8 @@ pub returns-in-Ok : goal.returns-in-Ok
 returns-in-Ok c =
     let (fits, part) = c.in_ok-comment.ensures in
     let (same, utf8) = c.in-Ok.ensures.cases in
-    let digest : bytes_eq (blake2b_digest 32 c.args.sig_text.now) c.args.self.now.text_digest ≡ true = search rules in (
+    let digest : bytes_eq (blake2b_digest 32 c.args.sig_text.now) c.args.self.now.text_digest
+    ≡ true = search rules in (
       is_same c.args.self.now c.args.sig_text.now c.in_ok-comment.comment.now digest fits part utf8,
       same ∙ part,
     )

@@ -9,11 +9,15 @@ use Rattle.minisign_external.proofs.state.State.ask.Goals as goal
 pub returns-in-Err-clause-text : goal.returns-in-Err-clause-text
 returns-in-Err-clause-text c = λ t from.
     let a = c.args in
-    let value : ◌≡◌ {A = Result Unit (Refusal Fault)} (Err c.in-Err.refusal) (asking_result a.self.now a.key.now a.signature.now a.sig_text.now a.allow_legacy (length a.message.now)) = search rules in
-    value ∙ asking_as a.signature.now a.sig_text.now t from a.self.now a.key.now a.allow_legacy (length a.message.now)
+    let value : ◌≡◌ {A = Result Unit (Refusal Fault)} (Err c.in-Err.refusal)
+    (asking_result a.self.now a.key.now a.signature.now a.sig_text.now a.allow_legacy
+    (length a.message.now)) = search rules in
+    value ∙ asking_as a.signature.now a.sig_text.now t from a.self.now a.key.now a.allow_legacy
+    (length a.message.now)
 
 pub returns-in-Err-clause-texts : goal.returns-in-Err-clause-texts
 returns-in-Err-clause-texts c = λ t from.
     let a = c.args in
     opening_refusal a.key.now a.sig_text.now a.allow_legacy (length a.message.now) c.in-Err.refusal
-    (sym (asked_as a.signature.now a.sig_text.now t from a.key.now a.allow_legacy (length a.message.now)) ∙ c.in-Err.ensures.value)
+    (sym (asked_as a.signature.now a.sig_text.now t from a.key.now a.allow_legacy (length a.message.now))
+    ∙ c.in-Err.ensures.value)

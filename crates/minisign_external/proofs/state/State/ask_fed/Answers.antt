@@ -8,7 +8,10 @@ use Rattle.minisign_external.proofs.state.State.ask_fed.Goals as goal
 pub returns-in_err-comment-clause-texts : goal.returns-in_err-comment-clause-texts
 returns-in_err-comment-clause-texts c = λ t from.
     let a = c.args in
-    let p = err_from_is_err_and c.from_residual-in_err-comment.result c.from_residual-in_err-comment.ensures.1 in
-    subst (λ r. IfErr r (IsTextRefusal a.key.now a.sig_text.now a.allow_legacy)) (sym (p.1 ∙ ap (λ e. Err e) p.2))
+    let p = err_from_is_err_and c.from_residual-in_err-comment.result
+    c.from_residual-in_err-comment.ensures.1 in
+    subst (λ r. IfErr r (IsTextRefusal a.key.now a.sig_text.now a.allow_legacy))
+    (sym (p.1 ∙ ap (λ e. Err e) p.2))
     (opening_refusal a.key.now a.sig_text.now a.allow_legacy (length a.message.now) _
-    (sym (asked_as a.signature.now a.sig_text.now t from a.key.now a.allow_legacy (length a.message.now)) ∙ c.in_err-comment.ensures.value))
+    (sym (asked_as a.signature.now a.sig_text.now t from a.key.now a.allow_legacy (length a.message.now))
+    ∙ c.in_err-comment.ensures.value))

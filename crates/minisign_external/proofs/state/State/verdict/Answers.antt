@@ -8,7 +8,8 @@ returns-in-Ok-clause-texts c = λ v pk_text sig_text message legacy accepts has 
     let a = c.args in
     let (utf8, read) = opened_text v legacy sig_text has.signed has.read in
     vouch accepts pk_text sig_text message legacy v keyed utf8 has.signed.comments.trusted
-    (decided accepts v sig_text message legacy has.signed (a.self.now.asked.whole == 1) a.first a.second has.read has.whole answers
+    (decided accepts v sig_text message legacy has.signed (a.self.now.asked.whole == 1) a.first a.second
+    has.read has.whole answers
     ∙ ap (λ j. and_then j (λ _. Ok has.signed.comments.trusted)) (sym c.in-Ok.ensures))
 
 pub returns-in-Err-clause-texts : goal.returns-in-Err-clause-texts
@@ -16,5 +17,6 @@ returns-in-Err-clause-texts c = λ v pk_text sig_text message legacy accepts has
     let a = c.args in
     let (utf8, read) = opened_text v legacy sig_text has.signed has.read in
     refuse accepts pk_text sig_text message legacy v keyed utf8 c.in-Err.fault
-    (decided accepts v sig_text message legacy has.signed (a.self.now.asked.whole == 1) a.first a.second has.read has.whole answers
+    (decided accepts v sig_text message legacy has.signed (a.self.now.asked.whole == 1) a.first a.second
+    has.read has.whole answers
     ∙ ap (λ j. and_then j (λ _. Ok has.signed.comments.trusted)) (sym c.in-Err.ensures))

@@ -10,5 +10,7 @@ returns-clause-holds c = λ m (i, held).
     let s = c.args.self.now in (
       i,
       held_more s.outlen s.h s.count s.buffer _ s.used m c.args.piece.now i held
-          (rw c.copy_from_slice.ensures.after (take-put_mid s.used _ s.buffer c.args.piece.now (s.used + length c.args.piece.now) refl (omega arith))),
+          (rw c.copy_from_slice.ensures.after
+          (take-put_mid s.used _ s.buffer c.args.piece.now (s.used + length c.args.piece.now) refl
+          (omega arith))),
     )

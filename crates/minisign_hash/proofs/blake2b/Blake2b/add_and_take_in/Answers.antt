@@ -12,9 +12,12 @@ returns-clause-holds c = λ m held.
     let rest : List ℕ = c.split_at.result.1.now in
     let blocks : List ℕ = c.split_last_block.result.0.now in
     let last : List ℕ = c.split_last_block.result.1.now in
-    let cut : front ++ rest ≡ c.args.input.now = rw (c.split_at.ensures.front, c.split_at.ensures.back) (take-append-drop _ c.args.input.now) in
+    let cut : front ++ rest ≡ c.args.input.now = rw (c.split_at.ensures.front, c.split_at.ensures.back)
+    (take-append-drop _ c.args.input.now) in
     let parts : ((m ++ front) ++ blocks) ++ last ≡ m ++ c.args.input.now =
     append_assoc (m ++ front) blocks last ∙ append_assoc m front (blocks ++ last)
-    ∙ ap (λ (l : List ℕ). m ++ (front ++ l)) (sym c.split_last_block.ensures.bytes) ∙ ap (λ (l : List ℕ). m ++ l) cut in
+    ∙ ap (λ (l : List ℕ). m ++ (front ++ l)) (sym c.split_last_block.ensures.bytes)
+    ∙ ap (λ (l : List ℕ). m ++ l) cut in
     subst (Holds c.add-2.new.self) parts
-    (c.add-2.ensures.holds _ (c.take_in.ensures.holds _ (c.take_in_buffer.ensures.holds _ (c.add.ensures.holds m held))))
+    (c.add-2.ensures.holds _
+    (c.take_in.ensures.holds _ (c.take_in_buffer.ensures.holds _ (c.add.ensures.holds m held))))

@@ -6,7 +6,8 @@ pub returns-clause-digest : goal.returns-clause-digest
 unfolding output_length
 returns-clause-digest c =
     let n : ℕ = c.args.self.now.outlen in
-    λ m fed. c.copy_from_slice.ensures.after ∙ c.split_at.ensures.front ∙ ap (take n) c.write_u64v_le.ensures ∙ c.last_state-h.ensures m fed
+    λ m fed. c.copy_from_slice.ensures.after ∙ c.split_at.ensures.front ∙ ap (take n) c.write_u64v_le.ensures
+    ∙ c.last_state-h.ensures m fed
 
 pub returns-clause-fed : goal.returns-clause-fed
 unfolding Holds IsFed

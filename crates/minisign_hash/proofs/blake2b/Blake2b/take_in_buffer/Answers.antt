@@ -9,8 +9,10 @@ unfolding Holds
 returns-clause-holds c = λ m (i, held).
     let s = c.args.self.now in
     let size : length (take s.used s.buffer) ≡ s.used = length-take-le s.used s.buffer (omega arith) in
-    let ahead : drop (128 * i) m ≡ take s.used s.buffer ++ [] = sym held.rest ∙ sym (append-nil (take s.used s.buffer)) in (
+    let ahead : drop (128 * i) m ≡ take s.used s.buffer ++ [] = sym held.rest
+    ∙ sym (append-nil (take s.used s.buffer)) in (
       i + s.used / 128,
       held_taken s.outlen _ s.count _ s.buffer 0 m i s.used refl held.len c.requires held.counted refl
-          (rw size at (c.after_blocks-self.ensures.whole refl refl (omega (arith, size, c.requires)) s.outlen m [] i ahead held.state held.counted)),
+          (rw size at (c.after_blocks-self.ensures.whole refl refl (omega (arith, size, c.requires)) s.outlen
+          m [] i ahead held.state held.counted)),
     )

@@ -11,4 +11,5 @@ returns-then-input-self-clause-fed c = λ m (held, lazy). (
 
 pub returns-else-input-self-clause-fed : goal.returns-else-input-self-clause-fed
 unfolding IsFed
-returns-else-input-self-clause-fed c = λ m (held, lazy). (c.add_and_take_in.ensures.holds m held, λ any. c.add_and_take_in.ensures.used)
+returns-else-input-self-clause-fed c = λ m (held, lazy).
+    (c.add_and_take_in.ensures.holds m held, λ any. c.add_and_take_in.ensures.used)

@@ -7,4 +7,5 @@ use Rattle.minisign_kdf.proofs.kept_rows.Rows.len.Goals as goal
 pub returns-clause-rows : goal.returns-clause-rows
 returns-clause-rows c =
     let s = c.self.inside in
-    c.kept_count.ensures ∙ sym (length-rows_of s.r (div_ceil (2 ^ s.n_log2) s.k) s.words.items) ∙ ap (λ (v : KeptRows). length v.rows) c.self.view_is
+    c.kept_count.ensures ∙ sym (length-rows_of s.r (div_ceil (2 ^ s.n_log2) s.k) s.words.items)
+    ∙ ap (λ (v : KeptRows). length v.rows) c.self.view_is

@@ -13,7 +13,11 @@ room_for_rows-requires-clause-cost c =
     omega arith
 
 pub overflow_mul-r-3 : goal.overflow_mul-r-3
-overflow_mul-r-3 c = omega (arith, part_bytes c.r-r.result c.p-p.result (rw (c.r-r.ensures.number, c.p-p.ensures.number) c.r-r.ensures.accepted.product))
+overflow_mul-r-3 c = omega (
+  arith,
+  part_bytes c.r-r.result c.p-p.result
+      (rw (c.r-r.ensures.number, c.p-p.ensures.number) c.r-r.ensures.accepted.product),
+)
 
 pub returns-clause-room : goal.returns-clause-room
 returns-clause-room c = rw (← c.r-r.ensures.number, ← c.n_log2.ensures.number) c.in_ok-rows.ensures.room

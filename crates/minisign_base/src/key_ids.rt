@@ -2,29 +2,29 @@
 
 ghost use Rattle.std.specs.Prelude.{◌≡◌, ◌<◌, Some, true, []};
 ghost use Rattle.std.specs.Fmt.{digit_glyph};
-ghost use Rattle.minisign_base.specs.Identifiers.{identifier_text, last_digits};
+ghost use Rattle.minisign_base.specs.KeyIds.{key_id_text, last_digits};
 
 use std::fmt;
 
 /// The eight bytes that name a pair of keys. `Display` writes them, read little endian, as 16 upper
 /// hexadecimal digits.
 #[derive(Clone, Copy, Debug, PartialEq, Eq)]
-pub struct Identifier(pub [u8; 8]);
+pub struct KeyId(pub [u8; 8]);
 
-impl Identifier {
+impl KeyId {
     /// What `Display` writes. Does not allocate.
     pub fn digits(&self) -> [u8; 16]
-        ensures { result ≡ identifier_text self.now.0 }
+        ensures { result ≡ key_id_text self.now.0 }
     {
         sixteen_digits(u64::from_le_bytes(self.0))
     }
 }
 
 /// Writes the number in 16 uppercase hexadecimal digits.
-impl fmt::Display for Identifier {
-    ghost output = { λ id. Some (identifier_text id.0) };
+impl fmt::Display for KeyId {
+    ghost output = { λ id. Some (key_id_text id.0) };
 
-    #[tactic(auto, unfolding(crate::specs::Identifiers::identifier_text))]
+    #[tactic(auto, unfolding(crate::specs::KeyIds::key_id_text))]
     fn fmt<W: fmt::Write>(&self, f: &mut fmt::Formatter<W>) -> fmt::Result {
         write!(f, "{:016X}", u64::from_le_bytes(self.0))
     }

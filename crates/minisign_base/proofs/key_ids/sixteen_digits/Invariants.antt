@@ -1,6 +1,6 @@
 use Rattle.std.proofs.Common.{◌≡◌, ◌≤◌, [], length, drop}
-use Rattle.minisign_base.specs.Identifiers.{last_digits}
-use Rattle.minisign_base.proofs.identifiers.sixteen_digits.Given as goal
+use Rattle.minisign_base.specs.KeyIds.{last_digits}
+use Rattle.minisign_base.proofs.key_ids.sixteen_digits.Given as goal
 
 abbrev pub invariant-places : goal.invariant-places
 invariant-places l = (l.place ≤ 16) × (length l.digits ≡ 16)

@@ -4,8 +4,8 @@ use Rattle.std.specs.Fmt.{digit_glyph, digits, format_spec, padded_integral}
 use Rattle.std.specs.Int.{from_le_bytes, w64}
 
 -- 8 bytes read little endian, as upper hexadecimal digits with zeros in front (4) up to 16
-unfoldable pub identifier_text : List ℕ → List ℕ
-identifier_text id =
+unfoldable pub key_id_text : List ℕ → List ℕ
+key_id_text id =
     padded_integral (format_spec 32 0 4 16 (2 ^ 64 - 1)) false [] (digits 16 true (from_le_bytes w64 id))
 
 -- the last places of a number in upper hexadecimal digits, before those that are there already
