@@ -68,19 +68,10 @@ bool name_directory(struct directory *directory, const char *target)
         snprintf(names, room, "%.*s/.%s.%s", length, front, name, after[i]);
         *beside[i] = (struct part) { names, names + length + 1 };
     }
-    directory->update = (struct stage) { .name = strcpy(names + room, directory->stages.name), .fd = -1 };
-    directory->number = (struct stage) { .name = strcpy(names + 2 * room, directory->stages.name), .fd = -1 };
-    directory->there = (struct stage) { .fd = -1 };
+    directory->update = (struct stage) { &directory->stages, strcpy(names + room, directory->stages.name), .fd = -1 };
+    directory->number = (struct stage) { &directory->stages, strcpy(names + 2 * room, directory->stages.name), .fd = -1 };
+    directory->there = (struct stage) { &directory->target, .fd = -1 };
     return true;
-}
-
-/* Closes what is open, if it is. */
-static void close_open(int *fd)
-{
-    if (*fd >= 0) {
-        close(*fd);
-        *fd = -1;
-    }
 }
 
 void close_directory(struct directory *directory)
@@ -90,12 +81,6 @@ void close_directory(struct directory *directory)
     unlock_target(directory);
     close_open(&directory->fd);
     free(directory->names);
-}
-
-/* Draws a name: false where there are no random bytes. */
-static bool draw_name(const struct directory *directory, const struct stage *stage)
-{
-    return draw_digits(stage->name + strlen(directory->stages.name) - 1, DRAWN_BYTES);
 }
 
 /* ---- Troubles ---- */
@@ -118,13 +103,10 @@ enum found { THERE, NOT_THERE, UNUSABLE };
 /* Looks for a regular file of this name. */
 static enum found find(struct directory *directory, const struct part *part, struct stat *found)
 {
-    int answer;
-
-    AGAIN(answer, fstatat(directory->fd, part->name, found, AT_SYMLINK_NOFOLLOW));
-    if (answer != 0 && errno == ENOENT) {
-        return NOT_THERE;
-    }
-    if (answer != 0) {
+    if (AGAIN(fstatat(directory->fd, part->name, found, AT_SYMLINK_NOFOLLOW)) != 0) {
+        if (errno == ENOENT) {
+            return NOT_THERE;
+        }
         fails(directory, part, NULL, MINISIGN_OK);
         return UNUSABLE;
     }
@@ -143,13 +125,7 @@ static enum found find(struct directory *directory, const struct part *part, str
 /* What an open file is: false where the system does not tell, which is remembered. */
 static bool look_at(struct directory *directory, const struct part *part, int fd, struct stat *found)
 {
-    int answer;
-
-    AGAIN(answer, fstat(fd, found));
-    if (answer != 0) {
-        fails(directory, part, NULL, MINISIGN_OK);
-    }
-    return answer == 0;
+    return AGAIN(fstat(fd, found)) == 0 || fails(directory, part, NULL, MINISIGN_READING_FAILED) == MINISIGN_OK;
 }
 
 /* Whether the name of a part leads to this open file, and through no link. */
@@ -162,10 +138,7 @@ static enum found leads_to(struct directory *directory, const struct part *part,
         return UNUSABLE;
     }
     found = find(directory, part, &named);
-    if (found == THERE && !is_same_file(&named, &opened)) {
-        return NOT_THERE;
-    }
-    return found;
+    return found == THERE && !is_same_file(&named, &opened) ? NOT_THERE : found;
 }
 
 /* Whose the lock file and the record have to be: the owner and the group of the file at the target, or where that is
@@ -190,12 +163,9 @@ static bool give_to_keeper(struct directory *directory, const struct part *part,
     if (!find_keeper(directory, &keeper) || !look_at(directory, part, fd, &own)) {
         return false;
     }
-    if ((own.st_uid == keeper.st_uid && own.st_gid == keeper.st_gid)
-        || give_owner(fd, keeper.st_uid, keeper.st_gid, &is_given)) {
-        return true;
-    }
-    fails(directory, part, NULL, MINISIGN_OK);
-    return false;
+    return (own.st_uid == keeper.st_uid && own.st_gid == keeper.st_gid)
+           || give_owner(fd, keeper.st_uid, keeper.st_gid, &is_given)
+           || fails(directory, part, NULL, MINISIGN_WRITING_FAILED) == MINISIGN_OK;
 }
 
 /* ---- What is opened ---- */
@@ -216,9 +186,9 @@ static enum minisign_error keeps_changing(struct directory *directory, const str
     return fails(directory, part, "others remove it again and again", MINISIGN_READING_FAILED);
 }
 
-/* Opens a file for reading, to which its name has to lead still once it is open, and again where others replaced it
- * meanwhile; -1 where there is none. */
-static enum minisign_error open_part(struct directory *directory, const struct part *part, int *fd)
+/* Opens a file, to which its name has to lead still once it is open, and again where others replaced it meanwhile; -1 where
+ * there is none. */
+static enum minisign_error open_part(struct directory *directory, const struct part *part, int how, int *fd)
 {
     for (int i = 0; i < MAX_OPENINGS; i++) {
         struct stat named;
@@ -228,7 +198,7 @@ static enum minisign_error open_part(struct directory *directory, const struct p
         if (found != THERE) {
             return found == NOT_THERE ? MINISIGN_OK : MINISIGN_READING_FAILED;
         }
-        AGAIN(*fd, openat(directory->fd, part->name, O_RDONLY | SAFELY));
+        *fd = AGAIN(openat(directory->fd, part->name, how | SAFELY));
         /* (others may have removed it meanwhile, or put a link there) */
         if (*fd < 0 && errno != ENOENT && errno != ELOOP) {
             return fails_to_open(directory, part);
@@ -247,84 +217,66 @@ static enum minisign_error open_part(struct directory *directory, const struct p
 
 /* ---- The lock ---- */
 
-/* A lock file that was opened, and whether this run has made it. */
-struct opened {
-    int fd;
-    bool is_made;
-};
-
-/* Opens the lock file, or makes it. NOT_THERE where others removed it or made one meanwhile. */
-static enum found open_lock(struct directory *directory, struct opened *lock)
-{
-    struct stat found;
-    enum found is_there = find(directory, &directory->lock, &found);
-
-    if (is_there == UNUSABLE) {
-        return UNUSABLE;
-    }
-    lock->is_made = is_there == NOT_THERE;
-    AGAIN(lock->fd, openat(directory->fd, directory->lock.name,
-                           O_RDWR | SAFELY | (lock->is_made ? O_CREAT | O_EXCL : 0), FOR_THE_OWNER));
-    if (lock->fd < 0 && errno == (lock->is_made ? EEXIST : ENOENT)) {
-        return NOT_THERE;
-    }
-    if (lock->fd < 0) {
-        (void) (lock->is_made ? fails(directory, &directory->lock, NULL, MINISIGN_OK)
-                              : fails_to_open(directory, &directory->lock));
-        return UNUSABLE;
-    }
-    return leads_to(directory, &directory->lock, lock->fd);
-}
-
-/* Locks the file that was opened, which has to be there still: who held the lock before may have removed it. */
-static enum minisign_error lock_file(struct directory *directory, const struct opened *lock, enum found *found)
-{
-    int answer;
-
-    AGAIN(answer, flock(lock->fd, LOCK_EX | LOCK_NB));
-    if (answer != 0 && errno == EWOULDBLOCK) {
-        return MINISIGN_PLACE_IN_USE;
-    }
-    if (answer != 0) {
-        return fails(directory, &directory->lock, NULL, MINISIGN_READING_FAILED);
-    }
-    *found = leads_to(directory, &directory->lock, lock->fd);
-    if (*found == UNUSABLE
-        || (*found == THERE && lock->is_made && !give_to_keeper(directory, &directory->lock, lock->fd))) {
-        return MINISIGN_READING_FAILED;
-    }
-    return MINISIGN_OK;
-}
-
 enum minisign_error open_directory(struct directory *directory)
 {
     if (directory->fd < 0) {
-        AGAIN(directory->fd, open(directory->itself.shown, O_RDONLY | O_DIRECTORY | O_CLOEXEC));
+        directory->fd = AGAIN(open(directory->itself.shown, O_RDONLY | O_DIRECTORY | O_CLOEXEC));
     }
     return directory->fd >= 0 ? MINISIGN_OK
-                           : fails(directory, &directory->itself, errno == ENOENT ? "there is no such directory" : NULL,
-                                   MINISIGN_READING_FAILED);
+                              : fails(directory, &directory->itself, errno == ENOENT ? "there is no such directory" : NULL,
+                                      MINISIGN_READING_FAILED);
+}
+
+/* Opens the lock file, or makes it; -1 where others made one meanwhile. */
+static enum minisign_error open_lock(struct directory *directory, int *fd, bool *is_made)
+{
+    enum minisign_error error = open_part(directory, &directory->lock, O_RDWR, fd);
+
+    *is_made = error == MINISIGN_OK && *fd < 0;
+    if (*is_made) {
+        *fd = AGAIN(openat(directory->fd, directory->lock.name, O_RDWR | O_CREAT | O_EXCL | SAFELY, FOR_THE_OWNER));
+        error = *fd >= 0 || errno == EEXIST ? MINISIGN_OK : fails(directory, &directory->lock, NULL, MINISIGN_READING_FAILED);
+    }
+    return error;
+}
+
+/* Locks the file that was opened, which has to be there still: who held the lock before may have removed it. Otherwise it is
+ * closed. */
+static enum minisign_error lock_file(struct directory *directory, int fd, bool is_made)
+{
+    enum minisign_error error = MINISIGN_OK;
+    enum found found = NOT_THERE;
+
+    if (AGAIN(flock(fd, LOCK_EX | LOCK_NB)) == 0) {
+        found = leads_to(directory, &directory->lock, fd);
+    } else if (errno == EWOULDBLOCK) {
+        error = MINISIGN_TARGET_IN_USE;
+    } else {
+        error = fails(directory, &directory->lock, NULL, MINISIGN_READING_FAILED);
+    }
+    if (found == UNUSABLE || (found == THERE && is_made && !give_to_keeper(directory, &directory->lock, fd))) {
+        error = MINISIGN_READING_FAILED;
+    }
+    if (found == THERE && error == MINISIGN_OK) {
+        directory->locked = fd;
+    } else {
+        close(fd);
+    }
+    return error;
 }
 
 static enum minisign_error lock_found(struct directory *directory)
 {
     for (int i = 0; i < MAX_OPENINGS; i++) {
-        enum minisign_error error = MINISIGN_OK;
-        struct opened lock = { .fd = -1 };
-        enum found found = open_lock(directory, &lock);
+        bool is_made;
+        int fd;
+        enum minisign_error error = open_lock(directory, &fd, &is_made);
 
-        if (found == THERE) {
-            error = lock_file(directory, &lock, &found);
+        if (error == MINISIGN_OK && fd >= 0) {
+            error = lock_file(directory, fd, is_made);
         }
-        if (found == THERE && error == MINISIGN_OK) {
-            directory->locked = lock.fd;
-            return MINISIGN_OK;
-        }
-        if (lock.fd >= 0) {
-            close(lock.fd);
-        }
-        if (found == UNUSABLE || error != MINISIGN_OK) {
-            return error == MINISIGN_OK ? MINISIGN_READING_FAILED : error;
+        if (error != MINISIGN_OK || directory->locked >= 0) {
+            return error;
         }
     }
     return keeps_changing(directory, &directory->lock);
@@ -342,41 +294,33 @@ static bool is_locked(struct directory *directory)
     return found == THERE;
 }
 
-/* Gives the name of the lock to a new file of the keeper's, which is locked first: whether that was done. */
-static bool put_new_lock(struct directory *directory, const struct stage *fresh, const struct stat *keeper)
+/* Where a file that runs make is another's than the keeper's, as after a run by root or where the target was given away, and
+ * root runs this, makes the one that is to take its place: one that was found is never given away. */
+static enum minisign_error begin_renewal(struct directory *directory, const struct part *part, bool is_lock, struct stage *fresh)
 {
-    int answer;
+    struct stat keeper, own;
+    enum found found = find(directory, part, &own);
 
-    AGAIN(answer, fchown(fresh->fd, keeper->st_uid, keeper->st_gid));
-    if (answer == 0) {
-        AGAIN(answer, flock(fresh->fd, LOCK_EX | LOCK_NB));
+    if (found == UNUSABLE || !find_keeper(directory, &keeper)) {
+        return MINISIGN_READING_FAILED;
     }
-    if (answer == 0) {
-        AGAIN(answer, renameat(directory->fd, fresh->name, directory->fd, directory->lock.name));
-    }
-    return answer == 0;
+    /* (a lock that holds anything is none that a run has made) */
+    return found == NOT_THERE || own.st_uid == keeper.st_uid || (is_lock && own.st_size > 0) || geteuid() != 0
+               ? MINISIGN_OK
+               : create_stage(directory, fresh);
 }
 
-/* Where the lock is another's than the keeper's, as after a run by root or where the target was given away, and root
- * runs this, the lock becomes a new file of the keeper's. One that was found is never given away, and stays where it
- * holds anything: such a file is no lock that a run has made. */
+/* The new lock is locked before it gets the name. */
 static enum minisign_error renew_lock(struct directory *directory)
 {
     struct stage fresh = directory->number;
-    struct stat keeper, own;
-    enum minisign_error error;
+    enum minisign_error error = begin_renewal(directory, &directory->lock, true, &fresh);
 
-    if (!find_keeper(directory, &keeper) || !look_at(directory, &directory->lock, directory->locked, &own)) {
-        return MINISIGN_READING_FAILED;
-    }
-    if (own.st_uid == keeper.st_uid || own.st_size > 0 || geteuid() != 0) {
-        return MINISIGN_OK;
-    }
-    error = create_stage(directory, &fresh);
-    if (error != MINISIGN_OK) {
+    if (error != MINISIGN_OK || fresh.fd < 0) {
         return error;
     }
-    if (put_new_lock(directory, &fresh, &keeper)) {
+    if (give_to_keeper(directory, &directory->lock, fresh.fd) && AGAIN(flock(fresh.fd, LOCK_EX | LOCK_NB)) == 0
+        && AGAIN(renameat(directory->fd, fresh.name, directory->fd, directory->lock.name)) == 0) {
         close(directory->locked);
         directory->locked = fresh.fd;
         return MINISIGN_OK;
@@ -392,9 +336,7 @@ enum minisign_error lock_target(struct directory *directory)
     if (directory->locked >= 0) {
         return is_locked(directory) ? MINISIGN_OK : MINISIGN_READING_FAILED;
     }
-    if (error == MINISIGN_OK) {
-        error = lock_found(directory);
-    }
+    error = error == MINISIGN_OK ? lock_found(directory) : error;
     return error == MINISIGN_OK ? renew_lock(directory) : error;
 }
 
@@ -409,9 +351,7 @@ void unlock_target(struct directory *directory)
 /* What cannot be removed, as a directory of such a name, stays. */
 static void remove_name(int directory, const char *name)
 {
-    int answer;
-
-    AGAIN(answer, unlinkat(directory, name, 0));
+    (void) AGAIN(unlinkat(directory, name, 0));
 }
 
 enum minisign_error remove_leftovers(struct directory *directory)
@@ -428,45 +368,38 @@ enum minisign_error remove_leftovers(struct directory *directory)
                : fails(directory, &directory->itself, NULL, MINISIGN_WRITING_FAILED);
 }
 
-enum minisign_error read_record(struct directory *directory, uint8_t record[MINISIGN_RECORD_TEXT_BYTES], size_t *len, bool *is_there)
+enum minisign_error read_record(struct directory *directory, struct record *record)
 {
     uint8_t bytes[MINISIGN_RECORD_TEXT_BYTES + 1];
+    struct stat found;
     ssize_t n;
     int fd;
-    enum minisign_error error = open_part(directory, &directory->record, &fd);
+    enum minisign_error error = open_part(directory, &directory->record, O_RDONLY, &fd);
 
     if (fd < 0) {
         return error;
     }
-    n = read_whole(fd, bytes, sizeof bytes);
-    close(fd);
+    n = look_at(directory, &directory->record, fd, &found) ? read_whole(fd, bytes, sizeof bytes) : -1;
+    close_open(&fd);
     if (n < 0 || n == sizeof bytes) {
         errno = n < 0 ? errno : EFBIG;
         return fails(directory, &directory->record, n < 0 ? NULL : "it is too long for a record", MINISIGN_READING_FAILED);
     }
-    *len = (size_t) n;
-    memcpy(record, bytes, *len);
-    *is_there = true;
+    *record = (struct record) { true, .len = (size_t) n, .written = found.st_mtime < 0 ? 0 : (uint64_t) found.st_mtime };
+    memcpy(record->text, bytes, record->len);
     return MINISIGN_OK;
 }
 
-enum minisign_error renew_record(struct directory *directory, const uint8_t *record, size_t len)
+enum minisign_error renew_record(struct directory *directory, const struct record *record)
 {
     struct stage fresh = directory->number;
-    struct stat keeper, own;
-    enum minisign_error error;
+    enum minisign_error error = begin_renewal(directory, &directory->record, false, &fresh);
 
-    if (!find_keeper(directory, &keeper) || find(directory, &directory->record, &own) == UNUSABLE) {
-        return MINISIGN_READING_FAILED;
-    }
-    if (own.st_uid == keeper.st_uid || geteuid() != 0) {
-        return MINISIGN_OK;
-    }
-    error = create_stage(directory, &fresh);
-    if (error != MINISIGN_OK) {
+    if (error != MINISIGN_OK || fresh.fd < 0) {
         return error;
     }
-    error = write_stage(directory, &fresh, record, len);
+    error = write_stage(directory, &fresh, record->text, record->len);
+    error = error == MINISIGN_OK ? date_stage(directory, &fresh, record->written) : error;
     error = error == MINISIGN_OK ? sync_record(directory, &fresh) : error;
     error = error == MINISIGN_OK ? rename_stage(directory, &fresh, &directory->record) : error;
     close(fresh.fd);
@@ -481,53 +414,25 @@ enum minisign_error renew_record(struct directory *directory, const uint8_t *rec
 
 enum minisign_error open_target(struct directory *directory)
 {
-    return open_part(directory, &directory->target, &directory->there.fd);
-}
-
-enum minisign_error read_target(struct directory *directory, uint8_t *bytes, size_t room, size_t *len)
-{
-    ssize_t n;
-
-    AGAIN(n, read(directory->there.fd, bytes, room));
-    if (n < 0) {
-        return fails(directory, &directory->target, NULL, MINISIGN_READING_FAILED);
-    }
-    *len = (size_t) n;
-    return MINISIGN_OK;
-}
-
-/* Syncs a file that is open. */
-static enum minisign_error sync_file(struct directory *directory, const struct part *part, int fd)
-{
-    int answer;
-
-    AGAIN(answer, fsync(fd));
-    return answer == 0 ? MINISIGN_OK : fails(directory, part, NULL, MINISIGN_WRITING_FAILED);
-}
-
-enum minisign_error sync_target(struct directory *directory)
-{
-    return sync_file(directory, &directory->target, directory->there.fd);
+    directory->there = (struct stage) { &directory->target, .fd = -1 };
+    return open_part(directory, &directory->target, O_RDONLY, &directory->there.fd);
 }
 
 /* ---- Stages ---- */
 
-/* Makes a file under the name of a stage, which was drawn. */
+/* Draws the name of a stage, and makes a file under it. */
 static enum minisign_error make_file(struct directory *directory, struct stage *stage)
 {
+    if (!draw_digits(stage->name + strlen(directory->stages.name) - 1, DRAWN_BYTES)) {
+        return MINISIGN_RANDOM_SOURCE_FAILED;
+    }
     stage->fd = open_named(directory->fd, stage->name, FOR_THE_OWNER);
     return stage->fd >= 0 ? MINISIGN_OK : fails(directory, &directory->stages, NULL, MINISIGN_WRITING_FAILED);
 }
 
 enum minisign_error create_stage(struct directory *directory, struct stage *stage)
 {
-    if (!draw_name(directory, stage)) {
-        return MINISIGN_RANDOM_SOURCE_FAILED;
-    }
-    if (!is_locked(directory)) {
-        return MINISIGN_WRITING_FAILED;
-    }
-    return make_file(directory, stage);
+    return is_locked(directory) ? make_file(directory, stage) : MINISIGN_WRITING_FAILED;
 }
 
 enum minisign_error create_nameless(struct directory *directory, struct stage *stage)
@@ -538,9 +443,6 @@ enum minisign_error create_nameless(struct directory *directory, struct stage *s
         return error;
     }
     *stage = directory->update;
-    if (!draw_name(directory, stage)) {
-        return MINISIGN_RANDOM_SOURCE_FAILED;
-    }
     error = make_file(directory, stage);
     return error == MINISIGN_OK ? remove_stage(directory, stage) : error;
 }
@@ -552,14 +454,21 @@ enum minisign_error write_stage(struct directory *directory, const struct stage 
                                                : fails(directory, &directory->stages, NULL, MINISIGN_WRITING_FAILED);
 }
 
+enum minisign_error date_stage(struct directory *directory, const struct stage *stage, uint64_t written)
+{
+    struct timespec times[] = { { .tv_nsec = UTIME_OMIT }, { .tv_sec = (time_t) written } };
+
+    return AGAIN(futimens(stage->fd, times)) == 0 ? MINISIGN_OK
+                                                  : fails(directory, &directory->stages, NULL, MINISIGN_WRITING_FAILED);
+}
+
 enum minisign_error read_stage(struct directory *directory, struct stage *stage, uint8_t *bytes, size_t room,
                                size_t *len)
 {
-    ssize_t n;
+    ssize_t n = AGAIN(pread(stage->fd, bytes, room, (off_t) stage->read));
 
-    AGAIN(n, pread(stage->fd, bytes, room, (off_t) stage->read));
     if (n < 0) {
-        return fails(directory, &directory->stages, NULL, MINISIGN_READING_FAILED);
+        return fails(directory, stage->shown, NULL, MINISIGN_READING_FAILED);
     }
     stage->read += (uint64_t) n;
     if (stage->read - stage->begun >= BEGUN_BYTES) {
@@ -575,8 +484,8 @@ static enum minisign_error fails_to_give(struct directory *directory, mode_t mod
 {
     bool is_denied = errno == EPERM || errno == EACCES;
 
-    snprintf(directory->denied, sizeof directory->denied, "the mode %03o is not allowed here", (unsigned) mode);
-    return fails(directory, &directory->stages, is_denied ? directory->denied : NULL, MINISIGN_WRITING_FAILED);
+    snprintf(directory->words, sizeof directory->words, "the mode %03o is not allowed here", (unsigned) mode);
+    return fails(directory, &directory->stages, is_denied ? directory->words : NULL, MINISIGN_WRITING_FAILED);
 }
 
 /* Gives the stage the permissions of an older file, if there is one, or the mode that is given. */
@@ -615,7 +524,7 @@ enum minisign_error take_permissions(struct directory *directory)
 
 enum minisign_error sync_stage(struct directory *directory, const struct stage *stage)
 {
-    return sync_file(directory, &directory->stages, stage->fd);
+    return AGAIN(fsync(stage->fd)) == 0 ? MINISIGN_OK : fails(directory, stage->shown, NULL, MINISIGN_WRITING_FAILED);
 }
 
 enum minisign_error sync_record(struct directory *directory, const struct stage *stage)
@@ -627,31 +536,26 @@ enum minisign_error sync_record(struct directory *directory, const struct stage 
 
 enum minisign_error rename_stage(struct directory *directory, const struct stage *stage, const struct part *to)
 {
-    int answer;
-
     if (!is_locked(directory)) {
         return MINISIGN_WRITING_FAILED;
     }
-    AGAIN(answer, renameat(directory->fd, stage->name, directory->fd, to->name));
-    return answer == 0 ? MINISIGN_OK : fails(directory, to, NULL, MINISIGN_WRITING_FAILED);
+    return AGAIN(renameat(directory->fd, stage->name, directory->fd, to->name)) == 0
+               ? MINISIGN_OK
+               : fails(directory, to, NULL, MINISIGN_WRITING_FAILED);
 }
 
 enum minisign_error sync_names(struct directory *directory)
 {
-    int answer;
-
-    AGAIN(answer, fsync(directory->fd));
     /* (a file system that syncs no directories says so) */
-    return answer == 0 || errno == EINVAL ? MINISIGN_OK
-                                          : fails(directory, &directory->itself, NULL, MINISIGN_WRITING_FAILED);
+    return AGAIN(fsync(directory->fd)) == 0 || errno == EINVAL
+               ? MINISIGN_OK
+               : fails(directory, &directory->itself, NULL, MINISIGN_WRITING_FAILED);
 }
 
 enum minisign_error remove_stage(struct directory *directory, const struct stage *stage)
 {
-    int answer;
-
-    AGAIN(answer, unlinkat(directory->fd, stage->name, 0));
     /* (a run that has the lock removes what seems to be left over) */
-    return answer == 0 || errno == ENOENT ? MINISIGN_OK
-                                          : fails(directory, &directory->stages, NULL, MINISIGN_WRITING_FAILED);
+    return AGAIN(unlinkat(directory->fd, stage->name, 0)) == 0 || errno == ENOENT
+               ? MINISIGN_OK
+               : fails(directory, &directory->stages, NULL, MINISIGN_WRITING_FAILED);
 }

@@ -21,13 +21,22 @@ struct part {
     const char *name;
 };
 
-/* A new file that is to get a lasting name: its own is drawn. */
+/* A file that is read back: what is shown of it; and of a new one, which is to get a lasting name, its own, which is drawn. */
 struct stage {
+    const struct part *shown;
     char *name;
     int fd;
     /* How many bytes were read back, and of how many the system was asked to begin the sync. */
     uint64_t read;
     uint64_t begun;
+};
+
+/* What the record holds, if there is one, and when it was last written, in seconds since the beginning of 1970. */
+struct record {
+    bool is_there;
+    uint8_t text[MINISIGN_RECORD_TEXT_BYTES];
+    size_t len;
+    uint64_t written;
 };
 
 /* What could not be used: why, in words where there are some that say more than the number of errno, and by that. */
@@ -50,10 +59,11 @@ struct directory {
     struct stage update;
     struct stage number;
     struct stage there;
-    /* The permissions of the update, if they are given; and what is said where some are not allowed. */
+    /* The permissions of the update, if they are given. */
     bool has_mode;
     mode_t mode;
-    char denied[40];
+    /* Room for the words of a trouble. */
+    char words[80];
     int fd;
     int locked;
     /* Memory of malloc, in which the names stand. */
@@ -74,7 +84,7 @@ void close_directory(struct directory *directory);
 /* Opens the directory, where it is not open yet. */
 enum minisign_error open_directory(struct directory *directory);
 
-/* Locks the target by the lock file: MINISIGN_PLACE_IN_USE where another run holds the lock. A target that this run has
+/* Locks the target by the lock file: MINISIGN_TARGET_IN_USE where another run holds the lock. A target that this run has
  * locked stays so. The lock file becomes that of whoever may go on after this run, as far as that is allowed, but none
  * that was found is given away. */
 enum minisign_error lock_target(struct directory *directory);
@@ -85,21 +95,18 @@ void unlock_target(struct directory *directory);
 /* Removes the stages that killed runs have left, as far as they can be removed. */
 enum minisign_error remove_leftovers(struct directory *directory);
 
-/* Reads what the record holds, and its length, and tells that there is one. */
-enum minisign_error read_record(struct directory *directory, uint8_t record[MINISIGN_RECORD_TEXT_BYTES], size_t *len, bool *is_there);
+enum minisign_error read_record(struct directory *directory, struct record *record);
 
 /* Where the record is another's than the keeper's, as after a run by root, and root runs this, the record becomes a new
- * file of the keeper's, which holds the same: one that was found is never given away. */
-enum minisign_error renew_record(struct directory *directory, const uint8_t *record, size_t len);
+ * file of the keeper's, which holds the same and was written when the older one was: one that was found is never given
+ * away. */
+enum minisign_error renew_record(struct directory *directory, const struct record *record);
+
+/* Has the file system say that the stage was written at this moment. */
+enum minisign_error date_stage(struct directory *directory, const struct stage *stage, uint64_t written);
 
 /* Opens the file at the target for reading, where there is one: its descriptor is -1 otherwise. */
 enum minisign_error open_target(struct directory *directory);
-
-/* Reads the next bytes of the file at the target, none at its end. */
-enum minisign_error read_target(struct directory *directory, uint8_t *bytes, size_t room, size_t *len);
-
-/* Syncs what the file at the target holds, which is open. */
-enum minisign_error sync_target(struct directory *directory);
 
 /* Draws a name, and makes the stage under it, for its owner alone. */
 enum minisign_error create_stage(struct directory *directory, struct stage *stage);
@@ -111,14 +118,14 @@ enum minisign_error create_nameless(struct directory *directory, struct stage *s
 enum minisign_error write_stage(struct directory *directory, const struct stage *stage, const uint8_t *bytes,
                                 size_t len);
 
-/* Reads back the next bytes of what the stage holds, none at its end. */
+/* Reads the next bytes of what the stage, or the file at the target, holds, none at its end. */
 enum minisign_error read_stage(struct directory *directory, struct stage *stage, uint8_t *bytes, size_t room,
                                size_t *len);
 
 /* Gives the stage of the update the permissions of the file at the target, or those that are given. */
 enum minisign_error take_permissions(struct directory *directory);
 
-/* Syncs what the stage holds; and of a record, which becomes that of whoever may go on after this run, as far as that is
+/* Syncs what the stage, or the file at the target, holds; and of a record, which becomes that of whoever may go on after this run, as far as that is
  * allowed. */
 enum minisign_error sync_stage(struct directory *directory, const struct stage *stage);
 enum minisign_error sync_record(struct directory *directory, const struct stage *stage);

@@ -13,37 +13,32 @@
 #include <unistd.h>
 
 #include "shared/again.h"
+#include "shared/handles.h"
 
 /* How often in a second the lock is asked for. */
 #define WAITS 10
 
 static bool make_due_call(struct installing *run);
 
-/* The machine is told of the call that is due alone: so it answers nothing else. */
+/* The machine is told of the call that is due alone: so it answers nothing else, but that there is more or less data than
+ * was signed, after which it says what comes of that. */
 static void must(enum minisign_error error)
 {
-    if (error != MINISIGN_OK) {
+    if (error != MINISIGN_OK && error != MINISIGN_OTHER_SIZE) {
         abort();
     }
 }
 
 struct installing *begin_installing(const struct wanted *wanted)
 {
-    struct directory directory;
-    struct installing *run;
+    struct installing *run = calloc(1, sizeof *run);
 
-    if (!name_directory(&directory, wanted->target)) {
+    if (run == NULL || !name_directory(&run->directory, wanted->target)) {
+        free(run);
         return NULL;
     }
-    run = calloc(1, sizeof *run);
-    if (run == NULL) {
-        close_directory(&directory);
-        errno = ENOMEM;
-        return NULL;
-    }
-    directory.has_mode = wanted->has_mode;
-    directory.mode = wanted->mode;
-    run->directory = directory;
+    run->directory.has_mode = wanted->has_mode;
+    run->directory.mode = wanted->mode;
     run->wanted = wanted;
     run->held.fd = -1;
     return run;
@@ -56,9 +51,7 @@ void end_installing(struct installing *run)
             /* What was made is removed. */
         }
     }
-    if (run->held.fd >= 0) {
-        close(run->held.fd);
-    }
+    close_open(&run->held.fd);
     close_directory(&run->directory);
     free(run);
 }
@@ -76,13 +69,36 @@ const char *wanted_name(const struct installing *run)
     return run->wanted->name == NULL ? run->directory.target.name : run->wanted->name;
 }
 
+const uint8_t *vouched_comment(const struct installing *run, size_t *len)
+{
+    *len = run->questions.comment_len;
+    return minisign_install_is_vouched(&run->machine) == 1 ? run->message + run->questions.comment_offset : NULL;
+}
+
 /* The moment that the clock shows, in seconds since the beginning of 1970. A clock that shows an earlier one is wrong,
- * and counts as the last moment that there is: so what expires has expired. */
-static uint64_t now(void)
+ * and counts as the last moment that there is: so what expires has expired. One that shows less than the time at which the
+ * record was written is wrong as well, which the machine judges. */
+static uint64_t now(struct installing *run)
 {
     time_t shown = time(NULL);
 
+    run->is_clock_behind = run->record.is_there && run->record.written > 0 && !run->wanted->is_first
+                           && (shown < 0 || (uint64_t) shown < run->record.written);
     return shown < 0 ? UINT64_MAX : (uint64_t) shown;
+}
+
+/* Remembers by which time the clock is taken for wrong: that at which the record was written. */
+static void blame_clock(struct installing *run)
+{
+    struct directory *directory = &run->directory;
+    time_t written = (time_t) run->record.written;
+    struct tm parts;
+
+    if (gmtime_r(&written, &parts) != NULL
+        && strftime(directory->words, sizeof directory->words,
+                    "it was written at %Y-%m-%d %H:%M:%S UTC, and the clock shows less: set it", &parts) > 0) {
+        directory->trouble = (struct trouble) { directory->record.shown, directory->words, EINVAL };
+    }
 }
 
 /* Hands over the text of the signature, and what Ed25519 answers to the questions about it. */
@@ -92,7 +108,7 @@ static void answer_questions(struct installing *run)
     const char *name = wanted_name(run);
     minisign_questions *q = &run->questions;
     enum minisign_error error = minisign_install_ask(&run->machine, wanted->signature, wanted->signature_len,
-                                                     (const uint8_t *) name, strlen(name), now(), q, run->message,
+                                                     (const uint8_t *) name, strlen(name), now(run), q, run->message,
                                                      TEXT_BYTES);
 
     if (error == MINISIGN_OK) {
@@ -100,7 +116,9 @@ static void answer_questions(struct installing *run)
         enum minisign_answer second = wanted->answer(q->comment_signature, run->message, q->message_len, q->public_key);
 
         error = minisign_install_answer(&run->machine, first, second);
-        run->is_vouched_for = run->call == MINISIGN_DUE_JUDGE ? error == MINISIGN_OK : run->is_vouched_for;
+        if (error == MINISIGN_EXPIRED && run->is_clock_behind) {
+            blame_clock(run);
+        }
     }
     /* (what could not be asked or answered is still due) */
     if (minisign_install_due(&run->machine) == run->call) {
@@ -117,34 +135,53 @@ static enum minisign_error data_fails(struct installing *run, const char *cause)
     return MINISIGN_READING_FAILED;
 }
 
-/* Begins: data that may stand still, as that of a pipe, is no regular file. */
+/* Has the machine begin with these keys. Data that may stand still, as that of a pipe, is no regular file. */
+static void begin_with(struct installing *run, const minisign_public_key *key, const minisign_public_key *other)
+{
+    const struct wanted *wanted = run->wanted;
+    bool is_waiting = !run->is_file && run->held.fd < 0;
+
+    must(minisign_install_init(&run->machine, key, other, wanted->is_first, wanted->again, wanted->is_check, is_waiting,
+                               wanted->must_expire, wanted->numbering));
+}
+
+/* Whether the second key is asked, in a run of its own, as it has the key ID of the first, which has not signed the comment:
+ * of two keys of one ID the machine asks the first alone. Nothing was made then. */
+static bool asks_second_key(struct installing *run)
+{
+    const minisign_public_key *keys = run->wanted->keys;
+
+    if (run->is_second_key || run->wanted->key_count < MAX_KEYS || run->error != MINISIGN_COMMENT_SIGNATURE_REFUSED
+        || run->directory.update.fd >= 0 || memcmp(keys[0].key_id, keys[1].key_id, sizeof keys[0].key_id) != 0) {
+        return false;
+    }
+    run->is_second_key = true;
+    begin_with(run, &keys[1], &keys[0]);
+    return true;
+}
+
+/* Looks at the data, and begins. */
 static void begin(struct installing *run)
 {
     const struct wanted *wanted = run->wanted;
-    const minisign_public_key *keys = wanted->keys;
     struct stat found = { 0 };
-    int answer = 0;
+    bool is_open = wanted->is_check || AGAIN(fstat(wanted->data, &found)) == 0;
 
-    if (!wanted->is_check) {
-        AGAIN(answer, fstat(wanted->data, &found));
-    }
     run->is_file = S_ISREG(found.st_mode);
     run->data = wanted->data;
     run->data_size = run->is_file ? (uint64_t) found.st_size : 0;
-    must(minisign_install_init(&run->machine, &keys[0], &keys[wanted->key_count - 1], wanted->is_first, wanted->again,
-                               wanted->is_check, !run->is_file, wanted->numbering));
-    if (answer != 0) {
+    begin_with(run, &wanted->keys[0], &wanted->keys[wanted->key_count - 1]);
+    if (!is_open) {
         tell(run, data_fails(run, NULL));
     }
 }
 
-/* Reads the next piece of the data, and writes it after what a stage holds: of none, the end, `is_last` tells. */
-static enum minisign_error move_piece(struct installing *run, struct stage *to, bool *is_last)
+/* Reads the next piece of the data, and writes it after what a stage holds; none at the end. */
+static enum minisign_error move_piece(struct installing *run, struct stage *to, size_t *len)
 {
-    ssize_t n;
+    ssize_t n = AGAIN(read(run->data, run->piece, PIECE_BYTES));
 
-    AGAIN(n, read(run->data, run->piece, PIECE_BYTES));
-    *is_last = n == 0;
+    *len = n < 0 ? 0 : (size_t) n;
     if (n < 0) {
         return data_fails(run, NULL);
     }
@@ -152,15 +189,15 @@ static enum minisign_error move_piece(struct installing *run, struct stage *to, 
         run->is_too_long = true;
         return data_fails(run, TOO_LONG);
     }
-    run->done += (uint64_t) n;
-    return write_stage(&run->directory, to, run->piece, (size_t) n);
+    run->done += *len;
+    return write_stage(&run->directory, to, run->piece, *len);
 }
 
-/* Tells of a piece that was moved. */
-static void tell_moved(struct installing *run, bool is_last, enum minisign_error error)
+/* Tells of a piece that was moved, or of the end. */
+static void tell_moved(struct installing *run, size_t len, enum minisign_error error)
 {
-    if (error == MINISIGN_OK && !is_last) {
-        must(minisign_install_more(&run->machine));
+    if (error == MINISIGN_OK && len > 0) {
+        must(minisign_install_more(&run->machine, len));
     } else {
         tell(run, error);
     }
@@ -169,24 +206,24 @@ static void tell_moved(struct installing *run, bool is_last, enum minisign_error
 /* Receives a piece into a file of its own, from whose beginning all is copied then. */
 static void receive_piece(struct installing *run)
 {
-    bool is_last = false;
+    size_t len = 0;
     enum minisign_error error = run->held.fd < 0 ? create_nameless(&run->directory, &run->held) : MINISIGN_OK;
 
-    error = error == MINISIGN_OK ? move_piece(run, &run->held, &is_last) : error;
-    if (error == MINISIGN_OK && is_last) {
+    error = error == MINISIGN_OK ? move_piece(run, &run->held, &len) : error;
+    if (error == MINISIGN_OK && len == 0) {
         error = lseek(run->held.fd, 0, SEEK_SET) == 0 ? MINISIGN_OK : data_fails(run, NULL);
         run->data = run->held.fd;
         run->data_size = run->done;
     }
-    tell_moved(run, is_last, error);
+    tell_moved(run, len, error);
 }
 
 static void copy_piece(struct installing *run)
 {
-    bool is_last;
-    enum minisign_error error = move_piece(run, &run->directory.update, &is_last);
+    size_t len;
+    enum minisign_error error = move_piece(run, &run->directory.update, &len);
 
-    tell_moved(run, is_last, error);
+    tell_moved(run, len, error);
 }
 
 /* ---- What is read back ---- */
@@ -196,27 +233,30 @@ static void copy_piece(struct installing *run)
 static void read_record_whole(struct installing *run)
 {
     const struct wanted *wanted = run->wanted;
-    uint8_t record[MINISIGN_RECORD_TEXT_BYTES];
-    size_t len = 0;
-    bool is_there = false;
+    struct record *record = &run->record;
     enum minisign_error error = open_directory(&run->directory);
 
-    error = error == MINISIGN_OK ? read_record(&run->directory, record, &len, &is_there) : error;
+    record->is_there = false;
+    error = error == MINISIGN_OK ? read_record(&run->directory, record) : error;
     if (error == MINISIGN_OK) {
-        must(is_there ? minisign_install_record(&run->machine, record, len) : minisign_install_no_record(&run->machine));
+        must(record->is_there ? minisign_install_record(&run->machine, record->text, record->len, record->written)
+                              : minisign_install_no_record(&run->machine));
     }
-    if (is_there && minisign_install_due(&run->machine) == MINISIGN_DUE_JUDGE && !wanted->is_first && !wanted->is_check
-        && memchr(record, ':', len) != NULL) {
-        error = renew_record(&run->directory, record, len);
+    if (record->is_there && minisign_install_due(&run->machine) == MINISIGN_DUE_JUDGE && !wanted->is_first && !wanted->is_check
+        && memchr(record->text, ':', record->len) != NULL) {
+        error = renew_record(&run->directory, record);
     }
     if (error != MINISIGN_OK) {
         must(minisign_install_failed(&run->machine, error));
     }
 }
 
-/* Hands over a piece that was read, or tells that none could be. */
-static void tell_piece(struct installing *run, size_t len, enum minisign_error error)
+/* Hands over the next piece of what the stage or the file at the target holds, or tells that none could be read. */
+static void read_piece(struct installing *run, struct stage *from)
 {
+    size_t len = 0;
+    enum minisign_error error = read_stage(&run->directory, from, run->piece, PIECE_BYTES, &len);
+
     run->done += len;
     must(error == MINISIGN_OK ? minisign_install_piece(&run->machine, run->piece, len)
                               : minisign_install_failed(&run->machine, error));
@@ -226,23 +266,15 @@ static void tell_piece(struct installing *run, size_t len, enum minisign_error e
 static void look(struct installing *run)
 {
     struct directory *directory = &run->directory;
-    size_t len = 0;
     enum minisign_error error = directory->there.fd < 0 ? open_target(directory) : MINISIGN_OK;
 
-    if (error == MINISIGN_OK && directory->there.fd < 0) {
+    if (error != MINISIGN_OK) {
+        must(minisign_install_failed(&run->machine, error));
+    } else if (directory->there.fd < 0) {
         must(minisign_install_no_target(&run->machine));
-        return;
+    } else {
+        read_piece(run, &directory->there);
     }
-    error = error == MINISIGN_OK ? read_target(directory, run->piece, PIECE_BYTES, &len) : error;
-    tell_piece(run, len, error);
-}
-
-static void read_piece(struct installing *run)
-{
-    size_t len = 0;
-    enum minisign_error error = read_stage(&run->directory, &run->directory.update, run->piece, PIECE_BYTES, &len);
-
-    tell_piece(run, len, error);
 }
 
 /* ---- The calls that are due ---- */
@@ -255,7 +287,7 @@ static void lock(struct installing *run)
     enum minisign_error error = lock_target(&run->directory);
     bool is_received = run->is_file || run->held.fd >= 0;
 
-    if (error == MINISIGN_PLACE_IN_USE && is_received && run->waited < (uint64_t) run->wanted->wait * WAITS) {
+    if (error == MINISIGN_TARGET_IN_USE && is_received && run->waited < (uint64_t) run->wanted->wait * WAITS) {
         run->waited++;
         nanosleep(&moment, NULL);
         return;
@@ -263,12 +295,15 @@ static void lock(struct installing *run)
     tell(run, error);
 }
 
+/* Writes the record. A clock that shows less than when the older one was written dates none back. */
 static enum minisign_error write_record(struct installing *run)
 {
     uint8_t text[MINISIGN_RECORD_TEXT_BYTES];
     size_t len = minisign_install_record_text(&run->machine, text, sizeof text);
+    struct stage *number = &run->directory.number;
+    enum minisign_error error = write_stage(&run->directory, number, text, len);
 
-    return write_stage(&run->directory, &run->directory.number, text, len);
+    return error == MINISIGN_OK && run->is_clock_behind ? date_stage(&run->directory, number, run->record.written) : error;
 }
 
 /* Remembers which call is made; with another one the bytes are counted anew. */
@@ -297,13 +332,13 @@ static bool make_due_call(struct installing *run)
     case MINISIGN_DUE_JUDGE_TARGET:
     case MINISIGN_DUE_ANSWER: answer_questions(run); break;
     case MINISIGN_DUE_LOOK: look(run); break;
-    case MINISIGN_DUE_SYNC_TARGET: tell(run, sync_target(directory)); break;
+    case MINISIGN_DUE_SYNC_TARGET: tell(run, sync_stage(directory, &directory->there)); break;
     case MINISIGN_DUE_UNLOCK: unlock_target(directory); tell(run, MINISIGN_OK); break;
     case MINISIGN_DUE_RECEIVE: receive_piece(run); break;
     case MINISIGN_DUE_CLEAR: tell(run, remove_leftovers(directory)); break;
     case MINISIGN_DUE_CREATE: tell(run, create_stage(directory, update)); break;
     case MINISIGN_DUE_COPY: copy_piece(run); break;
-    case MINISIGN_DUE_READ_BACK: read_piece(run); break;
+    case MINISIGN_DUE_READ_BACK: read_piece(run, update); break;
     case MINISIGN_DUE_TAKE_PERMISSIONS: tell(run, take_permissions(directory)); break;
     case MINISIGN_DUE_SYNC: tell(run, sync_stage(directory, update)); break;
     case MINISIGN_DUE_CREATE_RECORD: tell(run, create_stage(directory, number)); break;
@@ -356,5 +391,5 @@ bool make_call(struct installing *run)
         return true;
     }
     run->error = minisign_install_error(&run->machine);
-    return false;
+    return asks_second_key(run);
 }

@@ -49,6 +49,8 @@ struct wanted {
     bool is_first;
     /* Whether an update of the number that is kept is to be installed also where another one of it was. */
     bool again;
+    /* Whether the signed comment has to say when the update expires. */
+    bool must_expire;
     /* For how many seconds at most it is waited for a lock that another run holds. */
     uint32_t wait;
     /* Which field of the signed comment has the number. */
@@ -56,7 +58,8 @@ struct wanted {
     /* The permissions of the file, if they are given. */
     bool has_mode;
     mode_t mode;
-    /* One public key, or two, of which the signature has to have the key ID of one. */
+    /* One public key, or two, of which the signature has to have the key ID of one; where both have it, either may have
+     * signed. */
     const minisign_public_key *keys;
     int key_count;
     /* The text of the signature. */
@@ -79,9 +82,13 @@ struct installing {
     /* What could not be used first, the data too, is its trouble. */
     struct directory directory;
     const struct wanted *wanted;
-    /* What was asked about the signature last, and whether its comment, which stands in the message, is vouched for. */
+    /* The record, and whether the clock shows less than the time at which that was written. */
+    struct record record;
+    bool is_clock_behind;
+    /* What was asked about the signature last, of which the comment stands in the message. */
     minisign_questions questions;
-    bool is_vouched_for;
+    /* Whether the first of two keys has not signed, and the second is asked. */
+    bool is_second_key;
     /* How often the lock was waited for. */
     uint64_t waited;
     /* Where the data is read, whether it is a file, how many bytes it has then, and what it was received into, if so. */
@@ -104,6 +111,10 @@ bool make_call(struct installing *run);
 
 /* The name that the signed comment has to have. */
 const char *wanted_name(const struct installing *run);
+
+/* The signed comment that a key has vouched for, and how many bytes it has, also where the run was then rejected for what
+ * it says; NULL where no key has. */
+const uint8_t *vouched_comment(const struct installing *run, size_t *len);
 
 /* Ends a run, at any time: a stage that it has made is removed. Closes what is open, which unlocks the target, and gives
  * the memory back. */

@@ -44,9 +44,8 @@ static struct long_text signature_text;
 
 static int open_update(const char *file)
 {
-    int fd;
+    int fd = AGAIN(open(file, O_RDONLY | O_CLOEXEC));
 
-    AGAIN(fd, open(file, O_RDONLY | O_CLOEXEC));
     if (fd < 0) {
         say_answer(file, errno);
         exit(FAILED);
@@ -177,46 +176,47 @@ static void make_run(struct request *request, struct installing *run)
 
 /* ---- What came of it ---- */
 
-static enum status status_of(enum minisign_error error)
-{
-    switch (error) {
-    case MINISIGN_OK: return INSTALLED;
-    case MINISIGN_OUT_OF_MEMORY:
-    case MINISIGN_READING_FAILED:
-    case MINISIGN_WRITING_FAILED:
-    case MINISIGN_RANDOM_SOURCE_FAILED: return FAILED;
-    case MINISIGN_OLDER_UPDATE: return OLDER;
-    case MINISIGN_SAME_NUMBER: return SAME;
-    case MINISIGN_EXPIRED: return EXPIRED;
-    case MINISIGN_PLACE_IN_USE: return IN_USE;
-    case MINISIGN_DIRECTORY_NOT_SYNCED: return NOT_SYNCED;
-    case MINISIGN_NO_RECORD:
-    case MINISIGN_DAMAGED_RECORD:
-    case MINISIGN_KEPT_BY_TIMESTAMP:
-    case MINISIGN_KEPT_BY_VERSION: return UNRECORDED;
-    default: return REJECTED;
-    }
-}
+/* How a run ends for an error: with which status, of which file the error is told, and what is said to be done then, of
+ * nothing, of the record or of the name that the update has to have. */
+struct ending {
+    enum minisign_error error;
+    enum status status;
+    enum { THE_SIGNATURE, THE_DATA, THE_TARGET } blamed;
+    enum { NOTHING, THE_RECORD, THE_NAME } named;
+    const char *advice;
+};
 
-/* The path of the file that an error is about. */
-static const char *blamed(const struct request *request, enum minisign_error error)
+static const struct ending endings[] = {
+    { MINISIGN_OUT_OF_MEMORY, FAILED, THE_TARGET, NOTHING, NULL },
+    { MINISIGN_READING_FAILED, FAILED, THE_TARGET, NOTHING, NULL },
+    { MINISIGN_WRITING_FAILED, FAILED, THE_TARGET, NOTHING, NULL },
+    { MINISIGN_RANDOM_SOURCE_FAILED, FAILED, THE_TARGET, NOTHING, NULL },
+    { MINISIGN_TARGET_IN_USE, IN_USE, THE_TARGET, NOTHING, NULL },
+    { MINISIGN_DIRECTORY_NOT_SYNCED, NOT_SYNCED, THE_TARGET, NOTHING, NULL },
+    { MINISIGN_NO_RECORD, UNRECORDED, THE_TARGET, THE_RECORD, " is missing: --first installs all the same" },
+    { MINISIGN_DAMAGED_RECORD, UNRECORDED, THE_TARGET, THE_RECORD, " is damaged: --first installs all the same" },
+    { MINISIGN_KEPT_BY_VERSION, UNRECORDED, THE_TARGET, NOTHING, "it was installed by version: add --numbering version" },
+    { MINISIGN_KEPT_BY_TIMESTAMP, UNRECORDED, THE_TARGET, NOTHING, "it was installed by timestamp: add --numbering timestamp" },
+    { MINISIGN_SAME_NUMBER, SAME, THE_TARGET, NOTHING, "--again installs all the same" },
+    { MINISIGN_OLDER_UPDATE, OLDER, THE_DATA, NOTHING, NULL },
+    { MINISIGN_SIGNATURE_REFUSED, REJECTED, THE_DATA, NOTHING, NULL },
+    { MINISIGN_OTHER_SIZE, REJECTED, THE_DATA, NOTHING, NULL },
+    { MINISIGN_EXPIRED, EXPIRED, THE_SIGNATURE, NOTHING, NULL },
+    { MINISIGN_NO_NUMBER, REJECTED, THE_SIGNATURE, NOTHING, "its timestamp is wanted: --numbering version has it numbered by its version" },
+    { MINISIGN_OTHER_FILE, REJECTED, THE_SIGNATURE, THE_NAME, " is wanted: --name wants another name than that of the target" },
+};
+
+/* That of any other error: the text of the signature is to blame. */
+static const struct ending rejection = { .status = REJECTED };
+
+static const struct ending *ending_for(enum minisign_error error)
 {
-    switch (error) {
-    case MINISIGN_SIGNATURE_REFUSED:
-    case MINISIGN_OLDER_UPDATE: return request->wanted.shown;
-    case MINISIGN_OUT_OF_MEMORY:
-    case MINISIGN_READING_FAILED:
-    case MINISIGN_WRITING_FAILED:
-    case MINISIGN_RANDOM_SOURCE_FAILED:
-    case MINISIGN_PLACE_IN_USE:
-    case MINISIGN_NO_RECORD:
-    case MINISIGN_DAMAGED_RECORD:
-    case MINISIGN_KEPT_BY_TIMESTAMP:
-    case MINISIGN_KEPT_BY_VERSION:
-    case MINISIGN_SAME_NUMBER:
-    case MINISIGN_DIRECTORY_NOT_SYNCED: return request->wanted.target;
-    default: return request->signature;
+    for (size_t i = 0; i < sizeof endings / sizeof endings[0]; i++) {
+        if (endings[i].error == error) {
+            return &endings[i];
+        }
     }
+    return &rejection;
 }
 
 /* Says what could not be used first: false where nothing was. */
@@ -234,54 +234,51 @@ static bool say_trouble(const struct trouble *trouble)
 }
 
 /* Says what to type where an update is rejected for this. */
-static void advise_on(const struct request *request, const struct installing *run, enum minisign_error error)
+static void advise_on(const struct request *request, const struct installing *run, const struct ending *ending)
 {
-    bool by_version = request->wanted.numbering == MINISIGN_NUMBERING_VERSION;
+    const char *const named[] = { "", run->directory.record.shown, wanted_name(run) };
 
-    switch (error) {
-    case MINISIGN_NO_RECORD: advise(run->directory.record.shown, " is missing: --first installs all the same"); break;
-    case MINISIGN_DAMAGED_RECORD: advise(run->directory.record.shown, " is damaged: --first installs all the same"); break;
-    case MINISIGN_KEPT_BY_VERSION: advise("", "it was installed by version: add --numbering version"); break;
-    case MINISIGN_KEPT_BY_TIMESTAMP: advise("", "it was installed by timestamp: add --numbering timestamp"); break;
-    case MINISIGN_SAME_NUMBER: advise("", "--again installs all the same"); break;
-    case MINISIGN_NO_NUMBER:
-        advise("", by_version ? "its version is wanted: without --numbering version its timestamp is"
-                              : "its timestamp is wanted: --numbering version has it numbered by its version");
-        break;
-    case MINISIGN_OTHER_FILE: advise(wanted_name(run), " is wanted: --name wants another name than that of the target"); break;
-    default: advise_on_text(request->signature, &signature_text, SIGNATURE_TEXT);
+    if (ending->error == MINISIGN_NO_NUMBER && request->wanted.numbering == MINISIGN_NUMBERING_VERSION) {
+        advise("", "its version is wanted: without --numbering version its timestamp is");
+    } else if (ending->advice != NULL) {
+        advise(named[ending->named], ending->advice);
+    } else if (ending == &rejection) {
+        advise_on_text(request->signature, &signature_text, SIGNATURE_TEXT);
     }
 }
 
 /* Says why the update is not installed, or not for good: the exit status. */
-static enum status report(const struct request *request, const struct installing *run, enum minisign_error error)
+static enum status report(const struct request *request, const struct installing *run)
 {
-    enum status status = status_of(error);
+    const struct ending *ending = ending_for(run->error);
+    const char *const blamed[] = { request->signature, request->wanted.shown, request->wanted.target };
+    enum status status = ending->status;
 
     if (status == OLDER && request->wanted.is_check) {
         return status;
     }
     if (status != FAILED || !say_trouble(&run->directory.trouble)) {
-        say_error(blamed(request, error), error);
-        advise_on(request, run, error);
+        say_error(blamed[ending->blamed], run->error);
+        advise_on(request, run, ending);
     }
-    if (status == NOT_SYNCED) {
+    if (status == NOT_SYNCED || status == EXPIRED) {
         say_trouble(&run->directory.trouble);
     }
     return status == FAILED && run->is_too_long ? REJECTED : status;
 }
 
-/* Shows what a check has learnt of the update, for programs to read: its number, and the signed comment. */
+/* Shows what a check has learnt of the update where a key has vouched for that, for programs to read: its number, and the
+ * signed comment. */
 static bool show_update(const struct installing *run)
 {
-    const uint8_t *comment = run->message + run->questions.comment_offset;
-    char shown[SHOWN_BYTES];
+    size_t len;
+    const uint8_t *comment = vouched_comment(run, &len);
 
-    printf("%" PRIu64 "\n", minisign_install_number(&run->machine));
-    for (size_t at = 0, bytes, len = run->questions.comment_len; at < len; at += bytes) {
-        fwrite(shown, 1, show_character(shown, comment + at, len - at, &bytes), stdout);
+    if (comment != NULL) {
+        printf("%" PRIu64 "\n", minisign_install_number(&run->machine));
+        write_visible(stdout, comment, len);
+        putchar('\n');
     }
-    putchar('\n');
     return fflush(stdout) == 0 && ferror(stdout) == 0;
 }
 
@@ -298,12 +295,12 @@ static void compare_mode(const struct wanted *wanted)
 /* Says what came of the run: the exit status. */
 static enum status tell_end(const struct request *request, const struct installing *run)
 {
-    if (request->wanted.is_check && run->is_vouched_for && !show_update(run)) {
+    if (request->wanted.is_check && !show_update(run)) {
         return FAILED;
     }
     switch (run->call) {
     case MINISIGN_DUE_ALREADY: compare_mode(&request->wanted); return THERE_ALREADY;
-    case MINISIGN_DUE_REFUSED: return report(request, run, run->error);
+    case MINISIGN_DUE_REFUSED: return report(request, run);
     default: return INSTALLED;
     }
 }

@@ -24,7 +24,7 @@
     "                     run would do, and show the number of the update and its\n" \
     "                     signed comment: DATA is not named, and nothing is written\n" \
     "  --first            take the update also where no number of FIELD is kept\n" \
-    "                     beside TARGET\n" \
+    "                     beside TARGET, or another key has vouched for that number\n" \
     "  --key KEY          the public key itself, in base64: PK is not named then;\n" \
     "                     given twice, either will do, by its key ID\n" \
     "  --numbering FIELD  the update's number is the field `timestamp` of the signed\n" \
@@ -37,6 +37,8 @@
     "  --most BYTES       reject data that is longer; after the number K, M, G or T\n" \
     "                     may stand, for units of 1024 bytes, 1024 of these, ..\n" \
     "  --max-size BYTES   the same\n" \
+    "  --must-expire      reject an update whose signed comment does not say when it\n" \
+    "                     expires\n" \
     "  --wait SECONDS     wait so long at most where another installation is at work\n" \
     "                     at TARGET, without this option not at all\n" \
     "  --                 what follows are paths\n" \
@@ -59,19 +61,22 @@
 
 enum { PATHS = 4 };
 
-/* The options that a value follows. */
-enum valued { NUMBERING, NAME, MODE, MOST, WAIT, KEY, VALUED };
+/* The options: those that stand alone, and those that a value follows. From IS_AGAIN to WAIT none goes with a check. */
+enum option { IS_CHECK, IS_FIRST, MUST_EXPIRE, IS_AGAIN, MODE, MOST, WAIT, NUMBERING, NAME, KEY, OPTIONS };
 
-static const char *const valued[VALUED] = { "--numbering", "--name", "--mode", "--most", "--wait", "--key" };
+static const struct {
+    const char *word;
+    enum option option;
+} words[] = {
+    { "--check", IS_CHECK }, { "--first", IS_FIRST }, { "--must-expire", MUST_EXPIRE }, { "--again", IS_AGAIN },
+    { "--mode", MODE }, { "--most", MOST }, { "--max-size", MOST }, { "--wait", WAIT }, { "--numbering", NUMBERING },
+    { "--name", NAME }, { "--key", KEY },
+};
 
-/* What the words say that were read: the values as they were written, or NULL. */
+/* What was read: of each option the word that gave it and its value, or NULL. */
 struct command_line {
-    bool is_check;
-    bool is_first;
-    bool again;
-    const char *values[VALUED];
-    /* The name by which the most bytes are given. */
-    const char *most;
+    const char *words[OPTIONS];
+    const char *values[OPTIONS];
     const char *keys[MAX_KEYS];
     int key_count;
     /* One more than there may be, if so many are named. */
@@ -102,35 +107,25 @@ static void add_path(struct command_line *line, const char *word)
     }
 }
 
-/* An option without a value, which comes at most once. */
-static void add_flag(bool *flag, const char *word)
-{
-    if (*flag) {
-        misuse(word, "it came before");
-    }
-    *flag = true;
-}
-
-/* Keeps the value of an option, which comes at most once, but for that of a key. */
-static void add_value(struct command_line *line, int option, const char *word, const char *value)
+/* Keeps an option, which comes at most once, but for that of a key. */
+static void add_option(struct command_line *line, enum option option, const char *word, const char *value)
 {
     if (option == KEY) {
         if (line->key_count == MAX_KEYS) {
             misuse(word, "it came twice before");
         }
         line->keys[line->key_count++] = value;
-    } else if (line->values[option] != NULL) {
+    } else if (line->words[option] != NULL) {
         misuse(word, "it came before");
-    } else {
-        line->values[option] = value;
-        line->most = option == MOST ? word : line->most;
     }
+    line->words[option] = word;
+    line->values[option] = value;
 }
 
 /* How many paths there have to be: a check has no data, and where keys are named themselves there is no file of one. */
 static int paths_of(const struct command_line *line)
 {
-    return PATHS - (line->is_check ? 1 : 0) - (line->key_count > 0 ? 1 : 0);
+    return PATHS - (line->words[IS_CHECK] != NULL ? 1 : 0) - (line->words[KEY] != NULL ? 1 : 0);
 }
 
 /* Ends the program where there are more or fewer paths than there have to be, or what goes with an installation
@@ -147,12 +142,9 @@ static void judge_line(const struct command_line *line)
     if (line->count > wanted) {
         misuse(line->paths[wanted], more[wanted - 2]);
     }
-    if (line->is_check && line->again) {
-        misuse("--again", "it does not go with `--check`");
-    }
-    for (int option = MODE; line->is_check && option <= WAIT; option++) {
-        if (line->values[option] != NULL) {
-            misuse(valued[option], "it does not go with `--check`");
+    for (int option = IS_AGAIN; line->words[IS_CHECK] != NULL && option <= WAIT; option++) {
+        if (line->words[option] != NULL) {
+            misuse(line->words[option], "it does not go with `--check`");
         }
     }
     if (line->count < wanted) {
@@ -160,17 +152,14 @@ static void judge_line(const struct command_line *line)
     }
 }
 
-static int valued_of(const char *word)
+static enum option option_of(const char *word)
 {
-    int option = 0;
-
-    if (strcmp(word, "--max-size") == 0) {
-        return MOST;
+    for (size_t i = 0; i < sizeof words / sizeof words[0]; i++) {
+        if (strcmp(word, words[i].word) == 0) {
+            return words[i].option;
+        }
     }
-    while (option < VALUED && strcmp(word, valued[option]) != 0) {
-        option++;
-    }
-    return option;
+    return OPTIONS;
 }
 
 static struct command_line read_command_line(int argc, char *argv[])
@@ -180,24 +169,18 @@ static struct command_line read_command_line(int argc, char *argv[])
 
     for (int i = 1; i < argc; i++) {
         const char *word = argv[i];
-        int option = valued_of(word);
+        enum option option = option_of(word);
 
         if (is_ended || word[0] != '-' || word[1] == 0) {
             add_path(&line, word);
         } else if (strcmp(word, "--") == 0) {
             is_ended = true;
-        } else if (strcmp(word, "--first") == 0) {
-            add_flag(&line.is_first, word);
-        } else if (strcmp(word, "--again") == 0) {
-            add_flag(&line.again, word);
-        } else if (strcmp(word, "--check") == 0) {
-            add_flag(&line.is_check, word);
-        } else if (option == VALUED) {
+        } else if (option == OPTIONS) {
             misuse(word, "there is no such option");
-        } else if (++i == argc) {
+        } else if (option >= MODE && ++i == argc) {
             misuse(NULL, "a value has to follow the last word");
         } else {
-            add_value(&line, option, word, argv[i]);
+            add_option(&line, option, word, argv[i]);
         }
     }
     judge_line(&line);
@@ -274,7 +257,7 @@ static uint32_t seconds_of(const char *text)
 
 struct request read_request(int argc, char *argv[])
 {
-    struct request request = { .wanted.most = INT64_MAX };
+    struct request request = { 0 };
     struct wanted *wanted = &request.wanted;
     struct command_line line;
 
@@ -290,25 +273,20 @@ struct request read_request(int argc, char *argv[])
         show("minisign-install " MINISIGN_VERSION_TEXT "\n", "");
     }
     line = read_command_line(argc, argv);
-    wanted->is_check = line.is_check;
-    wanted->is_first = line.is_first;
-    wanted->again = line.again;
+    wanted->is_check = line.words[IS_CHECK] != NULL;
+    wanted->is_first = line.words[IS_FIRST] != NULL;
+    wanted->again = line.words[IS_AGAIN] != NULL;
+    wanted->must_expire = line.words[MUST_EXPIRE] != NULL;
     wanted->numbering = numbering_of(line.values[NUMBERING]);
     wanted->name = line.values[NAME];
-    if (line.values[MODE] != NULL) {
-        wanted->has_mode = true;
-        wanted->mode = mode_of(line.values[MODE]);
-    }
-    if (line.values[MOST] != NULL) {
-        wanted->most = bytes_of(line.most, line.values[MOST]);
-    }
-    if (line.values[WAIT] != NULL) {
-        wanted->wait = seconds_of(line.values[WAIT]);
-    }
+    wanted->has_mode = line.words[MODE] != NULL;
+    wanted->mode = wanted->has_mode ? mode_of(line.values[MODE]) : 0;
+    wanted->most = line.words[MOST] != NULL ? bytes_of(line.words[MOST], line.values[MOST]) : INT64_MAX;
+    wanted->wait = line.words[WAIT] != NULL ? seconds_of(line.values[WAIT]) : 0;
     memcpy(request.keys, line.keys, sizeof request.keys);
     wanted->key_count = line.key_count;
     request.key = line.key_count > 0 ? NULL : line.paths[0];
-    wanted->shown = line.is_check ? NULL : line.paths[line.count - 3];
+    wanted->shown = wanted->is_check ? NULL : line.paths[line.count - 3];
     request.signature = line.paths[line.count - 2];
     wanted->target = line.paths[line.count - 1];
     return request;

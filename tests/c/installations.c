@@ -7,83 +7,21 @@
  * Linked with -Wl,--wrap=malloc -Wl,--wrap=realloc -Wl,--wrap=free. Prints a line for each check that failed; the last
  * line is `N passed, M failed`.
  */
-#include <stdio.h>
 #include <stdlib.h>
 #include <string.h>
 
+#include "counted_memory.h"
 #include "minisign_install.h"
 #include "texts_for_tests.h"
 
-#define CHECK_AT(due, condition) check((condition), where((due), #condition), __LINE__)
+#define CHECK_AT(due, condition) check((condition), "where %u is due: %s", (due), #condition)
 
-static const char *where(uint32_t due, const char *condition)
-{
-    static char text[400];
-
-    snprintf(text, sizeof text, "where %u is due: %s", due, condition);
-    return text;
-}
-
-/* How much memory was asked for: none. */
-static unsigned requests;
-
-void *__wrap_malloc(size_t size);
-void *__wrap_realloc(void *old, size_t size);
-void __wrap_free(void *block);
-
-void *__wrap_malloc(size_t size)
-{
-    (void) size;
-    requests++;
-    return NULL;
-}
-
-void *__wrap_realloc(void *old, size_t size)
-{
-    (void) old;
-    (void) size;
-    requests++;
-    return NULL;
-}
-
-void __wrap_free(void *block)
-{
-    requests += block != NULL;
-}
-
-/* The published key's signature of `test` over the data itself. */
-static const char LEGACY[] =
-    "untrusted comment: signature from minisign secret key\n"
-    "RWQf6LRCGA9i59SLOFxz6NxvASXDJeRtuZykwQepbDEGt87ig1BNpWaVWuNrm73YiIiJbq71Wi+dP9eKL8OC351vwIasSSbXxwA=\n"
-    "trusted comment: timestamp:1555779966\tfile:test\n"
-    "QtKMXWyYcwdpZAlPF7tE2ENJkRd1ujvKjlj1m9RtHTBnZPa5WKU5uWRs5GoP5M/VqE81QFuMKI5k/SfNQUaOAA==";
-/* One of another key. */
-static const char OF_OTHER_KEY[] =
-    "untrusted comment: signature from minisign secret key\n"
-    "RUS4oO+OTGvmIe/AFUZesFY/ONgyTgR9P0wlXFBD98cDX7Pao0WBeMSBQywks6PdOxlxIHanFJJYpkqO7tBvYfnm/DXVQmwFYQ0=\n"
-    "trusted comment: a trusted comment\n"
-    "VFXOnLXSP360tFPUt7eqzsSHMo0p1bPS9fRkoO0MOvNy8kHZu0k9okhkkORQyQv79DEl+OdNXurVl1Qt+AMEAQ==\n";
-#define COMMENT "timestamp:1556193335\tfile:test"
 #define NUMBER 1556193335
 /* What is written into the record of it, with the data `abc`: the key's bytes behind its key ID, and the digest below. */
 #define OWN_NUMBER "timestamp:1556193335"
 #define RECORD OWN_NUMBER                                                \
     "\n79a561e70ee08cd3e754c63e9bd6b9c3520a1d4204cd104da2e7ef763b1853b7" \
     "\n" HEX_OF_ABC
-#define HEX_OF_ABC                                                     \
-    "ba80a53f981c4d0d6a2797b69f12f6e94c212f14685ac4b74b12bb6fdbffa2d1" \
-    "7d87c5392aab792dc252d5de4533cc9518d38aa8dbf1925ab92386edd4009923"
-
-#define YES MINISIGN_ANSWER_YES
-#define NO MINISIGN_ANSWER_NO
-
-/* The Blake2b digest of `abc`, RFC 7693, appendix A. */
-static const uint8_t DIGEST_OF_ABC[64] = {
-    0xba, 0x80, 0xa5, 0x3f, 0x98, 0x1c, 0x4d, 0x0d, 0x6a, 0x27, 0x97, 0xb6, 0x9f, 0x12, 0xf6, 0xe9,
-    0x4c, 0x21, 0x2f, 0x14, 0x68, 0x5a, 0xc4, 0xb7, 0x4b, 0x12, 0xbb, 0x6f, 0xdb, 0xff, 0xa2, 0xd1,
-    0x7d, 0x87, 0xc5, 0x39, 0x2a, 0xab, 0x79, 0x2d, 0xc2, 0x52, 0xd5, 0xde, 0x45, 0x33, 0xcc, 0x95,
-    0x18, 0xd3, 0x8a, 0xa8, 0xdb, 0xf1, 0x92, 0x5a, 0xb9, 0x23, 0x86, 0xed, 0xd4, 0x00, 0x99, 0x23,
-};
 
 /* What is due after each call: where it was done, if that is told by minisign_install_done, and where it failed. */
 static const struct row {
@@ -120,7 +58,7 @@ static const struct row {
     { MINISIGN_DUE_REFUSED, 0, 0 },
 };
 
-#define ROWS (sizeof table / sizeof table[0])
+#define ROWS LENGTH(table)
 
 /* The moment that is handed in: the signature of these tests never expires. */
 #define NOW 1000
@@ -128,16 +66,19 @@ static const struct row {
 static minisign_questions questions;
 static uint8_t message[4096];
 
+/* What is asked about: a signature with this text, and the name that is wanted. */
+static const char *asked_text = SIGNATURE, *asked_name = "test";
+
 /* Asks about a signature with this text. */
 static enum minisign_error ask_of(minisign_installation *i, const char *sig_text, const char *file, size_t room)
 {
-    return minisign_install_ask(i, (const uint8_t *) sig_text, strlen(sig_text), (const uint8_t *) file, strlen(file), NOW,
+    return minisign_install_ask(i, bytes_of(sig_text), strlen(sig_text), bytes_of(file), strlen(file), NOW,
                                 &questions, message, room);
 }
 
 static enum minisign_error ask(minisign_installation *i)
 {
-    return ask_of(i, SIGNATURE, "test", sizeof message);
+    return ask_of(i, asked_text, asked_name, sizeof message);
 }
 
 /* Asks, and has these answers. */
@@ -150,12 +91,12 @@ static enum minisign_error judge(minisign_installation *i, enum minisign_answer 
 
 static enum minisign_error record(minisign_installation *i, const char *text)
 {
-    return minisign_install_record(i, (const uint8_t *) text, strlen(text));
+    return minisign_install_record(i, bytes_of(text), strlen(text), 0);
 }
 
-static enum minisign_error piece(minisign_installation *i, const char *bytes)
+static enum minisign_error piece(minisign_installation *i, const char *data)
 {
-    return minisign_install_piece(i, (const uint8_t *) bytes, strlen(bytes));
+    return minisign_install_piece(i, bytes_of(data), strlen(data));
 }
 
 /* Hands over `abc`, and the end. */
@@ -172,7 +113,7 @@ static enum minisign_error begin(minisign_installation *i, uint32_t is_first, ui
 {
     const minisign_public_key key = key_of(KEY);
 
-    return minisign_install_init(i, &key, &key, is_first, again, is_check, is_waiting, numbering);
+    return minisign_install_init(i, &key, &key, is_first, again, is_check, is_waiting, 0, numbering);
 }
 
 /* Makes the call that is due, which goes well; the record holds this. */
@@ -252,7 +193,7 @@ static void order(void)
 
         GOES(due, minisign_install_done(&i), table[row].done);
         GOES(due, minisign_install_failed(&i, MINISIGN_WRITING_FAILED), table[row].failed);
-        GOES(due, minisign_install_more(&i), due == MINISIGN_DUE_COPY || due == MINISIGN_DUE_RECEIVE ? due : 0);
+        GOES(due, minisign_install_more(&i, 3), due == MINISIGN_DUE_COPY || due == MINISIGN_DUE_RECEIVE ? due : 0);
         GOES(due, record(&i, "5"), due == MINISIGN_DUE_READ_RECORD ? MINISIGN_DUE_JUDGE : 0);
         GOES(due, minisign_install_no_record(&i), due == MINISIGN_DUE_READ_RECORD ? MINISIGN_DUE_REFUSED : 0);
         GOES(due, piece(&i, "abc"), reads ? due : 0);
@@ -266,6 +207,7 @@ static void order(void)
                                                 : 0);
         CHECK_AT(due, minisign_install_error(&begun) == (due == MINISIGN_DUE_REFUSED ? MINISIGN_WRITING_FAILED : MINISIGN_OK));
         CHECK_AT(due, minisign_install_number(&begun) == (due <= MINISIGN_DUE_JUDGE || due == MINISIGN_DUE_REFUSED ? 0 : NUMBER));
+        CHECK_AT(due, minisign_install_is_vouched(&begun) == (minisign_install_number(&begun) == NUMBER));
     }
 }
 
@@ -288,7 +230,7 @@ static void written(void)
 static void failures(void)
 {
     static const enum minisign_error reasons[] = { MINISIGN_OUT_OF_MEMORY, MINISIGN_READING_FAILED, MINISIGN_WRITING_FAILED,
-                                                   MINISIGN_RANDOM_SOURCE_FAILED, MINISIGN_PLACE_IN_USE };
+                                                   MINISIGN_RANDOM_SOURCE_FAILED, MINISIGN_TARGET_IN_USE };
     static const enum minisign_error none[] = { MINISIGN_OK, MINISIGN_NOT_DUE, MINISIGN_SIGNATURE_REFUSED,
                                                 MINISIGN_DIRECTORY_NOT_SYNCED, (enum minisign_error) 999 };
 
@@ -296,11 +238,11 @@ static void failures(void)
         const int syncs = due == MINISIGN_DUE_SYNC_TARGET || due == MINISIGN_DUE_SYNC_TARGET_NAME || due == MINISIGN_DUE_SYNC_NAME;
         const minisign_installation begun = at(due);
 
-        for (size_t n = 0; n < sizeof reasons / sizeof reasons[0]; n++) {
+        for (size_t n = 0; n < LENGTH(reasons); n++) {
             enum minisign_error why = syncs ? MINISIGN_DIRECTORY_NOT_SYNCED : reasons[n];
             minisign_installation i = begun;
 
-            if (reasons[n] == MINISIGN_PLACE_IN_USE && due != MINISIGN_DUE_LOCK) {
+            if (reasons[n] == MINISIGN_TARGET_IN_USE && due != MINISIGN_DUE_LOCK) {
                 CHECK_AT(due, minisign_install_failed(&i, reasons[n]) == MINISIGN_NOT_DUE && same(&i, &begun));
                 continue;
             }
@@ -312,7 +254,7 @@ static void failures(void)
             }
             CHECK_AT(due, minisign_install_due(&i) == MINISIGN_DUE_REFUSED && minisign_install_error(&i) == why);
         }
-        for (size_t n = 0; n < sizeof none / sizeof none[0]; n++) {
+        for (size_t n = 0; n < LENGTH(none); n++) {
             minisign_installation i = begun;
 
             CHECK_AT(due, minisign_install_failed(&i, none[n]) == MINISIGN_NOT_DUE && same(&i, &begun));
@@ -329,7 +271,7 @@ static void beginnings(void)
         memset(&i, byte, sizeof i);
         before = i;
         CHECK(minisign_install_due(&i) == 0 && minisign_install_error(&i) == MINISIGN_OK);
-        CHECK(minisign_install_done(&i) == MINISIGN_NOT_DUE && minisign_install_more(&i) == MINISIGN_NOT_DUE);
+        CHECK(minisign_install_done(&i) == MINISIGN_NOT_DUE && minisign_install_more(&i, 0) == MINISIGN_NOT_DUE);
         CHECK(minisign_install_failed(&i, MINISIGN_WRITING_FAILED) == MINISIGN_NOT_DUE);
         CHECK(record(&i, "5") == MINISIGN_NOT_DUE && minisign_install_no_record(&i) == MINISIGN_NOT_DUE);
         CHECK(piece(&i, "abc") == MINISIGN_NOT_DUE && ask(&i) == MINISIGN_NOT_DUE);
@@ -352,7 +294,7 @@ static void record_gives(const uint8_t *text, size_t len, uint32_t is_first, uin
 
     CHECK(begin(&i, is_first, 0, 0, 0, numbering) == MINISIGN_OK);
     step(&i, "");
-    CHECK((text == NULL ? minisign_install_no_record(&i) : minisign_install_record(&i, text, len)) == MINISIGN_OK);
+    CHECK((text == NULL ? minisign_install_no_record(&i) : minisign_install_record(&i, text, len, 0)) == MINISIGN_OK);
     CHECK(minisign_install_due(&i) == (rejected == MINISIGN_OK ? MINISIGN_DUE_JUDGE : MINISIGN_DUE_REFUSED));
     CHECK(minisign_install_error(&i) == rejected);
 }
@@ -360,12 +302,10 @@ static void record_gives(const uint8_t *text, size_t len, uint32_t is_first, uin
 /* A text of a record, by each field and at the first installation or not. */
 static void text_gives(const char *text, enum minisign_error by_time, enum minisign_error by_version)
 {
-    const uint8_t *bytes = (const uint8_t *) text;
-
-    record_gives(bytes, strlen(text), 0, MINISIGN_NUMBERING_TIMESTAMP, by_time);
-    record_gives(bytes, strlen(text), 0, MINISIGN_NUMBERING_VERSION, by_version);
-    record_gives(bytes, strlen(text), 1, MINISIGN_NUMBERING_TIMESTAMP, MINISIGN_OK);
-    record_gives(bytes, strlen(text), 1, MINISIGN_NUMBERING_VERSION, MINISIGN_OK);
+    record_gives(bytes_of(text), strlen(text), 0, MINISIGN_NUMBERING_TIMESTAMP, by_time);
+    record_gives(bytes_of(text), strlen(text), 0, MINISIGN_NUMBERING_VERSION, by_version);
+    record_gives(bytes_of(text), strlen(text), 1, MINISIGN_NUMBERING_TIMESTAMP, MINISIGN_OK);
+    record_gives(bytes_of(text), strlen(text), 1, MINISIGN_NUMBERING_VERSION, MINISIGN_OK);
 }
 
 static void records(void)
@@ -390,21 +330,21 @@ static void records(void)
                                         RECORD "\n", RECORD "0", "timestamp:5\n" HEX_OF_ABC, "five" HEX_OF_ABC HEX_OF_ABC,
                                         "timestamp:5\n" HEX_OF_ABC "\n" HEX_OF_ABC "\n" HEX_OF_ABC };
 
-    for (size_t n = 0; n < sizeof numbers / sizeof numbers[0]; n++) {
+    for (size_t n = 0; n < LENGTH(numbers); n++) {
         text_gives(numbers[n], MINISIGN_OK, MINISIGN_OK);
     }
-    for (size_t n = 0; n < sizeof timestamps / sizeof timestamps[0]; n++) {
+    for (size_t n = 0; n < LENGTH(timestamps); n++) {
         text_gives(timestamps[n], MINISIGN_OK, MINISIGN_KEPT_BY_TIMESTAMP);
     }
-    for (size_t n = 0; n < sizeof versions / sizeof versions[0]; n++) {
+    for (size_t n = 0; n < LENGTH(versions); n++) {
         text_gives(versions[n], MINISIGN_KEPT_BY_VERSION, MINISIGN_OK);
     }
-    for (size_t n = 0; n < sizeof none / sizeof none[0]; n++) {
+    for (size_t n = 0; n < LENGTH(none); n++) {
         text_gives(none[n], MINISIGN_DAMAGED_RECORD, MINISIGN_DAMAGED_RECORD);
     }
     for (uint32_t numbering = 0; numbering < 2; numbering++) {
-        record_gives((const uint8_t *) "5\0", 2, 0, numbering, MINISIGN_DAMAGED_RECORD);
-        record_gives((const uint8_t *) "\xff", 1, 0, numbering, MINISIGN_DAMAGED_RECORD);
+        record_gives(bytes_of("5\0"), 2, 0, numbering, MINISIGN_DAMAGED_RECORD);
+        record_gives(bytes_of("\xff"), 1, 0, numbering, MINISIGN_DAMAGED_RECORD);
         record_gives(NULL, 0, 0, numbering, MINISIGN_NO_RECORD);
         record_gives(NULL, 0, 1, numbering, MINISIGN_OK);
     }
@@ -417,18 +357,21 @@ static void gives(const char *kept, uint32_t is_first, const char *signature, co
 {
     minisign_installation i;
     enum minisign_error error;
+    uint32_t vouched = 0;
 
     CHECK(begin(&i, is_first, 0, 0, 0, numbering) == MINISIGN_OK);
     go_to(&i, MINISIGN_DUE_JUDGE, kept);
     error = ask_of(&i, signature, file, sizeof message);
     if (error == MINISIGN_OK) {
         CHECK(minisign_install_error(&i) == MINISIGN_OK && minisign_install_due(&i) == MINISIGN_DUE_JUDGE);
-        CHECK(minisign_install_number(&i) == 0);
+        CHECK(minisign_install_number(&i) == 0 && minisign_install_is_vouched(&i) == 0);
         error = minisign_install_answer(&i, NO, second);
+        vouched = second == YES;
     }
     CHECK(error == rejected && minisign_install_error(&i) == rejected);
     CHECK((minisign_install_due(&i) == MINISIGN_DUE_REFUSED) == (rejected != MINISIGN_OK));
-    CHECK(minisign_install_number(&i) == 0 || rejected == MINISIGN_OK);
+    CHECK(minisign_install_is_vouched(&i) == vouched);
+    CHECK(minisign_install_number(&i) == (vouched && numbering == MINISIGN_NUMBERING_TIMESTAMP ? NUMBER : 0));
 }
 
 /* What the answers give of what the stage holds. */
@@ -436,8 +379,10 @@ static void staged_gives(enum minisign_answer first, enum minisign_answer second
 {
     minisign_installation i = at(MINISIGN_DUE_ANSWER);
 
-    CHECK(ask(&i) == MINISIGN_OK && memcmp(questions.digest, DIGEST_OF_ABC, sizeof DIGEST_OF_ABC) == 0);
+    CHECK(ask(&i) == MINISIGN_OK && is_hex(questions.digest, HEX_OF_ABC));
+    CHECK(minisign_install_is_vouched(&i) == 0 && minisign_install_number(&i) == 0);
     CHECK(minisign_install_answer(&i, first, second) == rejected && minisign_install_error(&i) == MINISIGN_OK);
+    CHECK(minisign_install_is_vouched(&i) == (second == YES) && minisign_install_number(&i) == (second == YES ? NUMBER : 0));
     CHECK(minisign_install_due(&i) == (rejected == MINISIGN_OK ? MINISIGN_DUE_TAKE_PERMISSIONS : MINISIGN_DUE_REMOVE));
     if (rejected != MINISIGN_OK) {
         CHECK(minisign_install_done(&i) == MINISIGN_OK && minisign_install_error(&i) == rejected);
@@ -463,14 +408,200 @@ static void answers(void)
     gives("0", 0, SIGNATURE, "test", by_version, YES, MINISIGN_NO_NUMBER);
     /* What is said of the comment comes after the verdict. */
     gives("1556193336", 0, SIGNATURE, "tes", by_version, NO, MINISIGN_COMMENT_SIGNATURE_REFUSED);
-    gives("0", 0, LEGACY, "test", by_time, YES, MINISIGN_LEGACY_NOT_ACCEPTED);
-    gives("0", 0, OF_OTHER_KEY, "test", by_time, YES, MINISIGN_DIFFERENT_KEY_IDS);
+    gives("0", 0, LEGACY_SIGNATURE, "test", by_time, YES, MINISIGN_LEGACY_NOT_ACCEPTED);
+    gives("0", 0, OTHER_SIGNATURE, "test", by_time, YES, MINISIGN_DIFFERENT_KEY_IDS);
     gives("0", 0, SIGNATURE, "\xff", by_time, YES, MINISIGN_NOT_UTF8);
     gives("0", 0, "untrusted comment: none", "test", by_time, YES, MINISIGN_MISSING_SIGNATURE);
     staged_gives(YES, YES, MINISIGN_OK);
     staged_gives(NO, NO, MINISIGN_SIGNATURE_REFUSED);
     staged_gives(NO, YES, MINISIGN_SIGNATURE_REFUSED);
     staged_gives(YES, NO, MINISIGN_COMMENT_SIGNATURE_REFUSED);
+}
+
+/* The text of a signature with this comment. */
+static const char *with_comment(const char *comment)
+{
+    static char text[1024];
+    const char *const begin = strstr(SIGNATURE, COMMENT);
+
+    snprintf(text, sizeof text, "%.*s%s%s", (int) (begin - SIGNATURE), SIGNATURE, comment, begin + sizeof COMMENT - 1);
+    return text;
+}
+
+/* What a comment that the key has signed gives where it has to say when the update expires, or not. */
+static void signed_gives(const char *comment, uint32_t must_expire, enum minisign_error rejected, uint64_t number)
+{
+    const minisign_public_key key = key_of(KEY);
+    minisign_installation i;
+
+    CHECK(minisign_install_init(&i, &key, &key, 0, 0, 0, 0, must_expire, MINISIGN_NUMBERING_VERSION) == MINISIGN_OK);
+    go_to(&i, MINISIGN_DUE_JUDGE, "2");
+    CHECK(ask_of(&i, with_comment(comment), "a", sizeof message) == MINISIGN_OK && minisign_install_answer(&i, NO, YES) == rejected);
+    check(minisign_install_error(&i) == rejected, comment, __LINE__);
+    check(minisign_install_is_vouched(&i) == 1 && minisign_install_number(&i) == number, comment, __LINE__);
+}
+
+/* When the update expires, and how long the data is. */
+static void fields(void)
+{
+    static const char *const loose[] = { "Expires:2000", "EXPIRES:2000", "ex pires: 2000", "expires :2000", "expires\f:2000" };
+    static const char *const others[] = { "expire:2000", "expires2000", "xexpires:2000", "expires", "" };
+    static const char *const sizes[] = { "size:", "size:x", "size:+5", "size: 5", "size:18446744073709551616", "size:5\tsize:5", "size:5\tsize:x" };
+    static const char *const lengths[] = { "size:0", "size:18446744073709551615", "Size:x", "si ze:x", "size" };
+    char text[256];
+
+    for (uint32_t must = 0; must < 4; must++) {
+        signed_gives("file:a\tversion:3\texpires:1001", must, MINISIGN_OK, 3);
+        signed_gives("file:a\tversion:3\texpires:1000", must, MINISIGN_EXPIRED, 3);
+        signed_gives("file:a\tversion:3\texpires:x", must, MINISIGN_BAD_EXPIRY, 3);
+        signed_gives("expires:2000\tfile:a\tversion:3\texpires:2000", must, MINISIGN_BAD_EXPIRY, 3);
+        signed_gives("file:b\tversion:3", must, MINISIGN_OTHER_FILE, 3);
+        signed_gives("file:a\tversion:x", must, MINISIGN_NO_NUMBER, 0);
+        signed_gives("file:a\tversion:1\texpires:2000", must, MINISIGN_OLDER_UPDATE, 1);
+        signed_gives("file:a\t expires:2000\tversion:3", must, must ? MINISIGN_BAD_EXPIRY : MINISIGN_OK, 3);
+        for (size_t n = 0; n < sizeof others / sizeof others[0]; n++) {
+            snprintf(text, sizeof text, "file:a\tversion:3\t%s", others[n]);
+            signed_gives(text, must, must ? MINISIGN_NO_EXPIRY : MINISIGN_OK, 3);
+            snprintf(text, sizeof text, "%s\tfile:a\tversion:3\texpires:2000", others[n]);
+            signed_gives(text, must, MINISIGN_OK, 3);
+        }
+        for (size_t n = 0; n < sizeof loose / sizeof loose[0]; n++) {
+            snprintf(text, sizeof text, "file:a\tversion:3\t%s", loose[n]);
+            signed_gives(text, must, must ? MINISIGN_BAD_EXPIRY : MINISIGN_OK, 3);
+            snprintf(text, sizeof text, "%s\tfile:a\tversion:3\texpires:2000", loose[n]);
+            signed_gives(text, must, must ? MINISIGN_BAD_EXPIRY : MINISIGN_OK, 3);
+            snprintf(text, sizeof text, "file:a\tversion:3\texpires:2000\t%s", loose[n]);
+            signed_gives(text, must, must ? MINISIGN_BAD_EXPIRY : MINISIGN_OK, 3);
+        }
+    }
+    for (size_t n = 0; n < sizeof sizes / sizeof sizes[0]; n++) {
+        /* The expiry comes before the size, and the age after it. */
+        snprintf(text, sizeof text, "file:a\tversion:1\t%s", sizes[n]);
+        signed_gives(text, 0, MINISIGN_BAD_SIZE, 1);
+        snprintf(text, sizeof text, "file:a\tversion:3\texpires:1000\t%s", sizes[n]);
+        signed_gives(text, 0, MINISIGN_EXPIRED, 3);
+    }
+    signed_gives("file:a\tsize:5 \tversion:3", 0, MINISIGN_BAD_SIZE, 3);
+    signed_gives("file:a\t size:x\tversion:3", 0, MINISIGN_OK, 3);
+    for (size_t n = 0; n < sizeof lengths / sizeof lengths[0]; n++) {
+        snprintf(text, sizeof text, "%s\tfile:a\tversion:3", lengths[n]);
+        signed_gives(text, 0, MINISIGN_OK, 3);
+    }
+}
+
+/* Where this is due, of an update whose comment has this field, what each of two pieces gives, and their end. */
+static void pieces_give(const char *field, uint32_t due, size_t one, enum minisign_error then, size_t two, enum minisign_error second,
+                        enum minisign_error end)
+{
+    const uint32_t left = due == MINISIGN_DUE_COPY ? MINISIGN_DUE_REMOVE : MINISIGN_DUE_REFUSED;
+    const uint32_t next = due == MINISIGN_DUE_COPY ? MINISIGN_DUE_READ_BACK : MINISIGN_DUE_LOCK;
+    char comment[128];
+    minisign_installation i;
+
+    snprintf(comment, sizeof comment, "file:a\tversion:3\t%s", field);
+    asked_text = with_comment(comment);
+    asked_name = "a";
+    CHECK(begin(&i, 0, 0, 0, due == MINISIGN_DUE_RECEIVE, MINISIGN_NUMBERING_VERSION) == MINISIGN_OK);
+    go_to(&i, due, "2");
+    CHECK(minisign_install_more(&i, one) == then && minisign_install_due(&i) == (then == MINISIGN_OK ? due : left));
+    if (then == MINISIGN_OK) {
+        CHECK(minisign_install_more(&i, two) == second && minisign_install_due(&i) == (second == MINISIGN_OK ? due : left));
+    }
+    if (then == MINISIGN_OK && second == MINISIGN_OK) {
+        CHECK(minisign_install_done(&i) == end && minisign_install_due(&i) == (end == MINISIGN_OK ? next : left));
+    }
+    if (minisign_install_due(&i) == MINISIGN_DUE_REMOVE) {
+        CHECK(minisign_install_more(&i, 0) == MINISIGN_NOT_DUE && minisign_install_done(&i) == MINISIGN_OK);
+    }
+    if (then != MINISIGN_OK || second != MINISIGN_OK || end != MINISIGN_OK) {
+        CHECK(minisign_install_due(&i) == MINISIGN_DUE_REFUSED && minisign_install_error(&i) == MINISIGN_OTHER_SIZE);
+    }
+    asked_text = SIGNATURE;
+    asked_name = "test";
+}
+
+/* As many bytes come as the comment says, where it does; they are counted anew where the data is copied. */
+static void sizes(void)
+{
+    const enum minisign_error goes = MINISIGN_OK, other = MINISIGN_OTHER_SIZE;
+    minisign_installation i;
+
+    for (uint32_t due = MINISIGN_DUE_RECEIVE; due <= MINISIGN_DUE_COPY; due += MINISIGN_DUE_COPY - MINISIGN_DUE_RECEIVE) {
+        pieces_give("size:0", due, 0, goes, 0, goes, goes);
+        pieces_give("size:0", due, 1, other, 0, goes, goes);
+        pieces_give("size:5", due, 3, goes, 2, goes, goes);
+        pieces_give("size:5", due, 5, goes, 0, goes, goes);
+        pieces_give("size:5", due, 3, goes, 1, goes, other);
+        pieces_give("size:5", due, 3, goes, 3, other, goes);
+        pieces_give("size:5", due, 6, other, 0, goes, goes);
+        pieces_give("size:5", due, 5, goes, SIZE_MAX, other, goes);
+        pieces_give("size", due, SIZE_MAX, goes, SIZE_MAX, goes, goes);
+    }
+
+    asked_text = with_comment("file:a\tversion:3\tsize:5");
+    asked_name = "a";
+    CHECK(begin(&i, 0, 0, 0, 1, MINISIGN_NUMBERING_VERSION) == MINISIGN_OK);
+    go_to(&i, MINISIGN_DUE_RECEIVE, "2");
+    CHECK(minisign_install_more(&i, 5) == MINISIGN_OK && minisign_install_done(&i) == MINISIGN_OK);
+    go_to(&i, MINISIGN_DUE_COPY, "2");
+    CHECK(minisign_install_more(&i, 5) == MINISIGN_OK && minisign_install_done(&i) == MINISIGN_OK);
+    CHECK(minisign_install_due(&i) == MINISIGN_DUE_READ_BACK);
+    asked_text = SIGNATURE;
+    asked_name = "test";
+}
+
+/* A clock that shows less than when the record was written is none: what expires has expired. */
+static void clock_gives(const char *comment, uint64_t written, uint32_t is_first, enum minisign_error rejected)
+{
+    minisign_installation i;
+
+    CHECK(begin(&i, is_first, 0, 0, 0, MINISIGN_NUMBERING_VERSION) == MINISIGN_OK && minisign_install_done(&i) == MINISIGN_OK);
+    CHECK(minisign_install_record(&i, (const uint8_t *) "2", 1, written) == MINISIGN_OK);
+    CHECK(ask_of(&i, with_comment(comment), "a", sizeof message) == MINISIGN_OK && minisign_install_answer(&i, NO, YES) == rejected);
+}
+
+static void clocks(void)
+{
+    static const char expires[] = "file:a\tversion:3\texpires:18446744073709551615";
+
+    for (uint32_t is_first = 0; is_first < 2; is_first++) {
+        clock_gives(expires, 0, is_first, MINISIGN_OK);
+        clock_gives(expires, NOW, is_first, MINISIGN_OK);
+        clock_gives(expires, NOW + 1, is_first, is_first ? MINISIGN_OK : MINISIGN_EXPIRED);
+        clock_gives(expires, UINT64_MAX, is_first, is_first ? MINISIGN_OK : MINISIGN_EXPIRED);
+        clock_gives("file:a\tversion:3", UINT64_MAX, is_first, MINISIGN_OK);
+        clock_gives("file:a\tversion:1", UINT64_MAX, is_first, MINISIGN_OLDER_UPDATE);
+        clock_gives("file:a\tversion:1\texpires:2000", UINT64_MAX, is_first, is_first ? MINISIGN_OLDER_UPDATE : MINISIGN_EXPIRED);
+    }
+}
+
+/* At a first installation a record by a key that is neither of those counts as none: whichever number it has. */
+static void key_gives(const char *digits, uint32_t is_first, enum minisign_error rejected)
+{
+    const minisign_public_key key = key_of(KEY);
+    minisign_public_key other = key;
+    char text[512];
+    minisign_installation i;
+
+    other.key_id[0] ^= 1;
+    memset(other.key, 0x5a, sizeof other.key);
+    snprintf(text, sizeof text, "timestamp:1556193336\n%s\n%s", digits, HEX_OF_ABC);
+    CHECK(minisign_install_init(&i, &key, &other, is_first, 0, 0, 0, 0, MINISIGN_NUMBERING_TIMESTAMP) == MINISIGN_OK);
+    go_to(&i, MINISIGN_DUE_JUDGE, text);
+    CHECK(judge(&i, YES, YES) == rejected);
+}
+
+static void keys(void)
+{
+    static const char own[] = "79a561e70ee08cd3e754c63e9bd6b9c3520a1d4204cd104da2e7ef763b1853b7";
+    static const char second[] = "5a5a5a5a5a5a5a5a5a5a5a5a5a5a5a5a5a5a5a5a5a5a5a5a5a5a5a5a5a5a5a5a";
+    static const char third[] = "5b5a5a5a5a5a5a5a5a5a5a5a5a5a5a5a5a5a5a5a5a5a5a5a5a5a5a5a5a5a5a5a";
+
+    for (uint32_t is_first = 0; is_first < 2; is_first++) {
+        key_gives(own, is_first, MINISIGN_OLDER_UPDATE);
+        key_gives(second, is_first, MINISIGN_OLDER_UPDATE);
+        key_gives(third, is_first, is_first ? MINISIGN_OK : MINISIGN_OLDER_UPDATE);
+    }
 }
 
 /* What is asked, and of which key; and what is used wrongly changes nothing. */
@@ -481,7 +612,7 @@ static void asked(void)
     minisign_public_key other = key;
     minisign_installation i, before;
 
-    for (size_t n = 0; n < sizeof judging / sizeof judging[0]; n++) {
+    for (size_t n = 0; n < LENGTH(judging); n++) {
         i = before = at(judging[n]);
         CHECK(minisign_install_answer(&i, YES, YES) == MINISIGN_NOT_ASKED && same(&i, &before));
         CHECK(ask_of(&i, SIGNATURE, "test", 64 + sizeof COMMENT - 2) == MINISIGN_NO_ROOM && same(&i, &before));
@@ -498,7 +629,7 @@ static void asked(void)
     other.key_id[0] ^= 1;
     other.key[0] ^= 1;
     for (int n = 0; n < 4; n++) {
-        CHECK(minisign_install_init(&i, n & 1 ? &key : &other, n & 2 ? &key : &other, 0, 0, 0, 0, 0) == MINISIGN_OK);
+        CHECK(minisign_install_init(&i, n & 1 ? &key : &other, n & 2 ? &key : &other, 0, 0, 0, 0, 0, 0) == MINISIGN_OK);
         go_to(&i, MINISIGN_DUE_JUDGE, "5");
         CHECK(ask(&i) == (n == 0 ? MINISIGN_DIFFERENT_KEY_IDS : MINISIGN_OK));
         CHECK(n == 0 || memcmp(questions.public_key, key.key, sizeof key.key) == 0);
@@ -509,17 +640,18 @@ static void asked(void)
 static void kept_gives(const char *kept, uint32_t again, uint32_t is_check, uint32_t is_waiting, enum minisign_answer own,
                        enum minisign_answer there, uint32_t due, enum minisign_error rejected)
 {
-    static const uint8_t zeros[64];
     minisign_installation i;
 
     CHECK(begin(&i, 0, again, is_check, is_waiting, MINISIGN_NUMBERING_TIMESTAMP) == MINISIGN_OK);
     go_to(&i, MINISIGN_DUE_JUDGE, kept);
     CHECK(ask(&i) == MINISIGN_OK);
-    CHECK(memcmp(questions.digest, strlen(kept) > 64 ? DIGEST_OF_ABC : zeros, sizeof questions.digest) == 0);
+    CHECK(strlen(kept) > 64 ? is_hex(questions.digest, HEX_OF_ABC) : is_zeros(questions.digest, sizeof questions.digest));
     CHECK(minisign_install_answer(&i, own, YES) == MINISIGN_OK && minisign_install_due(&i) == MINISIGN_DUE_LOOK);
     CHECK(pieces(&i) == MINISIGN_OK && ask(&i) == MINISIGN_OK);
-    CHECK(memcmp(questions.digest, DIGEST_OF_ABC, sizeof DIGEST_OF_ABC) == 0);
+    CHECK(is_hex(questions.digest, HEX_OF_ABC));
+    CHECK(minisign_install_is_vouched(&i) == 0);
     CHECK(minisign_install_answer(&i, there, YES) == rejected);
+    CHECK(minisign_install_is_vouched(&i) == 1 && minisign_install_number(&i) == NUMBER);
     CHECK(minisign_install_due(&i) == due && minisign_install_error(&i) == rejected);
 }
 
@@ -550,10 +682,10 @@ static void received(void)
     minisign_installation i;
 
     CHECK(begin(&i, 0, 0, 0, 1, MINISIGN_NUMBERING_TIMESTAMP) == MINISIGN_OK);
-    CHECK(minisign_install_failed(&i, MINISIGN_PLACE_IN_USE) == MINISIGN_OK && minisign_install_due(&i) == MINISIGN_DUE_RECEIVE);
-    CHECK(minisign_install_more(&i) == MINISIGN_OK && minisign_install_done(&i) == MINISIGN_OK);
-    CHECK(minisign_install_due(&i) == MINISIGN_DUE_LOCK && minisign_install_failed(&i, MINISIGN_PLACE_IN_USE) == MINISIGN_OK);
-    CHECK(minisign_install_due(&i) == MINISIGN_DUE_REFUSED && minisign_install_error(&i) == MINISIGN_PLACE_IN_USE);
+    CHECK(minisign_install_failed(&i, MINISIGN_TARGET_IN_USE) == MINISIGN_OK && minisign_install_due(&i) == MINISIGN_DUE_RECEIVE);
+    CHECK(minisign_install_more(&i, SIZE_MAX) == MINISIGN_OK && minisign_install_done(&i) == MINISIGN_OK);
+    CHECK(minisign_install_due(&i) == MINISIGN_DUE_LOCK && minisign_install_failed(&i, MINISIGN_TARGET_IN_USE) == MINISIGN_OK);
+    CHECK(minisign_install_due(&i) == MINISIGN_DUE_REFUSED && minisign_install_error(&i) == MINISIGN_TARGET_IN_USE);
 
     i = at(MINISIGN_DUE_RECEIVE);
     CHECK(minisign_install_done(&i) == MINISIGN_OK && minisign_install_due(&i) == MINISIGN_DUE_LOCK);
@@ -567,7 +699,7 @@ static void comment_gives(const char *comment, const char *file, uint32_t number
 {
     uint64_t number = 77;
 
-    CHECK(minisign_judge_comment((const uint8_t *) comment, strlen(comment), (const uint8_t *) file, strlen(file), numbering,
+    CHECK(minisign_judge_comment(bytes_of(comment), strlen(comment), bytes_of(file), strlen(file), numbering,
                                  NOW, kept, &number)
           == error);
     CHECK(number == (error == MINISIGN_OK ? wanted : 77));
@@ -613,6 +745,7 @@ static void comments(void)
     comment_gives("expires:1\tfile:a\tversion:1\texpires:2000", "a", by_version, 0, MINISIGN_BAD_EXPIRY, 0);
     comment_gives("expires:2000\texpires:x\tfile:a\tversion:1", "a", by_version, 0, MINISIGN_BAD_EXPIRY, 0);
     comment_gives("file:a\tversion:1\texpire:1\tEXPIRES:1\t expires:1", "a", by_version, 0, MINISIGN_OK, 1);
+    comment_gives("file:a\tversion:1\tsize:x\tsize:5", "a", by_version, 0, MINISIGN_OK, 1);
     /* The name and the number come first, and the age last. */
     comment_gives("file:a\tversion:1\texpires:1", "b", by_version, 0, MINISIGN_OTHER_FILE, 0);
     comment_gives("file:a\tversion:x\texpires:1", "a", by_version, 0, MINISIGN_NO_NUMBER, 0);
@@ -626,10 +759,10 @@ static void nulls(void)
     minisign_installation i = at(MINISIGN_DUE_READ_RECORD);
     uint64_t number;
 
-    CHECK(minisign_install_record(&i, NULL, 0) == MINISIGN_OK && minisign_install_error(&i) == MINISIGN_DAMAGED_RECORD);
+    CHECK(minisign_install_record(&i, NULL, 0, 0) == MINISIGN_OK && minisign_install_error(&i) == MINISIGN_DAMAGED_RECORD);
     i = at(MINISIGN_DUE_READ_BACK);
     CHECK(minisign_install_piece(&i, NULL, 0) == MINISIGN_OK && minisign_install_due(&i) == MINISIGN_DUE_ANSWER);
-    CHECK(minisign_install_ask(&i, (const uint8_t *) SIGNATURE, sizeof SIGNATURE - 1, NULL, 0, NOW, &questions, NULL, 0) == MINISIGN_NO_ROOM);
+    CHECK(minisign_install_ask(&i, bytes_of(SIGNATURE), sizeof SIGNATURE - 1, NULL, 0, NOW, &questions, NULL, 0) == MINISIGN_NO_ROOM);
     CHECK(minisign_install_ask(&i, NULL, 0, NULL, 0, NOW, &questions, NULL, 0) == MINISIGN_MISSING_UNTRUSTED_COMMENT);
     i = at(MINISIGN_DUE_WRITE_RECORD);
     CHECK(minisign_install_record_text(&i, NULL, 0) == 0);
@@ -644,12 +777,15 @@ int main(void)
     beginnings();
     records();
     answers();
+    fields();
+    sizes();
+    clocks();
+    keys();
     asked();
     kept();
     received();
     comments();
     nulls();
-    CHECK(requests == 0);
-    printf("%u passed, %u failed\n", passed, failed);
-    return failed == 0 ? 0 : 1;
+    CHECK(requests == 0 && held == 0);
+    return ended();
 }

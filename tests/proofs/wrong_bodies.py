@@ -18,7 +18,8 @@ the search gave up at one of its limits, so that the goal may hold, or if only t
 both happen to right bodies too. The few edits for which no smaller function makes a search end say so by a line `by:`, and
 pass where they are rejected as it says. But some limits of a search are limits of time and come sooner where other work goes
 on: another edit whose search gave up is tried once more alone, when all else of the gate has ended. An edit fails too if the
-function is proved, if the prover could not tell, and if all that is left is a limit at which it stopped in a written proof.
+function is proved, if the prover could not tell, if all that is left is a limit at which it stopped in a written proof, and
+if its line `why:` names a clause that the function does not have.
 tests/proofs/wrong_bodies.txt says how many edits each crate has: it fails too on other numbers.
 
 usage: wrong_bodies.py [--unchanged] [CRATE[/NAME]..]
@@ -86,7 +87,7 @@ class WrongBody:
 
     def __init__(self, crate, file, number):
         self.label = f"{crate}/{os.path.basename(file)[: -len('.edit')]}"
-        self.path = self.function = self.clause = self.by = self.why_not = ""
+        self.path = self.function = self.named = self.clause = self.by = self.why_not = ""
         self.changes, self.is_alone, self.is_unchanged, old = [], False, False, ""
         self.is_for_kit = os.path.basename(os.path.dirname(file)) == KIT_TRIED
         # Where its function begins and ends in the file, if it is written into a copy of it, and what the name gets.
@@ -96,7 +97,7 @@ class WrongBody:
         for line in lines:
             key, _, value = line.partition(": ") if ": " in line else line.partition(":")
             if key == "why" and FALSE.match(value):
-                self.clause = FALSE.match(value)[1]
+                self.named = self.clause = FALSE.match(value)[1]
             elif key == "file":
                 self.path = value
             elif key == "fn":
@@ -127,6 +128,8 @@ class WrongBody:
             at = left.find(old)
             left = left.replace(old, "\0" * len(old))
             around = function_at(text, at)
+            if around and self.named and not re.search(rf"\bensures {self.named} \{{", text[slice(*around[:2])]):
+                self.why_not = f"its function {around[2]} has no clause `{self.named}`"
             self.is_alone |= not around or around[2] != self.function.rpartition("::")[2]
             self.copied = around[:2] if around and not self.is_alone and not is_of_trait(text, around[0]) else None
             if self.copied and f" ensures {self.clause} {{" not in text[slice(*self.copied)]:

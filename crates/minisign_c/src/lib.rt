@@ -3,7 +3,7 @@
 
 #![tactic(auto)]
 
-ghost use Rattle.std.specs.Prelude.{◌≡◌, ◌≢◌, IfSome, ◌==◌, ◌⊎◌, ◌<◌, ◌≤◌, ◌+◌, ◌++◌, ℕ, Bool, List, [], Some, None, Ok, Err, IfErr, true, false, MatchOption, length, replicate, take, drop};
+ghost use Rattle.std.specs.Prelude.{◌≡◌, ◌≢◌, if◌then◌else◌, IfSome, ◌==◌, ◌⊎◌, ◌<◌, ◌≤◌, ◌+◌, ◌++◌, ℕ, Bool, List, [], Some, None, Ok, Err, IfErr, true, false, MatchOption, length, replicate, take, drop};
 ghost use Rattle.std.specs.Option.{option_map};
 ghost use Rattle.std.specs.Str.{IsUtf8};
 ghost use Rattle.minisign_hash.specs.Blake2b.{blake2b_digest};
@@ -25,13 +25,13 @@ ghost use Rattle.minisign_external.specs.declared.state.Refusal.TheVariants.{Ref
 ghost use Rattle.minisign_external.specs.declared.state.Misuse.TheVariants.{BadAnswer, BadFirstFlag, BadNumbering, BadPasswordFlag, NoRoom, NotDue};
 ghost use Rattle.minisign_install.specs.Comments.{Says};
 ghost use Rattle.minisign_install.specs.Faults.{install_number};
-ghost use Rattle.minisign_install.specs.Hosted.{CannotBeFed, GivesUpdate, HasAskedAbout, HasGone, HasReadBack, HasReadRecord, HasWaited, IsAnswerRefusal, IsAskRefusal, IsAsking, IsBegun, IsDue, IsHostMeaning, IsNumberOf, IsUnused, IsWorth, JudgesComment, JudgesTarget, KeepsRecord, ReadsTexts, WasDone, choices_of, due_number, due_of, failure, going_on, may_go, numbering_number, numbering_of, wanted_by};
+ghost use Rattle.minisign_install.specs.Hosted.{CannotBeFed, GivesUpdate, HasAskedAbout, HasGone, HasReadBack, HasReadRecord, HasTaken, HasWaited, IsDoneRefusal, IsMoreRefusal, IsAnswerRefusal, IsAskRefusal, IsAsking, IsBegun, IsDue, IsHostMeaning, IsNumberOf, IsUnused, IsVouched, IsWorth, JudgesComment, JudgesTarget, KeepsComment, KeepsRecord, ReadsTexts, WasDone, choices_of, due_number, due_of, failure, going_on, is_vouched, numbering_number, numbering_of, said_by, told_number};
 ghost use Rattle.minisign_install.specs.Installing.{Terms};
 ghost use Rattle.minisign_install.specs.RecordTexts.{record_of};
 ghost use Rattle.minisign_install.specs.declared.faults.InstallFault.{InstallFault};
 ghost use Rattle.minisign_install.specs.declared.order.Due.TheVariants.{Answer, Judge, JudgeTarget, Look, ReadRecord, WriteRecord};
 ghost use Rattle.minisign_install.specs.declared.order.Due.TheVariants as ended;
-ghost use Rattle.minisign_install.specs.declared.order.Outcome.TheVariants.{Done, Failed, More};
+ghost use Rattle.minisign_install.specs.declared.order.Outcome.TheVariants.{Failed};
 ghost use Rattle.minisign_external.specs.States.{AnswersTextsBy, AreAsked, AreQuestions, GivesNumber, HasAsked, HasToldDigest, IsAnswered, IsBlank, IsFedState, IsMarkedFed, IsMarkedTold, KeepsAsked, asking_number, asking_under, comment_number, feeding_misuse, is_begun, result_number, told_verdict_number, verdict_number};
 
 pub mod in_a_row;
@@ -539,13 +539,14 @@ pub extern "C" fn minisign_install_init(
     again: u32,
     is_check: u32,
     is_waiting: u32,
+    must_expire: u32,
     numbering: u32,
 ) -> u32
     // The lock is due, or of a check the record; nothing was read, and the keys and the choices are kept. A flag for the
     // first installation and a numbering that are neither 0 nor 1 are rejected, the former first, and nothing is written; of
     // the others any number but 0 is yes.
     ensures begun { result ≡ 0 → (is_first < 2) × (field : Numbering) × (numbering ≡ numbering_number field)
-        × IsBegun key.now other.now (choices_of is_first again is_check is_waiting field) installation.new }
+        × IsBegun key.now other.now (choices_of is_first again is_check is_waiting must_expire field) installation.new }
     ensures unused { result ≡ 0 → IsUnused installation.new }
     ensures refused { 0 < result → (((result ≡ misuse_number BadFirstFlag) × (1 < is_first))
         ⊎ ((result ≡ misuse_number BadNumbering) × (is_first < 2) × (1 < numbering))) × (installation.new ≡ installation.old) }
@@ -561,6 +562,7 @@ pub extern "C" fn minisign_install_init(
         again: again != 0,
         is_check: is_check != 0,
         is_waiting: is_waiting != 0,
+        must_expire: must_expire != 0,
         numbering,
     };
     *installation = Installation::new(key, other, choices);
@@ -579,27 +581,29 @@ pub extern "C" fn minisign_install_due(installation: &Installation) -> u32
 /// The call that was due was done.
 #[unsafe(no_mangle)]
 pub extern "C" fn minisign_install_done(installation: &mut Installation) -> u32
-    // What is due next is what the table says, where the call that was due can be done and is not reading back.
-    // Otherwise it is not due, and nothing changes.
-    ensures gone { result ≡ 0 → WasDone Done installation.old installation.new }
-    ensures refused { 0 < result → (result ≡ misuse_number NotDue) × (installation.new ≡ installation.old) × IfSome (due_of installation.old) (λ due. may_go due Done ≡ false) }
+    // What is due next is what the table says, where the call that was due can be done and is not reading back, and bytes are
+    // counted anew. Otherwise it is not due, and nothing changes; or the data has fewer bytes than the signed comment says,
+    // and the run is rejected.
+    ensures gone { result ≡ 0 → WasDone installation.old installation.new }
+    ensures refused { 0 < result → IsNumberOf (λ r. IfErr r (IsDoneRefusal installation.old installation.new)) result }
 {
-    match installation.done(false) {
+    match installation.done() {
         Ok(()) => 0,
-        Err(not_due) => not_due.number(),
+        Err(refusal) => refusal.number(),
     }
 }
 
-/// A piece was copied, and there may be more.
+/// A piece of so many bytes was copied or received, and there may be more.
 #[unsafe(no_mangle)]
-pub extern "C" fn minisign_install_more(installation: &mut Installation) -> u32
-    // The same where a piece was copied and there may be more. Otherwise it is not due, and nothing changes.
-    ensures gone { result ≡ 0 → WasDone More installation.old installation.new }
-    ensures refused { 0 < result → (result ≡ misuse_number NotDue) × (installation.new ≡ installation.old) × IfSome (due_of installation.old) (λ due. may_go due More ≡ false) }
+pub extern "C" fn minisign_install_more(installation: &mut Installation, piece_len: usize) -> u32
+    // The same where a piece was copied or received, whose bytes are counted. Otherwise it is not due, and nothing changes; or
+    // the data has more bytes than the signed comment says, and the run is rejected.
+    ensures gone { result ≡ 0 → HasTaken piece_len installation.old installation.new }
+    ensures refused { 0 < result → IsNumberOf (λ r. IfErr r (IsMoreRefusal piece_len installation.old installation.new)) result }
 {
-    match installation.done(true) {
+    match installation.more(piece_len) {
         Ok(()) => 0,
-        Err(not_due) => not_due.number(),
+        Err(refusal) => refusal.number(),
     }
 }
 
@@ -618,15 +622,19 @@ pub extern "C" fn minisign_install_failed(installation: &mut Installation, why: 
     }
 }
 
-/// The record holds these bytes.
+/// The record holds these bytes, and was last written at this moment.
 #[unsafe(no_mangle)]
-pub extern "C" fn minisign_install_record(installation: &mut Installation, bytes: &[u8]) -> u32
-    // The number that the record holds for the field is kept, or the run is rejected where it holds none and this is
-    // not the first installation. Where the record is not to be read, nothing changes.
-    ensures read { result ≡ 0 → HasReadRecord (Some bytes.now) installation.old installation.new }
+pub extern "C" fn minisign_install_record(
+    installation: &mut Installation,
+    bytes: &[u8],
+    written: u64,
+) -> u32
+    // The number that the record holds for the field is kept, and when it was last written, or the run is rejected where it
+    // holds none and this is not the first installation. Where the record is not to be read, nothing changes.
+    ensures read { result ≡ 0 → HasReadRecord (Some bytes.now) written installation.old installation.new }
     ensures refused { 0 < result → (result ≡ misuse_number NotDue) × (installation.new ≡ installation.old) × IfSome (due_of installation.old) (λ due. due ≢ ReadRecord) }
 {
-    match installation.record(Some(bytes)) {
+    match installation.record(Some(bytes), written) {
         Ok(()) => 0,
         Err(not_due) => not_due.number(),
     }
@@ -636,10 +644,10 @@ pub extern "C" fn minisign_install_record(installation: &mut Installation, bytes
 #[unsafe(no_mangle)]
 pub extern "C" fn minisign_install_no_record(installation: &mut Installation) -> u32
     // The same where there is no record.
-    ensures read { result ≡ 0 → HasReadRecord None installation.old installation.new }
+    ensures read { result ≡ 0 → HasReadRecord None 0 installation.old installation.new }
     ensures refused { 0 < result → (result ≡ misuse_number NotDue) × (installation.new ≡ installation.old) × IfSome (due_of installation.old) (λ due. due ≢ ReadRecord) }
 {
-    match installation.record(None) {
+    match installation.record(None, 0) {
         Ok(()) => 0,
         Err(not_due) => not_due.number(),
     }
@@ -665,7 +673,7 @@ pub extern "C" fn minisign_install_no_target(installation: &mut Installation) ->
     // The run goes on, and what is read next is fed to a state that was fed nothing. Where the file at the target is not to
     // be read, nothing changes.
     ensures gone { result ≡ 0 → (kept : ℕ) × IsDue installation.old (Look kept) × IsDue installation.new (going_on installation.old kept)
-        × KeepsRecord installation.old installation.new × IsFedState installation.new.state [] }
+        × KeepsRecord installation.old installation.new × IsFedState installation.new.state [] × KeepsComment installation.old installation.new }
     ensures refused { 0 < result → (result ≡ misuse_number NotDue) × (installation.new ≡ installation.old) × ((kept : ℕ) → ¬ (IsDue installation.old (Look kept))) }
 {
     match installation.no_target() {
@@ -681,13 +689,13 @@ pub extern "C" fn minisign_install_ask(
     installation: &mut Installation,
     sig_text: &[u8],
     file: &[u8],
-    moment: u64,
+    now: u64,
     questions: &mut Questions,
     message: &mut [u8],
 ) -> u32
     // The questions are those of the key that has to have signed and of what the text reads as, as `Installation::ask`
     // says; they are then asked, and the comment that was asked about is judged, against the number that was kept.
-    ensures asked { result ≡ 0 → HasAskedAbout sig_text.now file.now moment questions.new message.new installation.old installation.new }
+    ensures asked { result ≡ 0 → HasAskedAbout sig_text.now file.now now questions.new message.new installation.old installation.new }
 
     // What the host has chosen stays.
     ensures chosen { installation.new.chosen ≡ installation.old.chosen }
@@ -699,7 +707,7 @@ pub extern "C" fn minisign_install_ask(
     ensures kept { 0 < result → (questions.new ≡ questions.old) × (message.new ≡ message.old) }
     ensures rest { result ≡ 0 → drop questions.new.message_len message.new ≡ drop questions.new.message_len message.old }
 {
-    match installation.ask(sig_text, file, moment, questions, message) {
+    match installation.ask(sig_text, file, now, questions, message) {
         Ok(()) => 0,
         Err(refusal) => refusal.number(),
     }
@@ -732,10 +740,16 @@ pub extern "C" fn minisign_install_answer(
     // An answer is 7955827 for yes or 28271 for no, and no other number is taken. A usage error has its number and changes
     // nothing.
     ensures refused { 0 < result → ((result ≡ misuse_number BadAnswer) × (¬ (IsAnswer first) ⊎ ¬ (IsAnswer second)) × (installation.new ≡ installation.old))
-        ⊎ (IsAnswer first × IsAnswer second × IsNumberOf (λ r. IfErr r (IsAnswerRefusal installation.old installation.new)) result) }
+        ⊎ (IsAnswer first × IsAnswer second × IsNumberOf (λ r. IfErr r (IsAnswerRefusal (first == answer_yes) (second == answer_yes) installation.old installation.new)) result) }
 
-    // What the host has chosen stays, and what was asked about.
-    ensures chosen { (installation.new.chosen ≡ installation.old.chosen) × (installation.new.asked ≡ installation.old.asked) }
+    // The comment that was asked about is vouched for exactly where the key has signed it.
+    ensures vouched { (terms : Terms) (kept : ℕ) (accepts : Verifier) → (asking : IsAsking installation.old terms kept)
+        → IsAnswer first × IsAnswer second × AnswersComment accepts asking.key terms.sig_text (second == answer_yes)
+        → IsVouched accepts asking.key terms.sig_text installation.new }
+
+    // What the host has chosen stays, what was asked about, and what came of the comment where it was judged.
+    ensures chosen { (installation.new.chosen ≡ installation.old.chosen) × (installation.new.asked ≡ installation.old.asked)
+        × (installation.new.judged ≡ installation.old.judged) }
 {
     if !(is_answer(first) && is_answer(second)) {
         return Misuse::BadAnswer.number();
@@ -746,12 +760,20 @@ pub extern "C" fn minisign_install_answer(
     }
 }
 
-/// The number of the update, once its comment was vouched for.
+/// Whether a key was found to have signed the comment that was asked about last: 1 or 0.
+#[unsafe(no_mangle)]
+pub extern "C" fn minisign_install_is_vouched(installation: &Installation) -> u32
+    // It is 1 exactly where that was found, as `minisign_install_answer` says.
+    ensures { result ≡ (if is_vouched installation.now then 1 else 0) }
+{
+    u32::from(installation.is_vouched())
+}
+
+/// The number of the comment, where that is vouched for and has one; otherwise 0.
 #[unsafe(no_mangle)]
 pub extern "C" fn minisign_install_number(installation: &Installation) -> u64
-    // It is the number of a comment that was judged, and 0 before that was vouched for.
-    ensures told { 0 < result → (installation.now.judged.verdict ≡ 1) × (result ≡ installation.now.judged.number) }
-    ensures unjudged { (kept : ℕ) → IsDue installation.now (Judge kept) → result ≡ 0 }
+    // Of a comment that is vouched for it is the number that was found where it was judged, and otherwise 0.
+    ensures { result ≡ told_number installation.now }
 {
     installation.number()
 }
@@ -797,10 +819,10 @@ pub extern "C" fn minisign_judge_comment(
     // has this number and has not expired, and it is not below the kept one; otherwise the number is that of the first
     // reason, and nothing is written.
     ensures says { result ≡ 0 → (k : Numbering) × (numbering ≡ numbering_number k) × IsUtf8 comment.now × IsUtf8 file.now
-        × Says comment.now file.now k moment number.new × (kept ≤ number.new) }
+        × Says comment.now (said_by file.now k moment) number.new × (kept ≤ number.new) }
     ensures refused { 0 < result → ((result ≡ misuse_number BadNumbering) × (1 < numbering))
         ⊎ ((k : Numbering) × (numbering ≡ numbering_number k) × (e : InstallFault) × (result ≡ install_number e)
-        × ReadsTexts comment.now file.now (IsWorth (wanted_by [] [] file.now k moment) kept comment.now) (Err e)) }
+        × ReadsTexts comment.now file.now (IsWorth (said_by file.now k moment) kept comment.now) (Err e)) }
     ensures kept { 0 < result → number.new ≡ number.old }
 {
     let Some(numbering) = Numbering::of_number(numbering) else {

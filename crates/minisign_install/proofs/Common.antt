@@ -1,6 +1,6 @@
 -- The names of definitions, and of std's lemmas, that the proofs of this crate use.
 pub use Rattle.minisign.proofs.Laws.{refused_unvouched}
-pub use Rattle.minisign_install.specs.Words.{Already, Answer, AnswersComment, AnswersTexts, AreQuestions, Calls, CallsNothing, CallsOwning, Choices, Clear, ClearsAll, Consumes, Copy, Counts, Create, CreateRecord, DeviceFails, Done, Due, Explains, Failed, Fault, FileStays, Finds, FindsFile, GivesUpdate, GoesByComment, GoesOn, HasAsked, HasAskedAbout, HasCleared, HasCreated, HasGone, HasInstalled, HasKept, HasLocked, HasNoNumber, HasOnDisk, HasPublishedUpdate, HasReached, HasRenamed, HasRun, HasStepped, HasUnlocked, HasWaited, Host, InstallFault, Installation, InstallsLocked, InstallsOnlyUpdates, IsAboutRefusal, IsAhead, IsAnswerRefusal, IsApart, IsAskDue, IsAskFedRefusal, IsAsking, IsBegun, IsBusy, IsCallFault, IsCheckRefused, IsDataRefusal, IsDataRefused, IsDue, IsExpiryRefused, IsFedState, IsFound, IsJudged, IsKeptNumber, IsKeptOf, IsKeptOrNone, IsKeyText, IsLibraryFault, IsLockedRefusal, IsMarkedTold, IsNumberFor, IsNumberFrom, IsNumberText, IsPublished, IsReadFrom, IsReading, IsRecordOf, IsRecordRefused, IsRefusal, IsRejectedFor, IsRejection, IsStanding, IsStill, IsTargetRefused, IsTextRefusal, IsTextRefused, IsUnexpired, IsUpdate, IsUtf8, IsWorth, Judge, JudgeTarget, JudgesComment, JudgesTarget, KeepsRecord, Kept, Known, Leads, Library, Lock, LocksAt, Look, Makes, Mark, MayBeInstalled, MayBePublished, MayBeRecorded, MayFind, MayLead, MaySyncFile, Moment, More, Name, Named, NotSynced, NotUtf8, Number, Numbering, OutOfMemory, Outcome, OwnsNoMore, OwnsTheSame, Perhaps, Place, PublicKeyRecord, PublicKeyValue, Publishes, PublishesInOrder, PublishesNothing, PublishesOnly, Questions, RandomSourceFailed, ReadBack, ReadRecord, ReadingFailed, Receive, Record, RecordHolds, RecordHoldsAt, RecordUnchanged, RecordsFirst, Refusal, RejectsFor, Remove, RemoveRecord, Removes, Rename, RenameRecord, Renames, Replaces, Rests, Rose, Run, RunStep, SameNumber, Says, Sets, Setting, SignatureBoxRecord, SignatureTextRecord, SignatureValue, Spoils, StandsBy, Stays, Sync, SyncName, SyncRecord, SyncRecordName, SyncTarget, SyncTargetName, SyncsDirectory, SyncsFile, TakePermissions, Terms, TextsVouchWith, Timestamp, TouchesOnly, TouchesStages, Unlock, Verifier, Version, WouldInstall, WriteRecord, Writes, WritesInPart, WritingFailed, WrongUse, accepts_comments, after_comment, and_then, asked_digest, blake2b_digest, box_of, comment_verdict_under, concat, counts, due_number, first_due, going_on, has_ended, install_number, is_marked, is_same, judge_key, key_by, key_for, mark_text, marked_line, may_replace, may_wait, next, number_label, numbering_of, of_installing, piece_outcome, read_public_key, read_signature, read_signature_box, read_under, read_utf8, record_digest, record_of, record_text, signed_comment, standing, strip, values_of, verdict, wanted_by}
+pub use Rattle.minisign_install.specs.Words.{Already, Any, AnyFailure, Answer, AnswersComment, AnswersTexts, AreQuestions, Calls, CallsNothing, CallsOwning, Choices, Clear, ClearsAll, Consumes, Copy, Counts, Create, CreateRecord, DeviceFails, Done, Due, Explains, ExplainsCounted, Failed, FailsFor, Fault, FileStays, Finds, FindsFile, GivesUpdate, GoesByComment, GoesOn, HasAsked, HasAskedAbout, HasCleared, HasCreated, HasGone, HasInstalled, HasKept, HasLocked, HasFound, HasNoNumber, HasOnDisk, HasOtherSize, HasPublishedUpdate, HasReached, HasRenamed, HasRun, HasStepped, HasUnlocked, HasWaited, Host, InstallFault, Installation, InstallsLocked, InstallsOnlyUpdates, IsAboutRefusal, IsAhead, IsAnswerRefusal, IsApart, IsAskDue, IsAskFedRefusal, IsAsking, IsBegun, IsBusy, IsCallFault, IsCheckRefused, IsDataRefused, IsDue, IsExpiryRefused, IsFailure, IsFedState, IsFine, IsFound, IsFoundRefusal, IsJudged, IsKeptNumber, IsKeptOf, IsKeptOrNone, IsKeyText, IsLibraryFault, IsLockedFailure, IsLockedRefusal, IsMarkedTold, IsNumberFor, IsNumberFrom, IsNumberText, RecordIsOwn, IsPublished, IsReadFrom, IsReading, IsRecordOf, IsRecordRefused, IsRefusal, IsRejectedFor, IsRejection, IsStanding, IsStill, IsTargetRefused, IsTextRefusal, IsTextRefused, IsUnexpired, IsUpdate, IsUtf8, IsWorth, Judge, JudgeTarget, JudgesComment, JudgesTarget, KeepsRecord, Kept, Known, Knows, Leads, Library, Lock, LocksAt, Look, Makes, Mark, MayBeInstalled, MayBePublished, MayBeRecorded, MayFind, MayLead, MaySyncFile, Moment, More, Name, Named, NoFailure, NotSynced, NotUtf8, Number, Numbering, OnlyRejects, OtherSize, OutOfMemory, Outcome, OwnsNoMore, OwnsTheSame, Perhaps, Place, PublicKeyRecord, PublicKeyValue, Publishes, PublishesInOrder, PublishesNothing, PublishesOnly, Questions, RandomSourceFailed, ReadBack, ReadRecord, ReadingFailed, Receive, Record, RecordHolds, RecordHoldsAt, RecordUnchanged, RecordsFirst, Refusal, Rejects, RejectsFor, Remove, RemoveRecord, Removes, Rename, RenameRecord, Renames, Replaces, Rests, Rose, Run, RunStep, SameNumber, Says, SaysSize, SeesOtherSize, Sets, Setting, SignatureBoxRecord, SignatureTextRecord, SignatureValue, SizedAs, Spoils, StandsBy, Stays, Sync, SyncName, SyncRecord, SyncRecordName, SyncTarget, SyncTargetName, SyncsDirectory, SyncsFile, TakePermissions, Terms, TextsVouchWith, Timestamp, TouchesOnly, TouchesStages, Unlock, Verifier, Version, WouldInstall, WriteRecord, Writes, WritesInPart, WritingFailed, WrongUse, accepts_comments, after_comment, and_then, asked_digest, blake2b_digest, box_of, comment_verdict_under, by_number, concat, digest_in, due_number, first_due, fits, going_on, has_ended, install_number, is_marked, is_same, judge_key, kept_digest, key_by, key_for, mark_text, marked_line, may_replace, may_wait, next, number_label, numbering_of, of_installing, piece_outcome, read_public_key, read_signature, read_signature_box, read_under, read_utf8, record_digest, record_of, record_text, signed_comment, signed_size, standing, strip, values_of, verdict, wanted_by, RecordCounts, counted, keys_of}
 pub use Rattle.minisign.specs.Records.{is_prehashed}
 pub use Rattle.minisign.specs.Texts.{require}
 pub use Rattle.minisign_base.specs.declared.faults.NamedFault.{NamedFault}

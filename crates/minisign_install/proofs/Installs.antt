@@ -1,12 +1,12 @@
 -- What the parts of an installation come to.
-use Rattle.minisign_install.proofs.Common.{Bool, Finds, HasKept, HasStepped, InstallsLocked, IsFound, IsKeptNumber, IsNumberFor, IsRecordOf, IsUpdate, List, MayBeInstalled, MayBePublished, MayBeRecorded, MayLead, Moment, Name, None, Numbering, Option, Place, PublishesInOrder, PublishesNothing, PublishesOnly, Record, RecordHolds, RecordsFirst, Run, Some, Terms, Verifier, arith, blake2b_digest, inl, inr, sym, true, ℕ, ⊎_elim, ◌<◌, ◌^◌, ◌∙◌, ◌≡◌, ◌≤◌}
+use Rattle.minisign_install.proofs.Common.{Bool, Finds, HasKept, HasStepped, InstallsLocked, IsFound, IsKeptNumber, IsNumberFor, IsRecordOf, IsUpdate, List, MayBeInstalled, MayBePublished, MayBeRecorded, MayLead, Moment, Name, None, Numbering, Option, Place, PublishesInOrder, PublishesNothing, PublishesOnly, Record, RecordCounts, RecordHolds, RecordsFirst, Run, Some, Terms, Verifier, arith, blake2b_digest, counted, inl, inr, refl, sym, true, ℕ, ⊎_elim, ◌<◌, ◌^◌, ◌∙◌, ◌≡◌, ◌≤◌}
 use Rattle.minisign_install.proofs.Works.{HasRecorded, IsOnly, publishes_nothing, publishes_trans, publishes_weaken}
-use Rattle.minisign_install.proofs.RecordTexts.{record_reads, same_number}
+use Rattle.minisign_install.proofs.RecordTexts.{length_digest, record_reads, same_number}
 use Rattle.std.proofs.lemmas.Option.{none-some, same_Some}
 
 -- the record of an update has its number
 record_numbers : (terms : Terms) (n : ℕ) (update bytes : List ℕ) → IsRecordOf terms n update bytes → n < 2 ^ 64 → IsNumberFor terms.numbering bytes n
-record_numbers terms n update bytes written bound = rw written.is (record_reads terms.numbering n bound written.key.key (blake2b_digest 64 update) written.key_whole written.digest_whole)
+record_numbers terms n update bytes written bound = rw written.is (record_reads terms.numbering n bound written.key.key (blake2b_digest 64 update) written.key_whole (length_digest update))
 
 module _ (accepts : Verifier) (terms : Terms) (kept : ℕ) where
   abbrev P : Name → List ℕ → Type 0
@@ -68,10 +68,15 @@ kept_least numbering first (Some bytes) kept k m (f, leads, holds) number keeps 
     let (n, is, least) = keeps.numbers bytes (record { file = f; lead = inl leads; holds = λ kept. sym holds }) in
     ⊎_elim (λ (text, same, number). omega (arith, least, same_number numbering bytes n kept is (rw (same_Some bytes text same) number))) (λ (is_zero, (is_first, none)). absurd (none n is)) number
 
+-- all that was found counts
+counts_found : (terms : Terms) (first : Bool) (found : Option (List ℕ)) (m : Moment) → IsFound m Record found → RecordCounts terms first m → counted first terms.keys found ≡ found
+counts_found terms first None m there counts = refl
+counts_found terms first (Some bytes) m there counts = counts bytes there
+
 pub nothing_locked : (accepts : Verifier) (terms : Terms) (first : Bool) (old new : Run) → old.locked ≡ true → PublishesNothing old new → InstallsLocked accepts terms first old new
 nothing_locked accepts terms first old new locked none = record {
   only = inl none;
-  never_falls = λ k keeps. let (each, last) = none.numbers locked terms.numbering k (λ bytes no. absurd no) keeps in (none.since, none.noted, each, last);
+  never_falls = λ counts k keeps. let (each, last) = none.numbers locked terms.numbering k (λ bytes no. absurd no) keeps in (none.since, none.noted, each, last);
 }
 
 -- what is not older than the number that was found was published
@@ -79,8 +84,8 @@ pub installs : (accepts : Verifier) (terms : Terms) (first : Bool) (old new : Ru
     → InstallsLocked accepts terms first old new
 installs accepts terms first old new locked kept places = record {
   only = inr (kept, places);
-  never_falls = λ k keeps.
-      let least : k ≤ kept.number = kept_least terms.numbering first kept.found kept.number k old.now kept.there kept.held keeps in
+  never_falls = λ counts k keeps.
+      let least : k ≤ kept.number = kept_least terms.numbering first kept.found kept.number k old.now kept.there (rw (counts_found terms first kept.found old.now kept.there counts) at kept.held) keeps in
       let brings = ordered accepts terms kept.number places in
       let (each, last) = brings.numbers locked terms.numbering k
       (λ bytes (n, update, is, written). (n, record_numbers terms n update bytes written is.says.number.bound, omega (arith, least, is.newer))) keeps in

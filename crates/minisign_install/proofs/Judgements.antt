@@ -1,6 +1,6 @@
 -- What the texts of a key and of a signature decide of data, of its digest, and of the comment alone.
-use Rattle.minisign_install.proofs.Common.{IsAskFedRefusal, RejectsFor, SignatureValue, ⊤, IsAnswerRefusal, ◌==◌, Already, AnswersComment, Clear, SyncTarget, Unlock, WouldInstall, cases_Bool, cond, going_on, may_wait, standing, InstallFault, IsAboutRefusal, IsTextRefusal, IsUtf8, Kept, WrongUse, accepts_comments, asked_digest, key_of, of_installing, verdict, ◌≡◌, ◌||◌, ◌∙◌, inl, inr, Bool, true, false, List, ℕ, take, ap, sym, refl, Result, Ok, Err, blake2b_digest, Fault, NamedFault, Verifier, TextsVouchWith, Terms, read_public_key, is_prehashed, SignatureTextRecord, box_of, read_signature, AnswersTexts, Answer, Due, Installation, IsAskDue, IsAsking, IsDue, Judge, JudgeTarget, ◌⊎◌, IsJudged, IsKeyText, IsReadFrom, read_under, AreQuestions, PublicKeyValue, Questions, and_then, require, signed_comment, subst, is_utf8, NotUtf8, SignatureBoxRecord, read_signature_box, read_utf8, judge_key, key_by, key_for, Some, Refusal}
-use Rattle.std.specs.Prelude.{OnOk}
+use Rattle.minisign_install.proofs.Common.{IsAskFedRefusal, IsRejection, RejectsFor, SignatureValue, ⊤, IsAnswerRefusal, ◌==◌, Already, AnswersComment, Clear, SyncTarget, Unlock, WouldInstall, cases_Bool, cond, going_on, may_wait, standing, InstallFault, IsAboutRefusal, IsTextRefusal, IsUtf8, Kept, WrongUse, accepts_comments, asked_digest, key_of, of_installing, ◌≡◌, ◌||◌, ◌∙◌, inl, inr, Bool, true, false, List, ℕ, take, ap, sym, refl, Result, Ok, Err, blake2b_digest, Fault, NamedFault, Verifier, TextsVouchWith, Terms, is_prehashed, SignatureTextRecord, box_of, read_signature, AnswersTexts, Answer, Due, Installation, IsAskDue, IsAsking, IsDue, Judge, JudgeTarget, ◌⊎◌, IsJudged, IsKeyText, IsReadFrom, read_under, AreQuestions, PublicKeyValue, Questions, and_then, require, signed_comment, subst, is_utf8, NotUtf8, SignatureBoxRecord, read_signature_box, read_utf8, judge_key, key_by, key_for, Some, Refusal}
+use Rattle.std.specs.Prelude.{IfErr, OnOk, is_ok}
 use Rattle.minisign.specs.Headline.{TextsVouchFor}
 use Rattle.minisign.specs.Texts.{map_ok}
 use Rattle.minisign_external.specs.PublicKeys.{value_of}
@@ -8,7 +8,11 @@ use Rattle.minisign_base.specs.declared.faults.NamedFault.TheVariants.{CommentSi
 use Rattle.minisign_external.specs.States.{comment_result, decision, given_verdict, verdict_misuse}
 use Rattle.minisign_external.specs.declared.state.State.{State}
 use Rattle.minisign_external.specs.declared.state.Misuse.{Misuse}
-use Rattle.minisign_install.specs.Hosted.{key_under}
+use Rattle.std.specs.Str.Parse.{digits_value}
+use Rattle.std.proofs.lemmas.Option.{same_Some}
+use Rattle.minisign_install.specs.Comments.{HasNumber}
+use Rattle.minisign_install.specs.Hosted.{GivesUpdate, IsJudgedFault, IsNumberOrNone, IsVerdict, Takes, decided_by, key_under}
+use Rattle.minisign_install.proofs.Common.{IsNumberText, IsWorth, Says, MatchOption, None, Numbering, Option, unwrap_or}
 use Rattle.minisign_external.specs.declared.state.Refusal.TheVariants.{Refused}
 
 -- == What the text of a signature reads as ==
@@ -88,6 +92,11 @@ pub given_refused : (r : Result (List ℕ) Fault) (x : Refusal Fault) → Err x 
 given_refused (Ok comment) x h = cc h
 given_refused (Err f) x h = (f, cc h, refl)
 
+-- whether the key has signed a comment, a verdict on it says
+pub signed_so : (r : Result (List ℕ) Fault) → is_ok (given_verdict r) ≡ is_ok r
+signed_so (Ok comment) = refl
+signed_so (Err e) = refl
+
 -- the comment that the key has signed is the one of the text
 pub signed_text : (accepts : Verifier) (v : PublicKeyValue) (sig_text comment : List ℕ) → signed_comment accepts v sig_text ≡ Ok comment → (t : SignatureTextRecord) × (read_signature sig_text ≡ Ok t) × (t.comments.trusted ≡ comment)
 signed_text accepts v sig_text comment h =
@@ -103,6 +112,47 @@ pub judged_with : (accepts : Verifier) (terms : Terms) (kept : ℕ) (message : L
 judged_with accepts terms kept message i asking v =
     let (t, reads, both) = read_whole terms.sig_text v.box v.box_read in
     (t.comments.trusted, record { vouched = v; comments = t.comments; both = both; trusted = refl }, asking.judged t reads)
+
+-- == What is kept of a comment ==
+
+-- what a comment is worth does not go by the texts
+said_of : (terms : Terms) (pk_text sig_text : List ℕ) (keys : List (List ℕ)) (comment : List ℕ) (n : ℕ) → Says comment terms n → Says comment (record terms { pk_text = pk_text; sig_text = sig_text; keys = keys }) n
+said_of terms pk_text sig_text keys comment n says = record { value = says.value; named = says.named; numbered = says.numbered; number = says.number; unexpired = says.unexpired; sized = says.sized }
+
+pub worth_of : (terms : Terms) (pk_text sig_text : List ℕ) (keys : List (List ℕ)) (kept : ℕ) (comment : List ℕ) (r : Result ℕ InstallFault) → IsWorth terms kept comment r
+    → IsWorth (record terms { pk_text = pk_text; sig_text = sig_text; keys = keys }) kept comment r
+worth_of terms pk_text sig_text keys kept comment (Ok n) (says, newer) = (said_of terms pk_text sig_text keys comment n says, newer)
+worth_of terms pk_text sig_text keys kept comment (Err e) (inl other) = inl other
+worth_of terms pk_text sig_text keys kept comment (Err e) (inr (inl other)) = inr (inl other)
+worth_of terms pk_text sig_text keys kept comment (Err e) (inr (inr (inl other))) = inr (inr (inl other))
+worth_of terms pk_text sig_text keys kept comment (Err e) (inr (inr (inr (inl other)))) = inr (inr (inr (inl other)))
+worth_of terms pk_text sig_text keys kept comment (Err e) (inr (inr (inr (inr (is, (n, says, older)))))) = inr (inr (inr (inr (is, (n, said_of terms pk_text sig_text keys comment n says, older)))))
+
+-- a comment has one number
+one_text : (text other : List ℕ) (n m : ℕ) → text ≡ other → IsNumberText text n → IsNumberText other m → m ≡ n
+one_text text other n m same one two = sym two.is ∙ ap (λ t. digits_value 10 t) (sym same) ∙ one.is
+
+only_number : (comment : List ℕ) (numbering : Numbering) (n m : ℕ) → HasNumber comment numbering n → IsNumberOrNone numbering comment m → m ≡ n
+only_number comment numbering n m one (inl other) = let same = sym one.numbered ∙ other.numbered in one_text one.value other.value n m (same_Some one.value other.value same) one.number other.number
+only_number comment numbering n m one (inr (zero, none)) = absurd (none n one)
+
+-- where the comment is that of an update, its number is the one that is kept
+pub verdict_with : (v n m : ℕ) (terms : Terms) (kept : ℕ) (comment : List ℕ) → IsVerdict v n terms kept comment → IsNumberOrNone terms.numbering comment m → IsVerdict v m terms kept comment
+verdict_with v n m terms kept comment (inl (is, (says, newer))) number =
+    let same = only_number comment terms.numbering n m (record { value = says.value; numbered = says.numbered; number = says.number }) number in
+    inl (is, rw same (says, newer))
+verdict_with v n m terms kept comment (inr refused) number = inr refused
+
+pub number_or_none : (comment : List ℕ) (numbering : Numbering) (r : Option ℕ) → MatchOption r ((n : ℕ) → ¬ (HasNumber comment numbering n)) (HasNumber comment numbering) → IsNumberOrNone numbering comment (unwrap_or r 0)
+number_or_none comment numbering (Some n) has = inl has
+number_or_none comment numbering None none = inr (refl, none)
+
+-- what the texts vouch for is an update where its comment is what is wanted
+pub taken : {T : Type 0} (accepts : Verifier) (terms : Terms) (kept : ℕ) (message comment : List ℕ) (new : Installation) (r : Result T (Refusal InstallFault))
+    → TextsVouchWith accepts terms.pk_text terms.sig_text message false comment → Takes terms kept comment new r → GivesUpdate accepts terms kept message new r
+taken accepts terms kept message comment new (Ok done) vouched (n, due, (says, newer)) = (n, due, record { comment = comment; vouched = vouched; says = says; newer = newer })
+taken accepts terms kept message comment new (Err (WrongUse m)) vouched never = absurd never
+taken accepts terms kept message comment new (Err (Refused e)) vouched (due, why) = (due, inr (comment, vouched, why))
 
 -- the questions with another digest
 pub redigested : (q : Questions) (bytes : List ℕ) (v : PublicKeyValue) (t : SignatureTextRecord) (d : List ℕ) → AreQuestions q bytes v t → AreQuestions (record q { digest = d }) bytes v t
@@ -130,16 +180,25 @@ wrong_only false r n x h m is = cc (h, is)
 pub comment_misuse : (s : State) (second : Bool) (x : Refusal Fault) → Err x ≡ comment_result s second → (m : Misuse) → x ≡ WrongUse m → m ≡ verdict_misuse s
 comment_misuse s second x h = wrong_only _ _ _ x h
 
-pub answered_refusal : (due : Due ℕ) (x : Refusal Fault) (old new : Installation) → IsDue old due → RejectsFor due x old new → ((m : Misuse) → x ≡ WrongUse m → m ≡ verdict_misuse old.state) → IsAnswerRefusal old new (of_installing x)
-answered_refusal due (WrongUse m) old new is same misuse = (same, inr (misuse m refl))
-answered_refusal due (Refused e) old new is (failed, rest) misuse = (rw is failed, (rest.chosen, rest.kept))
+pub answered_refusal : (first second : Bool) (kept : ℕ) (x : Refusal Fault) (old new : Installation) → IsDue old (Judge kept) → RejectsFor (Judge kept) x old new → Err x ≡ comment_result old.state second
+    → IsAnswerRefusal first second old new (of_installing x)
+answered_refusal first second kept (WrongUse m) old new is same said = (same, inr (comment_misuse old.state second (WrongUse m) said m refl))
+answered_refusal first second kept (Refused e) old new is (failed, rest) said = (rw is (inl (e, sym said, refl), failed), (rest.chosen, rest.kept))
+
+-- the answers decide well, and the comment is rejected
+pub judged_refusal : (T : Type 0) (first second : Bool) (due : Due ℕ) (r : Result T (Refusal InstallFault)) (old new : Installation) → IsDue old due → Ok tt ≡ decided_by old.state due first second
+    → IfErr r (IsRejection (λ _. IsJudgedFault old.judged) old new) → IfErr r (IsAnswerRefusal first second old new)
+judged_refusal T first second due (Ok done) old new is said refused = tt
+judged_refusal T first second due (Err (WrongUse m)) old new is said never = absurd never
+judged_refusal T first second due (Err (Refused e)) old new is said (failed, keeps) =
+    let (judged, next_due) = rw is at failed in (rw is (inr (sym said, judged), next_due), keeps)
 
 pub asked_same : (i j : Installation) → j.kept ≡ i.kept → (due : Due ℕ) (read : List ℕ) → asked_digest j due read ≡ asked_digest i due read
 asked_same i j same (Judge kept) read = ap (λ (k : Kept). k.digest) same
 asked_same i j same due read = refl
 
 -- what stands at the target is synced, or that is the end; a run that goes on does neither
-not_both : {P : Type 0} (i : Installation) (kept : ℕ) → standing i ≡ going_on i kept → P
+not_both : {P : Type 0} (i : Installation) (kept : ℕ) → standing {E = ℕ} i ≡ going_on i kept → P
 not_both i kept h = elim (cases_Bool (i.chosen.is_check == 1)) [
   | inl checks ↦
       let both = sym (ap (λ b. cond b Already SyncTarget) checks) ∙ h ∙ ap (λ b. cond b WouldInstall (cond (may_wait i) Unlock (Clear kept))) checks in

@@ -1,7 +1,9 @@
 mod Common
 mod Fields
+mod Happenings
 mod Installs
 mod Judgements
+mod Meeting
 mod Obeying
 mod Orders
 mod Reasons

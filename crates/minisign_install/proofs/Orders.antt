@@ -1,6 +1,6 @@
 -- Whatever outcomes come, a run that makes each call as it is due installs only updates: what stands fast at each call
 -- that is due, and that each outcome leads from there to what stands fast at the next one.
-use Rattle.minisign_install.proofs.Common.{Already, Answer, Calls, CallsNothing, CallsOwning, Clear, ClearsAll, Consumes, Consumes-nil, Consumes-trans, Consumes-whole, Copy, Create, CreateRecord, Done, Due, Failed, FileStays, GoesOn, HasCleared, HasInstalled, HasKept, HasLocked, HasReached, HasRenamed, HasRun, HasStepped, Host, Installed, InstallsOnlyUpdates, IsAhead, IsRecordOf, IsStanding, IsStill, IsUpdate, Judge, JudgeTarget, Leads, List, Lock, LocksAt, Look, Makes, MayBePublished, MayBeRecorded, Moment, More, Name, Number, Outcome, OwnsNoMore, Perhaps, Place, PublishesInOrder, PublishesNothing, PublishesOnly, ReadBack, ReadRecord, Receive, Record, Remove, RemoveRecord, Removes, Rename, RenameRecord, Renames, Rests, Run, Setting, Some, Spoils, Sync, SyncName, SyncRecord, SyncRecordName, SyncTarget, SyncTargetName, TakePermissions, TouchesStages, Unlock, WouldInstall, WriteRecord, Writes, WritesInPart, [], ap, append-nil, append_assoc, blake2b_digest, cases_Bool, concat, cond, false, first_due, has_ended, inl, inr, length, next, record_of, refl, subst, sym, true, true≢false, ℕ, ⊎_elim, ⊤, ◌++◌, ◌∙◌, ◌∷◌, ◌≡◌, ◌≢◌, ◌⊎◌}
+use Rattle.minisign_install.proofs.Common.{Already, Answer, Calls, CallsNothing, CallsOwning, Clear, Consumes, Consumes-nil, Consumes-trans, Consumes-whole, Copy, Create, CreateRecord, Done, Due, Failed, FileStays, GoesOn, HasCleared, HasInstalled, HasKept, HasReached, HasRenamed, HasRun, HasStepped, Host, Installed, InstallsOnlyUpdates, IsAhead, IsFound, IsKeptNumber, IsRecordOf, IsStanding, IsStill, IsUpdate, Judge, JudgeTarget, Leads, List, Lock, LocksAt, Look, Makes, MayBePublished, MayBeRecorded, Moment, More, Name, Number, Option, Outcome, OwnsNoMore, Perhaps, Place, PublishesInOrder, PublishesNothing, PublishesOnly, ReadBack, ReadRecord, Receive, Record, Remove, RemoveRecord, Removes, Rename, RenameRecord, Renames, Rests, Run, Setting, Some, Spoils, Sync, SyncName, SyncRecord, SyncRecordName, SyncTarget, SyncTargetName, TakePermissions, TouchesStages, Unlock, WouldInstall, WriteRecord, Writes, WritesInPart, [], ap, append-nil, append_assoc, blake2b_digest, cases_Bool, concat, cond, counted, false, first_due, has_ended, inl, inr, next, record_of, refl, subst, sym, true, true≢false, ℕ, ⊎_elim, ⊤, ◌++◌, ◌∙◌, ◌∷◌, ◌≡◌, ◌≢◌, ◌⊎◌}
 use Rattle.minisign_install.specs.Order.{Refused}
 use Rattle.std.proofs.lemmas.Option.{same_Some}
 use Rattle.minisign_install.proofs.Installs.{found_read, installs, nothing_locked, ordered, places_more, places_update}
@@ -14,6 +14,11 @@ Nothing kept name bytes = ⊥
 -- with this call it came to that
 pub reached : {This : Moment → Type 0} {P : Name → List ℕ → Type 0} {C : Moment → Moment → Type 0} {old mid new : Run} → PublishesOnly P old mid → HasStepped mid new C → This new.now → HasReached This old new
 reached {new = new} before s this =
+    record { later = []; call = step s.before new.now; earlier = before.since; noted = s.noted ∙ ap (λ l. step s.before new.now ∷ l) before.noted; this = this }
+
+-- the same where nothing was changed before
+pub rests_reached : {This : Moment → Type 0} {C : Moment → Moment → Type 0} {old mid new : Run} → Rests old mid → HasStepped mid new C → This new.now → HasReached This old new
+rests_reached {new = new} before s this =
     record { later = []; call = step s.before new.now; earlier = before.since; noted = s.noted ∙ ap (λ l. step s.before new.now ∷ l) before.noted; this = this }
 
 pub reached_more : {This : Moment → Type 0} {P : Name → List ℕ → Type 0} {old mid new : Run} → HasReached This old mid → PublishesOnly P mid new → HasReached This old new
@@ -117,16 +122,19 @@ pub record Kept (s : Setting) (a : Host) (kept : ℕ) (now : Run) : Type 0 where
   pub is : has.number ≡ kept
   pub quiet : IsQuiet locked now
 
--- So far nothing was changed; of a check that is all.
-pub record Early (s : Setting) (a : Host) (kept : ℕ) (now : Run) : Type 0 where
+-- So far nothing was changed; of a check that is all. The record was found to hold this.
+pub record Early (s : Setting) (a : Host) (kept : ℕ) (found : Option (List ℕ)) (now : Run) : Type 0 where
   pub rests : Rests a.run now
-  pub kept_so : (s.check ≡ true) ⊎ ((s.check ≡ false) × Kept s a kept now)
+  pub seen : HasReached (λ m. IsFound m Record found) a.run now
+  pub number : IsKeptNumber s.terms.numbering s.first (counted s.first s.terms.keys found) kept
+  pub kept_so : (s.check ≡ true) ⊎ ((s.check ≡ false) × ((k : Kept s a kept now) × (k.has.found ≡ found)))
 
 -- what was read is what the place was found to hold
 pub record Found (s : Setting) (a : Host) (kept : ℕ) (h : Host) : Type 0 where
   pub file : ℕ
   pub fact : Fact file h.read h.run.now
-  pub since : (s.check ≡ true) ⊎ ((s.check ≡ false) × ((k : Kept s a kept h.run) × HasReached (Fact file h.read) k.locked h.run))
+  pub seen : HasReached (Fact file h.read) a.run h.run
+  pub since : (s.check ≡ true) ⊎ ((s.check ≡ false) × ((k : Kept s a kept h.run) × (k.has.found ≡ h.found) × HasReached (Fact file h.read) k.locked h.run))
 
 -- the place was found to hold an update
 pub record Stands (s : Setting) (a : Host) (now : Run) : Type 0 where
@@ -155,16 +163,16 @@ module _ (s : Setting) (a : Host) where
   Holds Lock h = Rests a.run h.run × (s.check ≡ false) × (h.ahead ≡ a.ahead)
   Holds ReadRecord h =
       Rests a.run h.run × ((s.check ≡ true) ⊎ ((s.check ≡ false) × LocksAt a.run h.run)) × (h.ahead ≡ a.ahead)
-  Holds (Judge kept) h = Early s a kept h.run × (h.ahead ≡ a.ahead)
-  Holds (Look kept) h = Early s a kept h.run × (h.ahead ≡ a.ahead)
-  Holds (JudgeTarget kept) h = Early s a kept h.run × (h.ahead ≡ a.ahead) × Found s a kept h
+  Holds (Judge kept) h = Early s a kept h.found h.run × (h.ahead ≡ a.ahead)
+  Holds (Look kept) h = Early s a kept h.found h.run × (h.ahead ≡ a.ahead)
+  Holds (JudgeTarget kept) h = Early s a kept h.found h.run × (h.ahead ≡ a.ahead) × Found s a kept h
   Holds SyncTarget h = Stands s a h.run × ⊤
   Holds SyncTargetName h = (x : Stands s a h.run) × HasReached (λ m. m.on_disk s.target ≡ true) x.since.locked h.run
   Holds Unlock h = Rests a.run h.run × (s.check ≡ false) × (h.ahead ≡ a.ahead)
   Holds Receive h = Rests a.run h.run × (s.check ≡ false) × (h.ahead ≡ a.ahead)
   Holds (Clear kept) h = Kept s a kept h.run × (h.ahead ≡ a.ahead)
   Holds (Create kept) h = (x : SoFar s a Nothing [] h.run) × (x.kept.number ≡ kept) × (h.ahead ≡ a.ahead)
-  Holds (Copy kept) h = (x : SoFar s a Nothing One h.run) × (x.kept.number ≡ kept) × HasStage h.run s.name s.file × Consumes a.ahead h.ahead (h.run.now.holds s.file)
+  Holds (Copy kept) h = (x : SoFar s a Nothing One h.run) × (x.kept.number ≡ kept) × HasStage h.run s.name s.file × Consumes a.ahead h.ahead (h.run.now.holds s.file) × (h.taken ≡ h.run.now.holds s.file)
   Holds (ReadBack kept) h = (x : SoFar s a Nothing One h.run) × (x.kept.number ≡ kept) × HasStage h.run s.name s.file × IsAhead a.ahead (h.run.now.holds s.file)
   Holds (Answer kept) h =
       (x : SoFar s a Nothing One h.run) × (x.kept.number ≡ kept) × HasStage h.run s.name s.file × IsAhead a.ahead (h.run.now.holds s.file) × (h.run.now.holds s.file ≡ h.read)
@@ -186,7 +194,7 @@ module _ (s : Setting) (a : Host) where
   Holds Installed h = (locked : Run) × LocksAt a.run locked × HasInstalled s.accepts s.terms s.first a.ahead locked h.run × Ended s a h.run
   Holds Already h =
       (((s.check ≡ true) × Rests a.run h.run) ⊎ ((locked : Run) × LocksAt a.run locked × IsStanding s.accepts s.terms s.first locked h.run)) × Ended s a h.run
-  Holds WouldInstall h = Rests a.run h.run × Ended s a h.run
+  Holds WouldInstall h = ((s.check ≡ true) × Rests a.run h.run) × Ended s a h.run
   Holds (Refused e) h = Ended s a h.run × ⊤
 
   -- == From one moment to the next ==
@@ -222,7 +230,6 @@ module _ (s : Setting) (a : Host) where
     key = s.key;
     keyed = s.keyed;
     key_whole = s.key_whole;
-    digest_whole = ap length (sym j.digest) ∙ s.digest_whole;
     is = is ∙ ap (λ d. record_of s.terms.numbering n s.key.key d) j.digest;
   }
 
@@ -269,14 +276,16 @@ module _ (s : Setting) (a : Host) where
   abbrev pub stands_more : {now then : Run} → Stands s a now → IsQuiet now then → Stands s a then
   stands_more x more = record { kept = x.kept; since = kept_more x.since more; bytes = x.bytes; n = x.n; update = x.update; found = reached_more x.found more.0 }
 
-  kept_of : {kept : ℕ} {now : Run} → Early s a kept now → s.check ≡ false → Kept s a kept now
-  kept_of x installs = ⊎_elim (λ checks. absurd (true≢false (sym checks ∙ installs))) (λ both. both.1) x.kept_so
+  kept_of : {kept : ℕ} {found : Option (List ℕ)} {now : Run} → Early s a kept found now → s.check ≡ false → Kept s a kept now
+  kept_of x installs = ⊎_elim (λ checks. absurd (true≢false (sym checks ∙ installs))) (λ both. both.1.0) x.kept_so
 
   -- a call that changed nothing
-  pub early_still : {kept : ℕ} {now then : Run} → Early s a kept now → Calls IsStill now then → Early s a kept then
+  pub early_still : {kept : ℕ} {found : Option (List ℕ)} {now then : Run} → Early s a kept found now → Calls IsStill now then → Early s a kept found then
   early_still {now = now} {then = then} x (still, own) = record {
     rests = rests_step x.rests still still.this (kept_no_more now then own);
-    kept_so = ⊎_elim (λ checks. inl checks) (λ (other, k). inr (other, kept_more k (quiet_still (still, own)))) x.kept_so;
+    seen = reached_more x.seen (quiet_still (still, own)).0;
+    number = x.number;
+    kept_so = ⊎_elim (λ checks. inl checks) (λ (other, (k, same)). inr (other, (kept_more k (quiet_still (still, own)), same))) x.kept_so;
   }
 
   -- == From each call that is due to the next one ==
@@ -309,7 +318,7 @@ module _ (s : Setting) (a : Host) where
     fails Receive e x made = tt
     fails (Clear kept) e x (clear, ahead', read') = calm clear clear.0.this
     fails (Create kept) e x (none, ahead', read') = quiet_none none
-    fails (Copy kept) e (x, is, stage, more) part = quiet_part stage part
+    fails (Copy kept) e (x, is, stage, consumed, taken) part = quiet_part stage part
     fails (ReadBack kept) e x same = quiet_none (inl same)
     fails (Answer kept) e x same = quiet_none (inl same)
     fails (TakePermissions n) e (x, judged) (spoiled, ahead', read') = quiet_spoiled judged.stage spoiled
@@ -328,19 +337,19 @@ module _ (s : Setting) (a : Host) where
     fails due e x never = absurd never
 
     -- a run that finds nothing in its way
-    goes : {E : Type 0} (kept : ℕ) (due : Due E) → Early s a kept h'.run → h'.ahead ≡ a.ahead → GoesOn s kept due → Holds due h'
-    goes kept due x ahead (inl (check, is)) = rw is (x.rests, unchanged x.rests)
+    goes : {E : Type 0} {found : Option (List ℕ)} (kept : ℕ) (due : Due E) → Early s a kept found h'.run → h'.ahead ≡ a.ahead → GoesOn s kept due → Holds due h'
+    goes kept due x ahead (inl (check, is)) = rw is ((check, x.rests), unchanged x.rests)
     goes kept due x ahead (inr (check, (inl is))) = rw is (x.rests, check, ahead)
     goes kept due x ahead (inr (check, (inr is))) = rw is (kept_of x check, ahead)
 
     -- what stands at the place is the update
-    stands : {E : Type 0} (kept : ℕ) (due : Due E) → Early s a kept h.run → Found s a kept h → h'.run ≡ h.run → due ≡ cond s.check Already SyncTarget
+    stands : {E : Type 0} (kept : ℕ) (due : Due E) → Early s a kept h.found h.run → Found s a kept h → h'.run ≡ h.run → due ≡ cond s.check Already SyncTarget
         → (n : ℕ) × IsUpdate s.accepts s.terms kept h.read n → h.run.now.leads Place ≡ Some s.target → Holds due h'
     stands kept due x found run is (n, update) leads = elim found.since [
       | inl check ↦
           let same : due ≡ Already = is ∙ ap (λ b. cond b Already SyncTarget) check in
           rw (same, run) (inl (check, x.rests), unchanged x.rests)
-      | inr (check, (k, reached)) ↦
+      | inr (check, (k, same_found, reached)) ↦
           let same : due ≡ SyncTarget = is ∙ ap (λ b. cond b Already SyncTarget) check in
           let file : found.file ≡ s.target = same_Some found.file s.target (sym found.fact.0 ∙ leads) in
           rw (same, run) (record { kept = kept; since = k; bytes = h.read; n = n; update = rw k.is update; found = rw file at reached }, tt)
@@ -351,46 +360,52 @@ module _ (s : Setting) (a : Host) where
         (rests_step rests lock.stepped lock.stepped.this.still (kept_no_more h.run h'.run own), inr (check, (h.run, rests, lock)), ahead' ∙ ahead)
     from Lock (Leads due) (rests, check, ahead) (is, ((still, own), ahead', read')) = rw is (rests_step rests still still.this (kept_no_more h.run h'.run own), check, ahead' ∙ ahead)
     from Lock (Failed e) (rests, check, ahead) ((still, own), ahead', read') = (unchanged (rests_step rests still still.this (kept_no_more h.run h'.run own)), tt)
-    from ReadRecord (Number n) (rests, which, ahead) ((found, (reads, own), number), ahead', read') =
+    from ReadRecord (Number n) (rests, which, ahead) (((reads, own), ahead', read'), number) =
         let quiet = quiet_still (call_with reads reads.this.still, own) in (
           record {
             rests = rests_step rests reads reads.this.still (kept_no_more h.run h'.run own);
+            seen = rests_reached rests reads (rw reads.this.still reads.this.seen);
+            number = number;
             kept_so = ⊎_elim (λ checks. inl checks) (λ (other, lock). inr (
               other,
-              record {
-                locked = h.run;
-                lock = lock;
-                mine = record { only = rests.own };
-                has = record { found = found; there = found_read found h.run h'.run lock.2.held reads; number = n; held = number };
-                is = refl;
-                quiet = quiet;
-              },
+              (
+                record {
+                  locked = h.run;
+                  lock = lock;
+                  mine = record { only = rests.own };
+                  has = record { found = h'.found; there = found_read h'.found h.run h'.run lock.2.held reads; number = n; held = number };
+                  is = refl;
+                  quiet = quiet;
+                },
+                refl,
+              ),
             )) which;
           },
           ahead' ∙ ahead,
         )
     from ReadRecord (Failed e) (rests, which, ahead) ((still, own), ahead', read') = (unchanged (rests_step rests still still.this (kept_no_more h.run h'.run own)), tt)
-    from (Judge kept) (Leads due) (x, ahead) ((run, ahead'), (inl is)) = rw is (rw run x, ahead' ∙ ahead)
-    from (Judge kept) (Leads due) (x, ahead) ((run, ahead'), (inr on)) = goes kept due (rw run x) (ahead' ∙ ahead) on
+    from (Judge kept) (Leads due) (x, ahead) (((run, ahead'), found), (inl is)) = rw is (rw (run, found) x, ahead' ∙ ahead)
+    from (Judge kept) (Leads due) (x, ahead) (((run, ahead'), found), (inr on)) = goes {found = h.found} kept due (rw run x) (ahead' ∙ ahead) on
     from (Judge kept) (Failed e) (x, ahead) (run, ahead') = (rw run (unchanged x.rests), tt)
-    from (Look kept) More (x, ahead) (run, ahead') = (rw run x, ahead' ∙ ahead)
-    from (Look kept) Done (x, ahead) (file, ((finds, own), ahead', read')) =
+    from (Look kept) More (x, ahead) ((run, ahead'), found) = (rw (run, found) x, ahead' ∙ ahead)
+    from (Look kept) Done (x, ahead) ((file, ((finds, own), ahead', read')), found) =
         let still : Calls IsStill h.run h'.run = (call_with finds finds.this.still, own) in
         let quiet = quiet_still still in
         let fact : Fact file h'.read h'.run.now = rw (finds.this.still, read') finds.this.seen in (
-          early_still x still,
+          rw found (early_still x still),
           ahead' ∙ ahead,
           record {
             file = file;
             fact = fact;
-            since = ⊎_elim (λ checks. inl checks) (λ (other, k). inr (other, (kept_more k quiet, reached k.quiet.0 finds fact))) x.kept_so;
+            seen = rests_reached x.rests finds fact;
+            since = ⊎_elim (λ checks. inl checks) (λ (other, (k, same)). inr (other, (kept_more k quiet, rw found same, reached k.quiet.0 finds fact))) x.kept_so;
           },
         )
-    from (Look kept) (Leads due) (x, ahead) ((finds, own), ahead', on) = goes kept due (early_still x (call_with finds finds.this.still, own)) (ahead' ∙ ahead) on
+    from (Look kept) (Leads due) (x, ahead) ((finds, own), ahead', on) = goes {found = h.found} kept due (early_still x (call_with finds finds.this.still, own)) (ahead' ∙ ahead) on
     from (Look kept) (Failed e) (x, ahead) ((inl same), ahead') = (rw same (unchanged x.rests), tt)
     from (Look kept) (Failed e) (x, ahead) ((inr still), ahead') = (unchanged (early_still x still).rests, tt)
     from (JudgeTarget kept) (Leads due) (x, ahead, found) ((run, ahead'), (inl (is, update, leads))) = stands kept due x found run is update leads
-    from (JudgeTarget kept) (Leads due) (x, ahead, found) ((run, ahead'), (inr on)) = goes kept due (rw run x) (ahead' ∙ ahead) on
+    from (JudgeTarget kept) (Leads due) (x, ahead, found) ((run, ahead'), (inr on)) = goes {found = h.found} kept due (rw run x) (ahead' ∙ ahead) on
     from (JudgeTarget kept) (Failed e) (x, ahead, found) (run, ahead') = (rw run (unchanged x.rests), tt)
     from SyncTarget Done (x, done) ((sync, own), ahead', read') =
         let quiet : IsQuiet h.run h'.run = (file_synced sync sync.this.same, kept_no_more h.run h'.run own) in (stands_more x quiet, reached x.since.quiet.0 sync sync.this.synced)
@@ -436,17 +451,18 @@ module _ (s : Setting) (a : Host) where
           ahead' ∙ ahead,
         )
     from (Clear kept) (Failed e) (k, ahead) made = (unread (kept_more k (fails (Clear kept) e (k, ahead) made)), tt)
-    from (Create kept) Done (x, is, ahead) (made, ahead', read') = (
+    from (Create kept) Done (x, is, ahead) ((made, ahead', read'), taken) = (
       go_on x (created_publishes s.name s.file h.run h'.run made) (λ q e (differs, none). (none, sym (made.own.others q differs) ∙ e)),
       is,
       created_stage s.name s.file h.run h'.run made,
       rw (made.stepped.this.empty, ahead', ahead) (Consumes-nil a.ahead),
+      taken ∙ sym made.stepped.this.empty,
     )
     from (Create kept) (Failed e) x made = (stopped (stay x.0 (fails (Create kept) e x made)), tt)
-    from (Copy kept) More (x, is, stage, consumed) (pieces, writes, given, read) =
+    from (Copy kept) More (x, is, stage, consumed, taken) (pieces, writes, given, read, more) =
         let (works, grown) = writes_work s.name s.file pieces h.run h'.run stage writes in
-        (stay x works.quiet, is, works.stages s.name s.file stage, rw grown (Consumes-trans _ _ _ _ _ consumed given))
-    from (Copy kept) Done (x, is, stage, consumed) (pieces, writes, given, end, read) =
+        (stay x works.quiet, is, works.stages s.name s.file stage, rw grown (Consumes-trans _ _ _ _ _ consumed given), more ∙ ap (λ l. l ++ concat pieces) taken ∙ sym grown)
+    from (Copy kept) Done (x, is, stage, consumed, taken) (pieces, writes, given, end, read) =
         let (works, grown) = writes_work s.name s.file pieces h.run h'.run stage writes in
         let all : Consumes a.ahead h'.ahead (h'.run.now.holds s.file) = rw grown (Consumes-trans _ _ _ _ _ consumed given) in
         (stay x works.quiet, is, works.stages s.name s.file stage, Consumes-whole a.ahead h'.ahead _ (λ xs. xs ≡ h'.run.now.holds s.file) all end refl)
@@ -568,3 +584,7 @@ pub runs : {E : Type 0} {call : Due E → Outcome E → Host → Host → Type 0
     → (due : Due E) (h : Host) (events : List (Outcome E × Host)) (due' : Due E) (h' : Host) → P due h → HasRun call due h events due' h' → P due' h'
 runs P goes due h [] due' h' x (is, same) = rw (is, same) x
 runs P goes due h ((o, mid) ∷ more) due' h' x (made, rest) = runs P goes (next due o) mid more due' h' (goes due o h mid x made) rest
+
+-- what stands fast at the end of a run
+pub holds_at : {E : Type 0} (s : Setting) (h h' : Host) (events : List (Outcome E × Host)) (due : Due E) → HasRun (Makes s) (first_due s.check) h events due h' → Holds s h due h'
+holds_at {E = E} s h h' events due run = runs (Holds s h) (λ due o k k'. from s h k k' due o) (first_due s.check) h events due h' (begins E s h) run

@@ -1,8 +1,45 @@
 -- A record reads as it was written, and holds one number at most for a field.
-use Rattle.minisign_install.proofs.Common.{◌≡◌, ◌≤◌, ◌<◌, ◌^◌, ◌-◌, ◌+◌, ◌*◌, ◌++◌, ◌∷◌, ℕ, List, [], Some, true, false, ap, sym, subst, ◌∙◌, refl, get_or, length, take, drop, arith, length-append, append_assoc, get_or-append_right, le-leb, lt-leb, take_at, drop_at, decimal_is_IsNumeral, length-decimal-le, IsAscii-decimal, IsUtf8-append, IsUtf8-from_ascii, decimal, codes, IsUtf8, IsNumberText, number_label, strip, unwrap_or, Numbering, Timestamp, Version, IsNumberFor, is_marked, mark_text, record_digest, record_of, record_text, slice_index}
+use Rattle.minisign_install.proofs.Common.{IsAscii-decimal, IsNumberFor, IsNumberText, IsUtf8, IsUtf8-append, IsUtf8-from_ascii, List, Numbering, Some, Timestamp, Version, [], ap, append_assoc, arith, codes, decimal, decimal_is_IsNumeral, drop, drop_at, get_or, get_or-append_right, is_marked, le-leb, length, length-append, length-decimal-le, lt-leb, mark_text, number_label, record_digest, record_of, record_text, refl, slice_index, strip, subst, suc, sym, take, take_at, true, unwrap_or, zero, ℕ, ◌*◌, ◌++◌, ◌+◌, ◌-◌, ◌<◌, ◌^◌, ◌∙◌, ◌∷◌, ◌≡◌, ◌≤◌}
+use Rattle.std.specs.Int.{bytes_low_first, to_le_bytes, w64}
+use Rattle.std.specs.List.{flat_map}
+use Rattle.minisign_hash.specs.Blake2b.{blake2b_digest, compress}
+use Rattle.minisign_hash.specs.Words.{bytes_of_words64}
 use Rattle.hex.specs.Hex.{IsBytes, encode_lower, lower_digits}
 use Rattle.hex.proofs.HexLemmas.{decode_sized-encode_lower, length-encode_with}
 use Rattle.minisign_install.proofs.Fields.{strips}
+
+-- == A digest ==
+
+bytes_of_number : (k i n j : ℕ) → slice_index (bytes_low_first i k n) j < 256
+bytes_of_number zero i n j = omega arith
+bytes_of_number (suc k) zero n zero = omega arith
+bytes_of_number (suc k) (suc i) n zero = omega arith
+bytes_of_number (suc k) i n (suc j) = bytes_of_number k (suc i) n j
+
+both_bytes : (a b : List ℕ) → IsBytes a → IsBytes b → IsBytes (a ++ b)
+both_bytes [] b h j i = j i
+both_bytes (x ∷ a) b h j zero = h 0
+both_bytes (x ∷ a) b h j (suc i) = both_bytes a b (λ k. h (suc k)) j i
+
+words_bytes : (words : List ℕ) → IsBytes (flat_map (to_le_bytes w64) words)
+words_bytes [] = λ i. omega arith
+words_bytes (w ∷ words) = both_bytes (to_le_bytes w64 w) (flat_map (to_le_bytes w64) words) (bytes_of_number 8 0 w) (words_bytes words)
+
+front_bytes : (n : ℕ) (xs : List ℕ) → IsBytes xs → IsBytes (take n xs)
+front_bytes zero xs h i = omega arith
+front_bytes (suc n) [] h i = h i
+front_bytes (suc n) (x ∷ xs) h zero = h 0
+front_bytes (suc n) (x ∷ xs) h (suc i) = front_bytes n xs (λ k. h (suc k)) i
+
+pub digest_bytes : (m : List ℕ) → IsBytes (blake2b_digest 64 m)
+unfolding blake2b_digest bytes_of_words64
+digest_bytes m = front_bytes 64 _ (words_bytes _)
+
+pub length_digest : (m : List ℕ) → length (blake2b_digest 64 m) ≡ 64
+unfolding blake2b_digest compress bytes_of_words64
+length_digest m = refl
+
+-- == A record ==
 
 pub same_number : (numbering : Numbering) (bytes : List ℕ) (n m : ℕ) → IsNumberFor numbering bytes n → IsNumberFor numbering bytes m → n ≡ m
 same_number numbering bytes n m a b = sym a.number.is ∙ b.number.is

@@ -1,6 +1,6 @@
 -- The stages of a run, what one call publishes, and calls one after another.
 use Rattle.std.proofs.lemmas.Option.{none-some, same_Some}
-use Rattle.minisign_install.proofs.Common.{All-append, All-cons, All-nil, Calls, FileStays, HasCreated, HasOnDisk, HasStepped, HasUnlocked, IsApart, IsNumberFrom, IsPublished, IsStill, List, MayFind, MayLead, MaySyncFile, Moment, Name, Numbering, OwnsNoMore, OwnsTheSame, Perhaps, Place, Publishes, PublishesNothing, PublishesOnly, Record, RecordHolds, RecordHoldsAt, RecordUnchanged, Renames, Rests, Run, RunStep, Sets, Some, Spoils, SyncsDirectory, TouchesOnly, TouchesStages, [], ap, append_assoc, false, inl, inr, refl, subst, sym, true, true≢false, ℕ, ⊎_elim, ◌++◌, ◌∙◌, ◌∷◌, ◌≡◌, ◌≢◌, ◌⊎◌}
+use Rattle.minisign_install.proofs.Common.{All-append, All-cons, All-nil, Bool, Calls, FileStays, HasCreated, HasOnDisk, HasStepped, HasUnlocked, IsApart, IsNumberFrom, IsPublished, IsStill, List, MayFind, MayLead, MaySyncFile, Moment, Name, Numbering, OwnsNoMore, OwnsTheSame, Perhaps, Place, Publishes, PublishesNothing, PublishesOnly, Record, RecordHolds, RecordHoldsAt, RecordUnchanged, Renames, Rests, Run, RunStep, Sets, Some, Spoils, SyncsDirectory, TouchesOnly, TouchesStages, [], ap, append_assoc, false, inl, inr, refl, subst, sym, true, true≢false, ℕ, ⊎_elim, ◌++◌, ◌∙◌, ◌∷◌, ◌≡◌, ◌≢◌, ◌⊎◌}
 
 -- the name of a stage is the run's own and leads to this file, and neither lasting name does or may after a crash
 pub record HasStage (r : Run) (name : List ℕ) (file : ℕ) : Type 0 where
@@ -54,10 +54,15 @@ found_there {m = m} stands found is = found.holds (ap (λ f. m.on_disk f) is ∙
 
 -- == The number in the record ==
 
+pub never : (b : Bool) → ¬ (b ≡ true) → b ≡ false
+never true h = absurd (h refl)
+never false h = refl
+
 others_keep : (numbering : Numbering) (k : ℕ) (m m' : Moment) → RecordUnchanged m m' → RecordHolds numbering k m → RecordHolds numbering k m'
 others_keep numbering k m m' same keeps = record {
   file = keeps.file;
   leads = same.leads ∙ keeps.leads;
+  sure = never (m'.lost Record) (λ e. true≢false (sym (same.lost e) ∙ keeps.sure));
   numbers = λ bytes found.
       let lead : MayLead m Record found.file = ⊎_elim (λ e. inl (sym same.leads ∙ e)) (same.left found.file) found.lead in
       keeps.numbers bytes (found_before found lead (same.on_disk found.file lead) (same.holds found.file lead));
@@ -72,6 +77,7 @@ publishes_weaken P Q old new more b = record {
   each = λ k d l. record {
     finds = λ n bytes found. ⊎_elim inl (λ p. inr (more n bytes p)) ((b.each k d l).finds n bytes found);
     stays = (b.each k d l).stays;
+    lost = (b.each k d l).lost;
   };
   known = b.known;
   locked = b.locked;
@@ -99,7 +105,12 @@ module _ (P : Name → List ℕ → Type 0) where
     numbers = λ l numbering k floor keeps.
         let before = others_keep numbering k old.now s.before (s.others.record_left l) keeps in
         let (g, leads) = this.stays Record before.file before.leads in
-        let after : RecordHolds numbering k new.now = record { file = g; leads = leads; numbers = λ bytes found. ⊎_elim (before.numbers bytes) (floor bytes) (this.finds Record bytes found) } in
+        let after : RecordHolds numbering k new.now = record {
+          file = g;
+          leads = leads;
+          sure = never (new.now.lost Record) (λ e. ⊎_elim (λ lost. true≢false (sym lost ∙ before.sure)) (λ none. none-some before.file (sym none ∙ before.leads)) (this.lost Record e));
+          numbers = λ bytes found. ⊎_elim (before.numbers bytes) (floor bytes) (this.finds Record bytes found);
+        } in
         (All-cons (RecordHoldsAt numbering k) (step s.before new.now) [] (before, after) (All-nil (RecordHoldsAt numbering k)), after);
   }
 
@@ -127,11 +138,12 @@ quiet s only apart = publishes_one (λ _ _. ⊥) s (record {
       let same = only.files found.file (λ is. apart found.file is n lead) in
       inl (found_before found lead (λ kept. same.on_disk ∙ kept) same.holds);
   stays = λ n f e. (f, only.leads n ∙ e);
+  lost = λ n e. inl (only.lost n e);
 })
 
 pub resting_publishes : (old new : Run) → HasStepped old new IsStill → PublishesNothing old new
 resting_publishes old new s =
-    let only = subst (TouchesStages s.before) (sym s.this) (record { leads = λ n. refl; left = λ n f e. inr e; files = λ f no. record { holds = refl; on_disk = refl; permissions = refl } }) in
+    let only = subst (TouchesStages s.before) (sym s.this) (record { leads = λ n. refl; left = λ n f e. inr e; lost = λ n e. e; files = λ f no. record { holds = refl; on_disk = refl; permissions = refl } }) in
     quiet s only (λ f no. absurd no)
 
 pub kept_no_more : (old new : Run) → OwnsTheSame old new → OwnsNoMore old new
@@ -155,6 +167,7 @@ pub file_synced : {C : Moment → Moment → Type 0} {old new : Run} → (s : Ha
 file_synced s same = publishes_one (λ _ _. ⊥) s (record {
   finds = λ n bytes found. inl (found_before found (⊎_elim (λ e. inl (sym (same.leads n) ∙ e)) (same.left n found.file) found.lead) (same.on_disk found.file) (same.holds found.file));
   stays = λ n f e. (f, same.leads n ∙ e);
+  lost = λ n e. inl (same.lost n e);
 })
 
 -- == Calls that change nothing ==
@@ -277,6 +290,7 @@ module _ (name : List ℕ) (to : Name) (g : ℕ) (old new : Run) (stage : HasSta
         ⊎_elim (λ lead. inl (found_before found lead (λ kept. same.on_disk ∙ kept) same.holds))
         (λ (name_is, file_is). inr (name_is, found_there (renamed_stands on_disk s) found file_is)) (renamed_lead s n found.file found.lead);
     stays = λ n f e. ⊎_elim (λ is. (g, ap (λ x. new.now.leads x) is ∙ (renamed_stands on_disk s).leads)) (λ other. (f, s.this.leads.others n other ∙ e)) (place_or_record n to);
+    lost = s.this.lost;
   })
 
 pub published : (name : List ℕ) (to : Name) (old mid new : Run) → HasStepped old mid (Renames name to) → HasStepped mid new SyncsDirectory → (g : ℕ) → HasStage old name g → old.now.on_disk g ≡ true
@@ -310,6 +324,7 @@ lasting name old mid new first last g stage on_disk locked numbering k number =
     record {
       file = stands.file;
       leads = stands.leads;
+      sure = last.this.sure Record;
       numbers = λ bytes found.
           let leads = ⊎_elim (λ e. e) (last.this.synced Record found.file) found.lead in
           subst (IsNumberFrom numbering k) (sym (found_there stands found (same_Some found.file stands.file (sym leads ∙ stands.leads)))) number;

@@ -1,9 +1,22 @@
 -- What a signed comment says of an update.
-use Rattle.std.specs.Prelude.{◌≡◌, ◌⊎◌, ℕ, ◌^◌, ◌<◌, ◌≤◌, List, [], ◌∷◌, ◌==◌, Option, Some, None, if◌then◌else◌, codes, filter_map, slice_get}
-use Rattle.minisign_install.specs.Common.{slice_split, IsNumeral, digits_value}
+use Rattle.std.specs.Prelude.{◌≡◌, ◌⊎◌, ℕ, ◌^◌, ◌<◌, ◌≤◌, Bool, true, false, not, List, [], ◌∷◌, ◌==◌, map, filter, length, Option, Some, None, if◌then◌else◌, codes, filter_map, slice_get}
+use Rattle.minisign_install.specs.Common.{slice_split, is_ascii_whitespace, to_ascii_lowercase, IsNumeral, digits_value}
 pub use Rattle.minisign_install.specs.declared.comments.Numbering.{Numbering}
 pub use Rattle.minisign_install.specs.declared.comments.Numbering.TheVariants.{Timestamp, Version}
-use Rattle.minisign_install.specs.Faults.{InstallFault, BadExpiry, Expired}
+use Rattle.minisign_install.specs.Faults.{InstallFault, BadExpiry, Expired, NoExpiry}
+
+-- which updates are wanted: the two texts, the file's name, where the number stands, at which moment they must not
+-- have expired, in seconds since the beginning of 1970, whether the comment has to say when they do, and whether what it
+-- says of the data's size counts; and the keys of which one has to have signed
+pub record Terms : Type 0 where
+  pub pk_text : List ℕ
+  pub sig_text : List ℕ
+  pub file : List ℕ
+  pub numbering : Numbering
+  pub moment : ℕ
+  pub must_expire : Bool
+  pub heeds_size : Bool
+  pub keys : List (List ℕ)
 
 -- the fields of a comment: what stands between its tabs
 abbrev pub fields : List ℕ → List (List ℕ)
@@ -47,31 +60,64 @@ pub record HasNumber (comment : List ℕ) (numbering : Numbering) (n : ℕ) : Ty
 abbrev pub expiry_label : List ℕ
 expiry_label = codes "expires:"
 
--- the comment has no such field: the update never expires
-abbrev pub NeverExpires : List ℕ → Type 0
-NeverExpires comment = values_of expiry_label comment ≡ []
+-- a text without its white space, in small letters: of ASCII
+abbrev pub folded : List ℕ → List ℕ
+folded text = map to_ascii_lowercase (filter (λ b. not (is_ascii_whitespace b)) text)
 
--- the comment has one such field, and that has this moment
-pub record ExpiresAt (comment : List ℕ) (until : ℕ) : Type 0 where
+-- The fields by which a comment says when its update expires, by what stands behind the label. Where it has to say so,
+-- those count too that differ from such a field in white space or case alone.
+abbrev pub expiry_in : Bool → List ℕ → Option (List ℕ)
+expiry_in must field = strip expiry_label (if must then folded field else field)
+
+abbrev pub expiries : Bool → List ℕ → List (List ℕ)
+expiries must comment = filter_map (expiry_in must) (fields comment)
+
+-- the comment has one such field, and that has the label, and this moment
+pub record ExpiresAt (must : Bool) (comment : List ℕ) (until : ℕ) : Type 0 where
   pub value : List ℕ
-  pub once : values_of expiry_label comment ≡ value ∷ []
+  pub once : length (expiries must comment) ≡ 1
+  pub labelled : value_of expiry_label comment ≡ Some value
   pub number : IsNumberText value until
 
--- at this moment the update has not expired
-abbrev pub IsUnexpired : ℕ → List ℕ → Type 0
-IsUnexpired moment comment = NeverExpires comment ⊎ ((until : ℕ) × ExpiresAt comment until × (moment < until))
+-- at this moment the update has not expired: where it need not expire, it has no such field
+abbrev pub IsUnexpired : Bool → ℕ → List ℕ → Type 0
+IsUnexpired must moment comment =
+    ((must ≡ false) × (expiries must comment ≡ []))
+    ⊎ ((until : ℕ) × ExpiresAt must comment until × (moment < until))
 
--- Why the field is refused at this moment: the update has expired; or there are more such fields than one, or one that
--- has no number.
-abbrev pub IsExpiryRefused : ℕ → List ℕ → InstallFault → Type 0
-IsExpiryRefused moment comment e =
-    ((e ≡ Expired) × ((until : ℕ) × ExpiresAt comment until × (until ≤ moment)))
-    ⊎ ((e ≡ BadExpiry) × ¬ (NeverExpires comment) × ((until : ℕ) → ¬ (ExpiresAt comment until)))
+-- Why the field is refused at this moment: the update has expired; or there is no such field where there has to be one;
+-- or there are more than one, or one that has another label or no number.
+abbrev pub IsExpiryRefused : Bool → ℕ → List ℕ → InstallFault → Type 0
+IsExpiryRefused must moment comment e =
+    ((e ≡ Expired) × ((until : ℕ) × ExpiresAt must comment until × (until ≤ moment)))
+    ⊎ ((e ≡ NoExpiry) × (must ≡ true) × (expiries must comment ≡ []))
+    ⊎ ((e ≡ BadExpiry) × ¬ (expiries must comment ≡ []) × ((until : ℕ) → ¬ (ExpiresAt must comment until)))
 
--- the comment names this file, has this number, and has not expired at this moment
-pub record Says (comment : List ℕ) (file : List ℕ) (numbering : Numbering) (moment : ℕ) (n : ℕ) : Type 0 where
+-- the label of the field that has the length of the data, in bytes
+abbrev pub size_label : List ℕ
+size_label = codes "size:"
+
+-- the comment has one such field, and that has this length
+pub record SizedAs (comment : List ℕ) (size : ℕ) : Type 0 where
   pub value : List ℕ
-  pub named : value_of file_label comment ≡ Some file
-  pub numbered : value_of (number_label numbering) comment ≡ Some value
+  pub once : values_of size_label comment ≡ value ∷ []
+  pub number : IsNumberText value size
+
+-- the comment says this of the size of its data, or nothing
+abbrev pub HasSize : List ℕ → Option ℕ → Type 0
+HasSize comment (Some size) = SizedAs comment size
+HasSize comment None = values_of size_label comment ≡ []
+
+-- there are more such fields than one, or one that has no number
+abbrev pub IsBadlySized : List ℕ → Type 0
+IsBadlySized comment = ¬ (values_of size_label comment ≡ []) × ((size : ℕ) → ¬ (SizedAs comment size))
+
+-- the comment names this file, has this number, has not expired at this moment, and says nothing of the data's size, or
+-- says it once, in a number
+pub record Says (comment : List ℕ) (terms : Terms) (n : ℕ) : Type 0 where
+  pub value : List ℕ
+  pub named : value_of file_label comment ≡ Some terms.file
+  pub numbered : value_of (number_label terms.numbering) comment ≡ Some value
   pub number : IsNumberText value n
-  pub unexpired : IsUnexpired moment comment
+  pub unexpired : IsUnexpired terms.must_expire terms.moment comment
+  pub sized : terms.heeds_size ≡ true → (size : Option ℕ) × HasSize comment size

@@ -11,18 +11,19 @@ pub use Rattle.minisign_base.specs.Faults.{FaultRow, fault_row, row}
 pub use Rattle.minisign_base.specs.declared.errors.ErrorKind.TheVariants.{Io, Verify}
 pub use Rattle.minisign_external.specs.Numbers.{IsMeaning, fault_number, misuse_number, refusal_number}
 pub use Rattle.minisign_external.specs.Questions.{AnswersComment, AnswersTexts, IsKeyText, comment_verdict_under, read_under}
-pub use Rattle.minisign_external.specs.States.{AreQuestions, HasAsked, IsAskFedRefusal, IsTextRefusal, IsBlank, IsFedState, IsMarkedTold, IsNotFed, verdict_misuse}
+pub use Rattle.minisign_external.specs.States.{AreQuestions, HasAsked, IsAskFedRefusal, IsTextRefusal, IsBlank, IsFedState, IsMarkedTold, IsNotFed, comment_result, told_verdict, verdict_misuse}
 pub use Rattle.minisign_external.specs.declared.public_keys.PublicKeyValue.{PublicKeyValue}
 pub use Rattle.minisign_external.specs.Signatures.{IsReadFrom}
 pub use Rattle.minisign_external.specs.declared.signatures.SignatureValue.{SignatureValue}
 pub use Rattle.minisign_external.specs.declared.state.Misuse.{Misuse}
 pub use Rattle.minisign_external.specs.declared.state.Misuse.TheVariants.{BadFirstFlag, BadNumbering, NotDue}
 pub use Rattle.minisign_external.specs.declared.state.Questions.{Questions}
+pub use Rattle.minisign_external.specs.declared.state.State.{State}
 pub use Rattle.minisign_external.specs.declared.state.Refusal.{Refusal}
 pub use Rattle.minisign_external.specs.declared.state.Refusal.TheVariants.{WrongUse}
 pub use Rattle.minisign_hash.specs.Blake2b.{blake2b_digest}
 pub use Rattle.minisign_install.specs.declared.faults.InstallFault.{InstallFault}
-pub use Rattle.minisign_install.specs.declared.faults.InstallFault.TheVariants.{PlaceInUse, SameNumber}
+pub use Rattle.minisign_install.specs.declared.faults.InstallFault.TheVariants.{TargetInUse, SameNumber}
 pub use Rattle.minisign_install.specs.declared.hosted.Installation.{Installation}
 pub use Rattle.minisign_install.specs.declared.hosted.Judged.{Judged}
 pub use Rattle.hex.specs.Hex.{decode_sized, encode_lower}
@@ -30,6 +31,7 @@ pub use Rattle.hex.specs.declared.error.FromHexError.{FromHexError}
 pub use Rattle.minisign_install.specs.declared.hosted.Choices.{Choices}
 pub use Rattle.minisign_install.specs.declared.hosted.Kept.{Kept}
 pub use Rattle.minisign_install.specs.declared.recording.Mark.{Mark}
+pub use Rattle.std.specs.Char.{is_ascii_whitespace, to_ascii_lowercase}
 pub use Rattle.std.specs.Fmt.{decimal}
 pub use Rattle.std.specs.Io.BufRead.{strip_last}
 pub use Rattle.std.specs.Io.KnownBytes.{Consumes, IsAtEnd}

@@ -20,6 +20,8 @@ pub record Moment : Type 0 where
   pub on_disk : ℕ → Bool
   -- whether a crash may leave the name leading to this file in place of the one that it leads to
   pub left : Name → ℕ → Bool
+  -- whether a crash may leave the name leading to no file
+  pub lost : Name → Bool
   -- whether the file was given the permissions of the file at the place, where there was one
   pub permissions : ℕ → Bool
   -- whether the name of a stage cannot be removed
@@ -87,11 +89,12 @@ pub record Sets {K A : Type 0} (key : K) (value : A) (old new : K → A) : Type 
 
 -- == What other processes may do ==
 
--- The record leads to the file that it led to, and a crash leaves it leading to no more files than before. All of
+-- The record leads to the file that it led to, and a crash leaves it leading to no more files than before, nor to none. All of
 -- them hold what they held, and hold it after a crash where they did so before.
 pub record RecordUnchanged (old new : Moment) : Type 0 where
   pub leads : new.leads Record ≡ old.leads Record
   pub left : (f : ℕ) → new.left Record f ≡ true → MayLead old Record f
+  pub lost : new.lost Record ≡ true → old.lost Record ≡ true
   pub holds : (f : ℕ) → MayLead old Record f → new.holds f ≡ old.holds f
   pub on_disk : (f : ℕ) → MayLead old Record f → old.on_disk f ≡ true → new.on_disk f ≡ true
 
@@ -108,11 +111,12 @@ pub record OtherProcesses (locked : Bool) (owns : List ℕ → Bool) (old new : 
 
 -- == What one call does ==
 
--- The lasting names lead where they led, and a crash leaves them leading to no more files than before. All files stay
--- as they were but those that are touched.
+-- The lasting names lead where they led, and a crash leaves them leading to no more files than before, nor to none. All
+-- files stay as they were but those that are touched.
 pub record TouchesOnly (touched : ℕ → Type 0) (old new : Moment) : Type 0 where
   pub leads : (n : Name) → new.leads n ≡ old.leads n
   pub left : (n : Name) (f : ℕ) → new.left n f ≡ true → MayLead old n f
+  pub lost : (n : Name) → new.lost n ≡ true → old.lost n ≡ true
   pub files : (f : ℕ) → ¬ (touched f) → FileStays f old new
 
 -- no more than names of stages changed
@@ -155,6 +159,7 @@ pub record Syncs (file : ℕ) (old new : Moment) : Type 0 where
 pub record MaySyncFile (old new : Moment) : Type 0 where
   pub leads : (n : Name) → new.leads n ≡ old.leads n
   pub left : (n : Name) (f : ℕ) → new.left n f ≡ true → MayLead old n f
+  pub lost : (n : Name) → new.lost n ≡ true → old.lost n ≡ true
   pub holds : (f : ℕ) → new.holds f ≡ old.holds f
   pub on_disk : (f : ℕ) → old.on_disk f ≡ true → new.on_disk f ≡ true
 
@@ -164,10 +169,11 @@ pub record SyncsFile (file : ℕ) (old new : Moment) : Type 0 where
   pub synced : new.on_disk file ≡ true
 
 -- The file of a stage's name, whichever it is at this moment, gets the lasting name, in one step. Until the directory
--- is synced a crash may leave what the name led to before.
+-- is synced a crash may leave what the name led to before, or nothing, where it led to nothing.
 pub record Renames (name : List ℕ) (to : Name) (old new : Moment) : Type 0 where
   pub leads : Sets to (old.stages name) old.leads new.leads
   pub left : (n : Name) (f : ℕ) → new.left n f ≡ true → MayLead old n f
+  pub lost : (n : Name) → new.lost n ≡ true → (old.lost n ≡ true) ⊎ (old.leads n ≡ None)
   pub files : (f : ℕ) → FileStays f old new
   pub stages : Sets name None old.stages new.stages
 
@@ -180,6 +186,7 @@ pub record MaySyncDirectory (old new : Moment) : Type 0 where
 pub record SyncsDirectory (old new : Moment) : Type 0 where
   pub same : MaySyncDirectory old new
   pub synced : (n : Name) (f : ℕ) → new.left n f ≡ true → new.leads n ≡ Some f
+  pub sure : (n : Name) → new.lost n ≡ false
 
 -- a stage's name is removed
 pub record Removes (name : List ℕ) (old new : Moment) : Type 0 where

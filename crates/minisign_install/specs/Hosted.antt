@@ -1,14 +1,14 @@
 -- What an installation that a host in another language holds stands for, what its calls do, and the numbers by which
 -- the host knows errors and choices.
-use Rattle.std.specs.Prelude.{◌≡◌, ◌⊎◌, ◌==◌, ◌||◌, ◌&&◌, not, ◌-◌, nat_lt, ◌<◌, ◌≤◌, ◌++◌, ⊤, ℕ, Bool, true, false, bytes_eq, is_some, if◌then◌else◌, List, [], ◌∷◌, map, get_or, length, replicate, Option, Some, None, IfSome, IsSomeAnd, Ok, Err, Result}
-use Rattle.minisign_install.specs.Common.{list_any, unwrap_or, IsUtf8, blake2b_digest, fault_row, Fault, SignatureTextRecord, read_signature, read_under, IsMeaning, refusal_number, IsKeyText, AreQuestions, Questions, HasAsked, IsAskFedRefusal, IsReadFrom, IsTextRefusal, SignatureValue, IsBlank, IsFedState, IsMarkedTold, IsNotFed, verdict_misuse, PublicKeyValue, Choices, Kept, Misuse, NotDue, Refusal, WrongUse, Installation, Judged}
-use Rattle.minisign_install.specs.Faults.{Named, NotUtf8, OutOfMemory, RandomSourceFailed, ReadingFailed, WritingFailed, InstallFault, DirectoryNotSynced, SameNumber, IsOwn, Library, PlaceInUse, install_number, install_row}
+use Rattle.std.specs.Prelude.{◌≡◌, ◌≢◌, ◌⊎◌, ◌==◌, ◌||◌, ◌&&◌, not, ◌+◌, ◌-◌, ◌^◌, nat_le, nat_lt, ◌<◌, ◌≤◌, ◌++◌, ⊤, ℕ, Bool, true, false, bytes_eq, is_ok, is_some, if◌then◌else◌, List, [], ◌∷◌, map, get_or, length, replicate, Option, Some, None, IfSome, IsSomeAnd, MatchOption, Ok, Err, Result}
+use Rattle.minisign_install.specs.Common.{list_any, unwrap_or, IsUtf8, blake2b_digest, fault_row, Fault, SignatureTextRecord, read_signature, read_under, IsMeaning, refusal_number, IsKeyText, AreQuestions, Questions, HasAsked, IsAskFedRefusal, IsReadFrom, IsTextRefusal, SignatureValue, IsBlank, IsFedState, IsMarkedTold, IsNotFed, State, comment_result, told_verdict, verdict_misuse, PublicKeyValue, Choices, Kept, Misuse, NotDue, Refusal, WrongUse, Installation, Judged}
+use Rattle.minisign_install.specs.Faults.{Named, NotUtf8, OutOfMemory, RandomSourceFailed, ReadingFailed, WritingFailed, InstallFault, DirectoryNotSynced, OtherFile, OtherSize, SameNumber, IsOwn, Library, TargetInUse, install_number, install_row}
 use Rattle.minisign_install.specs.Installing.{Verifier, IsKeptOrNone, IsRejectedFor, IsUpdate, Terms, TextsVouchWith, signed_comment}
 use Rattle.minisign_external.specs.declared.state.Refusal.TheVariants.{Refused}
-use Rattle.minisign_install.specs.Comments.{Says, Numbering, Timestamp, Version}
+use Rattle.minisign_install.specs.Comments.{HasNumber, Numbering, Says, SizedAs, Timestamp, Version}
 pub use Rattle.minisign_install.specs.Order.{due_number}
 use Rattle.minisign_install.specs.Order.{fits, next, Due, Lock, ReadRecord, Judge, Look, JudgeTarget, SyncTarget, SyncTargetName, Unlock, Receive, Clear, Create, Copy, ReadBack, Answer, TakePermissions, Sync, CreateRecord, WriteRecord, SyncRecord, RenameRecord, SyncRecordName, Rename, SyncName, RemoveRecord, Remove, Already, WouldInstall, Outcome, Done, More, Failed}
-use Rattle.minisign_install.specs.RecordTexts.{record_digest}
+use Rattle.minisign_install.specs.RecordTexts.{counted, record_digest}
 use Rattle.minisign_install.specs.Refusals.{IsCommentRefused, IsDataRefused, IsLibraryFault, IsRecordRefused}
 use Rattle.minisign_install.specs.declared.order.Due.TheVariants as ended
 
@@ -50,6 +50,38 @@ late_call call n e = get_or (map (λ due. Some due) (late_calls n e)) (call - 15
 abbrev pub call_of : ℕ → ℕ → ℕ → Option (Due ℕ)
 call_of call n e = if nat_lt call 15 then early_call call n else late_call call n e
 
+-- the same that is due, with the errors by their numbers
+abbrev pub by_number : Due InstallFault → Due ℕ
+by_number Lock = Lock
+by_number ReadRecord = ReadRecord
+by_number (Judge kept) = Judge kept
+by_number (Look kept) = Look kept
+by_number (JudgeTarget kept) = JudgeTarget kept
+by_number SyncTarget = SyncTarget
+by_number SyncTargetName = SyncTargetName
+by_number Unlock = Unlock
+by_number Receive = Receive
+by_number (Clear kept) = Clear kept
+by_number (Create kept) = Create kept
+by_number (Copy kept) = Copy kept
+by_number (ReadBack kept) = ReadBack kept
+by_number (Answer kept) = Answer kept
+by_number (TakePermissions n) = TakePermissions n
+by_number (Sync n) = Sync n
+by_number (CreateRecord n) = CreateRecord n
+by_number (WriteRecord n) = WriteRecord n
+by_number (SyncRecord n) = SyncRecord n
+by_number (RenameRecord n) = RenameRecord n
+by_number (SyncRecordName n) = SyncRecordName n
+by_number (Rename n) = Rename n
+by_number (SyncName n) = SyncName n
+by_number (RemoveRecord e) = RemoveRecord (install_number e)
+by_number (Remove e) = Remove (install_number e)
+by_number ended.Installed = ended.Installed
+by_number Already = Already
+by_number WouldInstall = WouldInstall
+by_number (ended.Refused e) = ended.Refused (install_number e)
+
 -- what is due of an installation; nothing of one that was never begun
 abbrev pub due_of : Installation → Option (Due ℕ)
 due_of i = if i.mark == begun_mark then call_of i.call i.number i.error else None
@@ -58,9 +90,16 @@ due_of i = if i.mark == begun_mark then call_of i.call i.number i.error else Non
 abbrev pub IsDue : Installation → Due ℕ → Type 0
 IsDue i due = due_of i ≡ Some due
 
--- the field that an installation takes numbers from
+-- the field of this number, and the one that an installation takes numbers from
+abbrev pub numbering_by : ℕ → Numbering
+numbering_by number = if number == numbering_number Version then Version else Timestamp
+
 abbrev pub numbering_of : Installation → Numbering
-numbering_of i = if i.chosen.numbering == numbering_number Version then Version else Timestamp
+numbering_of i = numbering_by i.chosen.numbering
+
+-- whether the comment has to say when the update expires
+abbrev pub must_expire_of : Installation → Bool
+must_expire_of i = i.chosen.must_expire == 1
 
 -- the installation was begun with these keys and by these choices: that is due, and nothing was read
 pub record IsBegun (first_key second_key : PublicKeyValue) (choices : Choices) (i : Installation) : Type 0 where
@@ -73,11 +112,16 @@ pub record IsBegun (first_key second_key : PublicKeyValue) (choices : Choices) (
   pub again : (i.chosen.again == 1) ≡ choices.again
   pub check : (i.chosen.is_check == 1) ≡ choices.is_check
   pub waiting : (i.chosen.is_waiting == 1) ≡ choices.is_waiting
+  pub must : must_expire_of i ≡ choices.must_expire
   pub unreceived : i.received ≡ 0
 
 -- no record was read yet
 abbrev pub no_record : Kept
-no_record = record { has_number = 0; has_digest = 0; is_own = 0; unused = 0; digest = replicate 64 0 }
+no_record = record { has_number = 0; has_digest = 0; is_own = 0; unused = 0; written = 0; digest = replicate 64 0 }
+
+-- no comment was judged yet
+abbrev pub nothing_judged : Judged
+nothing_judged = record { verdict = 0; is_sized = 0; number = 0; size = 0 }
 
 -- what a new installation holds beside what is due: no number and no error, and nothing came of a record or of a signed
 -- comment
@@ -85,8 +129,13 @@ pub record IsUnused (i : Installation) : Type 0 where
   pub number : i.number ≡ 0
   pub error : i.error ≡ 0
   pub kept : i.kept ≡ no_record
-  pub judged : i.judged ≡ record { verdict = 0; unused = 0; number = 0 }
+  pub judged : i.judged ≡ nothing_judged
+  pub unvouched : i.is_vouched ≡ 0
   pub state : IsBlank i.state
+
+-- what came of the signed comment stays, and whether a key was found to have signed it
+abbrev pub KeepsComment : Installation → Installation → Type 0
+KeepsComment old new = (new.judged ≡ old.judged) × (new.is_vouched ≡ old.is_vouched)
 
 -- all but what is due stays: what was fed and asked, what the host has chosen, what the record was found to hold, and
 -- what came of the signed comment
@@ -96,6 +145,7 @@ pub record RestUnchanged (old new : Installation) : Type 0 where
   pub kept : new.kept ≡ old.kept
   pub asked : new.asked ≡ old.asked
   pub judged : new.judged ≡ old.judged
+  pub vouched : new.is_vouched ≡ old.is_vouched
 
 -- == What comes next by what was found ==
 
@@ -105,11 +155,11 @@ may_wait i = (i.chosen.is_waiting == 1) && not (i.received == 1)
 
 -- the run goes on: of a check it would be installed; data that may stand still is received first; or what killed runs
 -- have left is removed
-abbrev pub going_on : Installation → ℕ → Due ℕ
+abbrev pub going_on : {E : Type 0} → Installation → ℕ → Due E
 going_on i kept = if i.chosen.is_check == 1 then WouldInstall else if may_wait i then Unlock else Clear kept
 
 -- the update stands at the target: it is synced, and of a check that is the end
-abbrev pub standing : Installation → Due ℕ
+abbrev pub standing : {E : Type 0} → Installation → Due E
 standing i = if i.chosen.is_check == 1 then Already else SyncTarget
 
 -- the number of the update is the one that is kept
@@ -117,7 +167,7 @@ abbrev pub is_same : Installation → ℕ → ℕ → Bool
 is_same i kept n = (i.kept.has_number == 1) && (n == kept)
 
 -- a comment with this number was vouched for: the target is looked at, or the run goes on
-abbrev pub after_comment : Installation → ℕ → ℕ → Due ℕ
+abbrev pub after_comment : {E : Type 0} → Installation → ℕ → ℕ → Due E
 after_comment i kept n = if is_same i kept n then Look kept else going_on i kept
 
 -- other data of the kept number is replaced: the record was written for this update, or it was asked for
@@ -131,13 +181,33 @@ abbrev pub HasGone : (Due ℕ → Type 0) → Outcome ℕ → Installation → I
 HasGone P outcome old new =
     IsSomeAnd (due_of old) (λ due. P due × IsDue new (next due outcome)) × RestUnchanged old new
 
--- the call that is due can be told to have gone so, with nothing found
-abbrev pub may_go : Due ℕ → Outcome ℕ → Bool
-may_go due outcome = fits due outcome
+-- data is received or copied there
+abbrev pub takes_data : Due ℕ → Bool
+takes_data Receive = true
+takes_data (Copy kept) = true
+takes_data due = false
 
--- the call that was due went so, and the next one is due
-abbrev pub WasDone : Outcome ℕ → Installation → Installation → Type 0
-WasDone outcome = HasGone (λ due. may_go due outcome ≡ true) outcome
+-- at its end the data has another size than the signed comment says
+abbrev pub is_short : Installation → Due ℕ → Bool
+is_short i due = takes_data due && (i.judged.is_sized == 1) && not (i.copied == i.judged.size)
+
+-- how many bytes there are with so many more, where the signed comment allows them; without a size none are counted
+abbrev pub count_after : Installation → ℕ → Option ℕ
+count_after i len =
+    if i.judged.is_sized == 1
+    then (if nat_le (i.copied + len) i.judged.size then Some (i.copied + len) else None)
+    else Some i.copied
+
+-- the call that was due was done, and the next one is due, from which on bytes are counted anew; where data was taken, it
+-- has the size that the signed comment says
+abbrev pub WasDone : Installation → Installation → Type 0
+WasDone old new =
+    HasGone (λ due. (fits due Done ≡ true) × (is_short old due ≡ false)) Done old new × (new.copied ≡ 0)
+
+-- a piece of so many bytes was taken, which are counted
+abbrev pub HasTaken : ℕ → Installation → Installation → Type 0
+HasTaken len old new =
+    HasGone (λ due. fits due More ≡ true) More old new × (count_after old len ≡ Some new.copied)
 
 -- what the host has chosen stays, and what the record was found to hold
 abbrev pub KeepsRecord : Installation → Installation → Type 0
@@ -147,28 +217,48 @@ KeepsRecord old new = (new.chosen ≡ old.chosen) × (new.kept ≡ old.kept)
 abbrev pub IsNotDue : (Due ℕ → Type 0) → Installation → Installation → Misuse → Type 0
 IsNotDue P old new m = (m ≡ NotDue) × (new ≡ old) × IfSome (due_of old) P
 
+-- no success: the call that is due cannot be told to have gone so, and nothing changes; or one was due that is as P says,
+-- and failed since the data has another size
+abbrev pub IsSizeRefusal : (Due ℕ → Type 0) → Outcome ℕ → Installation → Installation → Refusal InstallFault → Type 0
+IsSizeRefusal P outcome old new (WrongUse m) = IsNotDue (λ due. fits due outcome ≡ false) old new m
+IsSizeRefusal P outcome old new (Refused e) = (e ≡ OtherSize) × HasGone P (Failed (install_number OtherSize)) old new
+
+-- the data ends, and has fewer bytes than the signed comment says
+abbrev pub IsDoneRefusal : Installation → Installation → Refusal InstallFault → Type 0
+IsDoneRefusal old new = IsSizeRefusal (λ due. is_short old due ≡ true) Done old new
+
+-- the data has more bytes than the signed comment says
+abbrev pub IsMoreRefusal : ℕ → Installation → Installation → Refusal InstallFault → Type 0
+IsMoreRefusal len old new =
+    IsSizeRefusal (λ due. (fits due More ≡ true) × (count_after old len ≡ None)) More old new
+
 -- the number is one of an error of a device or of memory
 abbrev pub is_device_error : ℕ → Bool
 is_device_error e =
     list_any (λ f. (fault_row f).number == e)
     (OutOfMemory ∷ ReadingFailed ∷ WritingFailed ∷ RandomSourceFailed ∷ [])
 
+-- what a run is rejected for where a device failed: where the target or its name could not be synced, it is that
+abbrev pub device_failure : Due ℕ → ℕ → ℕ
+device_failure SyncTarget e = install_number DirectoryNotSynced
+device_failure SyncTargetName e = install_number DirectoryNotSynced
+device_failure (SyncName n) e = install_number DirectoryNotSynced
+device_failure due e = e
+
 -- What a run is rejected for where a call failed for the error of this number, if it can fail so: a device failed or
--- an allocation did; and the lock may be held by another. Where the target or its name could not be synced, it is that.
+-- an allocation did; and the lock may be held by another.
 abbrev pub failure : Due ℕ → ℕ → Option ℕ
 failure ended.Installed e = None
 failure Already e = None
 failure WouldInstall e = None
 failure (ended.Refused first) e = None
-failure Lock e = if is_device_error e || (e == install_number PlaceInUse) then Some e else None
-failure SyncTarget e = if is_device_error e then Some (install_number DirectoryNotSynced) else None
-failure SyncTargetName e = if is_device_error e then Some (install_number DirectoryNotSynced) else None
-failure (SyncName n) e = if is_device_error e then Some (install_number DirectoryNotSynced) else None
-failure due e = if is_device_error e then Some e else None
+failure Lock e = if is_device_error e || (e == install_number TargetInUse) then Some e else None
+failure due e = if is_device_error e then Some (device_failure due e) else None
 
 -- the lock was due, and data that may stand still is received first
 abbrev pub HasWaited : Installation → Installation → Type 0
-HasWaited old new = IsDue old Lock × IsDue new Receive × (may_wait old ≡ true) × RestUnchanged old new
+HasWaited old new =
+    IsDue old Lock × IsDue new Receive × (may_wait old ≡ true) × RestUnchanged old new × (new.copied ≡ 0)
 
 -- == What is read ==
 
@@ -181,24 +271,34 @@ digest_in None = None
 abbrev pub kept_digest : Kept → Option (List ℕ)
 kept_digest kept = if kept.has_digest == 1 then Some kept.digest else None
 
--- this is kept of what the record was found to hold, with a number for the field or without one
-pub record IsKeptOf (has_number : Bool) (found : Option (List ℕ)) (kept : Kept) : Type 0 where
+-- this is kept of what counts of the record, with a number for the field or without one, and when it was last written
+pub record IsKeptOf (has_number : Bool) (found : Option (List ℕ)) (moment : ℕ) (kept : Kept) : Type 0 where
   pub number : (kept.has_number == 1) ≡ has_number
   pub digest : kept_digest kept ≡ digest_in found
   pub unjudged : kept.is_own ≡ 0
+  pub written : kept.written ≡ moment
 
--- by what the record was found to hold, its number is kept and the digest of its data, and the comment is to be judged; or
--- the run is rejected
-abbrev pub HasReadRecord : Option (List ℕ) → Installation → Installation → Type 0
-HasReadRecord found old new =
-    IsDue old ReadRecord × (new.state ≡ old.state) × (new.chosen ≡ old.chosen)
+-- the two keys of an installation
+abbrev pub keys_of : Installation → List (List ℕ)
+keys_of i = i.chosen.key.key ∷ i.chosen.other.key ∷ []
+
+-- what counts of a record that was found
+abbrev pub counted_by : Installation → Option (List ℕ) → Option (List ℕ)
+counted_by i found = counted (i.chosen.is_first == 1) (keys_of i) found
+
+-- By what counts of the record that was found, which was last written at this moment, its number is kept and the digest of
+-- its data, and the comment is to be judged; or the run is rejected.
+abbrev pub HasReadRecord : Option (List ℕ) → ℕ → Installation → Installation → Type 0
+HasReadRecord found written old new =
+    IsDue old ReadRecord × (new.state ≡ old.state) × (new.chosen ≡ old.chosen) × KeepsComment old new
     × (((kept : Option ℕ) × IsDue new (Judge (unwrap_or kept 0))
-    × IsKeptOrNone (numbering_of old) (old.chosen.is_first == 1) found kept × IsKeptOf (is_some kept) found new.kept)
+    × IsKeptOrNone (numbering_of old) (old.chosen.is_first == 1) (counted_by old found) kept
+    × IsKeptOf (is_some kept) (counted_by old found) written new.kept)
     ⊎ ((e : InstallFault) × IsDue new (ended.Refused (install_number e))
-    × IsRecordRefused (numbering_of old) (old.chosen.is_first == 1) found e))
+    × IsRecordRefused (numbering_of old) (old.chosen.is_first == 1) (counted_by old found) e))
 
 -- how reading a piece went: where it has no bytes, the end was reached
-abbrev pub piece_outcome : List ℕ → Outcome ℕ
+abbrev pub piece_outcome : {E : Type 0} → List ℕ → Outcome E
 piece_outcome piece = if length piece == 0 then Done else More
 
 -- pieces of this are read: of the file at the target, or of the stage
@@ -207,10 +307,12 @@ IsReading (Look kept) = ⊤
 IsReading (ReadBack kept) = ⊤
 IsReading due = ⊥
 
--- pieces were to be read, and the state was fed this one; what the host has chosen stays, and what the record holds
+-- pieces were to be read, and the state was fed this one; what the host has chosen stays, what the record holds, and what
+-- came of the signed comment
 pub record HasReadBack (piece : List ℕ) (old new : Installation) : Type 0 where
   pub fed : (m : List ℕ) → IsFedState old.state m → IsFedState new.state (m ++ piece)
   pub kept : KeepsRecord old new
+  pub comment : KeepsComment old new
   pub due : IsSomeAnd (due_of old) (λ due. IsReading due × IsDue new (next due (piece_outcome piece)))
 
 -- no piece is to be read, or the state was never begun
@@ -219,21 +321,66 @@ CannotBeFed i m = ((m ≡ NotDue) × IfSome (due_of i) (λ due. ¬ (IsReading du
 
 -- == Judging ==
 
--- the updates that these arguments of a call want
-abbrev pub wanted_by : List ℕ → List ℕ → List ℕ → Numbering → ℕ → Terms
-wanted_by pk_text sig_text file numbering moment =
-    record { pk_text = pk_text; sig_text = sig_text; file = file; numbering = numbering; moment = moment }
+-- the updates that these arguments of a call want, and what a comment that is judged by itself has to say
+abbrev pub wanted_by : List ℕ → List ℕ → List ℕ → Numbering → ℕ → Bool → List (List ℕ) → Terms
+wanted_by pk_text sig_text file numbering moment must_expire keys =
+    record {
+      pk_text = pk_text;
+      sig_text = sig_text;
+      file = file;
+      numbering = numbering;
+      moment = moment;
+      must_expire = must_expire;
+      heeds_size = true;
+      keys = keys;
+    }
+
+abbrev pub said_by : List ℕ → Numbering → ℕ → Terms
+said_by file numbering moment =
+    record {
+      pk_text = [];
+      sig_text = [];
+      file = file;
+      numbering = numbering;
+      moment = moment;
+      must_expire = false;
+      heeds_size = false;
+      keys = [];
+    }
 
 -- what a signed comment is worth: its number, which is not below the kept one, or the first reason why it is rejected
 abbrev pub IsWorth : Terms → ℕ → List ℕ → Result ℕ InstallFault → Type 0
-IsWorth terms kept comment (Ok n) = Says comment terms.file terms.numbering terms.moment n × (kept ≤ n)
+IsWorth terms kept comment (Ok n) = Says comment terms n × (kept ≤ n)
 IsWorth terms kept comment (Err e) = IsCommentRefused terms kept comment e
 
--- what is kept of that: 1 and the number, or the number of the reason
-abbrev pub IsJudged : Judged → Terms → ℕ → List ℕ → Type 0
-IsJudged judged terms kept comment =
-    ((judged.verdict ≡ 1) × IsWorth terms kept comment (Ok judged.number))
-    ⊎ ((e : InstallFault) × (judged.verdict ≡ install_number e) × IsWorth terms kept comment (Err e))
+-- what is kept of that: 1, and this number, or the number of the reason
+abbrev pub IsVerdict : ℕ → ℕ → Terms → ℕ → List ℕ → Type 0
+IsVerdict verdict number terms kept comment =
+    ((verdict ≡ 1) × IsWorth terms kept comment (Ok number))
+    ⊎ ((e : InstallFault) × (verdict ≡ install_number e) × IsWorth terms kept comment (Err e))
+
+-- and whatever that is, the comment's number, or 0 where it has none
+abbrev pub IsNumberOrNone : Numbering → List ℕ → ℕ → Type 0
+IsNumberOrNone numbering comment n =
+    HasNumber comment numbering n ⊎ ((n ≡ 0) × ((m : ℕ) → ¬ (HasNumber comment numbering m)))
+
+-- how long the data is as the comment says it, where it says that once, in a number
+abbrev pub signed_size : Judged → Option ℕ
+signed_size judged = if judged.is_sized == 1 then Some judged.size else None
+
+-- all of that is kept of a comment
+pub record IsJudged (judged : Judged) (terms : Terms) (kept : ℕ) (comment : List ℕ) : Type 0 where
+  pub verdict : IsVerdict judged.verdict judged.number terms kept comment
+  pub number : IsNumberOrNone terms.numbering comment judged.number
+  pub size : MatchOption (signed_size judged) ((size : ℕ) → ¬ (SizedAs comment size)) (SizedAs comment)
+
+-- the moment that counts: what the clock shows; or the greatest one, where that is below when the record was last written,
+-- and this is not the first installation
+abbrev pub moment_by : Bool → ℕ → ℕ → ℕ
+moment_by first written now = if not first && nat_lt now written then 2 ^ 64 - 1 else now
+
+abbrev pub moment_of : Installation → ℕ → ℕ
+moment_of i now = moment_by (i.chosen.is_first == 1) i.kept.written now
 
 -- the scheme is to be asked where this number is kept: about the comment, the file at the target, or the stage
 abbrev pub IsAskDue : Installation → ℕ → Type 0
@@ -258,8 +405,21 @@ pub record IsAsking (i : Installation) (terms : Terms) (kept : ℕ) : Type 0 whe
   pub keyed : IsKeyText terms.pk_text key
   pub asked : HasAsked i.state key terms.sig_text false
   pub told : IsMarkedTold i.state
+  pub unvouched : i.is_vouched ≡ 0
   pub judged : (t : SignatureTextRecord) → read_signature terms.sig_text ≡ Ok t
       → IsJudged i.judged terms kept t.comments.trusted
+
+-- a key was found to have signed the comment that was asked about last
+abbrev pub is_vouched : Installation → Bool
+is_vouched i = i.is_vouched == 1
+
+-- the number of a comment that is vouched for; 0 where it has none, and of any other
+abbrev pub told_number : Installation → ℕ
+told_number i = if is_vouched i then i.judged.number else 0
+
+-- the comment is vouched for exactly where this key has signed it
+abbrev pub IsVouched : Verifier → PublicKeyValue → List ℕ → Installation → Type 0
+IsVouched accepts key sig_text i = is_vouched i ≡ is_ok (signed_comment accepts key sig_text)
 
 -- what was asked about: at first the data that the record was written for, and then what was read
 abbrev pub asked_digest : Installation → Due ℕ → List ℕ → List ℕ
@@ -267,8 +427,9 @@ asked_digest i (Judge kept) read = i.kept.digest
 asked_digest i due read = read
 
 -- Questions were asked: those of the key that has to have signed and of what the text reads as. The digest of what was
--- read is kept, with the key; all else stays but what came of the comment.
-pub record HasAskedAbout (sig_text file : List ℕ) (moment : ℕ) (questions : Questions) (message : List ℕ)
+-- read is kept, with the key; all else stays but what came of the comment, for which nothing vouches yet, and which is
+-- judged by the moment that counts.
+pub record HasAskedAbout (sig_text file : List ℕ) (now : ℕ) (questions : Questions) (message : List ℕ)
     (old new : Installation) : Type 0 where
   pub signed : SignatureTextRecord
   pub opens : read_under (key_for old sig_text) false sig_text ≡ Ok signed
@@ -277,9 +438,10 @@ pub record HasAskedAbout (sig_text file : List ℕ) (moment : ℕ) (questions : 
   pub digest : (m : List ℕ) → IsFedState old.state m → new.asked.digest ≡ blake2b_digest 64 m
   pub about : IfSome (due_of old) (λ due. questions.digest ≡ asked_digest old due new.asked.digest)
   pub kept : KeepsRecord old new
+  pub unvouched : new.is_vouched ≡ 0
   pub asking : (kept : ℕ) × IsAskDue old kept × (due_of new ≡ due_of old)
       × ((pk_text : List ℕ) → IsKeyText pk_text (key_for old sig_text)
-      → IsAsking new (wanted_by pk_text sig_text file (numbering_of old) moment) kept)
+      → IsAsking new (wanted_by pk_text sig_text file (numbering_of old) (moment_of old now) (must_expire_of old) (keys_of old)) kept)
 
 -- what was due failed for this error
 abbrev pub HasFailedFor : InstallFault → Installation → Installation → Type 0
@@ -324,6 +486,14 @@ GivesUpdate accepts terms kept message new (Ok done) =
 GivesUpdate accepts terms kept message new (Err (WrongUse m)) = ⊥
 GivesUpdate accepts terms kept message new (Err (Refused e)) =
     IsDue new (Remove (install_number e)) × IsDataRefused accepts terms kept message e
+
+-- the permissions of an update of this number are due, where its comment is what is wanted; or the stage is to be removed
+abbrev pub Takes : {T : Type 0} → Terms → ℕ → List ℕ → Installation → Result T (Refusal InstallFault) → Type 0
+Takes terms kept comment new (Ok done) =
+    (n : ℕ) × IsDue new (TakePermissions n) × IsWorth terms kept comment (Ok n)
+Takes terms kept comment new (Err (WrongUse m)) = ⊥
+Takes terms kept comment new (Err (Refused e)) =
+    IsDue new (Remove (install_number e)) × IsWorth terms kept comment (Err e)
 
 -- The comment is what is wanted: the target is looked at where its number is the kept one, and the run goes on otherwise;
 -- whether the record was written for this update is kept. Or the run is rejected, for the first reason.
@@ -381,17 +551,42 @@ JudgesTarget accepts terms kept message old new r =
     × StandsBy terms kept comment old new r)
     ⊎ (IsRejectedFor accepts terms message × Replaces kept old new r)
 
--- no success, and what was due failed for this error; what was asked may count no more
-abbrev pub IsRejection : Installation → Installation → Refusal InstallFault → Type 0
-IsRejection old new (WrongUse m) = ⊥
-IsRejection old new (Refused e) =
-    IsSomeAnd (due_of old) (λ due. IsDue new (next due (Failed (install_number e)))) × KeepsRecord old new
+-- no success, and what was due failed for this error, which is as P says; what was asked may count no more
+abbrev pub IsRejection : (Due ℕ → InstallFault → Type 0) → Installation → Installation → Refusal InstallFault → Type 0
+IsRejection P old new (WrongUse m) = ⊥
+IsRejection P old new (Refused e) =
+    IsSomeAnd (due_of old) (λ due. P due e × IsDue new (next due (Failed (install_number e)))) × KeepsRecord old new
 
--- no success: nothing was asked, or its answers are not due, and nothing changes; or what was due failed for this error
-abbrev pub IsAnswerRefusal : Installation → Installation → Refusal InstallFault → Type 0
-IsAnswerRefusal old new (WrongUse m) =
+-- the comment was judged, and is rejected for this error; a verdict that is no error of installing, which only a host has
+-- written there, is taken for that of another file
+abbrev pub IsJudgedFault : Judged → InstallFault → Type 0
+IsJudgedFault judged e =
+    (judged.verdict ≢ 1)
+    × ((IsOwn e × (judged.verdict ≡ install_number e))
+    ⊎ ((e ≡ OtherFile) × ((f : InstallFault) → IsOwn f → judged.verdict ≢ install_number f)))
+
+-- what the answers decide of the comment, or of the texts
+abbrev pub decided_by : State → Due ℕ → Bool → Bool → Result Unit (Refusal Fault)
+decided_by state (Judge kept) first second = comment_result state second
+decided_by state due first second = (told_verdict state first second).0
+
+-- what the run is rejected for where the texts are: of the file at the target, that its number is the same
+abbrev pub texts_fault : Due ℕ → Fault → InstallFault
+texts_fault (JudgeTarget kept) fault = SameNumber
+texts_fault due fault = Library fault
+
+-- why the run is rejected by these answers: for what they decide; or they decide well, and the comment was rejected
+abbrev pub IsAnswerFault : Installation → Bool → Bool → Due ℕ → InstallFault → Type 0
+IsAnswerFault i first second due e =
+    ((fault : Fault) × (decided_by i.state due first second ≡ Err (Refused fault)) × (e ≡ texts_fault due fault))
+    ⊎ ((decided_by i.state due first second ≡ Ok tt) × IsJudgedFault i.judged e)
+
+-- no success: nothing was asked, or its answers are not due, and nothing changes; or what was due failed for this error,
+-- which the answers, or what was judged, say
+abbrev pub IsAnswerRefusal : Bool → Bool → Installation → Installation → Refusal InstallFault → Type 0
+IsAnswerRefusal first second old new (WrongUse m) =
     (new ≡ old) × (((m ≡ NotDue) × IfSome (due_of old) (λ due. ¬ (AsksScheme due))) ⊎ (m ≡ verdict_misuse old.state))
-IsAnswerRefusal old new (Refused e) = IsRejection old new (Refused e)
+IsAnswerRefusal first second old new (Refused e) = IsRejection (IsAnswerFault old first second) old new (Refused e)
 
 -- of a signed comment and a name that are passed in as bytes: one is not UTF-8, or the answer is as P says
 abbrev pub ReadsTexts : {T : Type 0} → List ℕ → List ℕ → (Result T InstallFault → Type 0) → Result T InstallFault → Type 0
@@ -407,12 +602,13 @@ IsNumberOf P n =
     ((n ≡ 0) × P (Ok tt)) ⊎ ((0 < n) × (r : Refusal InstallFault) × (n ≡ refusal_number install_number r) × P (Err r))
 
 -- the choices of a host by numbers: that this is the first installation is said by 1, and the others by any but 0
-abbrev pub choices_of : ℕ → ℕ → ℕ → ℕ → Numbering → Choices
-choices_of first again check waiting numbering =
+abbrev pub choices_of : ℕ → ℕ → ℕ → ℕ → ℕ → Numbering → Choices
+choices_of first again check waiting must_expire numbering =
     record {
       is_first = first == 1;
       again = not (again == 0);
       is_check = not (check == 0);
       is_waiting = not (waiting == 0);
+      must_expire = not (must_expire == 0);
       numbering = numbering;
     }

@@ -4,26 +4,38 @@ use Rattle.minisign_install.specs.Common.{Fault, IsKeyText, PublicKeyValue, blak
 pub use Rattle.minisign.specs.Acceptance.{Verifier}
 pub use Rattle.minisign.specs.Calls.{TextsVouchWith}
 use Rattle.minisign_install.specs.Comments.{Says, Numbering}
+pub use Rattle.minisign_install.specs.Comments.{Terms}
 pub use Rattle.minisign.specs.Reading.{IsAhead}
 use Rattle.minisign_install.specs.Directories.{IsFound, Moment, Run, RunStep, Name, Place, Record, SyncsDirectory}
-use Rattle.minisign_install.specs.RecordTexts.{HasNoNumber, IsNumberFor, record_of}
+use Rattle.minisign_install.specs.RecordTexts.{counted, HasNoNumber, IsNumberFor, record_of}
 use Rattle.minisign_install.specs.Runs.{PublishesNothing, PublishesOnly, HasCleared, HasReached, IsPublished, LocksAt, RecordHolds, RecordHoldsAt, Rests}
 
--- which updates are wanted: the two texts, the file's name, where the number stands, and at which moment they must not
--- have expired, in seconds since the beginning of 1970
-pub record Terms : Type 0 where
-  pub pk_text : List ℕ
-  pub sig_text : List ℕ
-  pub file : List ℕ
-  pub numbering : Numbering
-  pub moment : ℕ
+-- what a run is about: what the signature scheme accepts, which update is wanted, whether it is the first one, whether
+-- other data of the kept number is replaced, whether it is only asked what a run would do, and the key of the wanted text;
+-- the digest of what is read back of the stage; and the names that are drawn for the stage and for that of the record, with
+-- the files that they are given to, and the file that is found at the place
+pub record Setting : Type 0 where
+  pub accepts : Verifier
+  pub terms : Terms
+  pub first : Bool
+  pub again : Bool
+  pub check : Bool
+  pub key : PublicKeyValue
+  pub keyed : IsKeyText terms.pk_text key
+  pub key_whole : length key.key ≡ 32
+  pub digest : List ℕ
+  pub name : List ℕ
+  pub file : ℕ
+  pub record_name : List ℕ
+  pub record_file : ℕ
+  pub target : ℕ
 
 -- The texts vouch for these bytes, not as a legacy signature would, and the comment that was signed with them names
 -- the file, has not expired, and has this number, which is not below the kept one.
 pub record IsUpdate (accepts : Verifier) (terms : Terms) (kept : ℕ) (bytes : List ℕ) (n : ℕ) : Type 0 where
   pub comment : List ℕ
   pub vouched : TextsVouchWith accepts terms.pk_text terms.sig_text bytes false comment
-  pub says : Says comment terms.file terms.numbering terms.moment n
+  pub says : Says comment terms n
   pub newer : kept ≤ n
 
 -- the texts are rejected for this data
@@ -42,7 +54,6 @@ pub record IsRecordOf (terms : Terms) (n : ℕ) (update bytes : List ℕ) : Type
   pub key : PublicKeyValue
   pub keyed : IsKeyText terms.pk_text key
   pub key_whole : length key.key ≡ 32
-  pub digest_whole : length (blake2b_digest 64 update) ≡ 64
   pub is : bytes ≡ record_of terms.numbering n key.key (blake2b_digest 64 update)
 
 -- To the place an update is brought, and to the record that of one.
@@ -70,12 +81,18 @@ abbrev pub IsKeptNumber : Numbering → Bool → Option (List ℕ) → ℕ → T
 IsKeptNumber numbering first found kept =
     IsKeptOrNone numbering first found (Some kept) ⊎ ((kept ≡ 0) × IsKeptOrNone numbering first found None)
 
--- What the record holds for the field at that moment: this number; or none, where 0 counts at the first installation.
+-- What counts of the record at that moment holds this number for the field; or none, where 0 counts at the first
+-- installation.
 pub record HasKept (terms : Terms) (first : Bool) (m : Moment) : Type 0 where
   pub found : Option (List ℕ)
   pub there : IsFound m Record found
   pub number : ℕ
-  pub held : IsKeptNumber terms.numbering first found number
+  pub held : IsKeptNumber terms.numbering first (counted first terms.keys found) number
+
+-- what the record holds counts: but for one that names another key, at the first installation
+abbrev pub RecordCounts : Terms → Bool → Moment → Type 0
+RecordCounts terms first m =
+    (bytes : List ℕ) → IsFound m Record (Some bytes) → counted first terms.keys (Some bytes) ≡ Some bytes
 
 -- The number goes first. Up to some point of the run nothing was published at the place. From there on only updates of
 -- one number are, while the record has that number or a greater one, at each moment and after a crash at any.
@@ -103,11 +120,12 @@ NeverFalls numbering old new =
 -- From when the lock was got. Whatever who opens the place or the record finds there after any call of this run, at
 -- once or after a crash, could be found there just before that call, or is an update, or the number of one, that is not
 -- older than the number that the record held for its field then. The number of an update is in the record before the
--- update is at the place. And the number that the record has for the field never falls.
+-- update is at the place. And the number that the record has for the field never falls, but where it named another key at
+-- the first installation.
 pub record InstallsLocked (accepts : Verifier) (terms : Terms) (first : Bool) (old new : Run) : Type 0 where
   pub only : PublishesNothing old new
       ⊎ ((kept : HasKept terms first old.now) × PublishesInOrder accepts terms kept.number old new)
-  pub never_falls : NeverFalls terms.numbering old new
+  pub never_falls : RecordCounts terms first old.now → NeverFalls terms.numbering old new
 
 -- Nothing was changed. Or the lock was got before that, and from then on only what is to be installed was brought.
 abbrev pub InstallsOnlyUpdates : Verifier → Terms → Bool → Run → Run → Type 0

@@ -10,4 +10,5 @@ pub mod Order
 pub mod RecordTexts
 pub mod Refusals
 pub mod Runs
+pub mod Sequences
 pub mod Words

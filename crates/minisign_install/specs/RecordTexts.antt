@@ -1,6 +1,6 @@
--- What the record beside the place holds: the number of the newest update, behind the label of its field.
-use Rattle.std.specs.Prelude.{◌≡◌, ◌⊎◌, ℕ, Bool, List, [], ◌∷◌, ◌++◌, ◌-◌, ◌==◌, ◌&&◌, Option, Some, None, Result, Ok, Err, length, take, drop, slice_index, nat_le, if◌then◌else◌}
-use Rattle.minisign_install.specs.Common.{decimal, strip_last, unwrap_or, IsUtf8, decode_sized, encode_lower, FromHexError}
+-- What the record beside the target holds: the number of the newest update, behind the label of its field.
+use Rattle.std.specs.Prelude.{◌≡◌, ◌⊎◌, ℕ, Bool, false, List, [], ◌∷◌, ◌++◌, ◌-◌, ◌==◌, ◌&&◌, not, bytes_eq, Option, Some, None, Result, Ok, Err, length, take, drop, slice_index, nat_le, if◌then◌else◌}
+use Rattle.minisign_install.specs.Common.{decimal, list_any, strip_last, unwrap_or, IsUtf8, decode_sized, encode_lower, FromHexError}
 use Rattle.minisign_install.specs.Comments.{IsNumberText, number_label, strip, Numbering, Timestamp, Version}
 use Rattle.minisign_install.specs.Faults.{InstallFault, DamagedRecord, KeptByTimestamp, KeptByVersion}
 
@@ -36,6 +36,21 @@ decoded (Err e) = None
 abbrev pub record_digest : List ℕ → Option (List ℕ)
 record_digest bytes =
     if is_marked bytes then decoded (decode_sized (drop (length bytes - 128) bytes) 64) else None
+
+-- the key that has vouched for that data, where the record says so
+abbrev pub record_key : List ℕ → Option (List ℕ)
+record_key bytes =
+    if is_marked bytes then decoded (decode_sized (take 64 (drop (length bytes - 193) bytes)) 32) else None
+
+-- a key is named, which is none of these
+abbrev pub is_other : List (List ℕ) → Option (List ℕ) → Bool
+is_other keys (Some named) = not (list_any (λ key. bytes_eq named key) keys)
+is_other keys None = false
+
+-- what of a record counts, by these keys: at the first installation one that names another key counts as none
+abbrev pub counted : Bool → List (List ℕ) → Option (List ℕ) → Option (List ℕ)
+counted first keys (Some bytes) = if first && is_other keys (record_key bytes) then None else Some bytes
+counted first keys None = None
 
 -- A record of these bytes holds this number for updates whose number stands in this field: behind its label; or alone,
 -- as records were written before they named a field, which counts for either.

@@ -1,13 +1,13 @@
 -- Why an installation is rejected, in the order of its steps, and what its run has published to the place and to the
 -- record by then.
-use Rattle.std.specs.Prelude.{◌≡◌, ◌≢◌, ◌⊎◌, ℕ, ◌<◌, Bool, true, false, List, Option, Some, None, Ok, Err}
-use Rattle.minisign_install.specs.Common.{IsTextRefusal, IsUtf8, PublicKeyValue, verdict}
+use Rattle.std.specs.Prelude.{Bool, Err, List, None, Ok, Option, Some, false, length, true, ℕ, ◌<◌, ◌≡◌, ◌≢◌, ◌⊎◌}
+use Rattle.minisign_install.specs.Common.{IsTextRefusal, IsUtf8, SignatureTextRecord, read_signature, verdict}
 use Rattle.minisign_external.specs.declared.state.Refusal.TheVariants.{Refused}
-use Rattle.minisign_install.specs.Faults.{Rose, Fault, Named, NotUtf8, OutOfMemory, RandomSourceFailed, ReadingFailed, WritingFailed, InstallFault, Library, NoRecord, OtherFile, NoNumber, OlderUpdate, DirectoryNotSynced, PlaceInUse, SameNumber}
-use Rattle.minisign_install.specs.Installing.{Verifier, TextsVouchWith, HasKept, IsAhead, IsRejectedFor, MayBePublished, MayBeRecorded, IsUpdate, Terms, signed_comment}
-use Rattle.minisign_install.specs.Comments.{HasNumber, IsExpiryRefused, Says, file_label, value_of, Numbering}
+use Rattle.minisign_install.specs.Faults.{BadSize, DirectoryNotSynced, Fault, InstallFault, Library, Named, NoNumber, NoRecord, NotUtf8, OlderUpdate, OtherFile, OtherSize, OutOfMemory, TargetInUse, RandomSourceFailed, ReadingFailed, Rose, SameNumber, WritingFailed}
+use Rattle.minisign_install.specs.Installing.{Verifier, TextsVouchWith, HasKept, IsAhead, IsKeptNumber, IsRejectedFor, MayBePublished, MayBeRecorded, IsUpdate, Setting, Terms, signed_comment}
+use Rattle.minisign_install.specs.Comments.{HasNumber, IsBadlySized, IsExpiryRefused, IsUnexpired, Numbering, Says, SizedAs, file_label, value_of}
 use Rattle.minisign_install.specs.Directories.{HasStepped, IsBusy, IsFound, Run, HasOnDisk, Place, Record}
-use Rattle.minisign_install.specs.RecordTexts.{HasNoNumber, IsUnfit}
+use Rattle.minisign_install.specs.RecordTexts.{HasNoNumber, IsUnfit, counted, record_digest}
 use Rattle.minisign_install.specs.Runs.{PublishesNothing, PublishesOnly, HasCleared, HasReached, LocksAt, Rests}
 
 -- how many errors there were: of the random source, of the source of the data, and of the directory, whose removals of
@@ -16,9 +16,6 @@ pub record Counts : Type 0 where
   pub random : ℕ
   pub update : ℕ
   pub directory : ℕ
-
-abbrev pub counts : ℕ → ℕ → ℕ → Counts
-counts random update directory = record { random = random; update = update; directory = directory }
 
 -- why a call failed, or a run: an allocation failed, and no device; or the device did that the error speaks of
 abbrev pub IsCallFault : Counts → Counts → Fault → Type 0
@@ -41,15 +38,18 @@ IsRecordRefused numbering first found e =
     ⊎ ((bytes : List ℕ) × (found ≡ Some bytes) × HasNoNumber numbering bytes × IsUnfit numbering bytes e))
 
 -- The signed comment does not name the file. It names it, and has no number. It has one, and has expired, or does not
--- say once when it does; or it has not expired, and its number is below the kept one.
+-- say once when it does, or not at all where it has to; it has not expired, and does not say once, in a number, which size
+-- the data has; or it does, and its number is below the kept one.
 abbrev pub IsCommentRefused : Terms → ℕ → List ℕ → InstallFault → Type 0
 IsCommentRefused terms kept comment e =
     ((e ≡ OtherFile) × (value_of file_label comment ≢ Some terms.file))
     ⊎ ((e ≡ NoNumber) × (value_of file_label comment ≡ Some terms.file)
     × ((n : ℕ) → ¬ (HasNumber comment terms.numbering n)))
     ⊎ ((value_of file_label comment ≡ Some terms.file) × ((n : ℕ) × HasNumber comment terms.numbering n)
-    × IsExpiryRefused terms.moment comment e)
-    ⊎ ((e ≡ OlderUpdate) × ((n : ℕ) × Says comment terms.file terms.numbering terms.moment n × (n < kept)))
+    × IsExpiryRefused terms.must_expire terms.moment comment e)
+    ⊎ ((e ≡ BadSize) × (value_of file_label comment ≡ Some terms.file) × ((n : ℕ) × HasNumber comment terms.numbering n)
+    × IsUnexpired terms.must_expire terms.moment comment × (terms.heeds_size ≡ true) × IsBadlySized comment)
+    ⊎ ((e ≡ OlderUpdate) × ((n : ℕ) × Says comment terms n × (n < kept)))
 
 -- the texts do not vouch for this data, or they do and the comment that was signed with it is rejected
 abbrev pub IsDataRefused : Verifier → Terms → ℕ → List ℕ → InstallFault → Type 0
@@ -58,70 +58,115 @@ IsDataRefused accepts terms kept message e =
     ⊎ ((comment : List ℕ) × TextsVouchWith accepts terms.pk_text terms.sig_text message false comment
     × IsCommentRefused terms kept comment e)
 
+-- The texts are rejected before any data is judged: the name of the file is not UTF-8; or the text of the signature does not
+-- read, or is rejected under the key, whatever the data is; or the key has not signed the comment. Or it has, and the
+-- comment is not what is wanted.
+abbrev pub IsTextRefused : Setting → ℕ → InstallFault → Type 0
+IsTextRefused s kept e =
+    IsLibraryFault (λ f. ((f ≡ Named NotUtf8) × ¬ (IsUtf8 s.terms.file))
+    ⊎ IsTextRefusal s.key s.terms.sig_text false (Refused f)
+    ⊎ (signed_comment s.accepts s.key s.terms.sig_text ≡ Err f)) e
+    ⊎ ((comment : List ℕ) × (signed_comment s.accepts s.key s.terms.sig_text ≡ Ok comment)
+    × IsCommentRefused s.terms kept comment e)
+
+-- The record was written for this very update: it says the digest of its data, and the scheme accepts the signature of the
+-- text for that under the key. No data is needed to say so.
+pub record RecordIsOwn (s : Setting) (found : Option (List ℕ)) : Type 0 where
+  pub bytes : List ℕ
+  pub there : found ≡ Some bytes
+  pub digest : List ℕ
+  pub says : record_digest bytes ≡ Some digest
+  pub signed : SignatureTextRecord
+  pub read : read_signature s.terms.sig_text ≡ Ok signed
+  pub accepted : s.accepts digest s.key.key signed.signature.signature ≡ true
+
+-- What stands at the place is rejected, where the record was found to hold this: it is other data of the kept number, the
+-- record was not written for this update, and it was not asked for that other data is replaced; or the comment is not what
+-- is wanted any more.
+abbrev pub IsTargetRefused : Setting → Option (List ℕ) → ℕ → List ℕ → InstallFault → Type 0
+IsTargetRefused s found kept bytes e =
+    ((e ≡ SameNumber) × IsRejectedFor s.accepts s.terms bytes × (s.again ≡ false) × ¬ (RecordIsOwn s found))
+    ⊎ IsDataRefused s.accepts s.terms kept bytes e
+
+-- the key has signed a comment that says this size of the data
+abbrev pub SaysSize : Setting → ℕ → Type 0
+SaysSize s size =
+    (comment : List ℕ) × (signed_comment s.accepts s.key s.terms.sig_text ≡ Ok comment) × SizedAs comment size
+
+-- the data that was ahead has another size
+abbrev pub IsOtherSize : Setting → Option (List ℕ) → Type 0
+IsOtherSize s ahead =
+    (size : ℕ) × SaysSize s size × ((message : List ℕ) × IsAhead ahead message × (length message ≢ size))
+
+-- with one of the run's calls since then the place was found to lead to a file that holds these bytes
+abbrev pub HasFound : List ℕ → Run → Run → Type 0
+HasFound bytes old new =
+    (file : ℕ) × HasReached (λ m. (m.leads Place ≡ Some file) × (m.holds file ≡ bytes)) old new
+
+-- == What was found is rejected ==
+
+-- Why a check is rejected: it found a record that is rejected, or one with a number; and then the texts are rejected, or
+-- what it found at the place.
+abbrev pub IsCheckRefused : Setting → Run → Run → InstallFault → Type 0
+IsCheckRefused s old new e =
+    (found : Option (List ℕ)) × HasReached (λ m. IsFound m Record found) old new
+    × (IsRecordRefused s.terms.numbering s.first found e
+    ⊎ ((kept : ℕ) × IsKeptNumber s.terms.numbering s.first (counted s.first s.terms.keys found) kept
+    × (IsTextRefused s kept e ⊎ ((bytes : List ℕ) × HasFound bytes old new × IsTargetRefused s found kept bytes e))))
+
+-- Why an installation is rejected where the lock is held. The record is rejected, as it was found when the lock was got. Or
+-- it was found to hold a number; and then the texts are rejected, or what was found at the place; or what killed runs had
+-- left was removed, and the data is rejected that was ahead, for its size or for what it is.
+abbrev pub IsLockedRefusal : Setting → Option (List ℕ) → Run → Run → InstallFault → Type 0
+IsLockedRefusal s ahead old new e =
+    ((found : Option (List ℕ)) × IsFound old.now Record found × IsRecordRefused s.terms.numbering s.first found e)
+    ⊎ ((kept : HasKept s.terms s.first old.now)
+    × (IsTextRefused s kept.number e
+    ⊎ ((bytes : List ℕ) × HasFound bytes old new × IsTargetRefused s kept.found kept.number bytes e)
+    ⊎ (HasCleared old new × (((e ≡ OtherSize) × IsOtherSize s ahead)
+    ⊎ ((message : List ℕ) × IsAhead ahead message × IsDataRefused s.accepts s.terms kept.number message e)))))
+
+-- A run is rejected for what was found, and has published nothing. Of a check nothing was changed at all, nor where the data
+-- was rejected for its size while it was received.
+abbrev pub IsFoundRefusal : Setting → Option (List ℕ) → Run → Run → InstallFault → Type 0
+IsFoundRefusal s ahead old new e =
+    ((s.check ≡ true) × Rests old new × IsCheckRefused s old new e)
+    ⊎ (Rests old new × (e ≡ OtherSize) × IsOtherSize s ahead)
+    ⊎ ((locked : Run) × LocksAt old locked × PublishesNothing locked new × IsLockedRefusal s ahead locked new e)
+
+-- == A call failed ==
+
 -- with one of the run's calls since then an update got the place's name
 abbrev pub HasPublishedUpdate : Verifier → Terms → ℕ → Run → Run → Type 0
 HasPublishedUpdate accepts terms kept =
     HasReached (λ m. (bytes : List ℕ) × (n : ℕ) × IsUpdate accepts terms kept bytes n × HasOnDisk m Place bytes)
 
--- Why the data ahead is not installed where the lock is held and the kept number is known, and what is published then.
--- The data is rejected: nothing. A device or an allocation failed: at most the record. The renaming failed, or the
--- directory could not be synced: at most what a whole installation publishes. In the last case the update stands at the
--- place, and a crash may still bring back what stood there.
-abbrev pub IsDataRefusal : Verifier → Terms → ℕ → Option (List ℕ) → Counts → Counts → Run → Run → InstallFault → Type 0
-IsDataRefusal accepts terms kept ahead before after old new e =
-    (PublishesNothing old new × ((message : List ℕ) × IsAhead ahead message
-    × IsDataRefused accepts terms kept message e))
-    ⊎ (PublishesOnly (MayBeRecorded accepts terms kept) old new × IsLibraryFault (IsCallFault before after) e)
-    ⊎ (PublishesOnly (MayBePublished accepts terms kept) old new × Rose before.directory after.directory
-    × ((e ≡ Library (Named WritingFailed))
-    ⊎ ((e ≡ DirectoryNotSynced) × HasPublishedUpdate accepts terms kept old new)))
-
--- The texts are rejected before any data is judged: the name of the file is not UTF-8; or the text of the signature does not
--- read, or is rejected under the key, whatever the data is; or the key has not signed the comment. Or it has, and the
--- comment is not what is wanted.
-abbrev pub IsTextRefused : Verifier → PublicKeyValue → Terms → ℕ → InstallFault → Type 0
-IsTextRefused accepts key terms kept e =
-    IsLibraryFault (λ f. ((f ≡ Named NotUtf8) × ¬ (IsUtf8 terms.file)) ⊎ IsTextRefusal key terms.sig_text false (Refused f)
-    ⊎ (signed_comment accepts key terms.sig_text ≡ Err f)) e
-    ⊎ ((comment : List ℕ) × (signed_comment accepts key terms.sig_text ≡ Ok comment) × IsCommentRefused terms kept comment e)
-
--- what stands at the place is rejected: it is other data of the kept number; or the comment is not what is wanted any more
-abbrev pub IsTargetRefused : Verifier → Terms → ℕ → List ℕ → InstallFault → Type 0
-IsTargetRefused accepts terms kept bytes e =
-    ((e ≡ SameNumber) × IsRejectedFor accepts terms bytes) ⊎ IsDataRefused accepts terms kept bytes e
-
--- Why an installation is rejected where the lock is held, and what it publishes then. A device failed, or memory ran
--- out: nothing. The record is rejected, as it was found when the lock was got: nothing. It was found to hold a number, and
--- the texts are rejected: nothing. The place was found to hold other data of that number, or the update, and that could
--- not be synced: nothing. Or what killed runs had left was removed, and the data is rejected.
-abbrev pub IsLockedRefusal : Verifier → PublicKeyValue → Terms → Bool → Option (List ℕ) → Counts → Counts → Run → Run
-    → InstallFault → Type 0
-IsLockedRefusal accepts key terms first ahead before after old new e =
+-- Why a call failed where the lock is held, and what is published then. A device or an allocation failed: nothing, or at most
+-- the record, where what killed runs had left was removed. The place was found to hold the update, and that could not be
+-- synced: nothing. The renaming failed, or the directory could not be synced: at most what a whole installation publishes.
+-- In the last case the update stands at the place, and a crash may still bring back what stood there.
+abbrev pub IsLockedFailure : Setting → Counts → Counts → Run → Run → InstallFault → Type 0
+IsLockedFailure s before after old new e =
     (PublishesNothing old new × IsLibraryFault (IsCallFault before after) e)
-    ⊎ (PublishesNothing old new
-    × ((found : Option (List ℕ)) × IsFound old.now Record found × IsRecordRefused terms.numbering first found e))
-    ⊎ (PublishesNothing old new × ((kept : HasKept terms first old.now) × IsTextRefused accepts key terms kept.number e))
-    ⊎ (PublishesNothing old new × ((kept : HasKept terms first old.now) × (file : ℕ) × (bytes : List ℕ)
-    × HasReached (λ m. (m.leads Place ≡ Some file) × (m.holds file ≡ bytes)) old new
-    × (IsTargetRefused accepts terms kept.number bytes e
-    ⊎ ((e ≡ DirectoryNotSynced) × Rose before.directory after.directory
-    × ((n : ℕ) × IsUpdate accepts terms kept.number bytes n)))))
-    ⊎ (HasCleared old new × ((kept : HasKept terms first old.now)
-    × IsDataRefusal accepts terms kept.number ahead before after old new e))
+    ⊎ ((kept : HasKept s.terms s.first old.now)
+    × ((PublishesNothing old new × (e ≡ DirectoryNotSynced) × Rose before.directory after.directory
+    × ((bytes : List ℕ) × HasFound bytes old new × ((n : ℕ) × IsUpdate s.accepts s.terms kept.number bytes n)))
+    ⊎ (HasCleared old new
+    × ((PublishesOnly (MayBeRecorded s.accepts s.terms kept.number) old new
+    × IsLibraryFault (IsCallFault before after) e)
+    ⊎ (PublishesOnly (MayBePublished s.accepts s.terms kept.number) old new × Rose before.directory after.directory
+    × ((e ≡ Library (Named WritingFailed))
+    ⊎ ((e ≡ DirectoryNotSynced) × HasPublishedUpdate s.accepts s.terms kept.number old new)))))))
 
--- why a check is rejected: for what some record was found to hold, for the texts, or for what some file at the place was
-abbrev pub IsCheckRefused : Verifier → PublicKeyValue → Terms → Bool → InstallFault → Type 0
-IsCheckRefused accepts key terms first e =
-    ((found : Option (List ℕ)) × IsRecordRefused terms.numbering first found e)
-    ⊎ ((kept : ℕ) × IsTextRefused accepts key terms kept e)
-    ⊎ ((kept : ℕ) × (bytes : List ℕ) × IsTargetRefused accepts terms kept bytes e)
-
--- Why a run is rejected, and what it publishes then. Another run holds the lock, or a device failed: nothing was changed.
--- A check is rejected: nothing was changed. Or the lock was got.
-abbrev pub IsRefusal : Verifier → PublicKeyValue → Terms → Bool → Bool → Option (List ℕ) → Counts → Counts → Run → Run
-    → InstallFault → Type 0
-IsRefusal accepts key terms first check ahead before after old new e =
-    ((e ≡ PlaceInUse) × ((free : Run) × Rests old free × HasStepped free new IsBusy))
+-- A call failed, and for that the run is rejected: another run holds the lock, or a device failed, and nothing was changed; or
+-- the lock was got.
+abbrev pub IsFailure : Setting → Counts → Counts → Run → Run → InstallFault → Type 0
+IsFailure s before after old new e =
+    ((e ≡ TargetInUse) × ((free : Run) × Rests old free × HasStepped free new IsBusy))
     ⊎ (Rests old new × IsLibraryFault (IsCallFault before after) e)
-    ⊎ ((check ≡ true) × Rests old new × IsCheckRefused accepts key terms first e)
-    ⊎ ((locked : Run) × LocksAt old locked × IsLockedRefusal accepts key terms first ahead before after locked new e)
+    ⊎ ((locked : Run) × LocksAt old locked × IsLockedFailure s before after locked new e)
+
+-- why a run is rejected, and what it has published then
+abbrev pub IsRefusal : Setting → Option (List ℕ) → Counts → Counts → Run → Run → InstallFault → Type 0
+IsRefusal s ahead before after old new e =
+    IsFoundRefusal s ahead old new e ⊎ IsFailure s before after old new e

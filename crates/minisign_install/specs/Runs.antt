@@ -1,24 +1,27 @@
 -- What several calls of a run do together.
-use Rattle.std.specs.Prelude.{◌≡◌, ◌⊎◌, ℕ, ◌≤◌, true, List, ◌∷◌, ◌++◌, All, Some}
+use Rattle.std.specs.Prelude.{◌≡◌, ◌⊎◌, ℕ, ◌≤◌, true, false, List, ◌∷◌, ◌++◌, All, Some, None}
 use Rattle.minisign_install.specs.Directories.{HasLocked, IsClear, MayFind, Moment, Run, SyncsDirectory, HasOnDisk, RunStep, Name, Record}
 use Rattle.minisign_install.specs.RecordTexts.{IsNumberFor}
 use Rattle.minisign_install.specs.Comments.{Numbering}
 
 -- What may be found at a lasting name after the call, at once or after a crash, could be found there just before
--- it, or is as P says. A lasting name that led to a file leads to one.
+-- it, or is as P says. A lasting name that led to a file leads to one, and a crash takes it away only if that was so
+-- before.
 pub record Publishes (P : Name → List ℕ → Type 0) (s : RunStep) : Type 0 where
   pub finds : (n : Name) (bytes : List ℕ) → MayFind s.after n bytes → MayFind s.before n bytes ⊎ P n bytes
   pub stays : (n : Name) (f : ℕ) → s.before.leads n ≡ Some f → (g : ℕ) × (s.after.leads n ≡ Some g)
+  pub lost : (n : Name) → s.after.lost n ≡ true → (s.before.lost n ≡ true) ⊎ (s.before.leads n ≡ None)
 
 -- a record of these bytes holds a number for the field that is k or greater
 abbrev pub IsNumberFrom : Numbering → ℕ → List ℕ → Type 0
 IsNumberFrom numbering k bytes = (n : ℕ) × IsNumberFor numbering bytes n × (k ≤ n)
 
--- the record leads to a file, and who opens it now, or after a crash now, finds a number for the field that is k or
--- greater
+-- the record leads to a file, after a crash now too, and who opens it finds a number for the field that is k or greater,
+-- at once or then
 pub record RecordHolds (numbering : Numbering) (k : ℕ) (m : Moment) : Type 0 where
   pub file : ℕ
   pub leads : m.leads Record ≡ Some file
+  pub sure : m.lost Record ≡ false
   pub numbers : (bytes : List ℕ) → MayFind m Record bytes → IsNumberFrom numbering k bytes
 
 -- it does so just before the call and just after it

@@ -15,7 +15,7 @@ pub enum InstallFault {
     /// An error of the library: of the texts, of a device, or of memory.
     Library(PError),
     /// Another run holds the lock on this target.
-    PlaceInUse,
+    TargetInUse,
     /// No number is kept beside the target, and this was not said to be the first installation.
     NoRecord,
     /// What is kept beside the target does not read as a number, and this was not said to be the
@@ -39,11 +39,19 @@ pub enum InstallFault {
     /// The update has expired at the moment that the caller passes.
     Expired,
     /// The trusted comment has more than one field for when the update expires, or one with no number in decimal digits
-    /// alone, or none below 2^64.
+    /// alone, or none below 2^64. Where the caller wants such a field, one that differs from it in white space or case
+    /// alone is one too.
     BadExpiry,
     /// The number of the trusted comment is the one that is kept, other data stands at the target, and the caller did
     /// not ask for the update to be installed again.
     SameNumber,
+    /// The trusted comment has no field for when the update expires, and the caller wants one.
+    NoExpiry,
+    /// The trusted comment has more than one field for the length of the data, or one with no number in decimal digits
+    /// alone, or none below 2^64.
+    BadSize,
+    /// The data is longer than the trusted comment says, or shorter.
+    OtherSize,
 }
 
 impl InstallFault {
@@ -65,7 +73,7 @@ impl InstallFault {
     {
         use InstallFault::*;
         Some(match number {
-            46 => PlaceInUse,
+            46 => TargetInUse,
             47 => NoRecord,
             48 => DamagedRecord,
             49 => OtherFile,
@@ -77,6 +85,9 @@ impl InstallFault {
             55 => Expired,
             56 => BadExpiry,
             57 => SameNumber,
+            58 => NoExpiry,
+            59 => BadSize,
+            60 => OtherSize,
             _ => return None,
         })
     }
@@ -89,9 +100,9 @@ impl InstallFault {
         use InstallFault::*;
         Ok(match self {
             Library(fault) => return Err(fault),
-            PlaceInUse => &(46, Io, "another installation is at work at this place"),
-            NoRecord => &(47, Io, "no number is kept beside the place"),
-            DamagedRecord => &(48, Io, "what is kept beside the place is no number"),
+            TargetInUse => &(46, Io, "another installation is at work at this target"),
+            NoRecord => &(47, Io, "no number is kept beside the target"),
+            DamagedRecord => &(48, Io, "what is kept beside the target is no number"),
             OtherFile => &(49, Verify, "the signed comment does not name this file"),
             NoNumber => &(50, Verify, "the signed comment has no such number"),
             OlderUpdate => &(51, Verify, "the update is older than what was installed"),
@@ -99,12 +110,12 @@ impl InstallFault {
             KeptByTimestamp => &(
                 53,
                 Io,
-                "the number that is kept beside the place is a timestamp, and no version",
+                "the number that is kept beside the target is a timestamp, and no version",
             ),
             KeptByVersion => &(
                 54,
                 Io,
-                "the number that is kept beside the place is a version, and no timestamp",
+                "the number that is kept beside the target is a version, and no timestamp",
             ),
             Expired => &(55, Verify, "the update has expired"),
             BadExpiry => &(
@@ -115,7 +126,22 @@ impl InstallFault {
             SameNumber => &(
                 57,
                 Verify,
-                "an update of this number was installed, and other data stands at the place",
+                "an update of this number was installed, and other data stands at the target",
+            ),
+            NoExpiry => &(
+                58,
+                Verify,
+                "the signed comment does not say when it expires",
+            ),
+            BadSize => &(
+                59,
+                Verify,
+                "the signed comment does not say once, in a number, how long the data is",
+            ),
+            OtherSize => &(
+                60,
+                Verify,
+                "the data has another size than the signed comment says",
             ),
         })
     }

@@ -2,19 +2,19 @@
 //! went, and hands over what it reads; the numbers by which the host knows errors and choices; and the law that
 //! such a host makes a run of the law on runs. None of it allocates.
 
-ghost use Rattle.std.specs.Prelude.{◌≡◌, ◌≢◌, ◌⊎◌, false, None, ◌<◌, ◌≤◌, ℕ, [], List, Some, option_map, if◌then◌else◌, OnOk, IfErr, MatchOption, length, take, drop};
-ghost use Rattle.minisign_install.specs.Words.{CannotBeFed, Done, Failed, HasBegun, HasGone, HasObeyed, HasRun, Host, Makes, Setting, first_due, HasReadBack, HasReadRecord, HasWaited, IsBegun, IsDue, IsFedState, IsHostMeaning, IsKeptOf, IsNotDue, IsUnused, KeepsRecord, Look, More, ReadRecord, RestUnchanged, WasDone, WriteRecord, WritesCut, call_of, early_call, late_call, due_number, due_of, failure, going_on, is_device_error, may_go, may_wait, no_record, numbering_number, numbering_of, record_of};
+ghost use Rattle.std.specs.Prelude.{◌≡◌, ◌≢◌, ◌⊎◌, false, None, ◌<◌, ◌≤◌, ℕ, [], List, Some, option_map, if◌then◌else◌, OnOk, IfErr, MatchOption, length, take, drop, ◌==◌, true, IfOk, IfSome};
+ghost use Rattle.minisign_install.specs.Words.{Any, AnyFailure, CannotBeFed, Done, ExplainsCounted, Failed, FailsFor, HasBegun, HasGone, HasObeyed, HasRun, Host, Makes, NoFailure, Obeys, OnlyRejects, Setting, first_due, HasReadBack, HasReadRecord, HasWaited, IsBegun, IsDue, IsFedState, IsFine, IsHostMeaning, IsKeptOf, IsNotDue, IsUnused, KeepsRecord, Look, More, ReadRecord, RestUnchanged, WasDone, WriteRecord, WritesCut, by_number, call_of, early_call, late_call, due_number, due_of, failure, going_on, is_device_error, may_wait, no_record, numbering_number, numbering_of, record_of, KeepsComment, fits, is_short, count_after, WrongUse, HasTaken, IsDoneRefusal, IsMoreRefusal, counted_by, device_failure, moment_of, nothing_judged, numbering_by};
 ghost use Rattle.minisign_external.specs.declared.state.Misuse.TheVariants.{NotDue};
 ghost use Rattle.minisign_install.specs.declared.order.Due.TheVariants as ended;
 
 use crate::comments::Numbering;
 use crate::faults::InstallFault;
 use crate::order::{Due, Outcome};
-use crate::recording::{Mark, kept_in, record_digest, write_record};
+use crate::recording::{Mark, counted, kept_in, record_digest, write_record};
 use minisign_base::NamedFault;
 use minisign_external::numbers::{self, Numbered};
 use minisign_external::public_keys::PublicKeyValue;
-use minisign_external::state::{Misuse, State};
+use minisign_external::state::{Misuse, Refusal, State};
 
 // An installation that was begun begins with the letters `minstall`.
 const BEGUN: u64 = 7812726606361684333;
@@ -37,8 +37,11 @@ pub struct Installation {
     pub(crate) state: State,
     // Whether the data that may stand still was received: 1 or 0.
     received: u32,
-    unused: u32,
-    reserved: [u64; 23],
+    // Whether a key was found to have signed the comment that was asked about last: 1 or 0.
+    pub(crate) is_vouched: u32,
+    // How many bytes of the data were received or copied, where the signed comment says how many there are.
+    copied: u64,
+    reserved: [u64; 20],
 }
 
 // What the host has chosen.
@@ -58,7 +61,8 @@ pub(crate) struct Chosen {
     pub(crate) is_check: u32,
     // Whether the data may stand still, and is received first: 1 or 0.
     pub(crate) is_waiting: u32,
-    pub(crate) unused: u32,
+    // Whether the comment has to say when the update expires: 1 or 0.
+    pub(crate) must_expire: u32,
 }
 
 // What the record was found to hold.
@@ -72,20 +76,24 @@ pub(crate) struct Kept {
     // Whether that is the data of this update: 1 or 0.
     pub(crate) is_own: u32,
     pub(crate) unused: u32,
+    // When it was last written, in seconds since the beginning of 1970; 0 where that is not known.
+    pub(crate) written: u64,
     // The digest of that data.
     pub(crate) digest: [u8; 64],
 }
 
-// What came of the signed comment. It is written as a whole where the comment is judged; before that it is the default,
-// zeros.
+// What came of the signed comment. It is written as a whole where the comment is judged; before that it is zeros.
 #[repr(C)]
-#[derive(Clone, Copy, Default)]
+#[derive(Clone, Copy)]
 pub(crate) struct Judged {
     // 1 where the comment says that this is an update, otherwise the number of the error.
     pub(crate) verdict: u32,
-    pub(crate) unused: u32,
-    // The number of the update.
+    // Whether it says once, in a number, how long the data is: 1 or 0.
+    pub(crate) is_sized: u32,
+    // The number of the update; 0 where the comment has none.
     pub(crate) number: u64,
+    // The length of the data, in bytes; 0 where the comment does not say it.
+    pub(crate) size: u64,
 }
 
 /// What a host chooses at the beginning.
@@ -99,6 +107,8 @@ pub struct Choices {
     pub is_check: bool,
     /// Whether the data may stand still, as that of a pipe: then it is received while nothing is locked.
     pub is_waiting: bool,
+    /// Whether an update is rejected whose comment does not say when it expires.
+    pub must_expire: bool,
     /// The field that has the number of an update.
     pub numbering: Numbering,
 }
@@ -109,7 +119,7 @@ impl Installation {
     pub fn new(key: &PublicKeyValue, other: &PublicKeyValue, choices: Choices) -> Installation
         // That is due, the state was fed nothing, and the keys and the choices are kept.
         ensures begun { IsBegun key.now other.now choices result }
-        // No number, no error and no signed comment is kept yet.
+        // No number, no error and no signed comment is kept yet, and none was vouched for.
         ensures unused { IsUnused result }
     {
         Installation {
@@ -117,26 +127,18 @@ impl Installation {
             call: if choices.is_check { 2 } else { 1 },
             error: 0,
             number: 0,
-            chosen: Chosen {
-                key: *key,
-                other: *other,
-                is_first: u32::from(choices.is_first),
-                numbering: choices.numbering.number(),
-                again: u32::from(choices.again),
-                is_check: u32::from(choices.is_check),
-                is_waiting: u32::from(choices.is_waiting),
-                unused: 0,
-            },
+            chosen: Chosen::by(key, other, choices),
             kept: Kept::nothing(),
             asked: Mark {
                 key: [0; 32],
                 digest: [0; 64],
             },
-            judged: Judged::default(),
+            judged: Judged::nothing(),
             state: State::new(),
             received: 0,
-            unused: 0,
-            reserved: [0; 23],
+            is_vouched: 0,
+            copied: 0,
+            reserved: [0; 20],
         }
     }
 
@@ -176,24 +178,94 @@ impl Installation {
         }
     }
 
-    /// The call that is due was done; or with `more` a piece was copied or received, and there may be more. Not of one
-    /// that reads, that has the scheme answer, or that ends the run.
-    pub fn done(&mut self, more: bool) -> Result<(), Misuse>
-        // What is due next is what the table says. Otherwise nothing changes, and no call was due that can go so and has
-        // no call of its own.
-        ensures gone { OnOk result (WasDone (if more then More else Done) self.old self.new) }
-        ensures refused { IfErr result (IsNotDue (λ due. may_go due (if more then More else Done) ≡ false) self.old self.new) }
+    /// The call that is due was done. Not of one that reads, that has the scheme answer, or that ends the run. Data that
+    /// was received or copied is rejected where it has fewer bytes than the signed comment says.
+    pub fn done(&mut self) -> Result<(), Refusal<InstallFault>>
+        // What is due next is what the table says, and bytes are counted anew. Otherwise nothing changes, and no call was
+        // due that can go so and has no call of its own; or the data has fewer bytes, and the run is rejected for that.
+        ensures gone { OnOk result (WasDone self.old self.new) }
+        ensures refused { IfErr result (IsDoneRefusal self.old self.new) }
     {
-        let outcome = if more { Outcome::More } else { Outcome::Done };
-        let due = self.due().ok_or(Misuse::NotDue)?;
-        if !due.fits(&outcome) {
-            return Err(Misuse::NotDue);
+        let due = self.due_for(&Outcome::Done)?;
+        if self.is_short(&due) {
+            return Err(self.reject(due, InstallFault::OtherSize));
         }
         if matches!(due, Due::Receive) {
             self.received = 1;
         }
-        self.set(due.next(outcome));
+        self.count_from(due.next(Outcome::Done));
         Ok(())
+    }
+
+    /// A piece of so many bytes was received or copied, and there may be more. The data is rejected where it has more
+    /// bytes than the signed comment says.
+    pub fn more(&mut self, len: usize) -> Result<(), Refusal<InstallFault>>
+        // The same call is due, and the bytes were counted. Otherwise nothing changes, and nothing was to be received or
+        // copied; or the data has more bytes, and the run is rejected for that.
+        ensures gone { OnOk result (HasTaken len self.old self.new) }
+        ensures refused { IfErr result (IsMoreRefusal len self.old self.new) }
+    {
+        let due = self.due_for(&Outcome::More)?;
+        match self.count_after(len as u64) {
+            Some(copied) => {
+                self.set(due.next(Outcome::More));
+                self.copied = copied;
+                Ok(())
+            }
+            None => Err(self.reject(due, InstallFault::OtherSize)),
+        }
+    }
+
+    // What is due, where that can be told to have gone so.
+    fn due_for(&self, outcome: &Outcome<u32>) -> Result<Due<u32>, Refusal<InstallFault>>
+        ensures due { IfOk result (λ due. IsDue self.now due × (fits due outcome.now ≡ true)) }
+        ensures refused { IfErr result (λ r. (r ≡ WrongUse NotDue) × IfSome (due_of self.now) (λ due. fits due outcome.now ≡ false)) }
+    {
+        let Some(due) = self.due() else {
+            return Err(Refusal::WrongUse(Misuse::NotDue));
+        };
+        if due.fits(outcome) {
+            Ok(due)
+        } else {
+            Err(Refusal::WrongUse(Misuse::NotDue))
+        }
+    }
+
+    // This is due now, from which on bytes are counted anew.
+    fn count_from(&mut self, due: Due<u32>)
+        ensures due { IsDue self.new due }
+        ensures rest { RestUnchanged self.old self.new }
+        ensures copied { self.new.copied ≡ 0 }
+    {
+        self.set(due);
+        self.copied = 0;
+    }
+
+    // Whether the end of data was reached that has another size than the signed comment says.
+    fn is_short(&self, due: &Due<u32>) -> bool
+        ensures { result ≡ is_short self.now due.now }
+    {
+        match due {
+            Due::Receive | Due::Copy(_) => {
+                self.judged.is_sized == 1 && self.copied != self.judged.size
+            }
+            _ => false,
+        }
+    }
+
+    // How many bytes of the data there are with so many more, where the signed comment allows them; without a size none are
+    // counted.
+    fn count_after(&self, len: u64) -> Option<u64>
+        ensures { result ≡ count_after self.now len }
+    {
+        if self.judged.is_sized != 1 {
+            return Some(self.copied);
+        }
+        if self.copied <= self.judged.size && len <= self.judged.size - self.copied {
+            Some(self.copied + len)
+        } else {
+            None
+        }
     }
 
     /// The call that is due failed for this error: out of memory, reading, writing or the random
@@ -208,10 +280,10 @@ impl Installation {
         let due = self.due().ok_or(Misuse::NotDue)?;
         let why = failure(&due, error).ok_or(Misuse::NotDue)?;
         if matches!(due, Due::Lock)
-            && error == InstallFault::PlaceInUse.number()
+            && error == InstallFault::TargetInUse.number()
             && self.may_wait()
         {
-            self.set(Due::Receive);
+            self.count_from(Due::Receive);
             return Ok(());
         }
         self.set(due.next(Outcome::Failed(why)));
@@ -220,20 +292,25 @@ impl Installation {
 
     /// The record was found to hold these bytes, or there is none: the number behind the label of its field, as
     /// `timestamp:5`, or alone, which counts for either field. A line feed at their end is left out, and more than 64
-    /// bytes are no number, but where two lines of their lengths follow on the first one.
-    pub fn record(&mut self, found: Option<&[u8]>) -> Result<(), Misuse>
-        // The number that the record holds for the field is kept, and for which data it was written, or the run is
-        // rejected where it holds none, or there is none, and this is not the first installation. Otherwise nothing
+    /// bytes are no number, but where two lines of their lengths follow on the first one. At the first installation a
+    /// record that names another key than the two counts as none.
+    ///
+    /// It was last written at this moment, in seconds since the beginning of 1970, or that is not known, and 0. A clock
+    /// that shows less counts as one that shows the greatest moment, but at the first installation.
+    pub fn record(&mut self, found: Option<&[u8]>, written: u64) -> Result<(), Misuse>
+        // The number that the record holds for the field is kept, and for which data it was written, and when; or the run
+        // is rejected where it holds none, or there is none, and this is not the first installation. Otherwise nothing
         // changes, and the record was not to be read.
-        ensures read { OnOk result (HasReadRecord (option_map (λ b. b.now) found.entry) self.old self.new) }
+        ensures read { OnOk result (HasReadRecord (option_map (λ b. b.now) found.entry) written self.old self.new) }
         ensures refused { IfErr result (IsNotDue (λ due. due ≢ ReadRecord) self.old self.new) }
     {
         let Some(Due::ReadRecord) = self.due() else {
             return Err(Misuse::NotDue);
         };
-        match kept_in(found, self.numbering(), self.chosen.is_first == 1) {
+        let counted = self.counted(found);
+        match kept_in(counted, self.numbering(), self.chosen.is_first == 1) {
             Ok(number) => {
-                self.kept = Kept::found(number.is_some(), found);
+                self.kept = Kept::found(number.is_some(), counted, written);
                 self.set(Due::Judge(number.unwrap_or(0)));
             }
             Err(fault) => self.set(Due::Refused(fault.number())),
@@ -263,7 +340,7 @@ impl Installation {
     /// No file stands at the target: the update is installed.
     pub fn no_target(&mut self) -> Result<(), Misuse>
         // The run goes on. Otherwise nothing changes, and the file at the target was not to be read.
-        ensures gone { OnOk result ((kept : ℕ) × IsDue self.old (Look kept) × IsDue self.new (going_on self.old kept) × KeepsRecord self.old self.new × IsFedState self.new.state []) }
+        ensures gone { OnOk result ((kept : ℕ) × IsDue self.old (Look kept) × IsDue self.new (going_on self.old kept) × KeepsRecord self.old self.new × IsFedState self.new.state [] × KeepsComment self.old self.new) }
         ensures refused { IfErr result (λ m. (self.new ≡ self.old) × (m ≡ NotDue) × ((kept : ℕ) → ¬ (IsDue self.old (Look kept)))) }
     {
         let Some(Due::Look(kept)) = self.due() else {
@@ -296,7 +373,7 @@ impl Installation {
     pub(crate) fn go_on(&mut self, kept: u64)
         ensures due { IsDue self.new (going_on self.old kept) }
         ensures fed { IsFedState self.new.state [] }
-        ensures rest { (self.new.chosen ≡ self.old.chosen) × (self.new.asked ≡ self.old.asked) × (self.new.judged ≡ self.old.judged) × (self.new.kept ≡ self.old.kept) }
+        ensures rest { (self.new.chosen ≡ self.old.chosen) × (self.new.asked ≡ self.old.asked) × KeepsComment self.old self.new × (self.new.kept ≡ self.old.kept) }
     {
         self.state = State::new();
         let due = if self.chosen.is_check == 1 {
@@ -314,6 +391,30 @@ impl Installation {
         ensures { result ≡ may_wait self.now }
     {
         self.chosen.is_waiting == 1 && self.received != 1
+    }
+
+    // What counts of a record that was found.
+    fn counted<'a>(&self, found: Option<&'a [u8]>) -> Option<&'a [u8]>
+        ensures { option_map (λ b. b.now) result ≡ counted_by self.now (option_map (λ b. b.now) found.entry) }
+    {
+        counted(
+            found,
+            &self.chosen.key.key,
+            &self.chosen.other.key,
+            self.chosen.is_first == 1,
+        )
+    }
+
+    // The moment that counts: what the clock shows; or the greatest one, where that is below when the record was last
+    // written, and this is not the first installation.
+    pub(crate) fn moment(&self, now: u64) -> u64
+        ensures { result ≡ moment_of self.now now }
+    {
+        if self.chosen.is_first != 1 && now < self.kept.written {
+            u64::MAX
+        } else {
+            now
+        }
     }
 
     // The field that has the number of an update.
@@ -337,6 +438,44 @@ impl Installation {
     }
 }
 
+impl Chosen {
+    // Two keys, and the choices as numbers.
+    fn by(key: &PublicKeyValue, other: &PublicKeyValue, choices: Choices) -> Chosen
+        ensures keys { (result.key ≡ key.now) × (result.other ≡ other.now) }
+        ensures first { (result.is_first == 1) ≡ choices.is_first }
+        ensures field { numbering_by result.numbering ≡ choices.numbering }
+        ensures again { (result.again == 1) ≡ choices.again }
+        ensures check { (result.is_check == 1) ≡ choices.is_check }
+        ensures waiting { (result.is_waiting == 1) ≡ choices.is_waiting }
+        ensures must { (result.must_expire == 1) ≡ choices.must_expire }
+    {
+        Chosen {
+            key: *key,
+            other: *other,
+            is_first: u32::from(choices.is_first),
+            numbering: choices.numbering.number(),
+            again: u32::from(choices.again),
+            is_check: u32::from(choices.is_check),
+            is_waiting: u32::from(choices.is_waiting),
+            must_expire: u32::from(choices.must_expire),
+        }
+    }
+}
+
+impl Judged {
+    // No comment was judged yet.
+    fn nothing() -> Judged
+        ensures { result ≡ nothing_judged }
+    {
+        Judged {
+            verdict: 0,
+            is_sized: 0,
+            number: 0,
+            size: 0,
+        }
+    }
+}
+
 impl Kept {
     // No record was read yet.
     fn nothing() -> Kept
@@ -347,16 +486,18 @@ impl Kept {
             has_digest: 0,
             is_own: 0,
             unused: 0,
+            written: 0,
             digest: [0; 64],
         }
     }
 
-    // What was found, with a number for the field or without one.
-    fn found(has_number: bool, found: Option<&[u8]>) -> Kept
-        ensures { IsKeptOf has_number (option_map (λ b. b.now) found.entry) result }
+    // What counts of the record, with a number for the field or without one, and when it was last written.
+    fn found(has_number: bool, found: Option<&[u8]>, written: u64) -> Kept
+        ensures { IsKeptOf has_number (option_map (λ b. b.now) found.entry) written result }
     {
         let mut kept = Kept::nothing();
         kept.has_number = u32::from(has_number);
+        kept.written = written;
         if let Some(bytes) = found {
             if let Some(digest) = record_digest(bytes) {
                 kept.has_digest = 1;
@@ -462,12 +603,21 @@ fn failure(due: &Due<u32>, error: u32) -> Option<u32>
 {
     match due {
         Due::Installed | Due::Already | Due::WouldInstall | Due::Refused(_) => None,
-        Due::Lock if error == InstallFault::PlaceInUse.number() => Some(error),
+        Due::Lock if error == InstallFault::TargetInUse.number() => Some(error),
         _ if !is_device_error(error) => None,
+        _ => Some(device_failure(due, error)),
+    }
+}
+
+// What a run is rejected for where a device failed.
+fn device_failure(due: &Due<u32>, error: u32) -> u32
+    ensures { result ≡ device_failure due.now error }
+{
+    match due {
         Due::SyncTarget | Due::SyncTargetName | Due::SyncName(_) => {
-            Some(InstallFault::DirectoryNotSynced.number())
+            InstallFault::DirectoryNotSynced.number()
         }
-        _ => Some(error),
+        _ => error,
     }
 }
 
@@ -536,12 +686,23 @@ impl Numbering {
 /// A law, for which nothing is done: a host of another language that makes each call as it is due,
 /// and tells how it went by the calls of the header, installs only updates, whatever comes of its
 /// calls.
-#[tactic(auto, using(crate::proofs::Obeying::makes_run))]
 pub fn any_host_installs_only_updates()
     // Such a host makes a run of `any_run_installs_only_updates`, in which the same call is due at the end: so `safe` of
     // that law holds of it wherever it is cut off, `installed` where the installation says that the update is installed,
     // `already` where it says that it stands there, `would` where it says that it would be installed, and `lets_go` however
     // it has ended.
     ensures run { (s : Setting) (i i' : Installation) (h h' : Host) (told : List (Installation × Host))
-        → HasBegun s i h → HasObeyed s i h told i' h' → (events : List (Outcome ℕ × Host)) × (due : Due ℕ) × IsDue i' due × HasRun (Makes s) (first_due s.check) h events due h' }
+        → HasBegun s i h → HasObeyed (Obeys AnyFailure Any s) i h told i' h'
+        → (events : List (Outcome InstallFault × Host)) × (due : Due InstallFault) × IsDue i' (by_number due) × HasRun (Makes s) (first_due s.check) h events due h' }
+
+    // What the installation rejects it rejects for what was found. So where the devices of the host count their errors,
+    // `refused` of that law holds of it too.
+    ensures counted { (s : Setting) (i i' : Installation) (h h' : Host) (told : List (Installation × Host))
+        → HasBegun s i h → HasObeyed (Obeys (FailsFor s) IsFine s) i h told i' h'
+        → (events : List (Outcome InstallFault × Host)) × (due : Due InstallFault) × IsDue i' (by_number due) × HasRun (λ due o k k'. Makes s due o k k' × ExplainsCounted s due o k k') (first_due s.check) h events due h' }
+
+    // And where no call of the host failed, `found` does.
+    ensures through { (s : Setting) (i i' : Installation) (h h' : Host) (told : List (Installation × Host))
+        → HasBegun s i h → HasObeyed (Obeys NoFailure Any s) i h told i' h'
+        → (events : List (Outcome InstallFault × Host)) × (due : Due InstallFault) × IsDue i' (by_number due) × HasRun (λ due o k k'. Makes s due o k k' × OnlyRejects s due o k k') (first_due s.check) h events due h' }
 {}

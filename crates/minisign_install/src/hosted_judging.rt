@@ -1,16 +1,16 @@
 //! Asking a signature scheme about the signed comment, the record and what a host has read, and what follows from its
 //! answers. None of it allocates.
 
-ghost use Rattle.std.specs.Prelude.{◌≡◌, ◌⊎◌, ◌==◌, ◌&&◌, ◌<◌, false, ℕ, List, OnOk, OnErr, IfErr, [], Ok, Err, length, drop};
-ghost use Rattle.minisign_install.specs.Words.{AnswersComment, AnswersTexts, Answer, AreQuestions, Failed, GivesUpdate, GoesByComment, HasAsked, HasAskedAbout, IsAboutRefusal, IsAnswerRefusal, IsAskRefusal, IsAsking, IsDue, IsFedState, IsJudged, IsMarkedTold, IsRejection, IsWorth, Judge, JudgeTarget, JudgesComment, JudgesTarget, KeepsRecord, ReadsTexts, RejectsFor, Replaces, RestUnchanged, SignatureTextRecord, StandsBy, TakePermissions, Terms, Verifier, after_comment, asked_digest, blake2b_digest, due_of, going_on, install_number, key_by, key_for, next, numbering_of, of_installing, read_under, standing, wanted_by};
+ghost use Rattle.std.specs.Prelude.{◌≡◌, ◌⊎◌, ◌==◌, ◌&&◌, ◌<◌, false, ℕ, List, OnOk, OnErr, IfErr, [], Ok, Err, length, drop, is_ok};
+ghost use Rattle.minisign_install.specs.Words.{AnswersComment, AnswersTexts, Answer, AreQuestions, Failed, GivesUpdate, GoesByComment, HasAsked, HasAskedAbout, KeepsComment, IsVouched, Takes, is_vouched, told_number, IsAboutRefusal, IsAnswerRefusal, IsAskRefusal, IsAsking, IsDue, IsFedState, IsJudged, IsMarkedTold, IsJudgedFault, SameNumber, moment_of, keys_of, IsRejection, IsWorth, Judge, JudgeTarget, JudgesComment, JudgesTarget, KeepsRecord, ReadsTexts, RejectsFor, Replaces, RestUnchanged, SignatureTextRecord, StandsBy, TakePermissions, Terms, Verifier, after_comment, asked_digest, blake2b_digest, due_of, going_on, install_number, key_by, key_for, must_expire_of, next, numbering_of, of_installing, read_under, said_by, signed_size, standing, wanted_by, signed_comment, IsVerdict};
 ghost use Rattle.minisign_external.specs.declared.state.Refusal.TheVariants.{Refused};
 
-use crate::comments::{Numbering, check_comment};
+use crate::comments::{Numbering, check_comment, number_in, told_size};
 use crate::faults::InstallFault;
 use crate::hosted::{Installation, Judged};
 use crate::order::{Due, Outcome};
 use crate::recording::Mark;
-use minisign_base::{NamedFault, PError};
+use minisign_base::NamedFault;
 use minisign_external::numbers::Numbered;
 use minisign_external::public_keys::PublicKeyValue;
 use minisign_external::signatures::SignatureValue;
@@ -22,12 +22,15 @@ impl Installation {
     /// what the file at the target holds, or for what was read back of the stage. The signed comment is judged, which is
     /// told only behind the answers. Signatures over the data itself are never taken.
     ///
+    /// What the clock shows is no time where that is below when the record was last written, but at the first installation:
+    /// then it counts as the greatest moment, at which each update that expires has expired.
+    ///
     /// As much room for the message as the text of the signature has bytes will do.
     pub fn ask(
         &mut self,
         sig_text: &[u8],
         file: &[u8],
-        moment: u64,
+        now: u64,
         questions: &mut Questions,
         message: &mut [u8],
     ) -> Result<(), Refusal<InstallFault>>
@@ -35,7 +38,7 @@ impl Installation {
         // is that of everything that was read; but at first it is that of the data that the record was written for. They
         // are then asked, and the comment that was asked about is judged, against the number that was kept; the answers are
         // due before and behind.
-        ensures asked { OnOk result (HasAskedAbout sig_text.now file.now moment questions.new message.new self.old self.new) }
+        ensures asked { OnOk result (HasAskedAbout sig_text.now file.now now questions.new message.new self.old self.new) }
 
         // The reasons of a rejection come in one order: answers that are not due; a name that is not UTF-8; a text of the
         // signature that does not read; what `State::ask_fed` rejects, in its order. A wrong use leaves the installation as
@@ -53,7 +56,7 @@ impl Installation {
                 kept,
                 sig_text,
                 file,
-                moment,
+                now,
                 questions,
                 message,
             ),
@@ -62,7 +65,7 @@ impl Installation {
                 kept,
                 sig_text,
                 file,
-                moment,
+                now,
                 questions,
                 message,
             ),
@@ -71,7 +74,7 @@ impl Installation {
                 kept,
                 sig_text,
                 file,
-                moment,
+                now,
                 questions,
                 message,
             ),
@@ -86,19 +89,19 @@ impl Installation {
         kept: u64,
         sig_text: &[u8],
         file: &[u8],
-        moment: u64,
+        now: u64,
         questions: &mut Questions,
         message: &mut [u8],
     ) -> Result<(), Refusal<InstallFault>>
         requires due { IsDue self.old due }
         requires asking { (due ≡ Judge kept) ⊎ ((due ≡ JudgeTarget kept) ⊎ (due ≡ Answer kept)) }
-        ensures asked { OnOk result (HasAskedAbout sig_text.now file.now moment questions.new message.new self.old self.new) }
+        ensures asked { OnOk result (HasAskedAbout sig_text.now file.now now questions.new message.new self.old self.new) }
         ensures refused { IfErr result (IsAskRefusal self.old self.new sig_text.now file.now (length message.old)) }
         ensures kept { OnErr result ((questions.new ≡ questions.old) × (message.new ≡ message.old)) }
         ensures rest { OnOk result (drop questions.new.message_len message.new ≡ drop questions.new.message_len message.old) }
         ensures chosen { self.new.chosen ≡ self.old.chosen }
     {
-        match self.ask_about(kept, sig_text, file, moment, questions, message) {
+        match self.ask_about(kept, sig_text, file, now, questions, message) {
             Ok(()) => {
                 questions.digest = self.digest_for(&due);
                 Ok(())
@@ -125,17 +128,18 @@ impl Installation {
         kept: u64,
         sig_text: &[u8],
         file: &[u8],
-        moment: u64,
+        now: u64,
         questions: &mut Questions,
         message: &mut [u8],
     ) -> Result<(), Refusal<InstallFault>>
         ensures asked { OnOk result ((t : SignatureTextRecord) × (read_under (key_for self.old sig_text.now) false sig_text.now ≡ Ok t)
             × AreQuestions questions.new message.new (key_for self.old sig_text.now) t
             × HasAsked self.new.state (key_for self.old sig_text.now) sig_text.now false × IsMarkedTold self.new.state
-            × ((pk_text : List ℕ) → IsJudged self.new.judged (wanted_by pk_text sig_text.now file.now (numbering_of self.old) moment) kept t.comments.trusted)) }
+            × ((pk_text : List ℕ) → IsJudged self.new.judged (wanted_by pk_text sig_text.now file.now (numbering_of self.old) (moment_of self.old now) (must_expire_of self.old) (keys_of self.old)) kept t.comments.trusted)) }
         ensures mark { OnOk result ((self.new.asked.key ≡ (key_for self.old sig_text.now).key) × (self.new.asked.digest ≡ questions.new.digest)
             × ((m : List ℕ) → IsFedState self.old.state m → questions.new.digest ≡ blake2b_digest 64 m)) }
         ensures rest { (due_of self.new ≡ due_of self.old) × KeepsRecord self.old self.new }
+        ensures unvouched { OnOk result (self.new.is_vouched ≡ 0) }
         ensures refused { IfErr result (IsAboutRefusal self.old sig_text.now file.now (length message.old)) }
         ensures kept { OnErr result ((self.new ≡ self.old) × (questions.new ≡ questions.old) × (message.new ≡ message.old)) }
         ensures behind { OnOk result (drop questions.new.message_len message.new ≡ drop questions.new.message_len message.old) }
@@ -148,12 +152,21 @@ impl Installation {
             Err(fault) => return Err(Refusal::Refused(fault.into())),
         };
         let key = self.key_for(&signature);
+        let moment = self.moment(now);
         match self
             .state
             .ask_fed(&key, &signature, sig_text, false, questions, message)
         {
             Ok(comment) => {
-                self.judged = Judged::of(comment, file, self.numbering(), moment, kept);
+                self.judged = Judged::of(
+                    comment,
+                    file,
+                    self.numbering(),
+                    moment,
+                    self.must_expire(),
+                    kept,
+                );
+                self.is_vouched = 0;
                 self.asked = Mark {
                     key: key.key,
                     digest: questions.digest,
@@ -192,12 +205,19 @@ impl Installation {
             → AnswersTexts accepts terms.pk_text terms.sig_text message first second
             → GivesUpdate accepts terms kept message self.new result }
 
+        // **The comment that was asked about is vouched for exactly where the key has signed it, whatever comes of it and of
+        // what was read. What came of the comment stays as it was judged.**
+        ensures vouched { (terms : Terms) (kept : ℕ) (accepts : Verifier)
+            → (asking : IsAsking self.old terms kept) → AnswersComment accepts asking.key terms.sig_text second
+            → IsVouched accepts asking.key terms.sig_text self.new }
+
         // Where the run goes on or the target is looked at, what is read next is fed to a state that was fed nothing. What
         // the host has chosen stays, and what was asked about; a wrong use changes nothing.
         ensures fed { (kept : ℕ) → IsDue self.old (Judge kept) → OnOk result (IsFedState self.new.state []) }
         ensures again { (kept : ℕ) → IsDue self.old (JudgeTarget kept) → OnOk result (IsDue self.new (going_on self.old kept) → IsFedState self.new.state []) }
-        ensures chosen { (self.new.chosen ≡ self.old.chosen) × (self.new.asked ≡ self.old.asked) }
-        ensures refused { IfErr result (IsAnswerRefusal self.old self.new) }
+        ensures chosen { (self.new.chosen ≡ self.old.chosen) × (self.new.asked ≡ self.old.asked) × (self.new.judged ≡ self.old.judged) }
+        // The error is the first one that the answers, or what was judged, say.
+        ensures refused { IfErr result (IsAnswerRefusal first second self.old self.new) }
     {
         match self.due() {
             Some(Due::Judge(kept)) => self.answer_comment(kept, first, second),
@@ -220,13 +240,28 @@ impl Installation {
             → AnswersComment accepts asking.key terms.sig_text second
             → JudgesComment accepts asking.key terms kept first self.old self.new result }
         ensures fed { OnOk result (IsFedState self.new.state []) }
-        ensures chosen { (self.new.chosen ≡ self.old.chosen) × (self.new.asked ≡ self.old.asked) }
-        ensures refused { IfErr result (IsAnswerRefusal self.old self.new) }
+        ensures chosen { (self.new.chosen ≡ self.old.chosen) × (self.new.asked ≡ self.old.asked) × (self.new.judged ≡ self.old.judged) }
+        ensures vouched { (terms : Terms) (kept : ℕ) (accepts : Verifier) → (asking : IsAsking self.old terms kept)
+            → AnswersComment accepts asking.key terms.sig_text second → IsVouched accepts asking.key terms.sig_text self.new }
+        ensures refused { IfErr result (IsAnswerRefusal first second self.old self.new) }
     {
+        let signed = self.is_signed(second);
         match self.state.comment_verdict(second) {
-            Ok(()) => self.go_by_comment(kept, first),
+            Ok(()) => {
+                self.is_vouched = u32::from(signed);
+                self.go_by_comment(kept, first)
+            }
             Err(refusal) => Err(self.reject_for(Due::Judge(kept), refusal)),
         }
+    }
+
+    // Whether the key has signed the comment, as the second answer says.
+    fn is_signed(&self, second: bool) -> bool
+        ensures { (terms : Terms) (kept : ℕ) (accepts : Verifier) → (asking : IsAsking self.now terms kept)
+            → AnswersComment accepts asking.key terms.sig_text second
+            → result ≡ is_ok (signed_comment accepts asking.key terms.sig_text) }
+    {
+        self.state.comment_verdict(second).is_ok()
     }
 
     // What comes of the comment, which the key has signed.
@@ -235,8 +270,9 @@ impl Installation {
         ensures goes { (terms : Terms) (comment : List ℕ) → IsJudged self.old.judged terms kept comment
             → GoesByComment terms kept comment first self.old self.new result }
         ensures fed { OnOk result (IsFedState self.new.state []) }
-        ensures chosen { (self.new.chosen ≡ self.old.chosen) × (self.new.asked ≡ self.old.asked) }
-        ensures refused { IfErr result (IsAnswerRefusal self.old self.new) }
+        ensures chosen { (self.new.chosen ≡ self.old.chosen) × (self.new.asked ≡ self.old.asked) × (self.new.judged ≡ self.old.judged) }
+        ensures vouched { self.new.is_vouched ≡ self.old.is_vouched }
+        ensures refused { IfErr result (IsRejection (λ _. IsJudgedFault self.old.judged) self.old self.new) }
     {
         match self.judged.update() {
             Ok(number) => {
@@ -260,7 +296,7 @@ impl Installation {
     fn look_or_go_on(&mut self, kept: u64, number: u64)
         ensures due { IsDue self.new (after_comment self.old kept number) }
         ensures fed { IsFedState self.new.state [] }
-        ensures rest { (self.new.chosen ≡ self.old.chosen) × (self.new.asked ≡ self.old.asked) × (self.new.kept ≡ self.old.kept) }
+        ensures rest { (self.new.chosen ≡ self.old.chosen) × (self.new.asked ≡ self.old.asked) × (self.new.kept ≡ self.old.kept) × KeepsComment self.old self.new }
     {
         if self.kept.has_number == 1 && number == kept {
             self.state = State::new();
@@ -283,13 +319,22 @@ impl Installation {
             → IsAsking self.old terms kept → AnswersTexts accepts terms.pk_text terms.sig_text message first second
             → JudgesTarget accepts terms kept message self.old self.new result }
         ensures again { OnOk result (IsDue self.new (going_on self.old kept) → IsFedState self.new.state []) }
-        ensures chosen { (self.new.chosen ≡ self.old.chosen) × (self.new.asked ≡ self.old.asked) }
-        ensures refused { IfErr result (IsAnswerRefusal self.old self.new) }
+        ensures chosen { (self.new.chosen ≡ self.old.chosen) × (self.new.asked ≡ self.old.asked) × (self.new.judged ≡ self.old.judged) }
+        ensures vouched { (terms : Terms) (kept : ℕ) (accepts : Verifier) → (asking : IsAsking self.old terms kept)
+            → AnswersComment accepts asking.key terms.sig_text second → IsVouched accepts asking.key terms.sig_text self.new }
+        ensures refused { IfErr result (IsAnswerRefusal first second self.old self.new) }
     {
+        let signed = self.is_signed(second);
         match self.state.verdict(first, second) {
-            Ok(()) => self.stand(kept),
+            Ok(()) => {
+                self.is_vouched = u32::from(signed);
+                self.stand(kept)
+            }
             Err(Refusal::WrongUse(misuse)) => Err(Refusal::WrongUse(misuse)),
-            Err(Refusal::Refused(fault)) => self.replace(kept, fault),
+            Err(Refusal::Refused(_)) => {
+                self.is_vouched = u32::from(signed);
+                self.replace(kept)
+            }
         }
     }
 
@@ -299,8 +344,9 @@ impl Installation {
         ensures stands { (terms : Terms) (comment : List ℕ) → IsJudged self.old.judged terms kept comment
             → StandsBy terms kept comment self.old self.new result }
         ensures due { OnOk result (IsDue self.new (standing self.old)) }
-        ensures chosen { (self.new.chosen ≡ self.old.chosen) × (self.new.asked ≡ self.old.asked) }
-        ensures refused { IfErr result (IsRejection self.old self.new) }
+        ensures chosen { (self.new.chosen ≡ self.old.chosen) × (self.new.asked ≡ self.old.asked) × (self.new.judged ≡ self.old.judged) }
+        ensures vouched { self.new.is_vouched ≡ self.old.is_vouched }
+        ensures refused { IfErr result (IsRejection (λ _. IsJudgedFault self.old.judged) self.old self.new) }
     {
         match self.judged.update() {
             Ok(_) => {
@@ -312,12 +358,13 @@ impl Installation {
     }
 
     // Other data stands at the target, for which the texts are rejected: it is replaced, or the run is rejected.
-    fn replace(&mut self, kept: u64, _why: PError) -> Result<(), Refusal<InstallFault>>
+    fn replace(&mut self, kept: u64) -> Result<(), Refusal<InstallFault>>
         requires { IsDue self.old (JudgeTarget kept) }
         ensures replaced { Replaces kept self.old self.new result }
         ensures fed { OnOk result (IsFedState self.new.state []) }
-        ensures chosen { (self.new.chosen ≡ self.old.chosen) × (self.new.asked ≡ self.old.asked) }
-        ensures refused { IfErr result (IsRejection self.old self.new) }
+        ensures chosen { (self.new.chosen ≡ self.old.chosen) × (self.new.asked ≡ self.old.asked) × (self.new.judged ≡ self.old.judged) }
+        ensures vouched { self.new.is_vouched ≡ self.old.is_vouched }
+        ensures refused { IfErr result (IsRejection (λ _ e. e ≡ SameNumber) self.old self.new) }
     {
         if self.kept.is_own == 1 || self.chosen.again == 1 {
             self.go_on(kept);
@@ -352,33 +399,70 @@ impl Installation {
             → AnswersTexts accepts terms.pk_text terms.sig_text message first second
             → GivesUpdate accepts terms kept message self.new result }
         ensures due { OnOk result ((n : ℕ) × IsDue self.new (TakePermissions n)) }
-        ensures chosen { (self.new.chosen ≡ self.old.chosen) × (self.new.asked ≡ self.old.asked) }
-        ensures refused { IfErr result (IsAnswerRefusal self.old self.new) }
+        ensures chosen { (self.new.chosen ≡ self.old.chosen) × (self.new.asked ≡ self.old.asked) × (self.new.judged ≡ self.old.judged) }
+        ensures vouched { (terms : Terms) (kept : ℕ) (accepts : Verifier) → (asking : IsAsking self.old terms kept)
+            → AnswersComment accepts asking.key terms.sig_text second → IsVouched accepts asking.key terms.sig_text self.new }
+        ensures refused { IfErr result (IsAnswerRefusal first second self.old self.new) }
     {
+        let signed = self.is_signed(second);
         match self.state.verdict(first, second) {
-            Ok(()) => match self.judged.update() {
-                Ok(number) => {
-                    self.set(Due::TakePermissions(number));
-                    Ok(())
-                }
-                Err(fault) => Err(self.reject(Due::Answer(kept), fault)),
-            },
+            Ok(()) => {
+                self.is_vouched = u32::from(signed);
+                self.take(kept)
+            }
             Err(Refusal::WrongUse(misuse)) => Err(Refusal::WrongUse(misuse)),
-            Err(Refusal::Refused(fault)) => Err(self.reject(Due::Answer(kept), fault.into())),
+            Err(Refusal::Refused(fault)) => {
+                self.is_vouched = u32::from(signed);
+                Err(self.reject(Due::Answer(kept), fault.into()))
+            }
         }
     }
 
-    /// The number of the update, once the key was found to have signed its comment; before that it is 0.
-    pub fn number(&self) -> u64
-        // It is the number of a comment that was judged, and 0 before it was vouched for.
-        ensures told { 0 < result → (self.now.judged.verdict ≡ 1) × (result ≡ self.now.judged.number) }
-        ensures unjudged { (kept : ℕ) → IsDue self.now (Judge kept) → result ≡ 0 }
+    // The texts vouch for what was read back: its permissions are due, where the comment is still what is wanted.
+    fn take(&mut self, kept: u64) -> Result<(), Refusal<InstallFault>>
+        requires { IsDue self.old (Answer kept) }
+        ensures takes { (terms : Terms) (comment : List ℕ) → IsJudged self.old.judged terms kept comment
+            → Takes terms kept comment self.new result }
+        ensures due { OnOk result ((n : ℕ) × IsDue self.new (TakePermissions n)) }
+        ensures chosen { (self.new.chosen ≡ self.old.chosen) × (self.new.asked ≡ self.old.asked) × (self.new.judged ≡ self.old.judged) }
+        ensures vouched { self.new.is_vouched ≡ self.old.is_vouched }
+        ensures refused { IfErr result (IsRejection (λ _. IsJudgedFault self.old.judged) self.old self.new) }
     {
-        match self.due() {
-            Some(Due::Lock | Due::ReadRecord | Due::Judge(_)) | None => 0,
-            Some(_) if self.judged.verdict == IS_UPDATE => self.judged.number,
-            Some(_) => 0,
+        match self.judged.update() {
+            Ok(number) => {
+                self.set(Due::TakePermissions(number));
+                Ok(())
+            }
+            Err(fault) => Err(self.reject(Due::Answer(kept), fault)),
         }
+    }
+
+    /// Whether a key was found to have signed the comment that was asked about last, also where the run was then rejected
+    /// for what the comment says; not from asking until its answers.
+    pub fn is_vouched(&self) -> bool
+        // That is what `answer` says, and not before.
+        ensures { result ≡ is_vouched self.now }
+    {
+        self.is_vouched == 1
+    }
+
+    /// The number of the comment, once a key was found to have signed it; before that it is 0, as where it has none.
+    pub fn number(&self) -> u64
+        // Of a comment that is vouched for it is the number that was found where it was judged, and otherwise 0.
+        ensures { result ≡ told_number self.now }
+    {
+        if self.is_vouched() {
+            self.judged.number
+        } else {
+            0
+        }
+    }
+
+    // Whether the comment has to say when the update expires.
+    fn must_expire(&self) -> bool
+        ensures { result ≡ must_expire_of self.now }
+    {
+        self.chosen.must_expire == 1
     }
 
     // The key that has to have made the signature: of two the one that has its key ID.
@@ -404,7 +488,7 @@ impl Installation {
     }
 
     // What is due fails for this error.
-    fn reject(&mut self, due: Due<u32>, fault: InstallFault) -> Refusal<InstallFault>
+    pub(crate) fn reject(&mut self, due: Due<u32>, fault: InstallFault) -> Refusal<InstallFault>
         ensures due { IsDue self.new (next due (Failed (install_number fault))) }
         ensures rest { RestUnchanged self.old self.new }
         ensures refusal { result ≡ Refused fault }
@@ -429,27 +513,70 @@ const IS_UPDATE: u32 = 1;
 
 impl Judged {
     // What comes of a comment that was asked about, against the number that was kept.
-    fn of(comment: &str, file: &str, numbering: Numbering, moment: u64, kept: u64) -> Judged
-        ensures { (pk_text sig_text : List ℕ) → IsJudged result (wanted_by pk_text sig_text file.now numbering moment) kept comment.now }
+    fn of(
+        comment: &str,
+        file: &str,
+        numbering: Numbering,
+        moment: u64,
+        must_expire: bool,
+        kept: u64,
+    ) -> Judged
+        ensures { (pk_text sig_text : List ℕ) (keys : List (List ℕ)) → IsJudged result (wanted_by pk_text sig_text file.now numbering moment must_expire keys) kept comment.now }
     {
-        let mut judged = Judged::default();
-        match check_comment(comment, file, numbering, moment, kept) {
-            Ok(number) => (judged.verdict, judged.number) = (IS_UPDATE, number),
-            Err(fault) => judged.verdict = fault.number(),
+        let verdict = verdict_of(comment, file, numbering, moment, must_expire, kept);
+        let number = number_in(comment, numbering).unwrap_or(0);
+        Judged::with(verdict, number, told_size(comment))
+    }
+
+    // This verdict and number, and this size, where the comment says one.
+    fn with(verdict: u32, number: u64, size: Option<u64>) -> Judged
+        ensures number { (result.verdict ≡ verdict) × (result.number ≡ number) }
+        ensures size { signed_size result ≡ size }
+    {
+        match size {
+            Some(size) => Judged {
+                verdict,
+                is_sized: 1,
+                number,
+                size,
+            },
+            None => Judged {
+                verdict,
+                is_sized: 0,
+                number,
+                size: 0,
+            },
         }
-        judged
     }
 
     // The number of the update, where the comment says that this is one. A verdict that none has is there only where a
     // host has written into the installation, and counts as that of another file.
     fn update(&self) -> Result<u64, InstallFault>
-        ensures { (terms : Terms) (kept : ℕ) (comment : List ℕ) → IsJudged self.now terms kept comment
+        ensures worth { (terms : Terms) (kept : ℕ) (comment : List ℕ) → IsJudged self.now terms kept comment
             → IsWorth terms kept comment result }
+        ensures fault { IfErr result (IsJudgedFault self.now) }
     {
         if self.verdict == IS_UPDATE {
             return Ok(self.number);
         }
         Err(InstallFault::of_number(self.verdict).unwrap_or(InstallFault::OtherFile))
+    }
+}
+
+// 1 where the comment says that this is an update, otherwise the number of the error.
+fn verdict_of(
+    comment: &str,
+    file: &str,
+    numbering: Numbering,
+    moment: u64,
+    must_expire: bool,
+    kept: u64,
+) -> u32
+    ensures { (pk_text sig_text : List ℕ) (keys : List (List ℕ)) → (n : ℕ) × IsVerdict result n (wanted_by pk_text sig_text file.now numbering moment must_expire keys) kept comment.now }
+{
+    match check_comment(comment, file, numbering, moment, must_expire, true, kept) {
+        Ok(_) => IS_UPDATE,
+        Err(fault) => fault.number(),
     }
 }
 
@@ -464,9 +591,9 @@ pub fn judge_comment(
 ) -> Result<u64, InstallFault>
     // The number of the comment is told exactly where the comment and the name are UTF-8, the comment names the file, has
     // this number and has not expired, and it is not below the kept one; otherwise the first reason is.
-    ensures { ReadsTexts comment.now file.now (IsWorth (wanted_by [] [] file.now numbering moment) kept comment.now) result }
+    ensures { ReadsTexts comment.now file.now (IsWorth (said_by file.now numbering moment) kept comment.now) result }
 {
     let comment = str::from_utf8(comment).map_err(|_| NamedFault::NotUtf8)?;
     let file = str::from_utf8(file).map_err(|_| NamedFault::NotUtf8)?;
-    check_comment(comment, file, numbering, moment, kept)
+    check_comment(comment, file, numbering, moment, false, false, kept)
 }

@@ -8,6 +8,7 @@ pub mod hosted;
 pub mod hosted_judging;
 pub mod order;
 mod recording;
+pub mod sequences;
 
 pub use comments::Numbering;
 pub use faults::InstallFault;

@@ -2,7 +2,7 @@
 //! call that is due, says how it went, and is told the next one. What an error is, is the host's.
 
 ghost use Rattle.std.specs.Prelude.{◌≡◌, ◌⊎◌, List, true};
-ghost use Rattle.minisign_install.specs.Words.{Done, Explains, Failed, HasInstalled, InstallFault, IsRefusal, HasRun, Host, InstallsOnlyUpdates, IsStanding, Leads, LocksAt, Makes, Number, OwnsNoMore, Rests, Run, Setting, first_due, fits, has_ended, next};
+ghost use Rattle.minisign_install.specs.Words.{Done, ExplainsCounted, Failed, HasInstalled, InstallFault, IsFoundRefusal, IsRefusal, HasRun, Host, IsAtRest, OnlyRejects, InstallsOnlyUpdates, IsStanding, Leads, LocksAt, Makes, Number, OwnsNoMore, Rests, Run, Setting, first_due, fits, has_ended, next};
 
 /// What is due: the call that the host makes next, or how the run has ended. The numbers are those
 /// of the record up to the answers of the signature scheme on what was staged, and then those of the update.
@@ -221,17 +221,31 @@ pub fn any_run_installs_only_updates<E: Drop>()
         → HasRun (Makes s) (first_due s.check) h events Due.Already h'
         → ((s.check ≡ true) × Rests h.run h'.run) ⊎ ((locked : Run) × LocksAt h.run locked × IsStanding s.accepts s.terms s.first locked h'.run) }
 
-    // Where it has said that the update would be installed, nothing was changed.
+    // Only a check says that the update would be installed, and nothing was changed.
     ensures would { (s : Setting) (h h' : Host) (events : List (Outcome E × Host))
-        → HasRun (Makes s) (first_due s.check) h events Due.WouldInstall h' → Rests h.run h'.run }
+        → HasRun (Makes s) (first_due s.check) h events Due.WouldInstall h' → (s.check ≡ true) × Rests h.run h'.run }
 
     // Where it was rejected, and each failing call says why it failed, the error is the first reason, and what the run has
     // published by then is as that says.
     ensures refused { (s : Setting) (h h' : Host) (events : List (Outcome InstallFault × Host)) (e : InstallFault)
-        → HasRun (λ due o k k'. Makes s due o k k' × Explains s due o k k') (first_due s.check) h events (Due.Refused e) h'
-        → IsRefusal s.accepts s.key s.terms s.first s.check h.ahead h.faults h'.faults h.run h'.run e }
+        → HasRun (λ due o k k'. Makes s due o k k' × ExplainsCounted s due o k k') (first_due s.check) h events (Due.Refused e) h'
+        → IsRefusal s h.ahead h.faults h'.faults h.run h'.run e }
+
+    // Where no call failed, but for what was found, that is the reason. The update is never rejected as other data of its
+    // number where the record was written for it, or where it was asked for that other data is replaced.
+    ensures found { (s : Setting) (h h' : Host) (events : List (Outcome InstallFault × Host)) (e : InstallFault)
+        → HasRun (λ due o k k'. Makes s due o k k' × OnlyRejects s due o k k') (first_due s.check) h events (Due.Refused e) h'
+        → IsFoundRefusal s h.ahead h.run h'.run e }
 
     // However it has ended, no stage is the run's own that was not so before.
     ensures lets_go { (s : Setting) (h h' : Host) (events : List (Outcome E × Host)) (due : Due E)
         → HasRun (Makes s) (first_due s.check) h events due h' → has_ended due ≡ true → OwnsNoMore h.run h'.run }
+
+    // There are such runs: where the texts vouch for what is ahead, and the directory is at rest, one in which no call fails
+    // installs it.
+    ensures met { (s : Setting) (h : Host) → IsAtRest s h → (events : List (Outcome InstallFault × Host)) × (h' : Host)
+        × HasRun (λ due o k k'. Makes s due o k k' × OnlyRejects s due o k k') (first_due s.check) h events Due.Installed h' }
+
+    // And there are such texts and such a directory, for a scheme that accepts each signature.
+    ensures there { (s : Setting) × (h : Host) × IsAtRest s h }
 {}

@@ -1,8 +1,8 @@
 //! The record beside the target: the number of the newest update, behind the label of its field, the key that has
 //! vouched for it, and the digest of the data that it was written for.
 
-ghost use Rattle.std.specs.Prelude.{option_map, ◌≡◌, ◌<◌, ◌≤◌, ◌+◌, ◌*◌, ◌++◌, ◌∷◌, ℕ, List, MatchOption, MatchResult, length, take, drop};
-ghost use Rattle.minisign_install.specs.Words.{HasNoNumber, IsKeptOrNone, IsNumberFor, IsRecordRefused, IsUnfit, encode_lower, is_marked, mark_text, marked_line, record_digest, record_of, record_text};
+ghost use Rattle.std.specs.Prelude.{option_map, Some, ◌≡◌, ◌==◌, ◌<◌, ◌≤◌, ◌+◌, ◌*◌, ◌++◌, ◌∷◌, [], ℕ, List, MatchOption, MatchResult, length, take, drop};
+ghost use Rattle.minisign_install.specs.Words.{HasNoNumber, IsKeptOrNone, IsNumberFor, IsRecordRefused, IsUnfit, counted, encode_lower, is_marked, is_other, mark_text, marked_line, record_digest, record_key, record_of, record_text};
 
 use crate::comments::{Numbering, number_of, strip};
 use crate::faults::InstallFault;
@@ -100,7 +100,14 @@ fn is_marked(bytes: &[u8]) -> bool
     ensures { result ≡ is_marked bytes.now }
 {
     let len = bytes.len();
-    MARK_TEXT <= len && len <= MARK_TEXT + MAX_LINE && bytes[len - MARK_TEXT] == b'\n'
+    MARK_TEXT <= len && len <= MARK_TEXT + MAX_LINE && ends_line(bytes[len - MARK_TEXT])
+}
+
+// Whether a line ends at this byte.
+fn ends_line(byte: u8) -> bool
+    ensures { result ≡ (byte == 10) }
+{
+    byte == b'\n'
 }
 
 // The digest of the data that a record of these bytes was written for, where it says so.
@@ -115,6 +122,54 @@ pub(crate) fn record_digest(bytes: &[u8]) -> Option<[u8; 64]>
     match hex::decode_to_slice(digits, &mut digest) {
         Ok(()) => Some(digest),
         Err(_) => None,
+    }
+}
+
+// The key that a record of these bytes names, where it names one.
+fn record_key(bytes: &[u8]) -> Option<[u8; 32]>
+    ensures { result ≡ record_key bytes.now }
+{
+    if !is_marked(bytes) {
+        return None;
+    }
+    let (_, lines) = bytes.split_at(bytes.len() - 193);
+    let (digits, _) = lines.split_at(64);
+    let mut key = [0u8; 32];
+    match hex::decode_to_slice(digits, &mut key) {
+        Ok(()) => Some(key),
+        Err(_) => None,
+    }
+}
+
+// Whether a record of these bytes names a key that is none of these two.
+fn is_other(bytes: &[u8], key: &[u8; 32], other: &[u8; 32]) -> bool
+    ensures { result ≡ is_other (key.now ∷ other.now ∷ []) (record_key bytes.now) }
+{
+    match record_key(bytes) {
+        Some(named) => is_neither(&named, key, other),
+        None => false,
+    }
+}
+
+// Whether the key that is named is none of these two.
+fn is_neither(named: &[u8; 32], key: &[u8; 32], other: &[u8; 32]) -> bool
+    ensures { result ≡ is_other (key.now ∷ other.now ∷ []) (Some named.now) }
+{
+    *named != *key && *named != *other
+}
+
+// What of the record counts: at the first installation one that names another key than these two counts as none.
+pub(crate) fn counted<'a>(
+    found: Option<&'a [u8]>,
+    key: &[u8; 32],
+    other: &[u8; 32],
+    is_first: bool,
+) -> Option<&'a [u8]>
+    ensures { option_map (λ b. b.now) result ≡ counted is_first (key.now ∷ other.now ∷ []) (option_map (λ b. b.now) found.entry) }
+{
+    match found {
+        Some(bytes) if is_first && is_other(bytes, key, other) => None,
+        found => found,
     }
 }
 

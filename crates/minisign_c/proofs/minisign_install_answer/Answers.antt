@@ -43,3 +43,9 @@ returns-in-Ok-clause-stage c = λ terms kept message accepts due asking (one, tw
 pub returns-in-Err-clause-stage : goal.returns-in-Err-clause-stage
 returns-in-Err-clause-stage c = λ terms kept message accepts due asking (one, two, answers).
     inr (rw c.number-in-Err.ensures (refused_positive c.in-Err.refusal), c.in-Err.refusal, c.number-in-Err.ensures, c.in-Err.ensures.stage terms kept message accepts due asking answers)
+
+pub returns-in-Ok-clause-vouched : goal.returns-in-Ok-clause-vouched
+returns-in-Ok-clause-vouched c = λ terms kept accepts asking (one, two, answers). c.answer.ensures.vouched terms kept accepts asking answers
+
+pub returns-in-Err-clause-vouched : goal.returns-in-Err-clause-vouched
+returns-in-Err-clause-vouched c = λ terms kept accepts asking (one, two, answers). c.answer.ensures.vouched terms kept accepts asking answers

@@ -1,5 +1,6 @@
 use Rattle.minisign_install.proofs.Common.{◌≡◌, ◌==◌, ◌∙◌, [], List, ℕ, None, false, All-from_get_or, ap, cons_option, filter_map, find_char, get_or, lit<, ne_eqb, refl, slice_split_first, slice_split_none, strip, sym}
-use Rattle.minisign_install.proofs.Fields.{nothing}
+use Rattle.minisign_install.proofs.Fields.{no_expiry, nothing}
+use Rattle.minisign_install.specs.Words.{expiry_in}
 use Rattle.minisign_install.proofs.comments.first_field.Goals as goal
 
 pub returns-in-Some-clause-field : goal.returns-in-Some-clause-field
@@ -14,3 +15,16 @@ returns-in-None-clause-field c = λ label some.
     let no_tab = find_char 9 comment None c.in-None.ensures.cases (lit< tt) in
     let whole = slice_split_none (λ b. b == 9) comment (All-from_get_or (λ b. (b == 9) ≡ false) comment 0 (λ i l. ne_eqb (get_or comment i 0) 9 (no_tab i l))) in
     ap (filter_map (strip label)) whole ∙ ap (cons_option (strip label comment)) (sym (nothing label [] some refl))
+
+pub returns-in-Some-clause-expiry : goal.returns-in-Some-clause-expiry
+returns-in-Some-clause-expiry c = λ must.
+    let (front, back, within) = c.in-Some.ensures.byte (lit< tt) (λ w o h. h) in
+    let cut = slice_split_first (λ b. b == 9) c.args.comment.now 0 within in
+    ap (filter_map (expiry_in must)) (rw (← front, ← back) at cut)
+
+pub returns-in-None-clause-expiry : goal.returns-in-None-clause-expiry
+returns-in-None-clause-expiry c = λ must.
+    let comment : List ℕ = c.args.comment.now in
+    let no_tab = find_char 9 comment None c.in-None.ensures.cases (lit< tt) in
+    let whole = slice_split_none (λ b. b == 9) comment (All-from_get_or (λ b. (b == 9) ≡ false) comment 0 (λ i l. ne_eqb (get_or comment i 0) 9 (no_tab i l))) in
+    ap (filter_map (expiry_in must)) whole ∙ ap (cons_option (expiry_in must comment)) (sym (no_expiry must [] refl))

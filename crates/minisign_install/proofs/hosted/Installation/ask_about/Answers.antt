@@ -1,4 +1,4 @@
-use Rattle.minisign_install.proofs.Common.{◌≡◌, ◌∙◌, false, inr, rules, sym, IsUtf8}
+use Rattle.minisign_install.proofs.Common.{◌∙◌, false, inr, rules, IsUtf8, keys_of}
 use Rattle.minisign_install.proofs.Judgements.{about_texts, key_found}
 use Rattle.minisign_install.proofs.hosted.Installation.ask_about.Goals as goal
 
@@ -18,7 +18,7 @@ returns-in-Ok-ask_fed-clause-asked c =
       are,
       has,
       c.in-Ok-ask_fed.ensures.told,
-      λ pk_text. rw (c.in-Ok.ensures.cases.0, c.numbering.ensures, comment) at (c.of-self.ensures pk_text sig),
+      λ pk_text. rw (c.in-Ok.ensures.cases.0, c.numbering.ensures, c.moment-moment.ensures, c.must_expire.ensures, comment) at (c.of-self.ensures pk_text sig (keys_of c.args.self.now)),
     )
 
 pub returns-in-Err-ask_fed-clause-refused : goal.returns-in-Err-ask_fed-clause-refused

@@ -17,6 +17,7 @@ returns-in-Ok-clause-asked c =
       digest = λ m fed. kept_digest ∙ digest m fed;
       about = rw c.requires.due (c.digest_for-questions.ensures ∙ asked_same c.args.self.now c.ask_about.new.self keeps.1 c.args.due _);
       kept = keeps;
+      unvouched = c.in-Ok.ensures.unvouched;
       asking = (
         c.args.kept,
         is,
@@ -27,6 +28,7 @@ returns-in-Ok-clause-asked c =
           keyed = keyed;
           asked = has;
           told = told;
+          unvouched = c.in-Ok.ensures.unvouched;
           judged = λ s read. rw (same_text sig t s (opened (key_for c.args.self.now sig) sig t opens).0 read) at (judged pk_text);
         },
       );

@@ -1,0 +1,10 @@
+use Rattle.minisign_install.proofs.Common.{◌≡◌, length, strip}
+use Rattle.std.specs.Prelude.{is_some}
+use Rattle.minisign_install.specs.Words.{folded}
+use Rattle.minisign_install.proofs.comments.begins_loosely.Given as goal
+
+abbrev pub invariant-letters : goal.invariant-letters
+invariant-letters l = is_some (strip l.label (folded l.rest)) ≡ is_some (strip l.fn.label (folded l.fn.text))
+
+abbrev pub decreases-letters : goal.decreases-letters
+decreases-letters l = length l.rest
