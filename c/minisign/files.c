@@ -40,9 +40,7 @@ size_t read_full(int fd, const char *file, uint8_t *at, size_t room)
 {
     ssize_t len = read_whole(fd, at, room);
 
-    if (len < 0) {
-        fail_at(file);
-    }
+    need(len >= 0, file);
     return (size_t) len;
 }
 
@@ -51,9 +49,7 @@ uid_t read_text(uint8_t *bytes, size_t room, size_t *len, const char *file, enum
     int fd = open_or_advise(file, remedy_of(wanted));
     struct stat found;
 
-    if (fstat(fd, &found) != 0) {
-        fail_at(file);
-    }
+    need(fstat(fd, &found) == 0, file);
     *len = read_full(fd, file, bytes, room);
     if (*len == room) {
         errno = EFBIG;
@@ -78,9 +74,7 @@ struct held hold_file(int fd, const char *file)
     do {
         room = room == 0 ? FIRST_BYTES : 2 * room;
         held.bytes = realloc(held.bytes, room);
-        if (held.bytes == NULL) {
-            fail_at(file);
-        }
+        need(held.bytes != NULL, file);
         held.len += read_full(fd, file, held.bytes + held.len, room - held.len);
     } while (held.len == room);
     return held;
@@ -88,19 +82,15 @@ struct held hold_file(int fd, const char *file)
 
 void flush_file(FILE *to)
 {
-    if (fflush(to) != 0 || ferror(to)) {
-        fail_at("standard output");
-    }
+    need(fflush(to) == 0 && !ferror(to), "standard output");
 }
 
-const char *name_beside(const char *file, const char *suffix)
+char *joined(const char *front, const char *middle, const char *end)
 {
-    size_t len = strlen(file), added = strlen(suffix) + 1;
-    char *name = malloc(len + added);
-    if (name == NULL) {
-        fail_at(file);
-    }
-    memcpy(name, file, len);
-    memcpy(name + len, suffix, added);
-    return name;
+    size_t room = strlen(front) + strlen(middle) + strlen(end) + 1;
+    char *text = malloc(room);
+
+    need(text != NULL, front);
+    snprintf(text, room, "%s%s%s", front, middle, end);
+    return text;
 }

@@ -45,7 +45,7 @@ struct held hold_file(int fd, const char *file);
 /* Writes all that was printed so far. */
 void flush_file(FILE *to);
 
-/* The name of a file with these letters after it. */
-const char *name_beside(const char *file, const char *suffix);
+/* These texts as one, in memory of malloc. */
+char *joined(const char *front, const char *middle, const char *end);
 
 #endif

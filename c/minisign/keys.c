@@ -22,13 +22,13 @@
 #include "library/clearing.h"
 #include "cleanup.h"
 #include "files.h"
-#include "shared/progress.h"
 #include "replacing.h"
+#include "shared/handles.h"
+#include "shared/progress.h"
 #include "shared/text.h"
 
 #define COMMENT_LABEL "untrusted comment: "
 #define PUBLIC_COMMENT_BYTES 64
-#define PUBLIC_TEXT_BYTES 256
 
 /* Where memory is short, at least one of so many rows of a key derivation is kept. */
 #define MAX_ROWS_APART 256
@@ -87,6 +87,21 @@ static void say_work(const struct options *options)
 
 /* ---- Opening ---- */
 
+/* While a key is derived from a password, which may take long, somebody sees that it goes on. */
+static void begin_derivation(const char *purpose)
+{
+    printf("Deriving a key from the password %s... ", purpose);
+    flush_file(stdout);
+    begin_dots();
+}
+
+static void end_derivation(void)
+{
+    end_dots();
+    puts("done\n");
+    flush_file(stdout);
+}
+
 /* What was typed is needed no more. */
 static void clear_passwords(void)
 {
@@ -112,14 +127,10 @@ static enum minisign_error open_sealed(const struct options *options)
     enum minisign_error error;
 
     ask_password(&secrets->password, "Password: ");
-    fputs("Deriving a key from the password and decrypting the secret key... ", stdout);
-    flush_file(stdout);
-    begin_dots();
+    begin_derivation("and decrypting the secret key");
     error = open_with_password(options);
-    end_dots();
     clear_passwords();
-    fputs("done\n\n", stdout);
-    flush_file(stdout);
+    end_derivation();
     if (error == MINISIGN_NOT_UTF8) {
         fail("The password is not UTF-8");
     }
@@ -180,9 +191,7 @@ static void make_text(const struct options *options, const uint8_t *comment, siz
 
     if (!options->unsealed) {
         randombytes_buf(sealing.salt, sizeof sealing.salt);
-        fputs("Deriving a key from the password in order to encrypt the secret key... ", stdout);
-        fflush(stdout);
-        begin_dots();
+        begin_derivation("in order to encrypt the secret key");
     }
     do {
         error = minisign_secret_key_text(&secrets->open, options->unsealed ? 0 : 1, secrets->password.bytes,
@@ -191,9 +200,7 @@ static void make_text(const struct options *options, const uint8_t *comment, siz
     } while (keep_fewer(error, &rows));
     clear_passwords();
     if (!options->unsealed) {
-        end_dots();
-        fputs("done\n\n", stdout);
-        fflush(stdout);
+        end_derivation();
     }
     if (error != MINISIGN_OK) {
         fail(error != MINISIGN_NOT_UTF8 ? message_of(error)
@@ -202,13 +209,8 @@ static void make_text(const struct options *options, const uint8_t *comment, siz
     }
 }
 
-/* The text of the public key that belongs to the open one. */
-struct public_text {
-    uint8_t bytes[PUBLIC_TEXT_BYTES];
-    size_t len;
-};
-
-static void make_public_text(struct public_text *text)
+/* Makes the text of the public key that belongs to the open one. */
+static void make_public_text(struct text *text)
 {
     char comment[PUBLIC_COMMENT_BYTES];
     int len = snprintf(comment, sizeof comment, MINISIGN_PUBLIC_KEY_COMMENT "%" PRIX64, number_of_id(secrets->open.key_id));
@@ -265,9 +267,8 @@ void reject_over_key(const struct options *options, const char *file)
     struct stat key, found;
 
     if (stat(options->secret_file, &key) == 0 && stat(file, &found) == 0 && S_ISREG(key.st_mode)
-        && key.st_dev == found.st_dev && key.st_ino == found.st_ino) {
-        fprintf(stderr, "%s: this is the secret key itself, which would be lost\n", visible(file));
-        exit(TROUBLE);
+        && is_same_file(&key, &found)) {
+        blame(file, "this is the secret key itself, which would be lost");
     }
 }
 
@@ -287,7 +288,7 @@ static void make_directory(const char *file)
 }
 
 /* Puts the pair in its places, of which one would take the other's away where they are the same. */
-static void put_pair(const struct options *options, const struct public_text *public)
+static void put_pair(const struct options *options, const struct text *public)
 {
     struct replacement *secret_stage, *public_stage;
     const char *taken;
@@ -319,7 +320,7 @@ static void draw_key(void)
 int generate_keys(const struct options *options)
 {
     const char *comment = options->comment != NULL ? options->comment : MINISIGN_SECRET_KEY_COMMENT;
-    struct public_text public;
+    static struct text public;
 
     if (strcmp(options->secret_file, options->public_file) == 0) {
         reject_one_file(options->secret_file, options->public_file);
@@ -348,7 +349,7 @@ int generate_keys(const struct options *options)
 
 int recreate_public_key(const struct options *options)
 {
-    struct public_text public;
+    static struct text public;
 
     look_for_existing(options, options->public_file, PUBLIC_KEY);
     reject_over_key(options, options->public_file);

@@ -30,53 +30,60 @@ void fail_at(const char *file)
     exit(TROUBLE);
 }
 
+void need(bool is_done, const char *file)
+{
+    if (!is_done) {
+        fail_at(file);
+    }
+}
+
+void blame(const char *file, const char *why)
+{
+    fprintf(stderr, "%s: %s\n", visible(file), why);
+    exit(TROUBLE);
+}
+
+/* What Minisign says of an error. */
+static const struct {
+    enum minisign_error error;
+    const char *text;
+} messages[] = {
+    { MINISIGN_MISSING_PUBLIC_KEY_COMMENT, "Error while loading the public key file" },
+    { MINISIGN_MISSING_PUBLIC_KEY, "Error while loading the public key file" },
+    { MINISIGN_PUBLIC_KEY_LENGTH, "base64 conversion failed - was an actual public key given?" },
+    { MINISIGN_PUBLIC_KEY_NOT_BASE64, "base64 conversion failed - was an actual public key given?" },
+    { MINISIGN_BARE_PUBLIC_KEY_LENGTH, "base64 conversion failed - was an actual public key given?" },
+    { MINISIGN_BARE_PUBLIC_KEY_NOT_BASE64, "base64 conversion failed - was an actual public key given?" },
+    { MINISIGN_MISSING_UNTRUSTED_COMMENT, "Error while reading the signature file" },
+    { MINISIGN_MISSING_SIGNATURE, "Error while reading the signature file" },
+    { MINISIGN_MISSING_COMMENT_SIGNATURE, "Error while reading the signature file" },
+    { MINISIGN_MISSING_TRUSTED_COMMENT, "Trusted comment not present" },
+    { MINISIGN_UNTRUSTED_COMMENT_PREFIX, "Untrusted signature comment should start with \"untrusted comment: \"" },
+    { MINISIGN_TRUSTED_COMMENT_PREFIX, "Trusted signature comment should start with \"trusted comment: \"" },
+    { MINISIGN_SIGNATURE_NOT_BASE64, "base64 conversion failed - was an actual signature given?" },
+    { MINISIGN_RECORD_TOO_SHORT, "base64 conversion failed - was an actual signature given?" },
+    { MINISIGN_UNSUPPORTED_ALGORITHM, "Unsupported signature algorithm" },
+    { MINISIGN_LEGACY_NOT_ACCEPTED, "Legacy (non-prehashed) signature found" },
+    { MINISIGN_SIGNATURE_REFUSED, "Signature verification failed" },
+    { MINISIGN_COMMENT_SIGNATURE_REFUSED, "Comment signature verification failed" },
+    { MINISIGN_MISSING_SECRET_KEY_COMMENT, "Error while loading the secret key file" },
+    { MINISIGN_MISSING_SECRET_KEY, "Error while loading the secret key file" },
+    { MINISIGN_SECRET_KEY_NOT_BASE64, "base64 conversion failed - was an actual secret key given?" },
+    { MINISIGN_UNSUPPORTED_KEY_DERIVATION, "Unsupported key derivation function" },
+    { MINISIGN_WRONG_PASSWORD, "Wrong password for that key" },
+};
+
 const char *message_of(enum minisign_error error)
 {
     static char text[MINISIGN_ERROR_TEXT_BYTES];
 
-    switch (error) {
-    case MINISIGN_MISSING_PUBLIC_KEY_COMMENT:
-    case MINISIGN_MISSING_PUBLIC_KEY:
-        return "Error while loading the public key file";
-    case MINISIGN_PUBLIC_KEY_LENGTH:
-    case MINISIGN_PUBLIC_KEY_NOT_BASE64:
-    case MINISIGN_BARE_PUBLIC_KEY_LENGTH:
-    case MINISIGN_BARE_PUBLIC_KEY_NOT_BASE64:
-        return "base64 conversion failed - was an actual public key given?";
-    case MINISIGN_MISSING_UNTRUSTED_COMMENT:
-    case MINISIGN_MISSING_SIGNATURE:
-    case MINISIGN_MISSING_COMMENT_SIGNATURE:
-        return "Error while reading the signature file";
-    case MINISIGN_MISSING_TRUSTED_COMMENT:
-        return "Trusted comment not present";
-    case MINISIGN_UNTRUSTED_COMMENT_PREFIX:
-        return "Untrusted signature comment should start with \"untrusted comment: \"";
-    case MINISIGN_TRUSTED_COMMENT_PREFIX:
-        return "Trusted signature comment should start with \"trusted comment: \"";
-    case MINISIGN_SIGNATURE_NOT_BASE64:
-    case MINISIGN_RECORD_TOO_SHORT:
-        return "base64 conversion failed - was an actual signature given?";
-    case MINISIGN_UNSUPPORTED_ALGORITHM:
-        return "Unsupported signature algorithm";
-    case MINISIGN_LEGACY_NOT_ACCEPTED:
-        return "Legacy (non-prehashed) signature found";
-    case MINISIGN_SIGNATURE_REFUSED:
-        return "Signature verification failed";
-    case MINISIGN_COMMENT_SIGNATURE_REFUSED:
-        return "Comment signature verification failed";
-    case MINISIGN_MISSING_SECRET_KEY_COMMENT:
-    case MINISIGN_MISSING_SECRET_KEY:
-        return "Error while loading the secret key file";
-    case MINISIGN_SECRET_KEY_NOT_BASE64:
-        return "base64 conversion failed - was an actual secret key given?";
-    case MINISIGN_UNSUPPORTED_KEY_DERIVATION:
-        return "Unsupported key derivation function";
-    case MINISIGN_WRONG_PASSWORD:
-        return "Wrong password for that key";
-    default:
-        minisign_error_text(error, text, sizeof text);
-        return text;
+    for (size_t i = 0; i < sizeof messages / sizeof messages[0]; i++) {
+        if (messages[i].error == error) {
+            return messages[i].text;
+        }
     }
+    minisign_error_text(error, text, sizeof text);
+    return text;
 }
 
 const char *remedy_of(enum text_kind wanted)

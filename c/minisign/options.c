@@ -73,9 +73,9 @@ static const char *default_secret_file(void)
     const char *home = getenv("HOME");
 
     if (directory != NULL) {
-        return name_beside(directory, "/minisign.key");
+        return joined(directory, "/minisign.key", "");
     }
-    return home == NULL ? "minisign.key" : name_beside(home, "/.minisign/minisign.key");
+    return home == NULL ? "minisign.key" : joined(home, "/.minisign/minisign.key", "");
 }
 
 /* Reads a number from 1 up to this one. */

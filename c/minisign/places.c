@@ -28,20 +28,14 @@ bool is_written_in_place(const struct place *place)
 
 void close_older(struct place *place)
 {
-    close_handle(&place->older);
-    if (place->opened >= 0) {
-        close(place->opened);
-        place->opened = -1;
-    }
+    close_open(&place->older.fd);
+    close_open(&place->opened);
 }
 
 static void forget_name(struct place *place)
 {
-    if (place->directory >= 0) {
-        close(place->directory);
-    }
+    close_open(&place->directory);
     free(place->name);
-    place->directory = -1;
     place->name = NULL;
 }
 
@@ -52,12 +46,6 @@ void leave_place(struct place *place)
 }
 
 /* ---- Strangers ---- */
-
-static _Noreturn void reject(const struct place *place, const char *why)
-{
-    fprintf(stderr, "%s: %s\n", visible(place->file), why);
-    exit(TROUBLE);
-}
 
 /* Whether this is somebody's whom the user need not trust. */
 static bool is_strangers(const struct stat *file)
@@ -92,11 +80,9 @@ static void expect_no_strangers(const struct place *place)
 {
     struct stat around;
 
-    if (fstat(place->directory, &around) != 0) {
-        fail_at(place->file);
-    }
+    need(fstat(place->directory, &around) == 0, place->file);
     if (is_put_by_stranger(place, &place->older.found, &around, S_IWOTH | S_IWGRP)) {
-        reject(place, "this is another user's, in a directory where others may write");
+        blame(place->file, "this is another user's, in a directory where others may write");
     }
 }
 
@@ -116,7 +102,7 @@ static bool may_follow(const struct place *place, const struct stat *link)
         return false;
     }
     if (is_put_by_stranger(place, link, &around, S_IWOTH)) {
-        reject(place, "another user's link leads there, in a directory where others may write");
+        blame(place->file, "another user's link leads there, in a directory where others may write");
     }
     return true;
 }
@@ -145,7 +131,7 @@ static enum step read_link(const struct place *place, const char *name, char tar
             step = IS_LINK;
         }
     }
-    close_handle(&link);
+    close_open(&link.fd);
     return step;
 }
 
@@ -158,24 +144,9 @@ static bool enter(struct place *place, const char *name, bool by_system)
     if (directory < 0) {
         return false;
     }
-    if (place->directory >= 0) {
-        close(place->directory);
-    }
+    close_open(&place->directory);
     place->directory = directory;
     return true;
-}
-
-/* A path, and after it what stood after the link that leads there, where anything did. */
-static char *path_by(const char *target, const char *rest, const char *file)
-{
-    size_t room = strlen(target) + (rest == NULL ? 0 : strlen(rest)) + sizeof "/";
-    char *path = malloc(room);
-
-    if (path == NULL) {
-        fail_at(file);
-    }
-    snprintf(path, room, "%s%s%s", target, rest == NULL ? "" : "/", rest == NULL ? "" : rest);
-    return path;
 }
 
 /* Goes along the path, which is in memory of malloc, name by name, and follows each link. */
@@ -201,7 +172,7 @@ static bool go_along(struct place *place, char **path)
                 errno = ELOOP;
                 return false;
             }
-            longer = path_by(target, rest, place->file);
+            longer = rest == NULL ? joined(target, "", "") : joined(target, "/", rest);
             free(*path);
             *path = rest = longer;
             if (*rest == '/' && !enter(place, "/", false)) {
@@ -210,7 +181,7 @@ static bool go_along(struct place *place, char **path)
             break;
         case IS_NO_LINK:
             if (rest == NULL) {
-                place->name = path_by(name, NULL, place->file);
+                place->name = joined(name, "", "");
                 return true;
             }
             if (!enter(place, name, by_system)) {
@@ -226,7 +197,7 @@ static bool go_along(struct place *place, char **path)
 /* Finds the directory and the name, with all links followed, or errno says why not. */
 static bool follow_links(struct place *place)
 {
-    char *path = path_by(place->file, NULL, place->file);
+    char *path = joined(place->file, "", "");
     bool is_there = go_along(place, &path);
     int number = errno;
 
@@ -277,7 +248,7 @@ static bool is_descriptor(struct place *place)
         return false;
     }
     if (is_held(fd)) {
-        reject(place, "this is closed");
+        blame(place->file, "this is closed");
     }
     flags = fcntl(fd, F_GETFL);
     if (flags < 0 || (flags & O_ACCMODE) == O_RDONLY || fstat(fd, &place->older.found) != 0
@@ -285,12 +256,10 @@ static bool is_descriptor(struct place *place)
         return false;
     }
     if (place->is_secret && !may_keep_secret(&place->older.found)) {
-        reject(place, "others may read this file, into which no secret key is written");
+        blame(place->file, "others may read this file, into which no secret key is written");
     }
     place->opened = fcntl(fd, F_DUPFD_CLOEXEC, 0);
-    if (place->opened < 0) {
-        fail_at(place->file);
-    }
+    need(place->opened >= 0, place->file);
     place->has_older = place->is_descriptor = true;
     return true;
 }
@@ -322,7 +291,7 @@ static struct place in_place(struct place place)
 
     forget_name(&place);
     if (place.is_secret && is_strangers(found) && !S_ISDIR(found->st_mode) && !is_stream(found)) {
-        reject(&place, "this is another user's, to whom no secret key is written");
+        blame(place.file, "this is another user's, to whom no secret key is written");
     }
     return place;
 }
@@ -368,9 +337,7 @@ struct place find_place(const char *file, bool is_secret)
             /* (it has no name, or whoever started the program may know its name elsewhere) */
             return in_place(place);
         }
-        if (!is_there) {
-            fail_at(file);
-        }
+        need(is_there, file);
         leave_place(&place);
     }
     errno = EBUSY;
@@ -383,9 +350,7 @@ static void expect_replaceable(const struct place *place)
     struct stat around;
     uid_t user = geteuid();
 
-    if (fstat(place->directory, &around) != 0) {
-        fail_at(place->file);
-    }
+    need(fstat(place->directory, &around) == 0, place->file);
     if ((around.st_mode & S_ISVTX) != 0 && user != 0 && user != place->older.found.st_uid && user != around.st_uid) {
         errno = EPERM;
         fail_at(place->file);
@@ -407,10 +372,8 @@ void open_older(struct place *place)
     if (!place->has_older || place->is_descriptor) {
         return;
     }
-    if (fstat(place->opened, &place->older.found) != 0) {
-        fail_at(place->file);
-    }
-    close_handle(&place->older);
+    need(fstat(place->opened, &place->older.found) == 0, place->file);
+    close_open(&place->older.fd);
     if (!is_written_in_place(place)) {
         expect_replaceable(place);
     }

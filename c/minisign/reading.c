@@ -29,9 +29,7 @@ static void remember(struct data *data, size_t len)
         size_t room = data->tagged == 0 ? 1 : 2 * data->tagged;
 
         data->tags = realloc(data->tags, room * sizeof *data->tags);
-        if (data->tags == NULL) {
-            fail_at(data->file);
-        }
+        need(data->tags != NULL, data->file);
     }
     data->tags[data->tagged++] = tag_of(piece, len);
     data->size += len;
@@ -69,9 +67,7 @@ void feed_data(struct data *data, minisign_state *state, enum wanted wanted)
 
 static void print(const uint8_t *bytes, size_t len)
 {
-    if (fwrite(bytes, 1, len, stdout) != len) {
-        fail_at("standard output");
-    }
+    need(fwrite(bytes, 1, len, stdout) == len, "standard output");
 }
 
 bool copy_data(const struct data *data)
@@ -83,9 +79,7 @@ bool copy_data(const struct data *data)
         print(data->held.bytes, data->held.len);
         return true;
     }
-    if (lseek(data->fd, 0, SEEK_SET) != 0) {
-        fail_at(data->file);
-    }
+    need(lseek(data->fd, 0, SEEK_SET) == 0, data->file);
     for (at = 0; (len = read_full(data->fd, data->file, piece, sizeof piece)) > 0; at++, ahead -= len) {
         if (at == data->tagged || len > ahead || !is_same_tag(tag_of(piece, len), data->tags[at])) {
             return false;

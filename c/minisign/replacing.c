@@ -147,9 +147,7 @@ static void forget(struct replacement *stage)
     if (stage->is_named && unlinkat(stage->place.directory, stage->name, 0) != 0 && errno != ENOENT) {
         return;
     }
-    if (stage->fd >= 0) {
-        close(stage->fd);
-    }
+    close_open(&stage->fd);
     leave_place(&stage->place);
     *stage = (struct replacement) { .fd = -1 };
 }
@@ -177,8 +175,7 @@ static bool open_stage(struct replacement *stage, mode_t mode)
             return false;
         }
         unlinkat(stage->place.directory, stage->name, 0);
-        close(stage->fd);
-        stage->fd = -1;
+        close_open(&stage->fd);
         errno = EBUSY;
     }
     return false;
@@ -189,30 +186,22 @@ static void take_over(const struct replacement *stage, bool for_owner_alone)
 {
     static struct permissions older;
 
-    if (!read_permissions_of(&older, stage->place.opened)) {
-        fail_at(stage->place.file);
-    }
+    need(read_permissions_of(&older, stage->place.opened), stage->place.file);
     if (for_owner_alone) {
         replace_mode(&older, older.mode & S_IRWXU);
     }
-    if (!give_permissions(stage->fd, &older)) {
-        fail_at(stage->place.file);
-    }
+    need(give_permissions(stage->fd, &older), stage->place.file);
 }
 
 /* Writes what is no regular file, has no name or is written through a descriptor: another file is emptied first. */
 static void write_in_place(struct place *place, const uint8_t *bytes, size_t len)
 {
     int fd = place->opened;
+    bool is_emptied = S_ISREG(place->older.found.st_mode) && !place->is_descriptor;
 
-    if ((S_ISREG(place->older.found.st_mode) && !place->is_descriptor && ftruncate(fd, 0) != 0)
-        || !write_whole(fd, bytes, len)) {
-        fail_at(place->file);
-    }
+    need((!is_emptied || ftruncate(fd, 0) == 0) && write_whole(fd, bytes, len), place->file);
     place->opened = -1;
-    if (close(fd) != 0) {
-        fail_at(place->file);
-    }
+    need(close(fd) == 0, place->file);
 }
 
 /* Has the system say whether what was written can be kept, as it does where a file is closed. */
@@ -220,9 +209,7 @@ static void flush_stage(const struct replacement *stage)
 {
     int fd = dup(stage->fd);
 
-    if (fd >= 0 && close(fd) != 0) {
-        fail_at(stage->place.file);
-    }
+    need(fd < 0 || close(fd) == 0, stage->place.file);
 }
 
 static bool is_secret(enum kind kind)
@@ -260,7 +247,6 @@ static struct replacement *begin_stage(const char *file, enum kind kind, bool ov
 /* Writes it whole, beside its place or in that itself. */
 static void write_replacement(struct replacement *stage, enum kind kind, const uint8_t *bytes, size_t len)
 {
-    const char *file = stage->place.file;
     mode_t mode;
 
     if (is_written_in_place(&stage->place)) {
@@ -271,15 +257,11 @@ static void write_replacement(struct replacement *stage, enum kind kind, const u
     stage->is_synced = !stage->is_key && !stage->place.has_older;
     mode = is_secret(kind) || stage->place.has_older ? 0600 : 0666;
     remove_unlocked_stages(stage->place.directory);
-    if (!open_stage(stage, mode)) {
-        fail_at(file);
-    }
+    need(open_stage(stage, mode), stage->place.file);
     if (stage->place.has_older && kind != NEW_SECRET_KEY) {
         take_over(stage, kind == UNSEALED_SECRET_KEY || (is_secret(kind) && !knows_access_lists));
     }
-    if (!write_whole(stage->fd, bytes, len)) {
-        fail_at(file);
-    }
+    need(write_whole(stage->fd, bytes, len), stage->place.file);
     if (stage->is_synced) {
         flush_stage(stage);
     } else {
@@ -312,9 +294,7 @@ static void sync_stages(void)
 
             /* One that cannot be synced is not put in its place when the program ends. */
             stage->waits = false;
-            if (fsync(stage->fd) != 0) {
-                fail_at(stage->place.file);
-            }
+            need(fsync(stage->fd) == 0, stage->place.file);
             stage->is_synced = true;
             stage->waits = waits;
         }
@@ -398,16 +378,10 @@ static void keep_name(const struct replacement *stage)
         return;
     }
     /* A file that was brought there without a name has one now. */
-    if (fsync(stage->fd) != 0) {
-        fail_at(stage->place.file);
-    }
+    need(fsync(stage->fd) == 0, stage->place.file);
     fd = openat(stage->place.directory, ".", O_RDONLY | O_DIRECTORY | O_CLOEXEC);
-    if (fd >= 0) {
-        if (fsync(fd) != 0 && errno != EINVAL) {
-            fail_at(stage->place.file);
-        }
-        close(fd);
-    }
+    need(fd < 0 || fsync(fd) == 0 || errno == EINVAL, stage->place.file);
+    close_open(&fd);
 }
 
 bool put_in_place(struct replacement *stage)
@@ -418,9 +392,7 @@ bool put_in_place(struct replacement *stage)
         sync_stages();
     }
     put = put_stage(stage);
-    if (put == NOT_PUT) {
-        fail_at(stage->place.file);
-    }
+    need(put != NOT_PUT, stage->place.file);
     if (put == PUT && stage->is_key) {
         keep_name(stage);
     }
@@ -433,8 +405,7 @@ void replace_key(const char *file, enum kind kind, uid_t owner, const uint8_t *b
     struct replacement *stage = begin_stage(file, kind, true);
 
     if (stage->place.has_older && stage->place.older.found.st_uid != owner) {
-        fprintf(stderr, "%s: another user's file stands there now, in place of the key that was read\n", visible(file));
-        exit(TROUBLE);
+        blame(file, "another user's file stands there now, in place of the key that was read");
     }
     write_replacement(stage, kind, bytes, len);
     put_in_place(stage);
@@ -484,17 +455,13 @@ const char *put_both_in_place(struct replacement *first, struct replacement *las
 
     sync_stages();
     put = put_with_partner(first, last);
-    if (put == NOT_PUT) {
-        fail_at(first->place.file);
-    }
+    need(put != NOT_PUT, first->place.file);
     if (put == TAKEN) {
         taken = first->place.file;
     } else {
         keep_name(first);
         put = put_stage(last);
-        if (put == NOT_PUT) {
-            fail_at(last->place.file);
-        }
+        need(put != NOT_PUT, last->place.file);
         if (put == TAKEN) {
             taken = last->place.file;
             undo_stage(first);

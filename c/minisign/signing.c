@@ -27,14 +27,20 @@
 #define DEFAULT_COMMENT "signature from minisign secret key"
 #define COMMENT_BYTES 8192
 
+static const char *last_part(const char *path)
+{
+    const char *slash = strrchr(path, '/');
+
+    return slash == NULL ? path : slash + 1;
+}
+
 /* The default trusted comment: the time, and the last part of the file's name. */
 static const char *default_comment(const char *data_file, bool legacy)
 {
     static char comment[COMMENT_BYTES];
-    const char *slash = strrchr(data_file, '/');
 
-    snprintf(comment, sizeof comment, "timestamp:%lld\tfile:%s%s", (long long) time(NULL),
-             slash == NULL ? data_file : slash + 1, legacy ? "" : "\thashed");
+    snprintf(comment, sizeof comment, "timestamp:%lld\tfile:%s%s", (long long) time(NULL), last_part(data_file),
+             legacy ? "" : "\thashed");
     return comment;
 }
 
@@ -42,17 +48,14 @@ static const char *default_comment(const char *data_file, bool legacy)
  * comment that the user has given. */
 static void expect_comment(const char *data_file, bool legacy)
 {
-    const char *slash = strrchr(data_file, '/'), *name = slash == NULL ? data_file : slash + 1, *why = NULL;
+    const char *name = last_part(data_file);
     const uint8_t *text = (const uint8_t *) name;
     size_t len = strlen(name);
+    const char *why = !is_utf8(text, len)                     ? "is not UTF-8"
+                      : strpbrk(name, "\r\n") != NULL         ? "has a line end in it"
+                      : legacy && ends_with_space(text, len) ? "ends with white space"
+                                                             : NULL;
 
-    if (!is_utf8(text, len)) {
-        why = "is not UTF-8";
-    } else if (strpbrk(name, "\r\n") != NULL) {
-        why = "has a line end in it";
-    } else if (legacy && ends_with_space(text, len)) {
-        why = "ends with white space";
-    }
     if (why != NULL) {
         fprintf(stderr, "%s: a name that %s cannot stand in the trusted comment: choose one by -t\n", visible(data_file), why);
         exit(TROUBLE);
@@ -64,12 +67,11 @@ static minisign_signed_parts comments_of(const struct options *options, const ch
     const char *untrusted = options->comment != NULL ? options->comment : DEFAULT_COMMENT;
     const char *trusted = options->trusted_comment != NULL ? options->trusted_comment
                                                            : default_comment(data_file, options->legacy);
-    minisign_signed_parts parts = {
+
+    return (minisign_signed_parts) {
         .trusted_comment = (const uint8_t *) trusted, .trusted_comment_len = strlen(trusted),
         .untrusted_comment = (const uint8_t *) untrusted, .untrusted_comment_len = strlen(untrusted)
     };
-
-    return parts;
 }
 
 static void stop_at(enum minisign_error error)
@@ -127,17 +129,15 @@ static void verify_signature(const struct options *options, const minisign_state
     minisign_state state = *fed;
     enum minisign_error error = ask(&state, public, made, true);
 
-    if (error == MINISIGN_OK) {
-        error = judge(&state, &data->held);
-    }
+    error = error == MINISIGN_OK ? judge(&state, &data->held) : error;
     if (error == MINISIGN_OK) {
         return;
     }
     fputs("Verification would fail with the given public key\n", stderr);
     if (!has_own_halves()) {
-        fprintf(stderr, "%s: this secret key is damaged: its two halves do not belong together\n",
-                visible(options->secret_file));
-    } else if (name_of_public_key(options) != NULL) {
+        blame(options->secret_file, "this secret key is damaged: its two halves do not belong together");
+    }
+    if (name_of_public_key(options) != NULL) {
         fprintf(stderr, "%s: this is not the public key of %s\n", visible(name_of_public_key(options)),
                 visible(options->secret_file));
     }
@@ -194,9 +194,9 @@ int sign_files(const struct options *options)
     }
     open_key(options);
     public = public_key_for(options);
-    sign_file(options, options->data_file, first != NULL ? first : name_beside(options->data_file, ".minisig"), &public);
+    sign_file(options, options->data_file, first != NULL ? first : joined(options->data_file, ".minisig", ""), &public);
     for (char *const *file = options->further_files; *file != NULL; file++) {
-        sign_file(options, *file, name_beside(*file, ".minisig"), NULL);
+        sign_file(options, *file, joined(*file, ".minisig", ""), NULL);
     }
     replace_waiting();
     return GOOD;

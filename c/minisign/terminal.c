@@ -177,13 +177,9 @@ void ask_password(struct password *password, const char *question)
 
 void show_text(FILE *to, const uint8_t *text, size_t len)
 {
-    char shown[SHOWN_BYTES];
-
-    if (!isatty(fileno(to))) {
+    if (isatty(fileno(to))) {
+        write_visible(to, text, len);
+    } else {
         fwrite(text, 1, len, to);
-        return;
-    }
-    for (size_t at = 0, bytes; at < len; at += bytes) {
-        fwrite(shown, 1, show_character(shown, text + at, len - at, &bytes), to);
     }
 }

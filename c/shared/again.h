@@ -5,10 +5,14 @@
 
 #include <errno.h>
 
-/* Makes a call of the system, and again while a signal interrupts it. */
-#define AGAIN(answer, call)  \
-    do {                     \
-        (answer) = (call);   \
-    } while ((answer) < 0 && errno == EINTR)
+/* What a call of the system answers that is made again while a signal interrupts it. */
+#define AGAIN(call)                                \
+    __extension__({                                \
+        __typeof__(call) answered;                 \
+        do {                                       \
+            answered = (call);                     \
+        } while (answered < 0 && errno == EINTR);  \
+        answered;                                  \
+    })
 
 #endif

@@ -39,13 +39,13 @@ bool is_same_file(const struct stat *one, const struct stat *other)
     return one->st_dev == other->st_dev && one->st_ino == other->st_ino;
 }
 
-void close_handle(struct handle *handle)
+void close_open(int *fd)
 {
     int number = errno;
 
-    if (handle->fd >= 0) {
-        close(handle->fd);
-        handle->fd = -1;
+    if (*fd >= 0) {
+        close(*fd);
+        *fd = -1;
     }
     errno = number;
 }
@@ -108,16 +108,11 @@ int enter_directory(int from, const char *name, bool follows)
 
 bool look_up(struct handle *handle, int directory, const char *path, bool follows)
 {
-    int answer = -1;
-
-    AGAIN(handle->fd, openat(directory, path, O_PATH | O_CLOEXEC | (follows ? 0 : O_NOFOLLOW)));
-    if (handle->fd >= 0) {
-        AGAIN(answer, fstat(handle->fd, &handle->found));
+    handle->fd = AGAIN(openat(directory, path, O_PATH | O_CLOEXEC | (follows ? 0 : O_NOFOLLOW)));
+    if (handle->fd >= 0 && AGAIN(fstat(handle->fd, &handle->found)) != 0) {
+        close_open(&handle->fd);
     }
-    if (answer != 0) {
-        close_handle(handle);
-    }
-    return answer == 0;
+    return handle->fd >= 0;
 }
 
 static bool is_on(int fd, unsigned long file_system)
@@ -138,11 +133,8 @@ bool forbids_links(int directory)
 
 bool look_up(struct handle *handle, int directory, const char *path, bool follows)
 {
-    int answer;
-
     handle->fd = -1;
-    AGAIN(answer, fstatat(directory, path, &handle->found, follows ? 0 : AT_SYMLINK_NOFOLLOW));
-    return answer == 0;
+    return AGAIN(fstatat(directory, path, &handle->found, follows ? 0 : AT_SYMLINK_NOFOLLOW)) == 0;
 }
 
 #define is_on(fd, file_system) ((void) (fd), false)

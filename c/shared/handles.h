@@ -34,8 +34,8 @@ int open_handle(const struct handle *handle, const char *path, int how);
 /* The text of a link that was looked at, as readlinkat. */
 ssize_t read_handle(const struct handle *handle, int directory, const char *name, char *text, size_t room);
 
-/* Closes it. errno stays. */
-void close_handle(struct handle *handle);
+/* Closes what is open, where it is, of which -1 is left. errno stays. */
+void close_open(int *fd);
 
 /* Opens a directory for looking names up in it: -1, as errno says. */
 int enter_directory(int from, const char *name, bool follows);

@@ -54,11 +54,10 @@ static bool is_none(int number)
 /* Reads the list of a file, which may be open as a path alone: whether that is known now, or errno says why not. */
 static bool read_list(struct permissions *older, int fd)
 {
-    ssize_t n;
+    ssize_t n = AGAIN(fgetxattr(fd, ACCESS_LIST, older->list, sizeof older->list));
 
-    AGAIN(n, fgetxattr(fd, ACCESS_LIST, older->list, sizeof older->list));
     if (n < 0 && errno == EBADF) {
-        AGAIN(n, getxattr(own_path_of(fd).bytes, ACCESS_LIST, older->list, sizeof older->list));
+        n = AGAIN(getxattr(own_path_of(fd).bytes, ACCESS_LIST, older->list, sizeof older->list));
         older->is_list_known = !(n < 0 && errno == ENOENT);
     }
     older->list_length = n < 0 ? 0 : (size_t) n;
@@ -67,19 +66,13 @@ static bool read_list(struct permissions *older, int fd)
 
 static bool give_list(int fd, const struct permissions *older)
 {
-    int answer;
-
-    AGAIN(answer, fsetxattr(fd, ACCESS_LIST, older->list, older->list_length, 0));
-    return answer == 0;
+    return AGAIN(fsetxattr(fd, ACCESS_LIST, older->list, older->list_length, 0)) == 0;
 }
 
 /* Takes the list off that a file has inherited. */
 static bool remove_list(int fd)
 {
-    int answer;
-
-    AGAIN(answer, fremovexattr(fd, ACCESS_LIST));
-    return answer == 0 || is_none(errno);
+    return AGAIN(fremovexattr(fd, ACCESS_LIST)) == 0 || is_none(errno);
 }
 
 /* What of these bits each may do who is named in the list, and the owning group. */
@@ -116,10 +109,8 @@ static bool take_found(struct permissions *older, const struct stat *found)
 bool read_permissions_of(struct permissions *older, int fd)
 {
     struct stat found;
-    int answer;
 
-    AGAIN(answer, fstat(fd, &found));
-    return answer == 0 && take_found(older, &found) && read_list(older, fd);
+    return AGAIN(fstat(fd, &found)) == 0 && take_found(older, &found) && read_list(older, fd);
 }
 
 /* Reads those of a file that may not be opened. */
@@ -132,23 +123,20 @@ static bool read_unopened(struct permissions *older, int directory, const char *
         return false;
     }
     is_read = take_found(older, &handle.found) && (handle.fd < 0 || read_list(older, handle.fd));
-    close_handle(&handle);
+    close_open(&handle.fd);
     return is_read;
 }
 
 bool read_permissions(struct permissions *older, int directory, const char *name)
 {
+    int fd = AGAIN(openat(directory, name, O_RDONLY | O_NONBLOCK | O_NOFOLLOW | O_CLOEXEC));
     bool is_read;
-    int fd, number;
 
-    AGAIN(fd, openat(directory, name, O_RDONLY | O_NONBLOCK | O_NOFOLLOW | O_CLOEXEC));
     if (fd < 0) {
         return errno == EACCES && read_unopened(older, directory, name);
     }
     is_read = read_permissions_of(older, fd);
-    number = errno;
-    close(fd);
-    errno = number;
+    close_open(&fd);
     return is_read;
 }
 
@@ -170,12 +158,9 @@ static mode_t common_permissions(const struct permissions *older)
 
 bool give_owner(int fd, uid_t owner, gid_t group, bool *is_given)
 {
-    int answer;
-
-    AGAIN(answer, fchown(fd, owner, group));
-    *is_given = answer == 0;
+    *is_given = AGAIN(fchown(fd, owner, group)) == 0;
     /* (an owner that the system does not have is one that it does not allow) */
-    return answer == 0 || errno == EPERM || errno == EINVAL;
+    return *is_given || errno == EPERM || errno == EINVAL;
 }
 
 /* Gives a file an owner and a group, as far as that is allowed, and tells whether it has the group now. */
@@ -188,23 +173,15 @@ static bool give_group(int fd, const struct stat *own, const struct permissions 
 
 bool give_mode(int fd, mode_t mode)
 {
-    int answer;
-
-    if (!remove_list(fd)) {
-        return false;
-    }
-    AGAIN(answer, fchmod(fd, mode));
-    return answer == 0;
+    return remove_list(fd) && AGAIN(fchmod(fd, mode)) == 0;
 }
 
 bool give_permissions(int fd, const struct permissions *older)
 {
     struct stat own;
     bool has_group;
-    int answer;
 
-    AGAIN(answer, fstat(fd, &own));
-    if (answer != 0 || !give_group(fd, &own, older, &has_group)) {
+    if (AGAIN(fstat(fd, &own)) != 0 || !give_group(fd, &own, older, &has_group)) {
         return false;
     }
     if (!has_group || !older->is_list_known) {

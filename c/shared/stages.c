@@ -35,10 +35,7 @@
 
 static bool draw_bytes(uint8_t *bytes, size_t len)
 {
-    ssize_t n;
-
-    AGAIN(n, getrandom(bytes, len, 0));
-    return n == (ssize_t) len;
+    return AGAIN(getrandom(bytes, len, 0)) == (ssize_t) len;
 }
 
 #else
@@ -107,18 +104,12 @@ static bool is_drawn_name(const char *name, const char *front, size_t len)
 
 bool remove_drawn_names(int directory, const char *front, size_t len, void (*remove)(int directory, const char *name))
 {
+    int fd = AGAIN(openat(directory, ".", O_RDONLY | O_DIRECTORY | O_CLOEXEC)), number;
+    DIR *entries = fd < 0 ? NULL : fdopendir(fd);
     struct dirent *entry;
-    DIR *entries;
-    int fd, number;
 
-    AGAIN(fd, openat(directory, ".", O_RDONLY | O_DIRECTORY | O_CLOEXEC));
-    entries = fd < 0 ? NULL : fdopendir(fd);
     if (entries == NULL) {
-        number = errno;
-        if (fd >= 0) {
-            close(fd);
-        }
-        errno = number;
+        close_open(&fd);
         return false;
     }
     do {
@@ -138,10 +129,7 @@ bool remove_drawn_names(int directory, const char *front, size_t len, void (*rem
 
 int open_named(int directory, const char *name, mode_t mode)
 {
-    int fd;
-
-    AGAIN(fd, openat(directory, name, O_RDWR | O_CREAT | O_EXCL | O_NOFOLLOW | O_CLOEXEC, mode));
-    return fd;
+    return AGAIN(openat(directory, name, O_RDWR | O_CREAT | O_EXCL | O_NOFOLLOW | O_CLOEXEC, mode));
 }
 
 bool rename_to_free(int directory, const char *from, const char *to)

@@ -36,7 +36,7 @@ ssize_t read_whole(int fd, uint8_t *bytes, size_t room)
     ssize_t n = 1;
 
     while (n > 0 && len < room) {
-        AGAIN(n, read(fd, bytes + len, room - len));
+        n = AGAIN(read(fd, bytes + len, room - len));
         len += n > 0 ? (size_t) n : 0;
     }
     return n < 0 ? -1 : (ssize_t) len;
@@ -45,9 +45,8 @@ ssize_t read_whole(int fd, uint8_t *bytes, size_t room)
 bool write_whole(int fd, const uint8_t *bytes, size_t len)
 {
     while (len > 0) {
-        ssize_t n;
+        ssize_t n = AGAIN(write(fd, bytes, len));
 
-        AGAIN(n, write(fd, bytes, len));
         if (n <= 0) {
             errno = n < 0 ? errno : EIO;
             return false;

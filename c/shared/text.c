@@ -2,7 +2,6 @@
 /* Texts as they are shown to a person, and which of them are UTF-8. */
 #include "text.h"
 
-#include <stdio.h>
 #include <stdlib.h>
 #include <string.h>
 
@@ -87,6 +86,15 @@ size_t show_character(char shown[SHOWN_BYTES], const uint8_t *text, size_t len, 
     }
     memcpy(shown, text, *bytes);
     return *bytes;
+}
+
+void write_visible(FILE *to, const uint8_t *text, size_t len)
+{
+    char shown[SHOWN_BYTES];
+
+    for (size_t at = 0, bytes; at < len; at += bytes) {
+        fwrite(shown, 1, show_character(shown, text + at, len - at, &bytes), to);
+    }
 }
 
 const char *visible(const char *name)

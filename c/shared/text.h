@@ -8,6 +8,7 @@
 #include <stdbool.h>
 #include <stddef.h>
 #include <stdint.h>
+#include <stdio.h>
 
 /* Room for a character as it is shown. */
 #define SHOWN_BYTES 12
@@ -22,6 +23,9 @@ size_t show_character(char shown[SHOWN_BYTES], const uint8_t *text, size_t len, 
 /* Whether a text is UTF-8, and whether one of UTF-8 ends with what Unicode calls white space. */
 bool is_utf8(const uint8_t *text, size_t len);
 bool ends_with_space(const uint8_t *text, size_t len);
+
+/* Writes a text as it is shown so. */
+void write_visible(FILE *to, const uint8_t *text, size_t len);
 
 /* The name of a file as it is shown so, a tab too: itself where there is nothing to be made visible, or in memory of
  * malloc. */
