@@ -9,7 +9,7 @@ import shutil
 import subprocess
 import tempfile
 
-from running import SECONDS, Failure, Skip
+from running import SECONDS, Skip, expect
 
 SIZE = 8 << 20
 
@@ -63,5 +63,4 @@ def crash(image, crashed):
 
 def check_image(image):
     """Raises a `Failure` where the file system is damaged."""
-    if not ran("e2fsck", "-f", "-n", image):
-        raise Failure("the file system is damaged")
+    expect(ran("e2fsck", "-f", "-n", image), "the file system is damaged")

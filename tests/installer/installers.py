@@ -30,13 +30,11 @@ class RealInstaller:
                "getrandom", "close", "fgetxattr", "fremovexattr")
     interrupted = ("open", "openat", "read", "write", "fsync", "pread", "flock", "fchmod", "renameat", "readdir", "fstat", "fstatat",
                    "getrandom", "unlinkat", "fgetxattr", "fremovexattr", "fchown")
-    # What the C library calls its calls that `trace_calls.c` tells.
+    # What the C library calls its calls that `disturbed_calls.c` tells.
     called = {"write": "write", "read-back": "pread", "permissions": "fchmod", "sync": "fsync", "rename": "renameat"}
-    # Which of its reads is the first of what stands at the place: before it reads two texts, each to its end, and the record.
-    looked_at = 7
     permissions = (COMMON, WITH_LISTS, ASKED, ASKED_WITH_LISTS)
     # The calls of an installation by root over a file of another owner, in the order of docs/INSTALLING.md, as
-    # `trace_calls.c` tells them; repeated ones stand once. S is the stage of the update, N that of its record.
+    # `disturbed_calls.c` tells them; repeated ones stand once. S is the stage of the update, N that of its record.
     calls = f"""open .
 make {LOCK} new 600
 lock {LOCK}

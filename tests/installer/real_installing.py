@@ -15,7 +15,7 @@ import sys
 import tempfile
 
 HERE = os.path.dirname(os.path.realpath(__file__))
-sys.path += [os.path.join(HERE, "..", it) for it in ("shared", "tool")]
+sys.path += [os.path.join(HERE, "..", name) for name in ("shared", "tool")]
 
 import needs
 import static_library
