@@ -1,18 +1,20 @@
 #!/usr/bin/env python3
 # SPDX-License-Identifier: MIT
 """Makes of include/minisign.h what the packages of `bindings/` have of it: for Rust the numbers, the structs and the calls
-(`src/raw/header.rs`), for Go the errors (`errors.go`), for Python an exception for each error (`errors.py`), and the numbers, the
-structs and the calls (`_header.py`), which are those of include/minisign_install.h too.
+(`src/raw/header.rs`), for Go the errors (`errors.go`) and the calls (`header.go`), for Python an exception for each error (`errors.py`), and the numbers, the
+structs and the calls (`_header.py`), which are those of include/minisign_install.h too, and for JavaScript the errors with their types
+(`errors.js`, `errors.d.ts`) and what signing needs: numbers, places in structs and calls (`header.js`).
 
     tools/bindings.py            writes them
     tools/bindings.py --check    fails where one is not what the header says; the last line is `N passed, M failed`
 
 What these files have by hand stands there, and is kept: their heads, and what their calls share. What the package for
-JavaScript has of the header is written by hand, and compared by its test.
+JavaScript verifies by, which the page has too, is written by hand (`calls.js`), and compared by its test.
 
 Needs Python 3.9 or later.
 """
 
+import re
 import sys
 import textwrap
 
@@ -21,7 +23,10 @@ from c_header import FILE as HEADER, Header, both
 from sources import Unfit
 
 RUST = "bindings/rust/src/raw/header.rs"
-GO = "bindings/go/errors.go"
+GO_ERRORS = "bindings/go/errors.go"
+GO = "bindings/go/header.go"
+JAVASCRIPT_ERRORS, JAVASCRIPT_TYPES = "bindings/javascript/errors.js", "bindings/javascript/errors.d.ts"
+JAVASCRIPT, JAVASCRIPT_CALLS = "bindings/javascript/header.js", "bindings/javascript/calls.js"
 PYTHON_ERRORS = "bindings/python/src/minisign_proved/errors.py"
 PYTHON = "bindings/python/src/minisign_proved/_header.py"
 
@@ -249,7 +254,186 @@ def go_errors(header):
     rows = [f"\t{'Err' + name_of(error.name):{width}} = Error(C.MINISIGN_{error.name})\n" for error in header.errors]
     named = [f"\t{'Err' + name_of(error.name) + ':':{width + 1}} \"{error.name}\",\n" for error in header.errors]
     names = "// Names are those of minisign.h, without MINISIGN_.\nvar names = map[Error]string{\n"
-    return f"{kept(GO, '// SPDX', 'const (' + chr(10))}{''.join(rows)})\n\n{names}{''.join(named)}}}\n"
+    return f"{kept(GO_ERRORS, '// SPDX', 'const (' + chr(10))}{''.join(rows)})\n\n{names}{''.join(named)}}}\n"
+
+
+# ---- Go ----
+
+GO_ROLES = {
+    "password": ("{name} []byte", "", "isGiven({name}), pointer({name}), C.size_t(len({name}))", "", ""),
+    "array": ("{name} *[{count}]byte", "", "(*C.uint8_t)(&{name}[0])", "", ""),
+    "new array": ("", "var {name} [{count}]byte", "(*C.uint8_t)(&{name}[0])", "[{count}]byte", "{name}"),
+    "bytes": ("{name} []byte", "", "pointer({name}), C.size_t(len({name}))", "", ""),
+    "text": ("", "{name}, length := make([]byte, {room}), C.size_t(0)", "pointer({name}), C.size_t(len({name})), &length", "[]byte",
+             "{name}[:length]"),
+    "message": ("", "{name} := make([]byte, 64+{longest})", "pointer({name}), C.size_t(len({name}))", "[]byte", "{name}"),
+    "joined": ("", "{name} := make([]byte, {room})", "pointer({name}), C.size_t(len({name}))", "[]byte", "{name}"),
+    "struct": ("{name} *C.{of}", "", "{name}", "", ""),
+    "new struct": ("", "{name} := new(C.{of})", "{name}", "*C.{of}", "{name}"),
+    "secret": ("", "{name} := new(C.{of})", "{name}", "*C.{of}", "{name}"),
+    "answer": ("{name} bool", "", "answer({name})", "", ""),
+    "number": ("{name} C.{of}", "", "{name}", "", ""),
+    "parts": ("", "", "{parts}", "", ""),
+    "between parts": ", ",
+    "new array among parts": ("{name} *[{count}]byte", "(*C.uint8_t)(&{name}[0])"),
+    "bytes among parts": ("{name} []byte", "pointer({name}), C.size_t(len({name}))"),
+}
+# Calls that get no function: what raw.go has, or nobody asks for.
+GO_WITHOUT = (*DECLARED_ALONE, "minisign_version", "minisign_error_text")
+
+
+def go_flat(call, header):
+    """A call in C that takes a struct of parts by its fields: those are Go's pointers, which may stand in no struct."""
+    taken, lines = [], []
+    for parameter in header.taken(call):
+        struct, _, field = parameter.name.rpartition("->")
+        taken.append(f"{parameter.const}{parameter.kind} {'*' if parameter.count else parameter.star}{field}")
+        if struct and parameter.count:
+            lines.append(f"memcpy({struct}.{field}, {field}, sizeof {struct}.{field});")
+        elif struct:
+            lines.append(f"{struct}.{field} = {field};")
+    handed = ", ".join(f"&{parameter.name}" if parameter.kind in header.in_parts else parameter.name for parameter in call.parameters)
+    (struct,) = (parameter for parameter in call.parameters if parameter.kind in header.in_parts)
+    whole = ", ".join(word.replace(" ", "\0") for word in taken)
+    head = textwrap.wrap(f"static {call.answer} flat_{call.name}({whole})", 110, subsequent_indent=" " * 8)
+    inside = [f"{struct.kind} {struct.name};", "", *lines, f"return {call.name}({handed});"]
+    return "\n".join([*(line.replace("\0", " ") for line in head), "{", *(f"    {line}" if line else "" for line in inside), "}"]) + "\n"
+
+
+def go_call(call, header):
+    """A function that makes a call and answers what that writes, and its error."""
+    taken, before, handed, types, told = in_words(call, header, GO_ROLES, lambda kind, _: kind, "len({})".format)
+    is_flat = any(parameter.kind in header.in_parts for parameter in call.parameters)
+    made = f"C.{'flat_' * is_flat}{call.name}({', '.join(handed)})"
+    if call.answer == "enum minisign_error":
+        lines, types = [f"return {', '.join([*told, 'done(err)'])}"], [*types, "error"]
+        made = f"err := {made}" if told else made
+        lines = [made, *lines] if told else [f"return done({made})"]
+    else:
+        lines = [made, *([f"return {', '.join(told)}"] if told else [])]
+    result = f" ({', '.join(types)})" if len(types) > 1 else "".join(f" {kind}" for kind in types)
+    inside = "".join(f"\t{line}\n" for line in before + lines)
+    text = f"\nfunc call{name_of(call.name)}({', '.join(taken)}){result} {{\n{inside}}}\n"
+    # (gofmt has no blanks around a sign in brackets)
+    return re.sub(r"(?<=[)\d]) \+ (?=len)", "+", named(text, header))
+
+
+def go_header(header):
+    calls = [call for call in header.calls if call.name not in GO_WITHOUT]
+    flat = "".join(go_flat(call, header) for call in calls if any(parameter.kind in header.in_parts for parameter in call.parameters))
+    made = kept(GO, "// SPDX", "#include <minisign.h>\n") + f"\n{flat}*/\nimport \"C\"\n"
+    return made + kept(GO, "\n// The calls of minisign.h", "1\n}\n") + "".join(go_call(call, header) for call in calls)
+
+
+# ---- JavaScript ----
+
+JAVASCRIPT_ROLES = {
+    "password": ("{name}", "", "{name} === null ? 0 : 1, {name} ?? NOTHING, BigInt({name}?.length ?? 0)", "", ""),
+    "array": ("{name}", "", "{name}", "", ""),
+    "bytes": ("{name}", "", "{name}, BigInt({name}.length)", "", ""),
+    "text": ("", "const {name} = new Uint8Array({room});\nconst length = new Uint8Array(8);", "{name}, BigInt({name}.length), length",
+             "", "cut({name}, length)"),
+    "joined": ("", "const {name} = new Uint8Array({room});", "{name}, BigInt({name}.length)", "", "{name}"),
+    "struct": ("{name}", "", "{name}", "", ""),
+    "new struct": ("", "const {name} = new Uint8Array({of});", "{name}", "", "{name}"),
+    "secret": ("", "const {name} = new Uint8Array({of});", "{name}", "", "{name}"),
+    "number": ("{name}", "", "BigInt({name})", "", ""),
+    "parts": ("", "", "{parts}", "", ""),
+    "between parts": ", ",
+    "new array among parts": ("{name}", "{name}"),
+    "bytes among parts": ("{name}", "{name}, BigInt({name}.length)"),
+}
+JAVASCRIPT_WIDTH = 80
+# Those that take or make a secret key, and what is signed: tools/signing_module.py has the same list.
+SIGNING = ("read_secret_key", "open_unsealed_key", "open_sealed_key", "take_secret_key", "public_key_of", "comment_message", "signed_text",
+           "secret_key_text", "public_key_text")
+# The structs that are read and written here, and the sizes of numbers in them.
+JAVASCRIPT_STRUCTS = ("public_key", "unopened_key", "secret_key", "sealing")
+WIDTHS = {"uint8_t": 1, "uint32_t": 4, "uint64_t": 8}
+# The part of calls.js that is made, and what that reads of two structs.
+JAVASCRIPT_MADE, JAVASCRIPT_END = "made by tools/bindings.py ----\n\n", "// ---- What is made ends here ----"
+READ_OF = {"signature": ("key_id", "legacy"),
+           "questions": ("public_key", "digest", "signature", "comment_signature", "message_len", "comment_offset", "comment_len", "legacy")}
+
+
+def places_of(fields):
+    """Where each field of a struct without pointers begins, and where it ends as a whole."""
+    at, widest = 0, 1
+    for field in fields:
+        width = WIDTHS[field.kind]
+        at, widest = (at + width - 1) // width * width, max(widest, width)
+        yield field.name, at
+        at += width * int(field.count or 1)
+    yield "size", (at + widest - 1) // widest * widest
+
+
+def javascript_line(begin, words, end):
+    """A line that has words in brackets, or a line for each of them, as prettier lays it out."""
+    indent = begin[:len(begin) - len(begin.lstrip())]
+    if len(begin + words + end) <= JAVASCRIPT_WIDTH:
+        return f"{begin}{words}{end}\n"
+    return f"{begin}\n" + "".join(f"{indent}  {item},\n" for item in items_of(words)) + f"{indent}{end}\n"
+
+
+def named(text, header):
+    """Names of the header as JavaScript and Go write them, and sizes as numbers."""
+    for size in header.sizes:
+        text = text.replace(f"{size.name} + ", f"{size.number} + ")
+    return re.sub(r"(?<![\w.\"])[a-z]+(?:_[a-z0-9]+)+\b", lambda found: re.sub("_(.)", lambda letter: letter[1].upper(), found[0]), text)
+
+
+def javascript_call(call, header):
+    """A method that makes a call and answers what that writes."""
+    size_of = lambda kind, _: f"STRUCTS.{kind.removeprefix('minisign_')}.size"
+    taken, before, handed, _, told = in_words(call, header, JAVASCRIPT_ROLES, size_of, "{}.length".format)
+    name = re.sub("_(.)", lambda letter: letter[1].upper(), call.name.removeprefix("minisign_"))
+    made = javascript_line(f"  async {name}(", ", ".join(taken), ") {")
+    for line in (line for words in before for line in words.split("\n")):
+        begin, _, words = line.rpartition("(")
+        made += javascript_line(f"    {begin}(", named(words.removesuffix(");"), header), ");")
+    made += javascript_line("    await this.make(", ", ".join([f'"{call.name}"', *handed]), ");")
+    made += f"    return {', '.join(told)};\n" if told else ""
+    return named(made, header) + "  }\n"
+
+
+def javascript_header(header):
+    made = kept(JAVASCRIPT, "// SPDX", "loaded.js\";\n\n")
+    made += "".join(f"export const {name} = {value}{'n' * value.startswith('0x')};\n" for name, value in [*header.numbers, *header.texts])
+    made += "\nexport const STRUCTS = {\n"
+    for struct in JAVASCRIPT_STRUCTS:
+        fields = header.structs[f"minisign_{struct}"]
+        lengths = [*(WIDTHS[field.kind] * int(field.count or 1) for field in fields), None]
+        rows = [f"{name}: {place}" if length is None else f"{name}: [{place}, {length}]"
+                for (name, place), length in zip(places_of(fields), lengths)]
+        made += f"  {struct}: {{\n" + "".join(f"    {row},\n" for row in rows) + "  },\n"
+    made += "};\n" + kept(JAVASCRIPT, "\n// No bytes", "buffer).fill(0);\n    }\n  }\n")
+    calls = {call.name.removeprefix("minisign_"): call for call in header.calls}
+    return made + "".join(f"\n{javascript_call(calls[name], header)}" for name in SIGNING) + "}\n"
+
+
+def javascript_calls(header):
+    """calls.js, in which answers and structs are made."""
+    begin, _, rest = sources.read(JAVASCRIPT_CALLS).partition(JAVASCRIPT_MADE)
+    places = {struct: dict(places_of(header.structs[f"minisign_{struct}"])) for struct in ("state", "public_key", *READ_OF)}
+    made = "".join(f"const {member.name} = {member.number:#x};\n" for member in header.enums["answer"])
+    made += "\n// The structs: how long each is, and where each part begins that is read here.\n"
+    for struct, fields in places.items():
+        made += f"const {struct.removeprefix('public_').upper()}_BYTES = {fields['size']};\n"
+        if struct in READ_OF:
+            read = [f"{name}: {fields[name]}" for name in READ_OF[struct]]
+            one = f"const {struct.upper()} = {{ {', '.join(read)} }};\n"
+            made += one if len(one) <= JAVASCRIPT_WIDTH else f"const {struct.upper()} = {{\n" + "".join(f"  {word},\n" for word in read) + "};\n"
+    return f"{begin}{JAVASCRIPT_MADE}{made}\n{JAVASCRIPT_END}{rest.partition(JAVASCRIPT_END)[2]}"
+
+
+def javascript_errors(header):
+    rows = "".join(f"  {error.name}: {error.number},\n" for error in header.errors)
+    return f"{kept(JAVASCRIPT_ERRORS, '// SPDX', 'Object.freeze({' + chr(10))}{rows}}});\n"
+
+
+def javascript_types(header):
+    rows = "".join(f'\n  | "{error.name}"' for error in header.errors)
+    return f"{kept(JAVASCRIPT_TYPES, '// SPDX', 'export type ErrorCode =')}{rows};\n"
 
 
 # ---- Rust ----
@@ -399,7 +583,9 @@ def rust_header(header):
 
 def made():
     header, installing_too = Header(sources.read(HEADER)), both()
-    for path, make in ((RUST, rust_header), (GO, go_errors), (PYTHON_ERRORS, python_errors)):
+    for path, make in ((RUST, rust_header), (GO_ERRORS, go_errors), (GO, go_header), (JAVASCRIPT_ERRORS, javascript_errors),
+                       (JAVASCRIPT_TYPES, javascript_types), (JAVASCRIPT, javascript_header),
+                       (JAVASCRIPT_CALLS, javascript_calls), (PYTHON_ERRORS, python_errors)):
         yield path, make(header)
     yield PYTHON, python_header(installing_too)
 

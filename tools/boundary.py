@@ -34,9 +34,10 @@ def plain_parameter(parameter):
 
 
 def lengths(parameters):
-    """Each parameter, with the length that stands after it where it points to so many."""
+    """Each parameter, with the length that stands after it where it points to so many; one struct has none."""
     for parameter, after in zip(parameters, [*parameters[1:], None]):
-        yield parameter, after if parameter.star and after and after.kind == "size_t" and not after.star else None
+        counted = parameter.star and not parameter.kind.startswith("minisign_")
+        yield parameter, after if counted and after and after.kind == "size_t" and not after.star else None
 
 
 def arguments(parameters):

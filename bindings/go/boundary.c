@@ -1,6 +1,8 @@
-//go:build portable || !linux || (!amd64 && !arm64)
+//go:build cgo
 
 // A copy of c/library/boundary.c that tools/carried.py made: do not edit it here.
+
+#include "archive.h"
 
 /*
  * The boundary between the headers and the proved calls of the crate minisign_c. Made by tools/header.py.
@@ -313,14 +315,15 @@ enum minisign_error minisign_public_key_text(const minisign_secret_key *key, con
 
 PROVED(uint32_t, minisign_install_init, (minisign_installation *, const minisign_public_key *,
                                          const minisign_public_key *, uint32_t, uint32_t, uint32_t, uint32_t,
-                                         uint32_t));
+                                         uint32_t, uint32_t));
 
 enum minisign_error minisign_install_init(minisign_installation *installation, const minisign_public_key *key,
                                           const minisign_public_key *other, uint32_t is_first, uint32_t again,
-                                          uint32_t is_check, uint32_t is_waiting, uint32_t numbering)
+                                          uint32_t is_check, uint32_t is_waiting, uint32_t must_expire,
+                                          uint32_t numbering)
 {
     return (enum minisign_error) CALL(minisign_install_init)(installation, key, other, is_first, again, is_check,
-                                                             is_waiting, numbering);
+                                                             is_waiting, must_expire, numbering);
 }
 
 PROVED(uint32_t, minisign_install_due, (const minisign_installation *));
@@ -337,11 +340,11 @@ enum minisign_error minisign_install_done(minisign_installation *installation)
     return (enum minisign_error) CALL(minisign_install_done)(installation);
 }
 
-PROVED(uint32_t, minisign_install_more, (minisign_installation *));
+PROVED(uint32_t, minisign_install_more, (minisign_installation *, size_t));
 
-enum minisign_error minisign_install_more(minisign_installation *installation)
+enum minisign_error minisign_install_more(minisign_installation *installation, size_t piece_len)
 {
-    return (enum minisign_error) CALL(minisign_install_more)(installation);
+    return (enum minisign_error) CALL(minisign_install_more)(installation, piece_len);
 }
 
 PROVED(uint32_t, minisign_install_failed, (minisign_installation *, uint32_t));
@@ -351,12 +354,13 @@ enum minisign_error minisign_install_failed(minisign_installation *installation,
     return (enum minisign_error) CALL(minisign_install_failed)(installation, why);
 }
 
-PROVED(uint32_t, minisign_install_record, (minisign_installation *, const uint8_t *, size_t));
+PROVED(uint32_t, minisign_install_record, (minisign_installation *, const uint8_t *, size_t, uint64_t));
 
 enum minisign_error minisign_install_record(minisign_installation *installation, const uint8_t *record,
-                                            size_t record_len)
+                                            size_t record_len, uint64_t written)
 {
-    return (enum minisign_error) CALL(minisign_install_record)(installation, READ(record, record_len), record_len);
+    return (enum minisign_error) CALL(minisign_install_record)(installation, READ(record, record_len), record_len,
+                                                               written);
 }
 
 PROVED(uint32_t, minisign_install_no_record, (minisign_installation *));
@@ -399,6 +403,13 @@ enum minisign_error minisign_install_answer(minisign_installation *installation,
                                             enum minisign_answer second)
 {
     return (enum minisign_error) CALL(minisign_install_answer)(installation, first, second);
+}
+
+PROVED(uint32_t, minisign_install_is_vouched, (const minisign_installation *));
+
+uint32_t minisign_install_is_vouched(const minisign_installation *installation)
+{
+    return CALL(minisign_install_is_vouched)(installation);
 }
 
 PROVED(uint64_t, minisign_install_number, (const minisign_installation *));

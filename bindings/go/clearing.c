@@ -1,4 +1,4 @@
-//go:build portable || !linux || (!amd64 && !arm64)
+//go:build cgo
 
 // A copy of c/library/clearing.c that tools/carried.py made: do not edit it here.
 

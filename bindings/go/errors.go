@@ -4,6 +4,7 @@
 
 package minisign
 
+// #include "archive.h"
 // #include <minisign.h>
 import "C"
 
@@ -54,7 +55,7 @@ const (
 	ErrWorkTooHigh              = Error(C.MINISIGN_WORK_TOO_HIGH)
 	ErrBarePublicKeyLength      = Error(C.MINISIGN_BARE_PUBLIC_KEY_LENGTH)
 	ErrBarePublicKeyNotBase64   = Error(C.MINISIGN_BARE_PUBLIC_KEY_NOT_BASE64)
-	ErrPlaceInUse               = Error(C.MINISIGN_PLACE_IN_USE)
+	ErrTargetInUse              = Error(C.MINISIGN_TARGET_IN_USE)
 	ErrNoRecord                 = Error(C.MINISIGN_NO_RECORD)
 	ErrDamagedRecord            = Error(C.MINISIGN_DAMAGED_RECORD)
 	ErrOtherFile                = Error(C.MINISIGN_OTHER_FILE)
@@ -66,6 +67,9 @@ const (
 	ErrExpired                  = Error(C.MINISIGN_EXPIRED)
 	ErrBadExpiry                = Error(C.MINISIGN_BAD_EXPIRY)
 	ErrSameNumber               = Error(C.MINISIGN_SAME_NUMBER)
+	ErrNoExpiry                 = Error(C.MINISIGN_NO_EXPIRY)
+	ErrBadSize                  = Error(C.MINISIGN_BAD_SIZE)
+	ErrOtherSize                = Error(C.MINISIGN_OTHER_SIZE)
 	ErrOtherSignatureText       = Error(C.MINISIGN_OTHER_SIGNATURE_TEXT)
 	ErrSignatureNotRead         = Error(C.MINISIGN_SIGNATURE_NOT_READ)
 	ErrKeyNotRead               = Error(C.MINISIGN_KEY_NOT_READ)
@@ -121,7 +125,7 @@ var names = map[Error]string{
 	ErrWorkTooHigh:              "WORK_TOO_HIGH",
 	ErrBarePublicKeyLength:      "BARE_PUBLIC_KEY_LENGTH",
 	ErrBarePublicKeyNotBase64:   "BARE_PUBLIC_KEY_NOT_BASE64",
-	ErrPlaceInUse:               "PLACE_IN_USE",
+	ErrTargetInUse:              "TARGET_IN_USE",
 	ErrNoRecord:                 "NO_RECORD",
 	ErrDamagedRecord:            "DAMAGED_RECORD",
 	ErrOtherFile:                "OTHER_FILE",
@@ -133,6 +137,9 @@ var names = map[Error]string{
 	ErrExpired:                  "EXPIRED",
 	ErrBadExpiry:                "BAD_EXPIRY",
 	ErrSameNumber:               "SAME_NUMBER",
+	ErrNoExpiry:                 "NO_EXPIRY",
+	ErrBadSize:                  "BAD_SIZE",
+	ErrOtherSize:                "OTHER_SIZE",
 	ErrOtherSignatureText:       "OTHER_SIGNATURE_TEXT",
 	ErrSignatureNotRead:         "SIGNATURE_NOT_READ",
 	ErrKeyNotRead:               "KEY_NOT_READ",

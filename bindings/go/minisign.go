@@ -2,7 +2,7 @@
 
 //go:build cgo
 
-// Package minisign verifies Minisign signatures over proved calls, with the names that go-minisign has.
+// Package minisign verifies and makes Minisign signatures over proved calls, with the names that go-minisign has.
 package minisign
 
 import (
@@ -36,8 +36,8 @@ type Signature struct {
 	GlobalSignature [64]byte
 }
 
-// text writes the four lines of a signature.
-func (signature *Signature) text() string {
+// Encode makes the four lines of a file such as data.minisig.
+func (signature *Signature) Encode() string {
 	record := bytes.Join([][]byte{signature.SignatureAlgorithm[:], signature.KeyId[:], signature.Signature[:]}, nil)
 	lines := []string{
 		signature.UntrustedComment, base64.StdEncoding.EncodeToString(record),
@@ -155,12 +155,12 @@ func begin(publicKey *PublicKey, signature Signature, allowLegacy bool) (*Verifi
 	if publicKey.SignatureAlgorithm != [2]byte{'E', 'd'} {
 		return nil, ErrUnsupportedAlgorithm
 	}
-	read, err := read(signature.text())
+	read, err := read(signature.Encode())
 	if err != nil {
 		return nil, err
 	}
-	state := newState()
-	asked, err := state.ask(publicKey, read, allowLegacy)
+	state := callInit()
+	asked, err := ask(state, publicKey, read, allowLegacy)
 	if err != nil {
 		return nil, err
 	}
@@ -176,7 +176,7 @@ func (verifier *Verifier) Write(piece []byte) (int, error) {
 	if verifier.state == nil {
 		return 0, ErrNotBegun
 	}
-	if err := verifier.state.update(piece); err != nil {
+	if err := callUpdate(verifier.state, piece); err != nil {
 		return 0, err
 	}
 	return len(piece), nil
@@ -188,7 +188,7 @@ func (verifier *Verifier) VerifyTrustedComment() (bool, error) {
 	if verifier.state == nil {
 		return false, ErrNotBegun
 	}
-	err := verifier.state.commentVerdict(verifier.acceptsComment())
+	err := callCommentVerdict(verifier.state, verifier.acceptsComment())
 	return err == nil, err
 }
 
@@ -207,13 +207,14 @@ func (verifier *Verifier) end(bin []byte) error {
 	if verifier.state == nil {
 		return ErrNotBegun
 	}
-	message, err := verifier.state.digest()
+	digest, err := callDigest(verifier.state)
 	if err != nil {
 		return err
 	}
+	message := digest[:]
 	if verifier.questions.isLegacy() {
 		message = bin
 	}
 	first := accepts(verifier.publicKey, message, verifier.questions.first())
-	return verifier.state.verdict(first, verifier.acceptsComment())
+	return callVerdict(verifier.state, first, verifier.acceptsComment())
 }

@@ -3,24 +3,27 @@
  *
  * SPDX-License-Identifier: MIT
  *
- * Installs an update at a target, beside which the record with the number of the newest one is kept: nothing else gets
- * there, no older one either, and whatever comes between, a crash too, what stands there is whole. The library knows no
- * directory. It tells which call is due; you make it, and say how it went. A host that does no more than that, over
- * calls of the system relative to a directory that is open, is c/install/installing.c of the sources.
+ * This installs an update at a target. Beside the target stands the record, with the number of the newest update.
+ * Nothing but an update gets to the target, and no older one. Whatever comes between, a crash too, the file there is
+ * whole. The library knows no directory. It says which call is due; you make it, and say how it went.
+ * c/install/installing.c of the sources is a host that does no more than that, over calls of the system relative to
+ * an open directory.
  *
- * Both are files of one directory: the target, and the record, which has the number and the field that it stands in, the
- * key that has vouched, and the digest of the data. A stage is a new file beside them, of a name that nobody else has;
- * what is renamed is always whole and synced.
+ * Target and record are files of one directory. The record has the number and its field, the key that has vouched,
+ * and the digest of the data. A stage is a new file beside them, with a name that nobody else uses. What is renamed
+ * is always whole and synced.
  *
- * An update of the number that is kept may stand there already: then its file and the directory are synced, and that is
- * told. A run that was cut off after its record was written is finished by the next one, as the record is of the same
- * data. Other data of that number is rejected, unless it was asked for.
+ * An update of the kept number may stand at the target already: then its file and the directory are synced, and you
+ * are told. The next run finishes a run that was cut off after its record was written, as the record is of the same
+ * data. Other data of that number is rejected, unless you asked for it.
  *
- * What is outside, and what is required beyond the requirements of minisign.h: the lock is held from MINISIGN_DUE_LOCK to
- * MINISIGN_DUE_UNLOCK or to the end of the run, and others keep to it; you say that a call was done only where it was made
- * and went well, and what it is about is what this page says; and what you hand to minisign_install_piece is what the file
- * holds, read through the descriptor that it was opened or written by, from its first byte to its end. Where one of these
- * is broken, nothing is promised of the target.
+ * You have to do the following, beyond the requirements of minisign.h. Where you break one, nothing is promised of
+ * the target.
+ *
+ * - Hold the lock from MINISIGN_DUE_LOCK to MINISIGN_DUE_UNLOCK or to the end of the run; others keep to it too.
+ * - Say that a call was done only where you made it, about what this header says, and it went well.
+ * - Pass to minisign_install_piece what the file holds, from its first byte to its end. Read it through the
+ *   descriptor by which the file was opened or written.
  */
 #ifndef MINISIGN_INSTALL_H
 #define MINISIGN_INSTALL_H
@@ -113,48 +116,68 @@ typedef struct minisign_installation {
 } minisign_installation;
 
 /*
- * Begins: MINISIGN_DUE_LOCK is due. One of the two keys has to have signed: key where the signature has its key ID, and
- * otherwise other. Of one key pass it twice. The numbering says which field of the signed comment has the number: stay
- * with one at a target, since the record is kept by it. With is_first 1 an update is taken also where no number of that
- * field is kept: none at all, none that reads as one, or one of the other field. Otherwise is_first is 0.
+ * Begins an installation: MINISIGN_DUE_LOCK is due. key must have signed where the signature has its key ID,
+ * otherwise other must. If you have one key, pass it twice. numbering says which field of the signed comment has the
+ * number. Stay with one at a target, since the record is kept by it.
  *
- * Of the others any number but 0 is yes. With again other data of the kept number is replaced. With is_check it is only
- * told what a run would do, MINISIGN_DUE_READ_RECORD is due first, and nothing is locked, synced or written. is_waiting
- * says that the data may stand still, as that of a pipe: then it is received while nothing is locked.
+ * is_first is 1 at a first installation, otherwise 0. Then an update is taken also where no number of that field is
+ * kept: none at all, none that reads as one, or one of the other field. A record that names a key that is neither
+ * key nor other counts as none, which gets over what a stolen key has signed.
+ *
+ * Of the others any number but 0 is yes. again: other data of the kept number is replaced. is_check: you are only
+ * told what a run would do. MINISIGN_DUE_READ_RECORD is due first, and nothing is locked, synced or written.
+ * is_waiting: the data may stand still, as that of a pipe. It is then received while nothing is locked. must_expire:
+ * a comment is rejected that does not say when the update expires, or has a field that differs from "expires:" in
+ * white space or case alone.
+ *
+ * Of two keys with one key ID only key is asked. If you have two such keys, and the installation ends with
+ * MINISIGN_COMMENT_SIGNATURE_REFUSED, begin a second one with the two keys exchanged: the first one has made nothing.
  *
  * MINISIGN_BAD_FIRST_FLAG, then MINISIGN_BAD_NUMBERING: nothing is written. Since 0.3.
  */
 MINISIGN_MUST_USE enum minisign_error minisign_install_init(
     minisign_installation *installation, const minisign_public_key *key, const minisign_public_key *other,
-    uint32_t is_first, uint32_t again, uint32_t is_check, uint32_t is_waiting, uint32_t numbering);
+    uint32_t is_first, uint32_t again, uint32_t is_check, uint32_t is_waiting, uint32_t must_expire,
+    uint32_t numbering);
 
 /*
- * What is due, or MINISIGN_DUE_NOTHING of an installation that was never begun. Make that call, and tell its outcome by
- * one of the calls below, until one of the last four is due.
- * Since 0.3.
+ * Returns what is due, or MINISIGN_DUE_NOTHING for an installation that was not begun. Make that call, and tell its
+ * outcome by one of the calls below, until one of the last four is due. Since 0.3.
  */
 enum minisign_due minisign_install_due(const minisign_installation *installation);
 
 /*
- * The call that was due was done: the lock was got, leftovers were removed as far as they can be, a stage was made,
- * all of the data was copied into it, and so on. Also where the removal of a stage went well.
+ * Tells that the call that was due was done: you got the lock, removed leftovers as far as they can be removed, made
+ * a stage, copied all of the data into it, and so on; also that you removed a stage.
  *
- * MINISIGN_NOT_DUE where that is told otherwise: of MINISIGN_DUE_READ_RECORD, MINISIGN_DUE_JUDGE, MINISIGN_DUE_LOOK,
- * MINISIGN_DUE_JUDGE_TARGET, MINISIGN_DUE_READ_BACK and MINISIGN_DUE_ANSWER, which have calls of their own, and once the
- * run has ended. Nothing changes. Since 0.1.
+ * MINISIGN_OTHER_SIZE for MINISIGN_DUE_RECEIVE and MINISIGN_DUE_COPY, where fewer bytes came than the signed comment
+ * says in its field "size:". The run is rejected for that, and what comes of it is due.
+ *
+ * MINISIGN_NOT_DUE for calls that you tell otherwise: MINISIGN_DUE_READ_RECORD, MINISIGN_DUE_JUDGE,
+ * MINISIGN_DUE_LOOK, MINISIGN_DUE_JUDGE_TARGET, MINISIGN_DUE_READ_BACK and MINISIGN_DUE_ANSWER; and once the run has
+ * ended. Nothing changes. Since 0.1.
  */
 MINISIGN_MUST_USE enum minisign_error minisign_install_done(minisign_installation *installation);
 
-/* A piece was copied or received, and there may be more: MINISIGN_DUE_COPY or MINISIGN_DUE_RECEIVE is due again.
- * MINISIGN_NOT_DUE otherwise. Since 0.1. */
-MINISIGN_MUST_USE enum minisign_error minisign_install_more(minisign_installation *installation);
+/*
+ * Tells that a piece of so many bytes was copied or received, and that there may be more: MINISIGN_DUE_COPY or
+ * MINISIGN_DUE_RECEIVE is due again. Tell each piece so, also one of 0 bytes, and the end by minisign_install_done.
+ * The bytes are counted where the signed comment has a field "size:", from the beginning of MINISIGN_DUE_RECEIVE,
+ * and again from that of MINISIGN_DUE_COPY. Where another run held the lock, data is received before its comment is
+ * judged: its size counts when it is copied.
+ *
+ * MINISIGN_OTHER_SIZE where more bytes came than that field says: the run is rejected for that, and what comes of it
+ * is due. MINISIGN_NOT_DUE otherwise: nothing changes. Since 0.3.
+ */
+MINISIGN_MUST_USE enum minisign_error minisign_install_more(minisign_installation *installation, size_t piece_len);
 
 /*
- * The call that was due failed, also where it is one with a call of its own: MINISIGN_OUT_OF_MEMORY,
- * MINISIGN_READING_FAILED, MINISIGN_WRITING_FAILED or MINISIGN_RANDOM_SOURCE_FAILED, and of MINISIGN_DUE_LOCK also
- * MINISIGN_PLACE_IN_USE, after which data that may stand still is received at first. What was made is then to be removed,
- * and at the end that is what the run was rejected for. Of MINISIGN_DUE_SYNC_TARGET, MINISIGN_DUE_SYNC_TARGET_NAME and
- * MINISIGN_DUE_SYNC_NAME it becomes MINISIGN_DIRECTORY_NOT_SYNCED: the update stands at the target.
+ * Tells that the call that was due failed, also one that has a call of its own: MINISIGN_OUT_OF_MEMORY,
+ * MINISIGN_READING_FAILED, MINISIGN_WRITING_FAILED or MINISIGN_RANDOM_SOURCE_FAILED. For MINISIGN_DUE_LOCK it may
+ * also be MINISIGN_TARGET_IN_USE, after which data that may stand still is received first. What was made is then to
+ * be removed, and at the end the run was rejected for that error. For MINISIGN_DUE_SYNC_TARGET,
+ * MINISIGN_DUE_SYNC_TARGET_NAME and MINISIGN_DUE_SYNC_NAME the error becomes MINISIGN_DIRECTORY_NOT_SYNCED: the
+ * update stands at the target.
  *
  * MINISIGN_NOT_DUE for another number, and once the run has ended: nothing changes. Since 0.1.
  */
@@ -162,58 +185,75 @@ MINISIGN_MUST_USE enum minisign_error minisign_install_failed(
     minisign_installation *installation, enum minisign_error why);
 
 /*
- * MINISIGN_DUE_READ_RECORD: the bytes of the record, as minisign_install_record_text writes them; or as earlier versions
- * wrote it: "timestamp:" or "version:" and a number, or a number alone, which counts for either field, with a line feed at
- * the end that is left out. Hand over all of it, or say by minisign_install_failed that reading failed where it is longer
- * than MINISIGN_RECORD_TEXT_BYTES. Or there is no record. Where there is no number of the field and this is not the first
- * installation, the run is rejected, with MINISIGN_NO_RECORD, MINISIGN_DAMAGED_RECORD, MINISIGN_KEPT_BY_TIMESTAMP or
- * MINISIGN_KEPT_BY_VERSION; the call is MINISIGN_OK then too.
+ * MINISIGN_DUE_READ_RECORD: passes the bytes of the record, or tells that there is none. The record is as
+ * minisign_install_record_text writes it, or as earlier versions wrote it: "timestamp:" or "version:" and a number,
+ * or a number alone, which counts for either field; a line feed at the end is left out. Pass all of it. Where it is
+ * longer than MINISIGN_RECORD_TEXT_BYTES, say by minisign_install_failed that reading failed. Where it has no number
+ * of the field, and this is not the first installation, the run is rejected: MINISIGN_NO_RECORD,
+ * MINISIGN_DAMAGED_RECORD, MINISIGN_KEPT_BY_TIMESTAMP or MINISIGN_KEPT_BY_VERSION. The call returns MINISIGN_OK then
+ * too.
  *
- * MINISIGN_NOT_DUE: nothing changes. Since 0.1.
+ * written is when the record was last written, in seconds since the beginning of 1970, as the file system says, or 0
+ * where you do not know. A clock that shows less is wrong: see minisign_install_ask.
+ *
+ * MINISIGN_NOT_DUE: nothing changes. Since 0.3.
  */
 MINISIGN_MUST_USE enum minisign_error minisign_install_record(
-    minisign_installation *installation, const uint8_t *record, size_t record_len);
+    minisign_installation *installation, const uint8_t *record, size_t record_len, uint64_t written);
 MINISIGN_MUST_USE enum minisign_error minisign_install_no_record(minisign_installation *installation);
 
 /*
- * MINISIGN_DUE_LOOK and MINISIGN_DUE_READ_BACK: the next bytes of what the file at the target, or the stage, holds, in
- * pieces of any length; at its end 0 bytes, and MINISIGN_DUE_JUDGE_TARGET or MINISIGN_DUE_ANSWER is due.
+ * MINISIGN_DUE_LOOK and MINISIGN_DUE_READ_BACK: passes the next bytes of the file at the target, or of the stage, in
+ * pieces of any length. At its end pass 0 bytes: then MINISIGN_DUE_JUDGE_TARGET or MINISIGN_DUE_ANSWER is due.
  *
  * MINISIGN_NOT_DUE: nothing changes. Since 0.1.
  */
 MINISIGN_MUST_USE enum minisign_error minisign_install_piece(
     minisign_installation *installation, const uint8_t *piece, size_t piece_len);
 
-/* MINISIGN_DUE_LOOK: no file stands at the target. MINISIGN_NOT_DUE: nothing changes. Since 0.3. */
+/* MINISIGN_DUE_LOOK: tells that no file stands at the target. MINISIGN_NOT_DUE: nothing changes. Since 0.3. */
 MINISIGN_MUST_USE enum minisign_error minisign_install_no_target(minisign_installation *installation);
 
 /*
- * MINISIGN_DUE_JUDGE, MINISIGN_DUE_JUDGE_TARGET and MINISIGN_DUE_ANSWER, first: reads the text of the signature, and tells
- * what Ed25519 has to answer, as minisign_ask and minisign_digest tell it; signatures over the data itself are never
- * taken. The digest is at first that of the data for which the record was written, or zeros, and then that of the bytes
- * that were handed over. The signed comment is judged too: whether it has a field "file:" with
- * exactly this name, and, after the label of the numbering, a number below 2^64 in decimal digits alone that is
- * not below the one that is kept; and whether it has not expired: it has no field "expires:", or one, with a number
- * of the same form that is greater than now. Both are in seconds since the beginning of 1970, and now is what your
- * clock shows. What came of that is told only after the answers, since nothing vouches for it before.
+ * MINISIGN_DUE_JUDGE, MINISIGN_DUE_JUDGE_TARGET and MINISIGN_DUE_ANSWER, first: reads the text of the signature, and
+ * gives you the two questions, as minisign_ask and minisign_digest do. Signatures over the data itself are never
+ * taken. For MINISIGN_DUE_JUDGE the digest is that of the data for which the record was written, or zeros; later it
+ * is that of the bytes that you passed.
  *
- * The errors, in this order: MINISIGN_NOT_DUE; MINISIGN_NOT_UTF8 of the name; those of minisign_read_signature; those of
- * minisign_ask. After MINISIGN_NOT_DUE and MINISIGN_NO_ROOM nothing changes; as much room as the text has bytes will do.
- * After the others the run is rejected for that, and what comes of it is due; the questions and the message stay as they
- * were. Since 0.3.
+ * The call judges the signed comment too. You learn the result only after your answers, since nothing vouches for it
+ * before. A number is below 2^64, in decimal digits alone. The comment has to have
+ *
+ * - a field "file:" with exactly this name;
+ * - behind the label of the numbering a number that is not below the kept one;
+ * - no field "expires:", or one, with a number that is greater than now: seconds since the beginning of 1970. With
+ *   must_expire it has to have one. White space, and capital for small letters, make no other field of it then:
+ *   "Expires:5" or "expires :5" is one more such field, and not the wanted one;
+ * - no field "size:", or one, with a number: the length of the data, in bytes.
+ *
+ * now is what your clock shows. Where that is below when the record was last written, and this is not the first
+ * installation, it counts as the greatest number: what expires has expired.
+ *
+ * The errors, in this order: MINISIGN_NOT_DUE; MINISIGN_NOT_UTF8 of the name; those of minisign_read_signature;
+ * those of minisign_ask. After MINISIGN_NOT_DUE and MINISIGN_NO_ROOM nothing changes; as much room as the text has
+ * bytes is enough. After the others the run is rejected for that, and what comes of it is due; the questions and the
+ * message stay as they were. Since 0.3.
  */
 MINISIGN_MUST_USE enum minisign_error minisign_install_ask(
     minisign_installation *installation, const uint8_t *sig_text, size_t sig_text_len, const uint8_t *file,
     size_t file_len, uint64_t now, minisign_questions *questions, uint8_t *message, size_t room);
 
 /*
- * Then: what Ed25519 answered to the two questions. MINISIGN_OK where the run goes on or ends well: of MINISIGN_DUE_JUDGE,
- * where the key has signed the comment, and that is what is wanted; of MINISIGN_DUE_JUDGE_TARGET, where the update stands
- * at the target, or other data that may be replaced; of MINISIGN_DUE_ANSWER exactly where the texts vouch for what was read
- * back, and the comment that was signed with it names the file, has not expired, and has a number that is not below the
- * one that is kept. Otherwise the run is rejected, and the call answers the first reason: MINISIGN_SIGNATURE_REFUSED,
- * MINISIGN_COMMENT_SIGNATURE_REFUSED, MINISIGN_OTHER_FILE, MINISIGN_NO_NUMBER, MINISIGN_BAD_EXPIRY, MINISIGN_EXPIRED,
- * MINISIGN_OLDER_UPDATE, or of MINISIGN_DUE_JUDGE_TARGET MINISIGN_SAME_NUMBER.
+ * Then: takes what Ed25519 answered to the two questions. MINISIGN_OK where the run goes on or ends well:
+ *
+ * - for MINISIGN_DUE_JUDGE, where the key has signed the comment, and the comment is what is wanted;
+ * - for MINISIGN_DUE_JUDGE_TARGET, where the update stands at the target, or other data that may be replaced;
+ * - for MINISIGN_DUE_ANSWER exactly where the texts vouch for what you read back, and the comment that was signed
+ *   with it is what is wanted.
+ *
+ * Otherwise the run is rejected, and the call returns the first reason: MINISIGN_SIGNATURE_REFUSED,
+ * MINISIGN_COMMENT_SIGNATURE_REFUSED, MINISIGN_OTHER_FILE, MINISIGN_NO_NUMBER, MINISIGN_NO_EXPIRY,
+ * MINISIGN_BAD_EXPIRY or MINISIGN_EXPIRED, MINISIGN_BAD_SIZE, MINISIGN_OLDER_UPDATE; for MINISIGN_DUE_JUDGE_TARGET
+ * also MINISIGN_SAME_NUMBER.
  *
  * MINISIGN_BAD_ANSWER, then MINISIGN_NOT_DUE, MINISIGN_NOT_ASKED: nothing changes. Since 0.1.
  */
@@ -221,30 +261,36 @@ MINISIGN_MUST_USE enum minisign_error minisign_install_answer(
     minisign_installation *installation, enum minisign_answer first, enum minisign_answer second);
 
 /*
- * The number of the update, once MINISIGN_DUE_JUDGE was answered with MINISIGN_OK; before that 0. The comment stands in the
- * message from the questions' comment_offset on: show neither before. Since 0.3.
+ * Returns 1 once you have answered that a key has signed the comment that was asked about last, also where
+ * minisign_install_answer has then rejected the run, for what the comment says or for the data. Otherwise it returns
+ * 0, so from minisign_install_ask, where that is MINISIGN_OK, until your answers. The comment stands in the message
+ * from the questions' comment_offset on: show it only where this is 1. Since 0.3.
  */
+uint32_t minisign_install_is_vouched(const minisign_installation *installation);
+
+/* Returns the number of that comment, behind the label of the numbering, where minisign_install_is_vouched is 1 and
+ * it has one; otherwise 0. Since 0.3. */
 uint64_t minisign_install_number(const minisign_installation *installation);
 
 /*
- * MINISIGN_DUE_WRITE_RECORD: writes the record to the beginning of text, of room bytes, as it is to be written into its
- * stage: the label of the field and decimal digits, as "version:2"; and in two more lines, each after a line feed, the
- * key that has vouched, and the digest of the data, in hexadecimal digits; with no 0 and no line feed after them. Returns
- * how many bytes, and 0 where no record is to be written or there is no room; then nothing is written. Since 0.3.
+ * MINISIGN_DUE_WRITE_RECORD: writes the record, which you write into its stage, to the beginning of text, of room
+ * bytes: the label of the field and decimal digits, as "version:2"; and in two more lines, each after a line feed,
+ * the key that has vouched, and the digest of the data, in hexadecimal digits. No 0 and no line feed comes after
+ * them. Returns how many bytes. Returns 0, and writes nothing, where no record is to be written or it has no room.
+ * Since 0.3.
  */
 #define MINISIGN_RECORD_TEXT_BYTES 258
 size_t minisign_install_record_text(const minisign_installation *installation, uint8_t *text, size_t room);
 
-/* MINISIGN_DUE_REFUSED: why the run was rejected. MINISIGN_OK before its end, and where it has ended well.
- * Since 0.1. */
+/* Returns why the run was rejected, where MINISIGN_DUE_REFUSED is due. MINISIGN_OK before its end, and where it has
+ * ended well. Since 0.1. */
 enum minisign_error minisign_install_error(const minisign_installation *installation);
 
 /*
- * Judges a signed comment by itself, for programs that install in other ways: one that minisign_verdict has vouched
- * for. Writes its number where the comment has a field "file:" with exactly this name, and, after the label of the
- * numbering, a number below 2^64 in decimal digits alone that is not below kept, and where it has not expired, as
- * minisign_install_ask says. Fields end at tabs, and of several with a label the first counts; but "expires:" may
- * stand there once.
+ * Judges a signed comment by itself, one that minisign_verdict has vouched for, for programs that install in other
+ * ways. It looks for what minisign_install_ask looks for, but for must_expire and "size:", and writes the number of
+ * the comment. The number must not be below kept. Fields end at tabs. Of several fields with a label the first
+ * counts, but "expires:" may stand there once.
  *
  * After an error the number stays as it was. The errors, in this order: MINISIGN_BAD_NUMBERING; MINISIGN_NOT_UTF8
  * of the comment or the name; MINISIGN_OTHER_FILE; MINISIGN_NO_NUMBER; MINISIGN_BAD_EXPIRY or MINISIGN_EXPIRED;

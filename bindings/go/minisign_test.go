@@ -169,3 +169,60 @@ func TestThreads(t *testing.T) {
 	}
 	threads.Wait()
 }
+
+func ExampleSecretKey_SignBytes() {
+	secret, err := GenerateKey()
+	if err != nil {
+		panic(err)
+	}
+	defer secret.Clear()
+	signature, err := secret.SignBytes([]byte("some data"), "version:2\tfile:app", "made by my program")
+	if err != nil {
+		panic(err)
+	}
+	key, err := secret.PublicKey()
+	if err != nil {
+		panic(err)
+	}
+	fmt.Println(key.Verify([]byte("some data"), signature))
+	fmt.Printf("%q %q\n", signature.UntrustedComment, signature.TrustedComment)
+	// Output:
+	// true <nil>
+	// "untrusted comment: made by my program" "trusted comment: version:2\tfile:app"
+}
+
+// Keys that are written and read again sign as before, sealed by little work and not sealed.
+func TestKeysAgain(t *testing.T) {
+	secret, err := GenerateKey()
+	if err != nil {
+		t.Fatal(err)
+	}
+	key, err := secret.PublicKey()
+	if err != nil {
+		t.Fatal(err)
+	}
+	sealed, err := secret.Encode([]byte("pass word"), Work{OperationsLimit: 1 << 19, MemoryLimit: 1 << 24})
+	if err != nil {
+		t.Fatal(err)
+	}
+	bare, err := secret.EncodeUnsealed()
+	if err != nil {
+		t.Fatal(err)
+	}
+	for _, given := range []struct{ text, password []byte }{{sealed, []byte("pass word")}, {bare, nil}} {
+		again, err := DecodeSecretKey(given.text, given.password, Work{LowMemory: true})
+		if err != nil {
+			t.Fatal(err)
+		}
+		signature, err := again.Sign(strings.NewReader("data"), "c", "u")
+		if good, wrong := key.Verify([]byte("data"), signature); !good || again.IsWeak() || again.KeyId() != key.KeyId {
+			t.Fatal(err, wrong)
+		}
+	}
+	if _, err := DecodeSecretKey(sealed, []byte("pass"), Work{}); err != ErrWrongPassword {
+		t.Fatal(err)
+	}
+	if _, err := secret.Encode([]byte("pass word"), Work{OperationsLimit: 1}); err != ErrWeakLimits {
+		t.Fatal(err)
+	}
+}

@@ -326,14 +326,15 @@ uint32_t portable_minisign_public_key_text(const minisign_secret_key *key, const
 }
 
 uint32_t machine_minisign_install_init(uint64_t, uint64_t, uint64_t, uint32_t, uint32_t, uint32_t, uint32_t,
-                                       uint32_t);
+                                       uint32_t, uint32_t);
 
 uint32_t portable_minisign_install_init(minisign_installation *installation, const minisign_public_key *key,
                                         const minisign_public_key *other, uint32_t is_first, uint32_t again,
-                                        uint32_t is_check, uint32_t is_waiting, uint32_t numbering)
+                                        uint32_t is_check, uint32_t is_waiting, uint32_t must_expire,
+                                        uint32_t numbering)
 {
     return machine_minisign_install_init(address(installation), address(key), address(other), is_first, again,
-                                         is_check, is_waiting, numbering);
+                                         is_check, is_waiting, must_expire, numbering);
 }
 
 uint32_t machine_minisign_install_due(uint64_t);
@@ -350,11 +351,11 @@ uint32_t portable_minisign_install_done(minisign_installation *installation)
     return machine_minisign_install_done(address(installation));
 }
 
-uint32_t machine_minisign_install_more(uint64_t);
+uint32_t machine_minisign_install_more(uint64_t, uint64_t);
 
-uint32_t portable_minisign_install_more(minisign_installation *installation)
+uint32_t portable_minisign_install_more(minisign_installation *installation, size_t piece_len)
 {
-    return machine_minisign_install_more(address(installation));
+    return machine_minisign_install_more(address(installation), piece_len);
 }
 
 uint32_t machine_minisign_install_failed(uint64_t, uint32_t);
@@ -364,12 +365,12 @@ uint32_t portable_minisign_install_failed(minisign_installation *installation, u
     return machine_minisign_install_failed(address(installation), why);
 }
 
-uint32_t machine_minisign_install_record(uint64_t, uint64_t, uint64_t);
+uint32_t machine_minisign_install_record(uint64_t, uint64_t, uint64_t, uint64_t);
 
 uint32_t portable_minisign_install_record(minisign_installation *installation, const uint8_t *record,
-                                          size_t record_len)
+                                          size_t record_len, uint64_t written)
 {
-    return machine_minisign_install_record(address(installation), address(record), record_len);
+    return machine_minisign_install_record(address(installation), address(record), record_len, written);
 }
 
 uint32_t machine_minisign_install_no_record(uint64_t);
@@ -414,6 +415,13 @@ uint32_t machine_minisign_install_answer(uint64_t, uint32_t, uint32_t);
 uint32_t portable_minisign_install_answer(minisign_installation *installation, uint32_t first, uint32_t second)
 {
     return machine_minisign_install_answer(address(installation), first, second);
+}
+
+uint32_t machine_minisign_install_is_vouched(uint64_t);
+
+uint32_t portable_minisign_install_is_vouched(const minisign_installation *installation)
+{
+    return machine_minisign_install_is_vouched(address(installation));
 }
 
 uint64_t machine_minisign_install_number(uint64_t);

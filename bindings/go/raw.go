@@ -12,10 +12,12 @@ package minisign
 #cgo linux,!portable,amd64,!amd64.v3 LDFLAGS: -l:calls-x86-64-v2.a
 #cgo linux,!portable,amd64,amd64.v3 LDFLAGS: -l:calls-x86-64-v3.a
 #cgo linux,!portable,arm64 LDFLAGS: -l:calls-aarch64.a
+#include "archive.h"
 #include <minisign.h>
 */
 import "C"
 import (
+	"runtime"
 	"strings"
 	"unsafe"
 )
@@ -33,43 +35,18 @@ func (err Error) Error() string {
 	return "minisign: " + C.GoString(&text[0])
 }
 
-func done(err C.enum_minisign_error) error {
-	if err == C.MINISIGN_OK {
-		return nil
-	}
-	return Error(err)
-}
-
-// The proved calls take no NULL, also where there are no bytes.
-var nothing [1]byte
-
-func front(bytes []byte) (*C.uint8_t, C.size_t) {
-	if len(bytes) == 0 {
-		bytes = nothing[:]
-		return (*C.uint8_t)(unsafe.Pointer(&bytes[0])), 0
-	}
-	return (*C.uint8_t)(unsafe.Pointer(&bytes[0])), C.size_t(len(bytes))
-}
-
 // A state of the library, for one file.
-type state struct{ of C.minisign_state }
-
-func newState() *state {
-	it := new(state)
-	C.minisign_init(&it.of)
-	return it
-}
+type state = C.minisign_state
 
 // A reading is the text of a signature, and what the library has read of it.
 type reading struct {
 	text string
-	of   C.minisign_signature
+	of   *C.minisign_signature
 }
 
 func read(text string) (*reading, error) {
-	it := &reading{text: text}
-	at, length := front([]byte(text))
-	return it, done(C.minisign_read_signature(at, length, &it.of))
+	of, err := callReadSignature([]byte(text))
+	return &reading{text, of}, err
 }
 
 // The library tells all of a signature but its first line.
@@ -87,11 +64,11 @@ func (it *reading) signature() Signature {
 
 // Questions are what Ed25519 has to answer, and the message of the second one.
 type questions struct {
-	of      C.minisign_questions
+	of      *C.minisign_questions
 	message []byte
 }
 
-func (it *state) ask(publicKey *PublicKey, signature *reading, allowLegacy bool) (*questions, error) {
+func ask(of *state, publicKey *PublicKey, signature *reading, allowLegacy bool) (*questions, error) {
 	var key C.minisign_public_key
 	*(*[32]byte)(unsafe.Pointer(&key.key)) = publicKey.PublicKey
 	*(*[8]byte)(unsafe.Pointer(&key.key_id)) = publicKey.KeyId
@@ -99,10 +76,8 @@ func (it *state) ask(publicKey *PublicKey, signature *reading, allowLegacy bool)
 	if allowLegacy {
 		legacy = 1
 	}
-	asked := &questions{message: make([]byte, 64+signature.of.comment_len)}
-	text, length := front([]byte(signature.text))
-	message, room := front(asked.message)
-	return asked, done(C.minisign_ask(&it.of, &key, &signature.of, text, length, legacy, &asked.of, message, room))
+	asked, message, err := callAsk(of, &key, signature.of, []byte(signature.text), legacy)
+	return &questions{asked, message}, err
 }
 
 func (asked *questions) isLegacy() bool { return asked.of.legacy == 1 }
@@ -113,41 +88,96 @@ func (asked *questions) second() [64]byte {
 	return *(*[64]byte)(unsafe.Pointer(&asked.of.comment_signature))
 }
 
-func (it *state) update(piece []byte) error {
-	at, length := front(piece)
-	return done(C.minisign_update(&it.of, at, length))
-}
-
-func (it *state) digest() ([]byte, error) {
-	var digest [64]byte
-	err := done(C.minisign_digest(&it.of, (*C.uint8_t)(&digest[0])))
-	return digest[:], err
-}
-
-func answer(accepted bool) C.enum_minisign_answer {
-	if accepted {
-		return C.MINISIGN_ANSWER_YES
-	}
-	return C.MINISIGN_ANSWER_NO
-}
-
-func (it *state) verdict(first, second bool) error {
-	return done(C.minisign_verdict(&it.of, answer(first), answer(second)))
-}
-
-func (it *state) commentVerdict(second bool) error {
-	return done(C.minisign_comment_verdict(&it.of, answer(second)))
-}
-
 func readPublicKey(text string, isBare bool) (PublicKey, error) {
-	var key C.minisign_public_key
-	at, length := front([]byte(text))
-	var err C.enum_minisign_error
+	read := callReadPublicKey
 	if isBare {
-		err = C.minisign_read_bare_public_key(at, length, &key)
-	} else {
-		err = C.minisign_read_public_key(at, length, &key)
+		read = callReadBarePublicKey
 	}
+	key, err := read([]byte(text))
+	return publicKeyOf(key), err
+}
+
+func publicKeyOf(key *C.minisign_public_key) PublicKey {
 	of, id := *(*[32]byte)(unsafe.Pointer(&key.key)), *(*[8]byte)(unsafe.Pointer(&key.key_id))
-	return PublicKey{[2]byte{'E', 'd'}, id, of}, done(err)
+	return PublicKey{[2]byte{'E', 'd'}, id, of}
+}
+
+// An opened key is a secret key as the library has it, whose bytes are cleared once nothing refers to it.
+type openedKey C.minisign_secret_key
+
+func opened(key *C.minisign_secret_key) *openedKey {
+	runtime.SetFinalizer((*openedKey)(key), (*openedKey).clear)
+	return (*openedKey)(key)
+}
+
+// (of a SecretKey that nobody made a key that was not opened)
+func (key *openedKey) raw() *C.minisign_secret_key {
+	if key == nil {
+		key = new(openedKey)
+	}
+	return (*C.minisign_secret_key)(key)
+}
+
+func (key *openedKey) clear() { *key = openedKey{} }
+
+func (key *openedKey) keyId() [8]byte { return *(*[8]byte)(unsafe.Pointer(&key.key_id)) }
+
+// The 64 bytes where they lie.
+func (key *openedKey) bytes() []byte { return (*[64]byte)(unsafe.Pointer(&key.secret))[:] }
+
+func (work Work) keepEvery() C.uint64_t {
+	if work.LowMemory {
+		return C.MINISIGN_KEEP_FEW_ROWS
+	}
+	return C.MINISIGN_KEEP_EVERY_ROW
+}
+
+// A number of Work, of which 0 is the usual one.
+func chosen(number, usual C.uint64_t) C.uint64_t {
+	if number == 0 {
+		return usual
+	}
+	return number
+}
+
+// The key of a text, and whether it is weak.
+func openSecretKey(text, password []byte, work Work) (*openedKey, bool, error) {
+	unopened, err := callReadSecretKey(text)
+	if err != nil {
+		return nil, false, err
+	}
+	defer func() { *unopened = C.minisign_unopened_key{} }()
+	if password == nil {
+		key, err := callOpenUnsealedKey(unopened)
+		return opened(key), false, err
+	}
+	mostRows := chosen(C.uint64_t(work.MostRows), C.MINISIGN_USUAL_ROWS)
+	key, err := callOpenSealedKey(unopened, password, work.keepEvery(), mostRows)
+	return opened(key), unopened.log2_rows < C.MINISIGN_LEAST_LOG2_ROWS, err
+}
+
+// The text of the key, sealed where there is a password. Limits that are weak are rejected.
+func (key *openedKey) text(password []byte, salt [32]byte, work Work) ([]byte, error) {
+	sealing := C.minisign_sealing{
+		operations_limit: chosen(C.uint64_t(work.OperationsLimit), C.MINISIGN_OPERATIONS_LIMIT),
+		memory_limit:     chosen(C.uint64_t(work.MemoryLimit), C.MINISIGN_MEMORY_LIMIT),
+	}
+	if sealing.operations_limit < C.MINISIGN_LEAST_OPERATIONS_LIMIT || sealing.memory_limit < C.MINISIGN_LEAST_MEMORY_LIMIT {
+		return nil, ErrWeakLimits
+	}
+	*(*[32]byte)(unsafe.Pointer(&sealing.salt)) = salt
+	return callSecretKeyText(key.raw(), password, &sealing, work.keepEvery(), []byte(C.MINISIGN_SECRET_KEY_COMMENT))
+}
+
+func (key *openedKey) publicKeyText(keyId string) ([]byte, error) {
+	return callPublicKeyText(key.raw(), []byte(C.MINISIGN_PUBLIC_KEY_COMMENT+keyId))
+}
+
+func (key *openedKey) publicKey() (PublicKey, error) {
+	public, err := callPublicKeyOf(key.raw())
+	return publicKeyOf(public), err
+}
+
+func (key *openedKey) signedText(first, second *[64]byte, trusted, untrusted []byte) ([]byte, error) {
+	return callSignedText(key.raw(), first, second, trusted, untrusted)
 }

@@ -8,17 +8,18 @@
 // and copies out what was written: the caller holds the state, and nothing
 // lasts in the module from one call to the next but what `place` puts there.
 
-const ANSWER_YES = 0x796573;
-const ANSWER_NO = 0x6e6f;
-
 // A text of a key or of a signature is shorter than this.
 export const TEXT_BYTES = 65536;
 // Data is fed in pieces that are not longer, and not longer than the room that
 // the module's memory has for one.
 const MAX_PIECE_BYTES = 4 * 1048576;
 
-// The structs of include/minisign.h: how long each is, and where each part
-// begins that is read here.
+// ---- Of include/minisign.h, made by tools/bindings.py ----
+
+const ANSWER_YES = 0x796573;
+const ANSWER_NO = 0x6e6f;
+
+// The structs: how long each is, and where each part begins that is read here.
 const STATE_BYTES = 512;
 const KEY_BYTES = 40;
 const SIGNATURE_BYTES = 200;
@@ -35,12 +36,12 @@ const QUESTIONS = {
   legacy: 248,
 };
 
+// ---- What is made ends here ----
+
 // Eight bytes as minisign shows an identifier: one little endian number.
-function identifierOf(bytes) {
-  const digits = Array.from(bytes, (byte) =>
-    byte.toString(16).padStart(2, "0"),
-  );
-  return digits.reverse().join("").toUpperCase();
+export function identifierOf(bytes) {
+  const digits = (byte) => byte.toString(16).padStart(2, "0");
+  return Array.from(bytes, digits).reverse().join("").toUpperCase();
 }
 
 export class Library {
@@ -48,11 +49,7 @@ export class Library {
     this.calls = calls;
     this.memory = new Uint8Array(calls.memory.buffer);
     let at = Math.ceil(Number(calls.__heap_base.value) / 16) * 16;
-    const room = (length) => {
-      const begin = at;
-      at += length;
-      return begin;
-    };
+    const room = (length) => (at += length) - length;
     this.state = room(STATE_BYTES);
     this.questions = room(QUESTIONS_BYTES);
     this.signature = room(208);
@@ -105,11 +102,9 @@ export class Library {
   // and the 32 bytes of the key with the 8 of its identifier after them; or the
   // number of why there is none.
   readKey(text, isBare) {
-    const read = isBare
-      ? this.calls.page_read_bare_public_key
-      : this.calls.page_read_public_key;
+    const read = `page_read_${isBare ? "bare_" : ""}public_key`;
     const given = this.put(this.text, TEXT_BYTES, text);
-    const number = read(...given, BigInt(this.key)) >>> 0;
+    const number = this.calls[read](...given, BigInt(this.key)) >>> 0;
     const key = this.bytesAt(this.key, number === 0 ? KEY_BYTES : 0);
     return { number, keyId: identifierOf(key.subarray(32)), key };
   }

@@ -4,6 +4,8 @@
 // what is rejected here before they are asked makes their answers those of
 // libsodium.
 
+export const ED25519 = "Ed25519";
+
 // A signature of no bytes: the first test of RFC 8032, section 7.1.
 const KNOWN_KEY =
   "d75a980182b10ab7d54bfed3c964073a0ee172f3daa62325af021a68f707511a";
@@ -42,12 +44,10 @@ function isRejectedPoint(bytes) {
   return second >= PRIME || SMALL_ORDER.includes(second);
 }
 
-// The calls of WebCrypto.
-async function subtleCrypto() {
-  const { crypto } = globalThis;
-  const there =
-    crypto ?? (await import(/* webpackIgnore: true */ ELSEWHERE)).webcrypto;
-  return there.subtle;
+// The platform's WebCrypto.
+export async function platformCrypto() {
+  const { crypto: own } = globalThis;
+  return own ?? (await import(/* webpackIgnore: true */ ELSEWHERE)).webcrypto;
 }
 
 // Whether the signature of a message is accepted: as libsodium 1.0.18 does, by
@@ -57,12 +57,11 @@ export async function accepts(publicKey, signature, message) {
   if (halves.some(isRejectedPoint)) {
     return false;
   }
-  const name = "Ed25519";
   try {
-    const subtle = await subtleCrypto();
+    const { subtle } = await platformCrypto();
     const uses = ["verify"];
-    const key = await subtle.importKey("raw", publicKey, { name }, false, uses);
-    return (await subtle.verify({ name }, key, signature, message)) === true;
+    const key = await subtle.importKey("raw", publicKey, ED25519, false, uses);
+    return (await subtle.verify(ED25519, key, signature, message)) === true;
   } catch {
     return false;
   }

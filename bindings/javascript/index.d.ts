@@ -2,6 +2,10 @@
 // The types of the package, of the language alone: they need neither those of
 // the web nor those of Node.
 
+import type { ErrorCode } from "./errors.js";
+
+export type { ErrorCode };
+
 /** Bytes: a buffer, of any realm, or a view of one. */
 export type Bytes = ArrayBuffer | ArrayBufferView;
 
@@ -152,33 +156,121 @@ export function readSignature(signature: Text): Promise<Signature>;
 /** Reads a public key, as `verify` does. */
 export function readPublicKey(key: Text): Promise<PublicKey>;
 
-/** The errors that verifying has, with the numbers of include/minisign.h. */
+/**
+ * A secret key, which shows none of its bytes. They stay in memory until
+ * `clearSecretKey`, or until nothing refers to it.
+ */
+export interface SecretKey {
+  /** Its identifier, which its public key has too. */
+  readonly keyId: string;
+  /**
+   * Whether the text that it was read from is sealed so weakly that passwords
+   * are tried fast: with fewer than 2^14 rows, the least that Minisign's own
+   * program seals with. Write it again.
+   */
+  readonly isWeak: boolean;
+}
+
+export interface MemoryOptions {
+  /**
+   * Whether a derivation takes 65 MiB at most, and some three times the time,
+   * in place of 1 GiB.
+   */
+  lowMemory?: boolean;
+}
+
+export interface OpeningOptions extends MemoryOptions {
+  /** Opens a sealed key, and no other one. */
+  password?: Text;
+  /**
+   * How many rows of scrypt may be made in all, its N times its p: 2^20 unless
+   * another number is given, enough for the keys of `minisign -G`.
+   */
+  mostRows?: number;
+}
+
+export interface SignerOptions {
+  /**
+   * One line, which is signed with the data: `timestamp:` with the time, and
+   * `hashed`, unless another one is given.
+   */
+  trustedComment?: Text;
+  /** The first line, after `untrusted comment: `, for which nobody vouches. */
+  untrustedComment?: Text;
+}
+
+export interface SigningOptions extends SignerOptions {
+  /** As those of `verify`. */
+  progress?: (bytes: number, total?: number) => void;
+  signal?: Signal;
+}
+
+/** Signs data that comes in pieces. */
+export interface Signer {
+  /** How many bytes it was fed. */
+  readonly bytes: number;
+  /** Takes in the next piece of the data, of any length. */
+  update(piece: Bytes): void;
+  /**
+   * Resolves to the text of the signature, four lines, once it was verified. It
+   * is asked once: after that it rejects with NOT_BEGUN. SIGNATURE_REFUSED is
+   * of a damaged key, BAD_COMMENT and UNREADABLE_COMMENT of comments that would
+   * not be read back, and KEY_NOT_OPENED of a key that was cleared.
+   */
+  end(): Promise<string>;
+}
+
+/** Makes a secret key of random bytes. */
+export function generateSecretKey(): Promise<SecretKey>;
+
+/**
+ * Opens both lines of a file such as minisign.key. It rejects with KEY_SEALED
+ * or KEY_NOT_SEALED where a password is missing or is not wanted,
+ * WRONG_PASSWORD, WORK_TOO_HIGH, OUT_OF_MEMORY, and for what is wrong with the
+ * text. The thread waits while a key is derived: seconds, as a worker should.
+ */
+export function readSecretKey(
+  text: Text,
+  options?: OpeningOptions,
+): Promise<SecretKey>;
+
+/**
+ * Makes both lines of a file such as minisign.key, sealed under the password
+ * with the limits of `minisign -G`; with null the key is not sealed. An empty
+ * password is a TypeError.
+ */
+export function writeSecretKey(
+  secretKey: SecretKey,
+  password: Text | null,
+  options?: MemoryOptions,
+): Promise<string>;
+
+/** Makes both lines of a file such as minisign.pub. */
+export function writePublicKey(secretKey: SecretKey): Promise<string>;
+
+/** Writes zeros over the key's bytes: it signs nothing from then on. */
+export function clearSecretKey(secretKey: SecretKey): void;
+
+/**
+ * Signs all of the data: resolves to the text of the signature. It rejects as
+ * `Signer.end` does, and as `verify` does of arguments and of streams.
+ */
+export function sign(
+  data: Data,
+  secretKey: SecretKey,
+  options?: SigningOptions,
+): Promise<string>;
+
+/** Begins to sign data that comes in pieces. */
+export function createSigner(
+  secretKey: SecretKey,
+  options?: SignerOptions,
+): Promise<Signer>;
+
+/** The errors of the library, with the numbers of include/minisign.h. */
 export declare const ERRORS: Readonly<Record<ErrorCode, number>>;
 
-export type ErrorCode =
-  | "NOT_BEGUN"
-  | "NOT_UTF8"
-  | "MISSING_PUBLIC_KEY_COMMENT"
-  | "MISSING_PUBLIC_KEY"
-  | "PUBLIC_KEY_LENGTH"
-  | "PUBLIC_KEY_NOT_BASE64"
-  | "RECORD_TOO_SHORT"
-  | "MISSING_UNTRUSTED_COMMENT"
-  | "MISSING_SIGNATURE"
-  | "MISSING_TRUSTED_COMMENT"
-  | "MISSING_COMMENT_SIGNATURE"
-  | "UNTRUSTED_COMMENT_PREFIX"
-  | "SIGNATURE_NOT_BASE64"
-  | "TRUSTED_COMMENT_PREFIX"
-  | "UNSUPPORTED_ALGORITHM"
-  | "DIFFERENT_KEY_IDS"
-  | "LEGACY_NOT_ACCEPTED"
-  | "SIGNATURE_REFUSED"
-  | "COMMENT_SIGNATURE_REFUSED"
-  | "BARE_PUBLIC_KEY_LENGTH"
-  | "BARE_PUBLIC_KEY_NOT_BASE64";
-
-/** Why a signature does not vouch for the data. */
+/** Why something was rejected. */
 export class MinisignError extends Error {
   readonly name: "MinisignError";
   readonly code: ErrorCode;

@@ -6,9 +6,11 @@ network and without the kit, by a program of another module, also where that has
 
 Its own tests and examples run under `go vet` and under the race detector, over each copy of the calls for x86-64, and for AArch64 in
 an emulator. Over the calls as C it answers the same here, for ARM with pointers of 32 bits, and for Windows under wine; as a
-dependency by a git path it is built in a path with blanks, with no make in PATH; and where there is no cgo a sentence says so. What that program answers to kept keys and signatures, to damaged ones, to data in pieces and in files, and to signatures
-that implementations of Ed25519 differ in is compared with `c/minisign` and with libsodium; why it rejects, with the numbers of the
-header. 20,000 damaged texts, and keys and signatures that the caller has changed since they were read, or put together, get the verdict of
+dependency by a git path it is built in a path with blanks, with no make in PATH; and where there is no cgo a sentence says so. What
+that program answers to kept keys and signatures, to damaged ones, to data in pieces and in files, and to signatures that
+implementations of Ed25519 differ in is compared with `c/minisign` and with libsodium; why it rejects, with the numbers of the header.
+Keys and signatures that it makes `c/minisign` reads, and the other way; no key shows its secret, none is left of one that was cleared,
+and none is sealed weakly. 20,000 damaged texts, and keys and signatures that the caller has changed since they were read, or put together, get the verdict of
 go-minisign, which is run beside, but for differences that tables name. Many calls take no more memory, and threads get the same answers, under the race detector too. The program of README.md is
 built. Each of some planted bugs is noticed. It prints a line for each failure; the last line is `N passed, M failed`.
 
@@ -21,15 +23,14 @@ import base64
 import os
 import re
 import shutil
-import subprocess
 import sys
-import tempfile
 
 HERE = os.path.dirname(os.path.realpath(__file__))
 sys.path += [HERE, *(os.path.join(HERE, "..", name) for name in ("shared", "c")), os.path.join(HERE, "..", "..", "tools")]
 
 import carried
 import emulated
+import ending
 import needs
 import portable
 import shared_cases
@@ -39,6 +40,8 @@ from shared_cases import TOP, Checks, run, write
 
 PACKAGE = os.path.join(TOP, "bindings", "go")
 LINES = 500
+# What tools/bindings.py makes.
+MADE = ("errors.go", "header.go")
 CALLS = 100_000
 # How many pages of 4 KiB may be in memory after all calls that were not after a tenth of them.
 PAGES = 512
@@ -155,7 +158,7 @@ def check_sources(checks):
         if not name.endswith(".go") or name.endswith("_test.go"):
             continue
         text = shared_cases.read(os.path.join(PACKAGE, name)).decode()
-        if name == "errors.go":
+        if name in MADE:
             status, said, _ = run([sys.executable, os.path.join(TOP, "tools", "bindings.py"), "--check"])
             checks.check(status == 0, said.decode())
             continue
@@ -271,7 +274,16 @@ import (
 func stream(key minisign.PublicKey, signature minisign.Signature, reader io.Reader, progress io.Writer) error {
 STREAM}
 
+func sign(password []byte) error {
+SIGN}
+
 func main() {
+	if len(os.Args) > 1 {
+		if err := sign(nil); err != nil {
+			log.Fatal(err)
+		}
+		return
+	}
 VERIFY	file, _ := os.Open("app")
 	var seen bytes.Buffer
 	fmt.Println(signature.TrustedComment, stream(key, signature, file, &seen), seen.Len())
@@ -279,12 +291,12 @@ VERIFY	file, _ := os.Open("app")
 """
 
 
-def check_readme(checks, go, room, package):
-    """The examples of README.md accept a file that its key has signed, and no other one."""
+def check_readme(checks, go, room, package, minisign):
+    """The examples of README.md accept a file that its key has signed, and no other one; and sign one."""
     directory = os.path.join(room, "readme")
     os.makedirs(directory)
-    verify, stream = re.findall(r"```go\n(.*?)```", shared_cases.read(os.path.join(package, "README.md")).decode(), re.S)
-    write(directory, "main.go", README_PROGRAM.replace("VERIFY", verify).replace("STREAM", stream).encode())
+    verify, sign, stream = re.findall(r"```go\n(.*?)```", shared_cases.read(os.path.join(package, "README.md")).decode(), re.S)
+    write(directory, "main.go", README_PROGRAM.replace("VERIFY", verify).replace("SIGN", sign).replace("STREAM", stream).encode())
     go.begin(directory, package)
     # (it is built of what Go has put into its directory `vendor`, as if nothing else were there)
     go.run(directory, "mod", "vendor")
@@ -292,6 +304,11 @@ def check_readme(checks, go, room, package):
     os.rename(package, away)
     go.run(directory, "build", "-mod=vendor", "-o", "readme")
     os.rename(away, package)
+    shutil.copy(os.path.join(shared_cases.CORPUS, "test"), os.path.join(directory, "app"))
+    run([minisign, "-G", "-W", "-s", "app.key", "-p", "app.pub"], directory)
+    status, said, told = run([os.path.join(directory, "readme"), "sign"], directory)
+    verified = run([minisign, "-V", "-Q", "-p", "app.pub", "-m", "app"], directory)
+    checks.check((status, verified[1]) == (0, b"version:2\tfile:app\n"), f"the example of README.md that signs: {status} {said!r} {told} {verified}")
     refused, none = "Signature verification failed", "no such file or directory"
     for app, minisig, wanted, why in (("test", "published.minisig", "trusted comment: timestamp:1556193335\tfile:test <nil> 4\n", ""),
                                       ("hello", "published.minisig", "", refused), ("test", None, "", none)):
@@ -327,6 +344,33 @@ def verdicts_of(command, cases):
     return said[1].replace(b"\r", b"")
 
 
+# What signing.go says of how a key is shown, of what is left of it, and of arguments that are none.
+SHOWN = [*(f"{verb} true" for verb in ("%v", "%+v", "%#v", "%s", "%q", "%x", "%d") for _ in range(2)), "true", "false", "true",
+         "KEY_NOT_OPENED", "KEY_NOT_OPENED", "[0 0 0 0 0 0 0 0 0]"]
+WRONG = ["minisign: reader is nil", "minisign: key is nil", *["minisign: password is empty: EncodeUnsealed makes a key that takes none"] * 2,
+         "MISSING_SECRET_KEY_COMMENT", "KEY_NOT_OPENED", "KEY_NOT_OPENED", "NOT_BEGUN", "NOT_BEGUN"]
+KEYS = 20_000
+
+
+def check_signing(checks, program, room, minisign, opens=True):
+    """The program and `c/minisign` read each other's keys and signatures; no key shows its secret, and nothing is left of one that was
+    cleared."""
+    os.makedirs(room)
+    shared_cases.check_signing(checks, [program], room, minisign, opens=opens)
+    for word, wanted in (("shown", SHOWN), ("wrong", WRONG)):
+        status, said, why = run([program, word])
+        checks.check(said.decode().splitlines() == wanted, f"{word}: {status}, {said.decode()}, {why[-500:]}")
+
+
+def check_many_keys(checks, program, racing):
+    """Many keys take no more memory, and threads sign at once."""
+    status, said, why = run([program, "growth", str(KEYS)])
+    checks.check(status == 0 and int(said) <= PAGES, f"after {KEYS} keys {said!r} pages more are in memory: {why}")
+    for what, of in (("threads", program), ("threads under the race detector", racing)):
+        status, said, why = run([of, "threads"])
+        checks.check((status, said, why) == (0, b"true\n", ""), f"signing, {what}: {said!r}, {why[-1000:]}")
+
+
 def check_as_c(checks, go, room, package, minisign):
     """Over the calls as C: here, for ARM with pointers of 32 bits, and for Windows, under wine."""
     cases = shared_cases.corpus()
@@ -345,6 +389,9 @@ def check_as_c(checks, go, room, package, minisign):
         go.run(directory, "build", "-o", "program", *words, environment=environment)
         os.environ["WINEPREFIX"] = f"{room}/wine"
         shared_cases.compare(checks, what, cases, verdicts_of([*before, os.path.join(directory, "program")], cases), wanted)
+        if what == "as C":
+            signing = go.build("signing.go", os.path.join(directory, "signing"), package, *words)
+            check_signing(checks, signing, os.path.join(directory, "signed"), minisign, opens=False)
         names = run([needs.program("nm", "binutils"), os.path.join(directory, "program")])[1]
         checks.check(what == "for Windows" or b"machine_minisign_update" in names, f"{what}: it is not built of dist/calls.c")
     windows.end()
@@ -397,8 +444,8 @@ def check_without_cgo(checks, go, room, package):
 
 def check_copies(checks, package):
     """What is packed is what dist/, c/ and include/ have."""
-    for name, of in carried.COPIES.items():
-        checks.check(shared_cases.read(os.path.join(package, name)) == carried.copy(*of), f"{name} is no copy of {of[0]}: run tools/carried.py")
+    for name in [*carried.COPIES, carried.ARCHIVE]:
+        checks.check(shared_cases.read(os.path.join(package, name)) == carried.copy(name), f"{name} is not what tools/carried.py makes: run it")
 
 
 def check_many(checks, program, racing):
@@ -428,11 +475,15 @@ def check_all(checks, room):
     check_rejections(checks, program)
     check_read(checks, program)
     check_errors(checks, program)
+    signing = go.build("signing.go", os.path.join(room, "signing"), package)
+    check_signing(checks, signing, os.path.join(room, "signed"), minisign)
+    check_many_keys(checks, signing, go.build("signing.go", os.path.join(room, "signing-racing"), package, "-race"))
     check_changed(checks, go.build("changed.go", os.path.join(room, "changed"), package))
     check_go_minisign(checks, go, room, program)
     check_many(checks, program, racing)
-    check_readme(checks, go, room, package)
+    check_readme(checks, go, room, package, minisign)
     check_planted(checks, go, package, room, minisign)
+    check_planted_signing(checks, go, package, room, minisign)
     check_arm(checks, go, package)
     check_copies(checks, package)
     check_without_cgo(checks, go, room, package)
@@ -446,7 +497,7 @@ BUGS = [
     ("ed25519.go", "second.Cmp(it) == 0", "second.Cmp(it) == 2"),
     ("ed25519.go", "second.Cmp(prime) >= 0", "second.Sign() < 0"),
     ("minisign.go", "\t\tmessage = bin\n", ""),
-    ("minisign.go", "verdict(first, verifier.acceptsComment())", "verdict(first, first)"),
+    ("minisign.go", "callVerdict(verifier.state, first, verifier.acceptsComment())", "callVerdict(verifier.state, first, first)"),
     ("minisign.go", "return begin(publicKey, signature, false)", "return begin(publicKey, signature, true)"),
     ("minisign.go", "verifier.end(held.Bytes())", "verifier.end(nil)"),
     ("minisign.go", "if read.signature() != signature {", "if false {"),
@@ -454,7 +505,21 @@ BUGS = [
     ("raw.go", "it.text[it.of.comment_offset:]", "it.text[it.of.comment_offset-1:]"),
     ("minisign.go", "if publicKey.SignatureAlgorithm != [2]byte{'E', 'd'} {", "if false {"),
     ("minisign.go", "signature.KeyId[:], signature.Signature[:]}", "signature.KeyId[:], signature.GlobalSignature[:]}"),
-    ("raw.go", "\t\treturn C.MINISIGN_ANSWER_YES", "\t\treturn C.MINISIGN_ANSWER_YES + 1"),
+    ("header.go", "\t\treturn C.MINISIGN_ANSWER_YES", "\t\treturn C.MINISIGN_ANSWER_YES + 1"),
+]
+# The same of what signs.
+SIGNING_BUGS = [
+    ("signing.go", "if !accepts(key.PublicKey, message, *signature) {", "if accepts(key.PublicKey, nil, *signature) {"),
+    ("raw.go", "unopened.log2_rows < C.MINISIGN_LEAST_LOG2_ROWS", "unopened.log2_rows < 2"),
+    ("raw.go", "sealing.operations_limit < C.MINISIGN_LEAST_OPERATIONS_LIMIT || ", ""),
+    ("raw.go", " || sealing.memory_limit < C.MINISIGN_LEAST_MEMORY_LIMIT", ""),
+    ("raw.go", "\t*(*[32]byte)(unsafe.Pointer(&sealing.salt)) = salt\n", "\t_ = salt\n"),
+    ("raw.go", "func (key *openedKey) clear() { *key = openedKey{} }", "func (key *openedKey) clear() {}"),
+    ("raw.go", "callSignedText(key.raw(), first, second, trusted, untrusted)", "callSignedText(key.raw(), first, second, untrusted, trusted)"),
+    ("signing.go", "fmt.Fprintf(to, \"SecretKey(%s)\", key.shownId())", "fmt.Fprintf(to, \"SecretKey(%s)\", *key.opened)"),
+    ("signing.go", "\tif len(password) == 0 {", "\tif password == nil {"),
+    ("signing.go", "\tfor at := range secret {\n\t\tsecret[at] = 0\n\t}\n", ""),
+    ("header.go", "C.size_t(len(trustedComment)), pointer(untrustedComment)", "C.size_t(len(trustedComment)), pointer(trustedComment)"),
 ]
 
 
@@ -479,16 +544,26 @@ def check_planted(checks, go, package, room, minisign):
         checks.check(old in text and found.failures, f"planted in {file}, and not noticed: {new}")
 
 
-def main():
-    checks = Checks()
-    with tempfile.TemporaryDirectory(prefix="bindings-go-") as room:
+def check_planted_signing(checks, go, package, room, minisign):
+    """Each planted bug of what signs is noticed by what a program makes over the changed package."""
+    for number, (file, old, new) in enumerate(SIGNING_BUGS):
+        directory = os.path.join(room, f"planted-signing-{number}")
+        changed = os.path.join(directory, "package")
+        shutil.copytree(package, changed)
+        text = shared_cases.read(os.path.join(changed, file)).decode()
+        write(changed, file, text.replace(old, new, 1).encode())
+        found, program = Checks(), go.build("signing.go", os.path.join(directory, "using"), changed)
         try:
-            check_sources(checks)
-            check_all(checks, room)
-        except (needs.Missing, static_library.NotBuilt, OSError, ValueError, subprocess.SubprocessError) as why:
-            checks.check(False, f"it did not go on: {why!r}")
-    return checks.end()
+            check_signing(found, program, os.path.join(directory, "signed"), minisign)
+        except OSError as why:
+            found.check(False, f"it did not go on: {why}")
+        checks.check(old in text and found.failures, f"planted in {file}, and not noticed: {new}")
+
+
+def run_all(checks, room):
+    check_sources(checks)
+    check_all(checks, room)
 
 
 if __name__ == "__main__":
-    sys.exit(main())
+    sys.exit(ending.check("bindings-go", run_all, ValueError))

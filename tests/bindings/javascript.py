@@ -6,14 +6,15 @@ program in an empty directory; in Node, and in a page and a worker of Chromium a
 
 The module is that of PAGE, the one of `dist/` where none is named. What the package answers to kept keys and signatures, to
 damaged ones, to data in pieces of each kind, and to signatures that implementations of Ed25519 differ in is compared with
-`c/minisign` and with libsodium; why it rejects, the list of errors and the sizes of structs, with the header. The types need
+`c/minisign` and with libsodium; why it rejects, the list of errors and the sizes of structs, with the header. It makes keys and
+signatures that `c/minisign` reads, and reads those of `c/minisign`; no key shows its secret, and one that is sealed weakly says so. The types need
 neither those of the web nor those of Node. The examples of README.md run, also over what npm installs. A stream is closed where the promise is rejected, and its errors reject the promise,
 whenever they come. It runs where there is nothing but the language and a few globals that browsers, Node,
 Deno and workers all have, and needs each of these. Many calls take no more memory, and threads get the same answers. Each of some
 planted bugs is noticed. Where there is no npm, the files that package.json names are taken. It prints a line for each failure;
 the last line is `N passed, M failed`.
 
-Needs Python 3.9 or later, nodejs (the one that the environment names NODE, if any), node-typescript, make, a C compiler, libsodium with its
+Needs Python 3.9 or later, nodejs (the one that the environment names NODE, if any), node-typescript, make, clang, lld, a C compiler, libsodium with its
 header, and for the browsers chromium, chromium-driver, python3-selenium and firefox-esr, and installs what is not there where
 it may.
 """
@@ -23,14 +24,13 @@ import json
 import os
 import re
 import shutil
-import subprocess
 import sys
-import tempfile
 
 HERE = os.path.dirname(os.path.realpath(__file__))
 sys.path += [HERE, os.path.join(HERE, "..", "shared")]
 
 import edges
+import ending
 import needs
 import shared_cases
 import static_library
@@ -38,9 +38,12 @@ from shared_cases import TOP, Case, Checks, read, run
 
 PACKAGE = os.path.join(TOP, "bindings", "javascript")
 BUILD = os.path.join(TOP, "page", "build.py")
-PROGRAMS = [os.path.join(HERE, "javascript", name) for name in ("answers.mjs", "streams.mjs")]
+PROGRAMS = [os.path.join(HERE, "javascript", name) for name in ("answers.mjs", "signing.mjs", "streams.mjs")]
 BROWSERS = os.path.join(HERE, "javascript_browsers.py")
-MODULE = "module.js"
+MODULE, SIGNING_MODULE = "module.js", "signing_module.js"
+# What tools/bindings.py makes, and which part of calls.js.
+MADE = ("errors.js", "header.js")
+MADE_IN_CALLS = re.compile("// ---- Of include/minisign.h, made by tools/bindings.py ----.*// ---- What is made ends here ----", re.S)
 LINES = 600
 # The globals that the package uses besides those of the language. All are of the web, and of the list that all of these have
 # (the "Minimum common web platform API").
@@ -51,8 +54,6 @@ GROWTH = 16 * 1048576
 README_KEY = "RWQf6LRCGA9i53mlYecO4IzT51TGPpvWucNSCh1CBM0QTaLn73Y7GFO3"
 # The errors of the header that verifying has besides usage errors.
 VERIFYING = {8, *range(16, 33), 44, 45}
-# A verifier has another one, once it has ended.
-ENDED = 1
 
 
 def npm_path():
@@ -65,18 +66,22 @@ def made(room, page):
     user = os.path.join(room, "user")
     package = os.path.join(user, "node_modules", "minisign-proved")
     os.makedirs(os.path.dirname(package))
+    clang = needs.program("clang", "clang")
+    needs.program("wasm-ld", "lld")
     page = page or os.path.join(TOP, "dist", "minisign.html")
     if npm_path() is not None:
-        os.rename(shared_cases.packed("javascript", room, PAGE=page), package)
+        os.rename(shared_cases.packed("javascript", room, PAGE=page, CLANG=clang), package)
     else:
         print("without npm: the files that package.json names, and what npm adds")
         os.mkdir(package)
         for name in [*json.loads(text_of("package.json"))["files"], "package.json", "README.md"]:
-            if name != MODULE:
+            if name not in (MODULE, SIGNING_MODULE):
                 shutil.copy(os.path.join(PACKAGE, name), package)
-        status, _, why = run([sys.executable, BUILD, "--package", "--from", page, os.path.join(package, MODULE)])
-        if status != 0:
-            raise static_library.NotBuilt(why)
+        for command in ([BUILD, "--package", "--from", page, os.path.join(package, MODULE)],
+                        [os.path.join(TOP, "tools", "signing_module.py"), os.path.join(package, SIGNING_MODULE)]):
+            status, _, why = run([sys.executable, *command], environment={"CLANG": clang})
+            if status != 0:
+                raise static_library.NotBuilt(why)
     for program in PROGRAMS:
         shutil.copy(program, user)
     return user
@@ -96,16 +101,17 @@ def check_sources(checks, user):
     names = {name for name in os.listdir(os.path.join(user, "node_modules", "minisign-proved")) if name.endswith((".js", ".ts"))}
     checks.check(set(described["files"]) == names, f"package.json names {described['files']}, and there are {sorted(names)}")
     lines = 0
-    for name in sorted(names - {MODULE}):
-        text = text_of(name)
-        bare = re.sub(r"/\*.*?\*/", "", text, flags=re.S)
+    for name in sorted(names - {MODULE, SIGNING_MODULE, *MADE}):
+        bare = re.sub(r"/\*.*?\*/", "", MADE_IN_CALLS.sub("", text_of(name)), flags=re.S)
         lines += 0 if name.endswith(".d.ts") else sum(1 for line in bare.splitlines() if line.strip() and not line.strip().startswith("//"))
         checks.check(name == "calls.js" or not re.search(r"page_|WebAssembly\.|\.memory\b|\.calls\b", bare), f"{name}: it calls the module")
     checks.check(lines <= LINES, f"the package has {lines} lines")
-    wanted = {name: number for name, number in shared_cases.error_numbers().items() if number in VERIFYING | {ENDED}}
-    found = re.search(r"ERRORS = Object\.freeze\(\{(.*?)\}\)", text_of("index.js"), re.S)[1]
+    status, said, _ = run([sys.executable, os.path.join(TOP, "tools", "bindings.py"), "--check"])
+    checks.check(status == 0, said.decode())
+    wanted = {name: number for name, number in shared_cases.error_numbers().items() if number != 0}
+    found = re.search(r"ERRORS = Object\.freeze\(\{(.*?)\}\)", text_of("errors.js"), re.S)[1]
     errors = {name: int(number) for name, number in re.findall(r"(\w+): (\d+)", found)}
-    checks.check(errors == wanted, f"index.js has other errors than the header: {set(errors.items()) ^ set(wanted.items())}")
+    checks.check(errors == wanted, f"errors.js has other errors than the header: {set(errors.items()) ^ set(wanted.items())}")
     sizes = dict(re.findall(r"const (STATE|KEY|SIGNATURE|QUESTIONS)_BYTES = (\d+);", text_of("calls.js")))
     places = shared_cases.layout(user)
     structs = {name: places[f"minisign_{of}"] for name, of in (("STATE", "state"), ("KEY", "public_key"), ("SIGNATURE", "signature"),
@@ -116,8 +122,8 @@ def check_sources(checks, user):
         found = {name: int(at) for name, at in re.findall(r"(\w+): (\d+)", told)}
         wanted_at = {name: places[f"minisign_{struct.lower()}.{name}"] for name in found}
         checks.check(len(found) >= count and found == wanted_at, f"calls.js has {struct} at {found}, and the header at {wanted_at}")
-    typed = set(re.findall(r'"([A-Z0-9_]+)"', re.search(r"type ErrorCode =(.*?);", text_of("index.d.ts"), re.S)[1]))
-    checks.check(typed == set(wanted), f"index.d.ts has other errors than the header: {typed ^ set(wanted)}")
+    typed = set(re.findall(r'"([A-Z0-9_]+)"', re.search(r"type ErrorCode =(.*?);", text_of("errors.d.ts"), re.S)[1]))
+    checks.check(typed == set(wanted), f"errors.d.ts has other errors than the header: {typed ^ set(wanted)}")
 
 
 class Program:
@@ -259,6 +265,47 @@ STREAMS = {
 }
 
 
+# What signing.mjs says of a key that is shown and cleared, of arguments of other types, and of streams of four bytes.
+SHOWN = ["true"] * 4 + ["KEY_NOT_OPENED"] * 4 + ["true"]
+OTHER_KEY = "TypeError: secretKey has to be a secret key that was read, and not "
+WRONG_SIGNING = [
+    f"{OTHER_KEY}string", f"{OTHER_KEY}null", f"{OTHER_KEY}object",
+    *(f"TypeError: data has to be bytes, a Blob, a stream or pieces of bytes, and not {kind}" for kind in ("number", "string")),
+    "TypeError: a piece of data has to be bytes, and not string", "TypeError: options has no comment",
+    "TypeError: trustedComment has to be a text, as a string or bytes, and not number", "TypeError: options has to be an object, and not null",
+    "TypeError: untrustedComment has to be a text, as a string or bytes, and not null", "TypeError: options has no allowLegacy",
+    "TypeError: options has no progress", f"{OTHER_KEY}undefined",
+    "TypeError: password has to be a text, as a string or bytes, and not undefined",
+    "TypeError: password is empty: null says that it is not sealed", "TypeError: password has to be a text, as a string or bytes, and not number",
+    "TypeError: options has no low", "TypeError: lowMemory has to be true or false, and not number", f"{OTHER_KEY}object",
+    "TypeError: text has to be a text, as a string or bytes, and not null", "TypeError: password has to be a text, as a string or bytes, and not number",
+    "TypeError: mostRows has to be a number of rows, and not string", "TypeError: mostRows has to be a number of rows, and not number",
+    "TypeError: options has to be an object, and not string", f"{OTHER_KEY}number", "TypeError: a piece of data has to be bytes, and not string",
+    "MISSING_SECRET_KEY_COMMENT", "SECRET_KEY_NOT_BASE64", "BAD_COMMENT", "UNREADABLE_COMMENT", "TypeError: trustedComment has 65536 bytes or more",
+]
+SIGNED_STREAMS = ["[[4,4],[4,null],[8,null]]", "ENOENT", "GONE GONE", "TypeError TypeError"]
+KEYS = 3_000
+
+
+def check_signing(checks, program, room, minisign, opens=True):
+    """The program and `c/minisign` read each other's keys and signatures; it shows no secret, and nothing is left of a key that was
+    cleared; arguments of other types are rejected, and streams closed; many keys take no more memory, and threads sign at once."""
+    os.makedirs(room)
+    shared_cases.check_signing(checks, [program.node, "--no-warnings", os.path.join(program.user, "signing.mjs")], room, minisign, seals=False,
+                                opens=opens)
+    data = os.path.join(shared_cases.CORPUS, "test")
+    for words, wanted in ((["shown"], SHOWN), (["wrong"], WRONG_SIGNING), (["streams", data], SIGNED_STREAMS), (["threads"], ["true,true,true"])):
+        status, said, why = run([program.node, "--no-warnings", "signing.mjs", *words], program.user)
+        lines = said.decode().splitlines()
+        for line, other in zip(lines, wanted):
+            checks.check(line == other, f"signing, {words}: {line} in place of {other}")
+        checks.check((status, len(lines)) == (0, len(wanted)), f"signing, {words}: {status}, {lines}, {why[-500:]}")
+    if not opens:
+        return
+    status, said, why = run([program.node, "--no-warnings", "--expose-gc", "signing.mjs", "growth", str(KEYS)], program.user)
+    checks.check(status == 0 and int(said) <= 4 * GROWTH, f"after {KEYS} keys {said!r} bytes more are in memory: {why[-500:]}")
+
+
 def check_streams(checks, program):
     """Where the promise is rejected the stream is destroyed or cancelled, and no error of it is lost, nor ends the program."""
     paths = [os.path.join(shared_cases.CORPUS, name) for name in ("published.pub", "test", "published.minisig")]
@@ -268,9 +315,15 @@ def check_streams(checks, program):
 
 
 def check_readme(checks, program):
-    """The examples of the README accept data that its key has signed, and reject other data."""
-    examples = re.findall(r"^```js\n(.*?)^```$", text_of("README.md"), re.M | re.S)
+    """The examples of the README accept data that its key has signed, and reject other data; and sign."""
+    verifying, signing, streaming = re.findall(r"^```js\n(.*?)^```$", text_of("README.md"), re.M | re.S)
     given = 'import {readFileSync} from "node:fs";\nconst [data, signature] = process.argv.slice(-2).map(it => readFileSync(it));\n'
+    data = os.path.join(shared_cases.CORPUS, "test")
+    signed = f"{signing}import {{verify}} from 'minisign-proved'; console.log((await verify(data, minisig, pub)).trustedComment);\n"
+    shared_cases.write(program.user, "signed.mjs", (given + signed).encode())
+    status, said, why = run([program.node, "--no-warnings", "signed.mjs", data, data], directory=program.user)
+    checks.check((status, said) == (0, b"version:2\n"), f"the README's example that signs: {status} {said} {why}")
+    examples = [verifying, streaming]
     for name, example in zip(("readme.mjs", "streamed.mjs"), examples):
         with open(os.path.join(program.user, name), "w", encoding="utf-8") as file:
             file.write(given + (f'const key = "{README_KEY}", pieces = [data];\n' if "pieces" in example else "") + example)
@@ -283,7 +336,6 @@ def check_readme(checks, program):
                                     environment={"NODE_NO_WARNINGS": "1"})
             is_told = "SIGNATURE_REFUSED" in why if name == "hello" else why == ""
             checks.check(is_told and (status, said) == (int(name == "hello"), wanted), f"the README's {program_name} of {name}: {status} {said} {why}")
-    checks.check(len(examples) == 2, f"the README has {len(examples)} examples")
 
 
 def check_types(checks, program):
@@ -370,6 +422,7 @@ def check_browsers(checks, program, room, minisign):
             shared_cases.compare(checks, f"{what}, in pieces", kept, lines(answers["pieces"]), in_pieces)
             checks.check(answers["vectors"] == [vector["sodium"] for vector in vectors], f"{what}: other answers to the vectors than libsodium's")
             checks.check(answers["cancelled"], f"{what}: a stream is not cancelled")
+            checks.check(answers["signs"] == "version:2,true,false,version:2,true,false KEY_NOT_OPENED", f"{what}, signing: {answers['signs']}")
         print(f"bindings/javascript: in a page and in a worker of {browser} {told['version']}", flush=True)
 
 
@@ -382,23 +435,35 @@ BUGS = [
     ("verification.js", "    hold(this.library.feed(this.state, bytes));", "    hold(this.library.feed(this.state, bytes.subarray(0, 65536)));"),
     ("verification.js", "this.kept.push(bytes.slice());", "this.kept = [bytes.slice()];"),
     ("calls.js", "it ? ANSWER_YES : ANSWER_NO", "it ? ANSWER_YES : ANSWER_YES"),
-    ("index.js", "new Uint8Array(it, 0, lengthOfBuffer.call(it))", "new Uint8Array(it instanceof ArrayBuffer ? it : null.it)"),
-    ("index.js", "throw signal.reason;", ""),
-    ("index.js", "reader.cancel(signal.reason)", "Promise.resolve()"),
-    ("index.js", "      throw new TypeError(`options has no ${name}`);", "      continue;"),
-    ("index.js", "this.#isEnded = true;", ""),
-    ("index.js", "progress?.(verifier.bytes, total);", "progress?.(verifier.bytes);"),
+    ("arguments.js", "new Uint8Array(it, 0, lengthOfBuffer.call(it))", "new Uint8Array(it instanceof ArrayBuffer ? it : null.it)"),
+    ("feeding.js", "throw signal.reason;", ""),
+    ("feeding.js", "reader.cancel(signal.reason)", "Promise.resolve()"),
+    ("arguments.js", "      throw new TypeError(`options has no ${name}`);", "      continue;"),
+    ("feeding.js", "isEnded = true;", ""),
+    ("feeding.js", "progress?.(fed.bytes, total);", "progress?.(fed.bytes);"),
     ("calls.js", "allowsLegacy ? 1 : 0", "1"),
     ("calls.js", "text: text.slice(),", "text: this.memory.subarray(this.text, this.text + text.length),"),
     ("calls.js", "value[SIGNATURE.legacy] === 1", "number === 1"),
     ("calls.js", "SIGNATURE.key_id, SIGNATURE.key_id + 8", "SIGNATURE.key_id + 8, SIGNATURE.key_id + 16"),
     ("calls.js", 'numberAt("comment_offset", 8)', '0'),
-    ("index.js", "UNSUPPORTED_ALGORITHM: 28,\n  DIFFERENT_KEY_IDS: 29", "UNSUPPORTED_ALGORITHM: 29,\n  DIFFERENT_KEY_IDS: 28"),
-    ("index.js", "source.destroy()", "null"),
-    ("index.js", "source.cancel(why)", "null"),
-    ("index.js", "source?.return?.()", "null"),
-    ("index.js", 'source?.on?.("error", reject)', 'source?.on?.("error", () => {})'),
-    ("index.js", "giveUp(source, why).catch(() => {});", 'giveUp(source, why).catch(() => {}); source?.removeAllListeners?.("error");'),
+    ("errors.js", "UNSUPPORTED_ALGORITHM: 28,\n  DIFFERENT_KEY_IDS: 29", "UNSUPPORTED_ALGORITHM: 29,\n  DIFFERENT_KEY_IDS: 28"),
+    ("feeding.js", "source.destroy()", "null"),
+    ("feeding.js", "source.cancel(why)", "null"),
+    ("feeding.js", "source?.return?.()", "null"),
+    ("feeding.js", 'source?.on?.("error", reject)', 'source?.on?.("error", () => {})'),
+    ("feeding.js", "giveUp(source, why).catch(() => {});", 'giveUp(source, why).catch(() => {}); source?.removeAllListeners?.("error");'),
+]
+# The same of what signs.
+SIGNING_BUGS = [
+    ("signing.js", "number: isGood ? 0 : ERRORS.SIGNATURE_REFUSED", "number: 0"),
+    ("signing.js", "log2Rows < h.LEAST_LOG2_ROWS", "log2Rows < 2"),
+    ("signing.js", "calls.signedText(bytes, first, second, trusted, untrusted)", "calls.signedText(bytes, first, second, untrusted, trusted)"),
+    ("signing.js", "bytesOfKey(secretKey).fill(0);", "bytesOfKey(secretKey);"),
+    ("signing.js", "Object.freeze({ keyId, isWeak })", "Object.freeze({ keyId, isWeak, bytes })"),
+    ("signing.js", "  if (typed?.length === 0) {", "  if (false) {"),
+    ("signing.js", "trustedComment ?? usual", "trustedComment || usual"),
+    ("signing.js", "mostRows ?? h.USUAL_ROWS", "1"),
+    ("signing.js", ".replace(/^0+(?=.)/, \"\")", ".slice(1)"),
 ]
 
 
@@ -428,6 +493,21 @@ def check_planted(checks, program, room, minisign):
         checks.check(old in text and found.failures, f"planted in {file}, and not noticed: {new}")
 
 
+def check_planted_signing(checks, program, room, minisign):
+    """The same of what signs."""
+    for number, (file, old, new) in enumerate(SIGNING_BUGS):
+        user, found = os.path.join(room, f"planted-signing-{number}"), Checks()
+        shutil.copytree(program.user, user)
+        path = os.path.join(user, "node_modules", "minisign-proved", file)
+        text = read(path).decode()
+        shared_cases.write(os.path.dirname(path), file, text.replace(old, new, 1).encode())
+        try:
+            check_signing(found, Program(found, user), os.path.join(room, f"signed-{number}"), minisign, opens=False)
+        except OSError as why:
+            found.check(False, f"it did not go on: {why}")
+        checks.check(old in text and found.failures, f"planted in {file}, and not noticed: {new}")
+
+
 def check_memory(checks, program):
     """Many calls take no more memory."""
     key, data, signature = (read(os.path.join(shared_cases.CORPUS, name)) for name in ("published.pub", "test", "published.minisig"))
@@ -437,31 +517,27 @@ def check_memory(checks, program):
     print(f"bindings/javascript: {CALLS} calls, {(last - first) / 1048576:.1f} MiB more than after a tenth of them", flush=True)
 
 
-def main():
-    checks = Checks()
+def run_all(checks, room):
     page = os.path.realpath(sys.argv[1]) if len(sys.argv) > 1 else ""
-    with tempfile.TemporaryDirectory(prefix="javascript-") as room:
-        try:
-            user = made(room, page)
-            program, minisign = Program(checks, user), shared_cases.c_minisign(room)
-            check_sources(checks, user)
-            check_answers(checks, program, room, minisign)
-            check_rejections(checks, program)
-            check_read(checks, program, room, minisign)
-            check_vectors(checks, program, room, minisign)
-            check_keys(checks, program)
-            check_streams(checks, program)
-            check_readme(checks, program)
-            check_types(checks, program)
-            check_bare(checks, program)
-            check_npm(checks, program, room)
-            check_browsers(checks, program, room, minisign)
-            check_planted(checks, program, room, minisign)
-            check_memory(checks, program)
-        except (needs.Missing, static_library.NotBuilt, OSError, ValueError, subprocess.SubprocessError) as why:
-            checks.check(False, f"it did not go on: {why!r}")
-    return checks.end()
+    user = made(room, page)
+    program, minisign = Program(checks, user), shared_cases.c_minisign(room)
+    check_sources(checks, user)
+    check_answers(checks, program, room, minisign)
+    check_rejections(checks, program)
+    check_read(checks, program, room, minisign)
+    check_vectors(checks, program, room, minisign)
+    check_keys(checks, program)
+    check_streams(checks, program)
+    check_signing(checks, program, os.path.join(room, "signed"), minisign)
+    check_readme(checks, program)
+    check_types(checks, program)
+    check_bare(checks, program)
+    check_npm(checks, program, room)
+    check_browsers(checks, program, room, minisign)
+    check_planted(checks, program, room, minisign)
+    check_planted_signing(checks, program, room, minisign)
+    check_memory(checks, program)
 
 
 if __name__ == "__main__":
-    sys.exit(main())
+    sys.exit(ending.check("javascript", run_all, ValueError))

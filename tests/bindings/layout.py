@@ -34,8 +34,8 @@ FILES = {
     "Python": (["bindings/python/setup.py", "bindings/python/src/**/*.py"], 88),
     "JavaScript": (["bindings/javascript/*.js", "bindings/javascript/*.ts"], 80),
 }
-# (of the page's module, which is one line)
-MADE_BY_PAGE = "bindings/javascript/module.js"
+# (the modules, each of one line)
+MODULES = ["bindings/javascript/module.js", "bindings/javascript/signing_module.js"]
 PACKAGE = "bindings/javascript/package.json"
 
 # What stands in JavaScript where prettier writes something else, by what is wrong with it: in any line, and where there are no
@@ -58,7 +58,7 @@ IN_CODE = {
 def files_of(language, top=TOP):
     """The paths of a language's files, below the top."""
     found = [path for pattern in FILES[language][0] for path in glob.glob(os.path.join(top, pattern), recursive=True)]
-    return sorted(path for path in found if os.path.relpath(path, top) != MADE_BY_PAGE)
+    return sorted(path for path in found if os.path.relpath(path, top) not in MODULES)
 
 
 def asked(checks, what, *command):
@@ -109,18 +109,20 @@ PLANTED = [
     ("bindings/rust/src/raw/header.rs", "    fn minisign_init(state: *mut State);", "  fn minisign_init(state: *mut State);"),
     ("bindings/rust/src/signing.rs", "/// Begins to sign data", "/// Begins to sign data" + " of any length" * 6),
     ("examples/rust/src/main.rs", "-> ExitCode {", "-> ExitCode\n{"),
-    ("bindings/go/raw.go", "func newState() *state {", "func newState()  *state {"),
+    ("bindings/go/raw.go", "func read(text string) (", "func read(text string)  ("),
+    ("bindings/go/header.go", "func callInit() ", "func callInit()  "),
     ("bindings/go/errors.go", "\tErrNotBegun ", "\tErrNotBegun  "),
     ("bindings/python/src/minisign_proved/_keys.py", "        text = file.read(TEXT_BYTES + 1)", "        text = file.read(TEXT_BYTES+1)"),
     ("bindings/python/src/minisign_proved/errors.py", "    number = 1\n\n\n", "    number = 1\n\n"),
     ("bindings/python/src/minisign_proved/_calls.py", "# The prime of the field", "# The prime of the field" + " of numbers" * 6),
-    ("bindings/javascript/index.js", "let loading;\n", "let loading;\t\n"),
-    ("bindings/javascript/index.js", "let loading;\n", "let loading; \n"),
-    ("bindings/javascript/index.js", "let loading;\n", "let loading;\n\n\n"),
-    ("bindings/javascript/index.js", "  return loading;", "   return loading;"),
-    ("bindings/javascript/index.js", "(it) => typeof", "it => typeof"),
-    ("bindings/javascript/index.js", '"./calls.js"', "'./calls.js'"),
-    ("bindings/javascript/index.js", "{ hasEd25519 }", "{hasEd25519}"),
+    ("bindings/javascript/loaded.js", "let loading;\n", "let loading;\t\n"),
+    ("bindings/javascript/loaded.js", "let loading;\n", "let loading; \n"),
+    ("bindings/javascript/loaded.js", "let loading;\n", "let loading;\n\n\n"),
+    ("bindings/javascript/loaded.js", "  return loading;", "   return loading;"),
+    ("bindings/javascript/arguments.js", "(it) => typeof", "it => typeof"),
+    ("bindings/javascript/loaded.js", '"./calls.js"', "'./calls.js'"),
+    ("bindings/javascript/loaded.js", "{ hasEd25519 }", "{hasEd25519}"),
+    ("bindings/javascript/header.js", "Uint8Array(STRUCTS.public_key.size);", "Uint8Array(STRUCTS.public_key.size)"),
     ("bindings/javascript/ed25519.js", "accepts(publicKey", "accepts( publicKey"),
     ("bindings/javascript/ed25519.js", "8f95e826n,\n", "8f95e826n\n"),
     ("bindings/javascript/verification.js", "this.kept = [];", "this.kept = []; // " + "what is kept of it " * 3),

@@ -29,6 +29,7 @@ import zipfile
 HERE = os.path.dirname(os.path.realpath(__file__))
 sys.path.append(os.path.join(HERE, "..", "shared"))
 
+import ending
 import needs
 import python_builds
 import python_installs
@@ -267,7 +268,8 @@ def check_vectors(checks, user):
 
 
 def prepare_keys(room):
-    """What the checks of keys find: a key and a signature of Minisign's own program, a damaged one, and one that asks for much."""
+    """What the checks of keys find: a key and a signature of Minisign's own program, a damaged one, one that asks for much, and such
+    as are sealed weakly or not."""
     minisign = needs.minisign()
     shared.write(room, "data", b"what is signed")
     for words in (["-G", "-W", "-p", "theirs.pub", "-s", "theirs.key"],
@@ -281,6 +283,9 @@ def prepare_keys(room):
     # (the limits of a derivation that is made many times)
     sealed = b"EdScB2" + bytes(32) + (2**40).to_bytes(8, "little") + (2**24).to_bytes(8, "little") + bytes(104)
     shared.write(room, "many.key", first + b"\n" + base64.b64encode(sealed) + b"\n")
+    for number, limits in enumerate(shared.LIMITS):
+        name = f"limits-{number}-{'weak' if limits[-1] else 'strong'}.key"
+        shared.write(room, name, shared.sealed(shared.read(os.path.join(room, "theirs.key")), limits))
 
 
 def check_keys(checks, user, room):
@@ -338,6 +343,9 @@ BUGS = [
     ("_keys.py", "                self._held.append(piece)", "                self._held = [piece]", "pieces"),
     ("_keys.py", "        with self._turn:\n            calls.update(self._state, piece)", "        if True:\n            calls.update(self._state, piece)",
      "threads"),
+    ("_keys.py", "unopened.log2_rows < h.LEAST_LOG2_ROWS", "unopened.log2_rows < 2", "keys"),
+    ("_keys.py", "        check_number(\"operations_limit\", operations_limit, least, most)\n", "", "arguments"),
+    ("_keys.py", "memory_limit, h.LEAST_MEMORY_LIMIT,", "memory_limit, 0,", "arguments"),
     ("_keys.py", "    if len(text) > TEXT_BYTES:", "    if len(text) > 2 * TEXT_BYTES:", "keys"),
     ("_keys.py", "        ctypes.memset(pair, 0, ctypes.sizeof(pair))", "        pass", "keys"),
     ("_keys.py", "        os.replace(os.path.join(room, \"key\"), name)", "        pass", "keys"),
@@ -345,11 +353,17 @@ BUGS = [
     ("_keys.py", "os.O_EXCL | getattr(os, \"O_CLOEXEC\", 0)\n    with open(os.open(name, flags, 0o600)", "os.O_TRUNC\n    with open(os.open(name, flags, 0o644)", "keys"),
     ("installing.py", "        library.end_installing(begun)", "        pass", "installing"),
     ("installing.py", "is_first=first,", "is_first=True,", "installing"),
-    ("installing.py", "            else h.ANSWER_NO", "            else h.ANSWER_YES", "installing"),
+    ("installing.py", " else h.ANSWER_NO", " else h.ANSWER_YES", "installing"),
     ("installing.py", "    if run.error != 0:", "    if run.error > 60:", "installing"),
     ("installing.py", "    wanted.most = LONGEST if most is None else min(most, LONGEST)", "    wanted.most = LONGEST", "installing"),
-    ("installing.py", "    again: bool = False,\n    numbering: str = \"timestamp\"", "    again: bool = False,\n    numbering: str = \"version\"", "installing"),
-    ("installing.py", "return Offer.THERE if run.call == h.DUE_ALREADY else Offer.NEWER", "return Offer.NEWER", "installing"),
+    ("installing.py", "    numbering: str = \"timestamp\",\n    name: Optional[Path] = None,\n    mode",
+     "    numbering: str = \"version\",\n    name: Optional[Path] = None,\n    mode", "installing"),
+    ("installing.py", "Offer.THERE if run.call == h.DUE_ALREADY else Offer.NEWER", "Offer.NEWER", "installing"),
+    ("installing.py", "must_expire=must_expire,", "must_expire=False,", "installing"),
+    ("installing.py", "minisign_install_number(run.machine)\n", "minisign_install_number(run.machine) + 1\n", "installing"),
+    ("installing.py", "if due == h.DUE_RENAME_RECORD and is_main else", "if due == h.DUE_RENAME and is_main else", "signals"),
+    ("installing.py", "                after.callback(signal.signal, end, signal.SIG_DFL)\n", "", "signals"),
+    ("installing.py", "        signal.raise_signal(number)\n", "        pass\n", "signals"),
     ("installing.py", "    wanted.is_check = True\n", "", "installing"),
     ("installing.py", "return bool(run.call == h.DUE_INSTALLED)", "return True", "installing"),
     ("installing.py", "key_count=len(keys)", "key_count=1", "installing"),
@@ -399,41 +413,35 @@ def check_planted(checks, python_path, room):
             checks.check(found, f"planted in {file}, and not noticed by {word}: {new.strip()[:80]}")
 
 
-def main():
-    checks = shared.Checks()
-    with tempfile.TemporaryDirectory(prefix="bindings-python-") as room:
-        # (some runs are made as nobody)
-        os.chmod(room, 0o711)
-        try:
-            program = shared.c_minisign(room)
-            wheel = build_wheel(checks, room)
-            if wheel is None:
-                return checks.end()
-            alone = environment(room, "alone", wheel)
-            beside = environment(room, "beside", wheel, "--system-site-packages")
-            check_sources(checks)
-            check_header(checks, room, alone)
-            check_host(checks, room, alone)
-            check_types(checks, beside)
-            check_examples(checks, alone, os.path.join(room, "examples"))
-            answered = wanted_answers(program, room)
-            for kind, python_path in zip(KINDS, (alone, beside)):
-                user, own = User(python_path, kind), os.path.join(room, kind)
-                os.mkdir(own)
-                check_vectors(checks, user)
-                check_read(checks, user)
-                check_answers(checks, user, answered)
-                for word in ("memory", "threads", "installing", "arguments", "parts", *(["passwords", "documentation"] if kind == KINDS[0] else [])):
-                    user.checks(checks, word, own)
-                check_keys(checks, user, os.path.join(own, "keys"))
-            check_planted(checks, beside, room)
-            inside = os.path.join(room, "installs")
-            os.mkdir(inside)
-            python_installs.run_all(checks.check, alone, inside)
-        except (needs.Missing, static_library.NotBuilt, OSError, ValueError, subprocess.SubprocessError) as why:
-            checks.check(False, f"it did not go on: {why!r}")
-    return checks.end()
+def run_all(checks, room):
+    # (some runs are made as nobody)
+    os.chmod(room, 0o711)
+    program = shared.c_minisign(room)
+    wheel = build_wheel(checks, room)
+    if wheel is None:
+        return
+    alone = environment(room, "alone", wheel)
+    beside = environment(room, "beside", wheel, "--system-site-packages")
+    check_sources(checks)
+    check_header(checks, room, alone)
+    check_host(checks, room, alone)
+    check_types(checks, beside)
+    check_examples(checks, alone, os.path.join(room, "examples"))
+    answered = wanted_answers(program, room)
+    for kind, python_path in zip(KINDS, (alone, beside)):
+        user, own = User(python_path, kind), os.path.join(room, kind)
+        os.mkdir(own)
+        check_vectors(checks, user)
+        check_read(checks, user)
+        check_answers(checks, user, answered)
+        for word in ("memory", "threads", "installing", "signals", "arguments", "parts", *(["passwords", "documentation"] if kind == KINDS[0] else [])):
+            user.checks(checks, word, own)
+        check_keys(checks, user, os.path.join(own, "keys"))
+    check_planted(checks, beside, room)
+    inside = os.path.join(room, "installs")
+    os.mkdir(inside)
+    python_installs.run_all(checks.check, alone, inside)
 
 
 if __name__ == "__main__":
-    sys.exit(main())
+    sys.exit(ending.check("bindings-python", run_all, ValueError))

@@ -71,6 +71,8 @@ KINDS = {
                  same=(*SAME_BYTES, io.BytesIO, lambda value: [value[:1], bytearray(value[1:])], lambda value: (value[at:at + 1] for at in range(len(value))))),
     "truth": Kind((None, 0, 1, 1.0, "", "no", b"yes", *OTHERS)),
     "rows": Kind((None, True, 1.0, "1", b"1", *OTHERS), bad=(0, -1, 2**64, 2**64 + 1)),
+    "operations": Kind((None, True, 1.0, "1", b"1", *OTHERS), bad=(0, -1, 524287, 2**64), same=(lambda _: 524288, lambda _: 2**64 - 1)),
+    "memory": Kind((None, True, 1.0, "1", b"1", *OTHERS), bad=(0, -1, 2**24 - 1, 2**30 + 1), same=(lambda _: 2**24, lambda _: 2**30)),
     "mode or none": Kind((True, False, 0o755 + 0.0, "755", "rwx", b"755", *OTHERS), bad=(-1, 0o1000, 755, 0o100755, 2**32 + 0o755), same=(lambda _: 0, lambda _: 0o777)),
     "size or none": Kind((True, False, 1e6, "1M", b"1", *OTHERS), bad=(-1, 2**64), same=(lambda _: 4, lambda _: 2**64 - 1)),
     "seconds": Kind((None, True, 1.0, "1", b"1", *OTHERS), bad=(-1, 24 * 60 * 60 + 1), same=(lambda _: 0, lambda _: 24 * 60 * 60)),
@@ -133,8 +135,10 @@ def table(room: str) -> List[Row]:
         Row("SecretKey.generate", {}, lambda: (SecretKey.generate, {})),
         Row("SecretKey.from_bytes", {"text": "bytes", **opening}, lambda: (SecretKey.from_bytes, {"text": secret.to_bytes(None), **usual})),
         Row("SecretKey.from_file", {"path": "path", **opening}, lambda: (SecretKey.from_file, {"path": key_path, **usual})),
-        Row("SecretKey.to_bytes", {"password": "new password", "comment": "text", "low_memory": "truth"},
-            lambda: (secret.to_bytes, {"password": None, "comment": "comment \u00e9", "low_memory": False})),
+        Row("SecretKey.to_bytes", {"password": "new password", "comment": "text", "low_memory": "truth", "operations_limit": "operations",
+                                   "memory_limit": "memory"},
+            lambda: (secret.to_bytes, {"password": None, "comment": "comment \u00e9", "low_memory": False, "operations_limit": 2**20,
+                                       "memory_limit": 2**25})),
         Row("SecretKey.public_bytes", {"comment": "text or none"}, lambda: (secret.public_bytes, {"comment": "comment \u00e9"})),
         Row("SecretKey.sign", {"path": "path", **comments}, lambda: (secret.sign, {"path": path, **signed})),
         Row("SecretKey.sign_data", {"data": "data", "trusted_comment": "text or none", "untrusted_comment": "text"},
@@ -145,13 +149,14 @@ def table(room: str) -> List[Row]:
         Row("change_password", {"path": "path", "old": "password", "new": "new password", "low_memory": "truth"},
             lambda: (minisign.change_password, {"path": key_path, "old": None, "new": None, "low_memory": False})),
         Row("use_ed25519", {"name": "Ed25519"}, lambda: (minisign.use_ed25519, {"name": kind})),
-        Row("check", {"key": "public keys", "signature": "signature", "target": "target", "first": "truth", "numbering": "numbering", "name": "path or none"},
-            lambda: (minisign.check, {"key": public, "signature": signature, "target": there(), "first": True, "numbering": "version", "name": "app"})),
+        Row("check", {"key": "public keys", "signature": "signature", "target": "target", "first": "truth", "must_expire": "truth", "numbering": "numbering",
+                      "name": "path or none"},
+            lambda: (minisign.check, {"key": public, "signature": signature, "target": there(), "first": True, "must_expire": False, "numbering": "version", "name": "app"})),
         Row("install", {"key": "public keys", "data": "path or file", "signature": "signature", "target": "target", "first": "truth", "again": "truth",
-                        "numbering": "numbering", "name": "path or none", "mode": "mode or none", "most": "size or none",
+                        "must_expire": "truth", "numbering": "numbering", "name": "path or none", "mode": "mode or none", "most": "size or none",
                         "wait": "seconds", "progress": "function or none"},
             lambda: (minisign.install, {"key": public, "data": path, "signature": signature, "target": there(), "first": True, "again": False,
-                                        "numbering": "version", "name": "app", "mode": 0o640, "most": 4, "wait": 1,
+                                        "must_expire": False, "numbering": "version", "name": "app", "mode": 0o640, "most": 4, "wait": 1,
                                         "progress": None})),
     ]
 
@@ -168,12 +173,12 @@ def there_with(path: str, data: bytes) -> str:
 
 
 def public_calls() -> Iterator[Tuple[str, Callable[..., object]]]:
-    """All functions of the package, and of its classes what makes one and each method."""
+    """All functions of the package, and of its classes, but those of what is answered alone, what makes one and each method."""
     for name in minisign.__all__:
         found = getattr(minisign, name)
         if inspect.isfunction(found):
             yield name, found
-        elif inspect.isclass(found) and not issubclass(found, (BaseException, enum.Enum)):
+        elif inspect.isclass(found) and not issubclass(found, (BaseException, enum.Enum, minisign.Checked)):
             yield name, found
             for method, value in vars(found).items():
                 if not method.startswith("_") and not isinstance(value, property):

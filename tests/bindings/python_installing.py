@@ -5,6 +5,7 @@ Needs Python 3.9 or later.
 
 import os
 import sys
+import threading
 
 import minisign_proved as minisign
 
@@ -15,7 +16,7 @@ UNITS = {"K": 10, "M": 20, "G": 30, "T": 40}
 
 def status_of(error):
     """The exit status that `minisign-install` has for an error."""
-    for kinds, status in (((minisign.TooLong,), REJECTED), ((minisign.OlderUpdate,), OLDER), ((minisign.Expired,), EXPIRED), ((minisign.PlaceInUse,), IN_USE),
+    for kinds, status in (((minisign.TooLong,), REJECTED), ((minisign.OlderUpdate,), OLDER), ((minisign.Expired,), EXPIRED), ((minisign.TargetInUse,), IN_USE),
                           ((minisign.DirectoryNotSynced,), NOT_ON_DISK), ((minisign.SameNumber,), SAME),
                           ((minisign.NoRecord, minisign.DamagedRecord, minisign.KeptByTimestamp, minisign.KeptByVersion), UNRECORDED),
                           ((minisign.OutOfMemory, minisign.ReadingFailed, minisign.WritingFailed, minisign.RandomSourceFailed), FAILED)):
@@ -36,7 +37,7 @@ def rejection_text(data, signature, place, name, numbering, error):
     if isinstance(error, minisign.TooLong):
         return f"error: {data}: it is longer than it may be"
     at = signature
-    if isinstance(error, (minisign.SignatureRefused, minisign.OlderUpdate)):
+    if isinstance(error, (minisign.SignatureRefused, minisign.OlderUpdate, minisign.OtherSize)):
         at = data
     if status_of(error) in (FAILED, IN_USE, NOT_ON_DISK, UNRECORDED, SAME):
         at = place
@@ -77,6 +78,8 @@ def read_signature(path):
 
 
 def main():
+    # (a signal for the process goes to this thread, where the other one holds it back)
+    threading.Thread(target=threading.Event().wait, daemon=True).start()
     words, options, keys, paths = sys.argv[1:], {}, [], []
     while words:
         word = words.pop(0)
@@ -85,7 +88,7 @@ def main():
         elif word == "--key":
             keys.append(words.pop(0))
         elif word.startswith("--"):
-            options[word[2:]] = True if word in ("--first", "--again", "--check") else words.pop(0)
+            options[word[2:]] = True if word in ("--first", "--again", "--check", "--must-expire") else words.pop(0)
         else:
             paths.append(word)
     key = None if keys else paths.pop(0)
@@ -96,7 +99,7 @@ def main():
         most = int(most[:-1]) << UNITS[most[-1]] if most[-1] in UNITS else int(most)
     try:
         public_keys = [read_key(minisign.PublicKey.from_base64, text) for text in keys] or read_key(minisign.PublicKey.from_file, key)
-        text, wanted = read_signature(signature), {"first": "first" in options, "numbering": numbering, "name": options.get("name")}
+        text, wanted = read_signature(signature), {"first": "first" in options, "must_expire": "must-expire" in options, "numbering": numbering, "name": options.get("name")}
         if "check" in options:
             return OFFERS[minisign.check(public_keys, text, place, **wanted)]
         is_new = minisign.install(public_keys, data, text, place, again="again" in options, mode=None if mode is None else int(mode, 8), most=most,
@@ -107,7 +110,7 @@ def main():
             print(failure_text(error.__cause__), file=sys.stderr)
         else:
             print(rejection_text(data, signature, place, options.get("name") or os.path.basename(place), numbering, error), file=sys.stderr)
-        if status == NOT_ON_DISK:
+        if status == NOT_ON_DISK or (status == EXPIRED and error.__cause__):
             print(failure_text(error.__cause__), file=sys.stderr)
         return status
     except OSError as why:

@@ -3,7 +3,6 @@
 Needs Python 3.9 or later, minisign, a C compiler and setfacl, which are installed where that is allowed.
 """
 
-import inspect
 import os
 import subprocess
 import sys
@@ -11,10 +10,13 @@ import sys
 HERE = os.path.dirname(os.path.realpath(__file__))
 sys.path += [os.path.join(HERE, "..", name) for name in ("shared", "tool", "installer")]
 
+from checking import check_cases
 from cut_off import BEGINNINGS, CUTS
 from installers import RealInstaller
-from installing import Installing, cases, check_cases, word_cases
+from installing import cases
 from running import Failure, Skip, build_preload
+from runs import Installing
+from words import says, word_cases
 
 PROGRAM = os.path.join(HERE, "python_installing.py")
 
@@ -22,12 +24,9 @@ PROGRAM = os.path.join(HERE, "python_installing.py")
 class PythonInstaller(RealInstaller):
     """`install` and `check` of the Python package, with a key that Minisign's own program makes in this directory."""
 
-    # (before it reads the record alone, to its end)
-    looked_at = 3
-
 
 # What needs the words or the messages of a program, and not of a function.
-LEFT_OUT = ("progress at a terminal", "a closed error stream", "an allocation that fails", "an error stream that nobody reads", "what a check shows", "the script of the document",
+LEFT_OUT = ("progress at a terminal", "a closed error stream", "an allocation that fails", "an error stream that nobody reads", "what a check shows", "what a check shows of what it rejects", "the script of the document",
             "a check: the same, that is asked for again", "a mode that is asked for, of what is there already")
 
 
@@ -41,17 +40,12 @@ def installer(python, room):
     os.chmod(program, 0o755)
     installing = Installing(program, PythonInstaller(room), room)
     # (what Python itself calls is neither broken nor traced)
-    installing.preload, installing.trace = (build_preload(installing.room, name, "libminisign.so") for name in ("break_calls", "trace_calls"))
+    installing.preload = build_preload(installing.room, "disturbed_calls", "libminisign.so")
     return installing
 
 
-def is_of_words(case):
-    """Whether a case is of the words of a command line: whether it takes `words` and what is said of them."""
-    return {"words", "said"} <= set(inspect.signature(case).parameters)
-
-
 def chosen_cases(installing):
-    words = {name for name, _ in word_cases(installing)} | {name for name, case in check_cases(installing) if is_of_words(case)} | set(LEFT_OUT)
+    words = {name for name, _ in word_cases(installing)} | {name for name, case in check_cases(installing) if getattr(case, "func", None) is says} | set(LEFT_OUT)
     kept = {"a name that begins with a dash", "another name than the signed one"}
     # (what the host does after a cut over other beginnings, the cases of the program show)
     cut_off = {f"cut off by {cut}, over {begin}" for begin, *_ in BEGINNINGS[1:] for cut, _ in CUTS}

@@ -12,6 +12,7 @@ import pickle
 import pydoc
 import random
 import re
+import signal
 import sys
 import threading
 from typing import IO, Any, Callable, Dict, Iterator, List, Tuple, Type, cast
@@ -217,6 +218,12 @@ def keys(room: str) -> None:
     other = write(room, "many.key", open(os.path.join(room, "many.key"), "rb").read())
     rejects(minisign.WorkTooHigh, lambda: SecretKey.from_file(other, "x"), "a key that asks for much work")
 
+    limited = sorted(name for name in os.listdir(room) if name.startswith("limits-"))
+    told = [SecretKey.from_file(os.path.join(room, name), "pass word").is_weak for name in limited]
+    check(told == [name.endswith("-weak.key") for name in limited] and {*told} == {True, False}, f"whether keys are weak: {limited}, {told}")
+    least = key.to_bytes("pw", operations_limit=2**19, memory_limit=2**24)
+    check(not SecretKey.from_bytes(least, "pw").is_weak and not opened.is_weak, "a key that is sealed by the least, or not at all, is weak")
+
     damaged = write(room, "damaged.key", open(os.path.join(room, "damaged.key"), "rb").read())
     rejects(minisign.SignatureRefused, lambda: SecretKey.from_file(damaged).sign(data), "a key whose halves do not belong together")
     link, away = os.path.join(room, "link.key"), os.path.join(room, "away")
@@ -342,9 +349,9 @@ def installing(room: str) -> None:
     seen: List[Tuple[int, int]] = []
     minisign.install(key.public_key, io.BytesIO(b"one"), one, place, first=True, numbering="version", progress=lambda done, size: seen.append((done, size)))
     check(state() == (b"one", b"version:1", []), f"data in memory: {state()}")
-    check(minisign.check(key.public_key, one, place, numbering="version") is minisign.Offer.THERE, "a check of what is there")
+    check(minisign.check(key.public_key, one, place, numbering="version").status is minisign.Offer.THERE, "a check of what is there")
     write(directory, "app", b"changed")
-    check(minisign.check(key.public_key, one, place, numbering="version") is minisign.Offer.NEWER, "a check of a changed file")
+    check(minisign.check(key.public_key, one, place, numbering="version").status is minisign.Offer.NEWER, "a check of a changed file")
     check(minisign.install(key.public_key, io.BytesIO(b"one"), one, place, numbering="version") is True, "a changed file")
     other_one = signed(b"another one", "version:1\tfile:app")
     rejects(minisign.SameNumber, lambda: minisign.check(key.public_key, other_one, place, numbering="version"), "a check of another update of the number")
@@ -404,11 +411,12 @@ def installing(room: str) -> None:
     check(state() == (b"two", b"version:2", []) and os.stat(place).st_mode & 0o777 == 0o755, f"a file that is open: {state()}")
     rejects(minisign.OlderUpdate, lambda: minisign.install(key.public_key, io.BytesIO(b"one"), one, place, numbering="version"), "an older update")
     rejects(minisign.KeptByVersion, lambda: minisign.install(key.public_key, path, two, place), "the other field")
-    newer, older = [minisign.check(key.public_key, update, place, numbering="version") for update in (signed(b"3", "version:3\tfile:app"), one)]
+    tells_of_updates(key, path, place)
+    newer, older = [minisign.check(key.public_key, update, place, numbering="version").status for update in (signed(b"3", "version:3\tfile:app"), one)]
     check([newer, older] == [minisign.Offer.NEWER, minisign.Offer.OLDER] and state()[0] == b"two", f"a check says {newer} and {older}")
     other = SecretKey.generate().public_key
     for keys in ([other, key.public_key], (key.public_key, other)):
-        check(minisign.check(keys, two, place, numbering="version") is minisign.Offer.THERE, "a check with two keys")
+        check(minisign.check(keys, two, place, numbering="version").status is minisign.Offer.THERE, "a check with two keys")
         check(minisign.install(keys, path, two, place, numbering="version") is False, "an installation with two keys")
     rejects(minisign.DifferentKeyIds, lambda: minisign.check([other, other], two, place, numbering="version"), "two keys of others")
     rejects(ValueError, lambda: minisign.check([other] * 3, two, place, numbering="version"), "three keys")
@@ -419,6 +427,64 @@ def installing(room: str) -> None:
     for _ in range(20):
         minisign.install(key.public_key, path, two, place, numbering="version")
     check(len(os.listdir("/proc/self/fd")) == opened, "descriptors stay open")
+
+
+def tells_of_updates(key: SecretKey, path: str, place: str) -> None:
+    """What a check tells of updates over the number 2; and of one that has to expire."""
+    offers = {minisign.Offer.NEWER: 3, minisign.Offer.THERE: 2, minisign.Offer.OLDER: 1}
+    for offer, number in offers.items():
+        comment = f"version:{number}\tfile:app\tnote:\u00e9"
+        update = key.sign(path, trusted_comment=comment)
+        found = minisign.check(key.public_key, update, place, numbering="version")
+        check(found == offer and found.status is offer and offers[found.status] == number and hash(found) == hash(offer) and found != 9, f"it is {found!r}")
+        check((found.number, found.comment) == (number, comment), f"its comment is {found.comment!r}")
+        copied = pickle.loads(pickle.dumps(found))
+        check((copied, copied.status, copied.number, copied.comment) == (found, offer, number, found.comment), f"a copy is {copied!r}")
+        rejects(minisign.NoExpiry, lambda update=update: minisign.check(key.public_key, update, place, must_expire=True, numbering="version"),  # type: ignore[misc]
+                "a check of one that does not expire")
+        rejects(minisign.NoExpiry, lambda update=update: minisign.install(key.public_key, path, update, place, must_expire=True, numbering="version"),  # type: ignore[misc]
+                "one that does not expire")
+
+
+class Ends:
+    """The library, in which a signal that ends a process comes where the record is to get its name."""
+
+    def __init__(self, due: int) -> None:
+        self.due = due
+
+    def __getattr__(self, name: str) -> Any:
+        return getattr(_calls.library, name)
+
+    def make_call(self, begun: Any) -> Any:
+        if self.minisign_install_due(begun.contents.machine) == self.due:
+            os.kill(os.getpid(), signal.SIGTERM)
+        return _calls.library.make_call(begun)
+
+
+def signals(room: str) -> None:
+    """A process that is asked to end between the two names ends once the target has its own; and no handler stays."""
+    key = SecretKey.generate()
+    path, place = write(room, "update", b"one"), os.path.join(room, "app")
+    update = key.sign(path, trusted_comment="version:1\tfile:app")
+    child = os.fork()
+    if child == 0:
+        from minisign_proved import _header, installing as host
+
+        signal.signal(signal.SIGTERM, signal.SIG_DFL)
+        setattr(host, "library", Ends(_header.DUE_RENAME_RECORD))
+        minisign.install(key.public_key, path, update, place, first=True, numbering="version")
+        os._exit(0)
+    ended = os.waitpid(child, 0)[1]
+    there = sorted(name for name in os.listdir(room) if "app" in name)
+    check(os.WIFSIGNALED(ended) and os.WTERMSIG(ended) == signal.SIGTERM and there == [".app.lock", ".app.number", "app"], f"it ended by {ended}: {there}")
+    before = {number: signal.getsignal(number) for number in (signal.SIGHUP, signal.SIGINT, signal.SIGQUIT, signal.SIGTERM)}
+    minisign.install(key.public_key, path, key.sign(path, trusted_comment="version:2\tfile:app"), place, numbering="version")
+    check({number: signal.getsignal(number) for number in before} == before, "a handler stays")
+    thread = threading.Thread(target=lambda: minisign.install(key.public_key, path, key.sign(path, trusted_comment="version:3\tfile:app"), place, numbering="version"))
+    thread.start()
+    thread.join()
+    check(minisign.check(key.public_key, key.sign(path, trusted_comment="version:3\tfile:app"), place, numbering="version") == minisign.Offer.THERE,
+          "an installation in another thread")
 
 
 def arguments(room: str) -> None:
@@ -432,7 +498,7 @@ def main() -> int:
     if word in ("answers", "pieces", "read", "vectors"):
         {"answers": lambda: answers(rest == ["allow"]), "pieces": pieces, "read": read, "vectors": vectors}[word]()
         return 0
-    {"memory": memory, "threads": threads, "keys": keys, "passwords": passwords, "installing": installing,
+    {"memory": memory, "threads": threads, "keys": keys, "passwords": passwords, "installing": installing, "signals": signals,
      "arguments": arguments, "parts": parts, "documentation": documentation}[word](rest[0])
     for failure in failures:
         print(f"FAILED: {failure}")

@@ -24,14 +24,13 @@ import hashlib
 import os
 import re
 import shutil
-import subprocess
 import sys
-import tempfile
 
 HERE = os.path.dirname(os.path.realpath(__file__))
 sys.path += [HERE, *(os.path.join(HERE, "..", name) for name in ("shared", "c"))]
 
 import emulated
+import ending
 import needs
 import portable
 import shared_cases
@@ -46,7 +45,6 @@ LINES = 650
 CALLS = 100_000
 # How many pages of 4 KiB may be in memory after all calls that were not after a tenth of them.
 PAGES = 64
-COMMENT = "version:2\tfile:app \u00e9"
 
 PROGRAM = """[package]
 name = "{name}"
@@ -269,50 +267,8 @@ def check_read(checks, program):
 
 
 def check_signing(checks, program, room, minisign):
-    """The program and `c/minisign` read each other's keys and signatures."""
-    data = write(room, "data", b"some data\n" * 500)
-    directories = {}
-    for name, password in (("open", []), ("sealed", ["pass word"])):
-        directories[name] = directory = os.path.join(room, name)
-        os.mkdir(directory)
-        said = run([program, "make", directory, *password])[1]
-        checks.check(said == b"Ok(())\n", f"a key, {name}: {said!r}")
-        key, public, sig = (os.path.join(directory, name) for name in ("secret", "public", "sig"))
-        run([minisign, "-S", "-s", key, "-m", data, "-x", sig, "-t", "t"], data=b"pass word\n")
-        status, said, why = run([minisign, "-V", "-Q", "-p", public, "-m", data, "-x", sig])
-        checks.check((status, said) == (0, b"t\n"), f"c/minisign with a key, {name}: {status}, {why}")
-        run([minisign, "-R", "-s", key, "-p", f"{directory}/again"], data=b"pass word\n")
-        checks.check(shared_cases.read(public) == shared_cases.read(f"{directory}/again"), f"c/minisign writes another public key, {name}")
-    records = [base64.b64decode(shared_cases.read(f"{room}/{name}/public").split(b"\n")[1]) for name in directories]
-    checks.check(all(records[0][at:at + 8] != records[1][at:at + 8] for at in (2, 10)), "two keys have one key ID, or are the same")
-    made = os.path.join(room, "by-c")
-    os.mkdir(made)
-    run([minisign, "-G", "-W", "-s", f"{made}/secret", "-p", f"{made}/public"])
-    directories["of c/minisign"] = made
-    rejected = lambda name: f"Err(Rejected({name}))"
-    cases = [("open", COMMENT, [], "Ok(())"), ("sealed", COMMENT, ["pass word"], "Ok(())"), ("of c/minisign", "", [], "Ok(())"),
-             ("open", "a\nb", [], rejected("BAD_COMMENT")), ("open", "a\rb", [], rejected("UNREADABLE_COMMENT")),
-             ("open", "a", ["pass word"], rejected("KEY_NOT_SEALED")), ("sealed", "a", [], rejected("KEY_SEALED")),
-             ("sealed", "a", ["password"], rejected("WRONG_PASSWORD"))]
-    for name, comment, password, wanted in cases:
-        sig = os.path.join(room, "signature")
-        if os.path.exists(sig):
-            os.remove(sig)
-        status, said, why = run([program, "sign", f"{directories[name]}/secret", data, sig, comment, *password])
-        checks.check(said.decode().strip() == wanted, f"signing, {name}, {comment!r}: {said!r} {why} in place of {wanted}")
-        if wanted == "Ok(())":
-            status, said, why = run([minisign, "-V", "-H", "-Q", "-p", f"{directories[name]}/public", "-m", data, "-x", sig])
-            checks.check((status, said.decode()) == (0, comment + "\n"), f"c/minisign of a signature, {name}: {status}, {said!r}, {why}")
-        else:
-            checks.check(not os.path.exists(sig), f"signing, {name}, {comment!r}: a file was written")
-    # (a key with a byte of its public half changed, which would give its secret away)
-    text = shared_cases.read(f"{made}/secret").split(b"\n")
-    record = bytearray(base64.b64decode(text[1]))
-    record[100] ^= 1
-    record[126:158] = bytes(32)
-    write(room, "damaged", text[0] + b"\n" + base64.b64encode(record) + b"\n")
-    said = run([program, "sign", f"{room}/damaged", data, f"{room}/none", "a"])[1].decode().strip()
-    checks.check(said == "Err(InvalidSignature(SIGNATURE_REFUSED))" and not os.path.exists(f"{room}/none"), f"a key of two halves that do not fit: {said}")
+    """The program and `c/minisign` read each other's keys and signatures, and none of its keys is weak."""
+    shared_cases.check_signing(checks, [program], room, minisign, lambda name: f"Err(Rejected({name}))", "Ok(())")
 
 
 def check_many(checks, program):
@@ -464,6 +420,9 @@ BUGS = [
      "crypto_sign_verify_detached(signature, from, len, key) <= 0"),
     ("src/signing.rs", "|it| ed25519.accepts(it, message, &key)", "|it| it.len() + key.len() == 96"),
     ("src/signing.rs", "!ed25519.random(&mut sealing.salt)", "work.keep_every == 0"),
+    ("src/signing.rs", "work.operations_limit < raw::LEAST_OPERATIONS_LIMIT as u64\n            || ", ""),
+    ("src/signing.rs", "raw::LEAST_MEMORY_LIMIT as u64", "1"),
+    ("src/signing.rs", "usize::from(unopened.log2_rows) < raw::LEAST_LOG2_ROWS", "unopened.log2_rows < 2"),
     ("src/signing.rs", "signer.update_from(fs::File::open(path)?)?;", "fs::File::open(path)?;"),
     (MADE, "with_password, password) = (password.is_some().into()", "with_password, password) = (0"),
 ]
@@ -537,23 +496,17 @@ def check_toolchain(checks, room, toolchain, minisign, plants_bugs):
         checks.check(True, "")
 
 
-def main():
-    checks = Checks()
-    with tempfile.TemporaryDirectory(prefix="bindings-rust-") as room:
-        try:
-            minisign = shared_cases.c_minisign(room)
-            check_sources(checks)
-            check_declarations(checks)
-            found = toolchains()
-            checks.check(not needs.may_install() or found[0][0] == f"{needs.DEBIAN}/cargo", f"Debian's cargo is not tried: {found}")
-            for number, toolchain in enumerate(found):
-                directory = os.path.join(room, str(number))
-                os.mkdir(directory)
-                check_toolchain(checks, directory, toolchain, minisign, number == 0)
-        except (needs.Missing, static_library.NotBuilt, OSError, ValueError, subprocess.SubprocessError) as why:
-            checks.check(False, f"it did not go on: {why!r}")
-    return checks.end()
+def run_all(checks, room):
+    minisign = shared_cases.c_minisign(room)
+    check_sources(checks)
+    check_declarations(checks)
+    found = toolchains()
+    checks.check(not needs.may_install() or found[0][0] == f"{needs.DEBIAN}/cargo", f"Debian's cargo is not tried: {found}")
+    for number, toolchain in enumerate(found):
+        directory = os.path.join(room, str(number))
+        os.mkdir(directory)
+        check_toolchain(checks, directory, toolchain, minisign, number == 0)
 
 
 if __name__ == "__main__":
-    sys.exit(main())
+    sys.exit(ending.check("bindings-rust", run_all, ValueError))

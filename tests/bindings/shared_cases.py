@@ -9,6 +9,7 @@ Needs Python 3.9 or later, make, a C compiler and libsodium with its header, and
 
 import base64
 import concurrent.futures
+import hashlib
 import json
 import os
 import random
@@ -25,6 +26,7 @@ import edges
 import needs
 import static_library
 from checks import Checks
+from running import read, write
 
 CORPUS = os.path.join(TOP, "tests", "corpus")
 HEADER = os.path.join(TOP, "include", "minisign.h")
@@ -44,20 +46,6 @@ class Case(NamedTuple):
     key: bytes
     data: bytes
     signature: bytes
-
-
-def read(path):
-    """The bytes of a file."""
-    with open(path, "rb") as file:
-        return file.read()
-
-
-def write(room, name, data):
-    """Writes a file; its path."""
-    path = os.path.join(room, name)
-    with open(path, "wb") as file:
-        file.write(data)
-    return path
 
 
 def run(command, directory=None, environment=None, data=b"", seconds=SECONDS):
@@ -290,6 +278,93 @@ def compare(checks, what, cases, said, wanted):
         else:
             told = f"accepted {comment.hex() or '-'}"
             checks.check(line == told, f"{what}, {case.name}: {line} in place of {told}")
+
+
+# ---- Signing ----
+
+# A comment that is signed, and a password.
+COMMENT, PASSWORD = "version:2\tfile:app \u00e9", "pass word"
+# Limits of a sealed key, by libsodium's names and in its order: operations and memory; which logarithm of its rows and which number of
+# parts libsodium makes of them; and whether they are weak, which all are that have fewer rows than the weakest key of `minisign -G`.
+LIMITS = [((0, 0), 1, 512, True), ((32768, 1 << 24), 10, 1, True), ((524287, 1 << 30), 13, 1, True),
+          ((33554432, (1 << 24) - 1), 13, 128, True), ((524288, 1 << 24), 14, 1, False), ((1048576, 1 << 25), 15, 1, False)]
+
+
+def sealed(text, limits):
+    """The text of a secret key that is not sealed, sealed under the password and these limits of the list."""
+    (operations, memory), log2_rows, parts, _ = limits
+    first, line = text.split(b"\n")[:2]
+    record, salt = base64.b64decode(line), bytes(range(32))
+    body = record[54:126] + hashlib.blake2b(record[:2] + record[54:126], digest_size=32).digest()
+    stream = hashlib.scrypt(PASSWORD.encode(), salt=salt, n=1 << log2_rows, r=8, p=parts, maxmem=1 << 30, dklen=len(body))
+    numbers = operations.to_bytes(8, "little") + memory.to_bytes(8, "little")
+    made = b"EdScB2" + salt + numbers + bytes(one ^ other for one, other in zip(body, stream))
+    return first + b"\n" + base64.b64encode(made) + b"\n"
+
+
+def check_signing(checks, command, room, minisign, rejected=lambda name: name, good="OK", seals=True, opens=True):
+    """A package's program and `c/minisign` read each other's keys and signatures: `make DIRECTORY [PASSWORD]` makes a pair of keys there,
+    and `sign KEY DATA TO COMMENT [PASSWORD]` a signature. It says that all was good, or for what it was rejected. Where it seals under no
+    other limits than the usual ones (`seals`) it is not asked to, and no key of these is made where it is not to open one (`opens`)."""
+    data, directories = write(room, "data", b"some data\n" * 500), {}
+    answer = lambda *words: run([*command, *words])[1].decode().strip()
+    for name, password in (("open", []), ("sealed", [PASSWORD]) if opens else ("other", [])):
+        directories[name] = directory = os.path.join(room, name)
+        os.mkdir(directory)
+        said = answer("make", directory, *password)
+        checks.check(said == good, f"a key, {name}: {said!r}")
+        key, public, sig = (os.path.join(directory, name) for name in ("secret", "public", "sig"))
+        run([minisign, "-S", "-s", key, "-m", data, "-x", sig, "-t", "t"], data=f"{PASSWORD}\n".encode())
+        status, told, why = run([minisign, "-V", "-Q", "-p", public, "-m", data, "-x", sig])
+        checks.check((status, told) == (0, b"t\n"), f"c/minisign with a key, {name}: {status}, {why}")
+        run([minisign, "-R", "-s", key, "-p", f"{directory}/again"], data=f"{PASSWORD}\n".encode())
+        checks.check(read(public) == read(f"{directory}/again"), f"c/minisign writes another public key, {name}")
+    records = [base64.b64decode(read(f"{room}/{name}/public").split(b"\n")[1]) for name in directories]
+    checks.check(all(records[0][at:at + 8] != records[1][at:at + 8] for at in (2, 10)), "two keys have one key ID, or are the same")
+    made = directories["of c/minisign"] = os.path.join(room, "by-c")
+    os.mkdir(made)
+    run([minisign, "-G", "-W", "-s", f"{made}/secret", "-p", f"{made}/public"])
+    for name, comment, password, why in (row for row in SIGNED if row[0] in directories):
+        sig, wanted = os.path.join(room, "signature"), good if why is None else rejected(why)
+        if os.path.exists(sig):
+            os.remove(sig)
+        said = answer("sign", f"{directories[name]}/secret", data, sig, comment, *password)
+        checks.check(said == wanted, f"signing, {name}, {comment!r}: {said!r} in place of {wanted}")
+        if why is None:
+            status, told, words = run([minisign, "-V", "-H", "-Q", "-p", f"{directories[name]}/public", "-m", data, "-x", sig])
+            checks.check((status, told.decode()) == (0, comment + "\n"), f"c/minisign of a signature, {name}: {status}, {told!r}, {words}")
+        else:
+            checks.check(not os.path.exists(sig), f"signing, {name}, {comment!r}: a file was written")
+    # (a key with a byte of its public half changed, which would give its secret away)
+    text = read(f"{made}/secret").split(b"\n")
+    record = bytearray(base64.b64decode(text[1]))
+    record[100] ^= 1
+    record[126:158] = bytes(32)
+    write(room, "damaged", text[0] + b"\n" + base64.b64encode(record) + b"\n")
+    said = answer("sign", f"{room}/damaged", data, f"{room}/none", "a")
+    checks.check("SIGNATURE_REFUSED" in said and not os.path.exists(f"{room}/none"), f"a key of two halves that do not fit: {said}")
+    check_weak(checks, answer, room, read(f"{made}/secret"), good if seals else None)
+
+
+# What a key signs with, by the directory of `check_signing`: the comment, the password, and for what it is rejected.
+SIGNED = [
+    ("open", COMMENT, [], None), ("sealed", COMMENT, [PASSWORD], None), ("of c/minisign", "", [], None), ("open", "a\nb", [], "BAD_COMMENT"),
+    ("open", "a\rb", [], "UNREADABLE_COMMENT"), ("open", "a", [PASSWORD], "KEY_NOT_SEALED"), ("sealed", "a", [], "KEY_SEALED"),
+    ("sealed", "a", ["password"], "WRONG_PASSWORD"),
+]
+
+
+def check_weak(checks, answer, room, text, good):
+    """Of a key that is sealed weakly `opened KEY [PASSWORD]` says so, and of another one that it is strong; and none is sealed so by
+    `sealed OPERATIONS MEMORY`, which names why, where the package seals under other limits than the usual ones."""
+    said = answer("opened", write(room, "unsealed", text))
+    checks.check(said == "strong", f"a key that is not sealed is {said}")
+    for limits in LIMITS:
+        said, wanted = answer("opened", write(room, "weak", sealed(text, limits)), PASSWORD), "weak" if limits[-1] else "strong"
+        checks.check(said == wanted, f"a key of the limits {limits} is {said}")
+    for limits, is_weak in [((524287, 1 << 24), True), ((524288, (1 << 24) - 1), True), ((1, 1), True), ((524288, 1 << 24), False)] if good else []:
+        said = answer("sealed", *map(str, limits))
+        checks.check(said == ("WEAK_LIMITS" if is_weak else good), f"sealing under {limits}: {said}")
 
 
 # ---- What the header says ----

@@ -48,18 +48,21 @@ pub enum Error {
     UnsupportedAlgorithm,
     /// A signature is over the data itself, and cannot be verified in pieces.
     UnsupportedLegacyMode,
+    /// A key was to be sealed under limits below the least that Minisign's own program seals with.
+    WeakLimits,
     /// What `minisign-verify` has no name for: of signing, of keys, of usage errors.
     Rejected(Reason),
 }
 
 impl Error {
-    /// Why it was, and nothing where the system could not read a file.
+    /// Why it was, and nothing where the system could not read a file, or limits are weak.
     pub fn reason(&self) -> Option<&Reason> {
         match self {
             Error::InvalidEncoding(it) | Error::InvalidSignature(it) | Error::Rejected(it) => {
                 Some(it)
             }
             Error::IoError(error) => error.get_ref()?.downcast_ref(),
+            Error::WeakLimits => None,
             Error::UnexpectedKeyId => Some(&Reason::DIFFERENT_KEY_IDS),
             Error::UnsupportedAlgorithm => Some(&Reason::UNSUPPORTED_ALGORITHM),
             _ => Some(&Reason::LEGACY_NOT_ACCEPTED),
@@ -93,6 +96,7 @@ impl fmt::Display for Error {
     fn fmt(&self, f: &mut fmt::Formatter) -> fmt::Result {
         match self {
             Error::IoError(error) => error.fmt(f),
+            Error::WeakLimits => f.write_str("the limits of a sealed key are too low"),
             other => other.reason().map_or(Ok(()), |it| it.fmt(f)),
         }
     }
@@ -359,11 +363,9 @@ impl<'a> StreamVerifier<'a> {
     }
 
     fn accepts_comment(&self) -> bool {
-        let (of, key) = (
-            &self.questions.comment_signature,
-            &self.questions.public_key,
-        );
-        self.ed25519.accepts(of, &self.message, key)
+        let it = &self.questions;
+        let (of, message) = (&it.comment_signature, &self.message);
+        self.ed25519.accepts(of, message, &it.public_key)
     }
 
     fn end(&mut self, data: &[u8]) -> Result<(), Error> {

@@ -12,10 +12,10 @@ pub struct Work {
     pub keep_every: u64,
     /// How many rows may be made in all for a key that is opened: scrypt's N times its p.
     pub most_rows: u64,
-    /// How much work a key that is made asks for, as libsodium counts it. Low limits seal weakly:
-    /// with 0 and 0 a password that somebody tries costs two rows of 1 KiB, made 512 times.
+    /// How much work a key that is made asks for, as libsodium counts it: 524,288 at least, which
+    /// is the least that Minisign's own program seals with.
     pub operations_limit: u64,
-    /// How many bytes a key that is made asks for, at most 2^30.
+    /// How many bytes a key that is made asks for: 2^24 at least, and at most 2^30.
     pub memory_limit: u64,
 }
 
@@ -30,7 +30,7 @@ impl Work {
 }
 
 /// A secret key, opened. Its bytes are cleared at its end.
-pub struct SecretKey(Box<raw::SecretKey>);
+pub struct SecretKey(Box<raw::SecretKey>, bool);
 
 impl SecretKey {
     /// A new key of random bytes.
@@ -38,7 +38,7 @@ impl SecretKey {
         let (mut id, mut seed, mut secret) = ([0; 8], [0; 32], [0; 64]);
         let is_drawn = ed25519.random(&mut id) && ed25519.random(&mut seed);
         let is_made = is_drawn && ed25519.expand(&seed, &mut secret);
-        let key = SecretKey(raw::take_secret_key(&id, &secret));
+        let key = SecretKey(raw::take_secret_key(&id, &secret), false);
         raw::clear(&mut seed);
         raw::clear(&mut secret);
         let failed = Reason::RANDOM_SOURCE_FAILED.into();
@@ -53,7 +53,15 @@ impl SecretKey {
             Some(typed) => raw::open_sealed_key(&unopened, typed, every, work.most_rows),
             None => raw::open_unsealed_key(&unopened),
         };
-        Ok(SecretKey(opened?))
+        let is_weak =
+            unopened.is_sealed == 1 && usize::from(unopened.log2_rows) < raw::LEAST_LOG2_ROWS;
+        Ok(SecretKey(opened?, is_weak))
+    }
+
+    /// Whether the text that it was opened from is sealed so weakly that passwords are tried fast:
+    /// under limits that `encode` rejects. Seal such a key again.
+    pub fn is_weak(&self) -> bool {
+        self.1
     }
 
     /// Reads a file such as `minisign.key`.
@@ -69,7 +77,7 @@ impl SecretKey {
     }
 
     /// The text of the key, both lines of a file such as `minisign.key`, sealed under a password
-    /// where there is one.
+    /// where there is one: `WeakLimits` where the limits of the work are too low for that.
     pub fn encode(
         &self,
         ed25519: &dyn Ed25519,
@@ -81,20 +89,17 @@ impl SecretKey {
             operations_limit: work.operations_limit,
             memory_limit: work.memory_limit,
         };
+        let is_weak = work.operations_limit < raw::LEAST_OPERATIONS_LIMIT as u64
+            || work.memory_limit < raw::LEAST_MEMORY_LIMIT as u64;
+        if password.is_some() && is_weak {
+            return Err(Error::WeakLimits);
+        }
         if password.is_some() && !ed25519.random(&mut sealing.salt) {
             return Err(Reason::RANDOM_SOURCE_FAILED.into());
         }
-        let (typed, comment) = (
-            password.map(str::as_bytes),
-            raw::SECRET_KEY_COMMENT.as_bytes(),
-        );
-        Ok(raw::secret_key_text(
-            &self.0,
-            typed,
-            &sealing,
-            work.keep_every,
-            comment,
-        )?)
+        let (key, typed, every) = (&self.0, password.map(str::as_bytes), work.keep_every);
+        let comment = raw::SECRET_KEY_COMMENT.as_bytes();
+        Ok(raw::secret_key_text(key, typed, &sealing, every, comment)?)
     }
 
     /// The text of its public key, both lines of a file such as `minisign.pub`.

@@ -161,9 +161,9 @@ async function wrongAnswers([[key, data, signature]]) {
     null, 7, {allowlegacy: true}, {toString: true}, {allowLegacy: 1}, {allowLegacy: "no"}, {progress: 7}, {signal: true}, {signal: {aborted: false}},
   ];
   return Promise.all([
-    ...tried.map(it => verify(...it)), ...read.map(it => readSignature(it)), ...keys.map(it => readPublicKey(it)),
-    ...options.map(it => verify(data, signature, key, it)), createVerifier(signature, key, {signal: new AbortController().signal}),
-  ].map(it => it.then(() => "accepted", why => `${why.name}: ${why.message}`)));
+    ...tried.map(words => verify(...words)), ...read.map(text => readSignature(text)), ...keys.map(text => readPublicKey(text)),
+    ...options.map(given => verify(data, signature, key, given)), createVerifier(signature, key, {signal: new AbortController().signal}),
+  ].map(promise => promise.then(() => "accepted", why => `${why.name}: ${why.message}`)));
 }
 
 // What a verifier tells, step by step.
@@ -176,13 +176,13 @@ async function verifierAnswers([[key, data, signature]]) {
     verifier.update(piece);
   }
   await tell(() => verifier.bytes - data.length);
-  await tell(() => verifier.end().then(it => JSON.stringify(it)));
+  await tell(() => verifier.end().then(JSON.stringify));
   for (const call of [() => verifier.end(), () => verifier.update(data), () => verifier.trustedComment()]) {
     await tell(call);
   }
   await tell(() => { "use strict"; verifier.keyId = "another"; });
   for (const way of [data, new Blob([data]), [...cut(data, [1])]]) {
-    await verify(way, signature, key, {progress: (...it) => told.push(it)});
+    await verify(way, signature, key, {progress: (...seen) => told.push(seen)});
   }
   await tell(() => JSON.stringify(told));
   await tell(() => verify(data, signature, key, {progress: () => { throw new RangeError(); }}));

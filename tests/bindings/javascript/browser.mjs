@@ -1,6 +1,8 @@
 // What the package answers in a browser, in a page and in a worker of it: answers.html has it run in both, on what stands in asked.json.
 
-import {MinisignError, verify} from "./minisign-proved/index.js";
+import {
+  clearSecretKey, generateSecretKey, MinisignError, readSecretKey, sign, verify, writePublicKey, writeSecretKey,
+} from "./minisign-proved/index.js";
 import {accepts} from "./minisign-proved/ed25519.js";
 
 const bytesOf = digits => Uint8Array.from((digits === "-" ? "" : digits).match(/../g) ?? [], pair => parseInt(pair, 16));
@@ -47,8 +49,21 @@ function isCancelled() {
   });
 }
 
+// Whether a key that is made here, written and read again signs what verifies, also sealed, and nothing once it was cleared.
+async function signs() {
+  const made = await generateSecretKey(), text = await writePublicKey(made), told = [];
+  for (const password of [null, "pass word"]) {
+    const options = password === null ? {} : {password, lowMemory: true};
+    const key = await readSecretKey(await writeSecretKey(made, password, {lowMemory: true}), options);
+    const signature = await sign(new Blob(["data"]), key, {trustedComment: "version:2"});
+    told.push((await verify(new Blob(["data"]), signature, text)).trustedComment, key.keyId === made.keyId, key.isWeak);
+  }
+  clearSecretKey(made);
+  return `${told} ${await sign(new Blob(["data"]), made).catch(why => why.code)}`;
+}
+
 async function answersOf({cases, pieces, vectors}) {
-  const answers = {legacy: [], strict: [], pieces: [], vectors: [], cancelled: await isCancelled()};
+  const answers = {legacy: [], strict: [], pieces: [], vectors: [], cancelled: await isCancelled(), signs: await signs()};
   for (const [key, data, signature] of cases.map(parts => parts.map(bytesOf))) {
     answers.legacy.push(await answerOf(data, signature, key, {allowLegacy: true}));
     answers.strict.push(await answerOf(data, signature, key));

@@ -1,7 +1,10 @@
 // A program over the types of the package where there are those of the language alone: `tests/bindings/javascript.py` compiles it.
 
-import { createVerifier, ERRORS, MinisignError, readPublicKey, readSignature, verify } from "minisign-proved";
-import type { Data, Verified } from "minisign-proved";
+import {
+  clearSecretKey, createSigner, createVerifier, ERRORS, generateSecretKey, MinisignError, readPublicKey, readSecretKey, readSignature, sign, verify,
+  writePublicKey, writeSecretKey,
+} from "minisign-proved";
+import type { Data, ErrorCode, SecretKey, Verified } from "minisign-proved";
 
 async function* pieces(): AsyncGenerator<Uint8Array> {
   yield new Uint8Array(1);
@@ -23,4 +26,22 @@ export async function all(text: string): Promise<Verified> {
   // @ts-expect-error: a number is no data
   await verify(7, signature, key);
   return verifier.end();
+}
+
+export async function signed(data: Data): Promise<string> {
+  const made: SecretKey = await generateSecretKey();
+  const text: string = await writeSecretKey(made, "password", { lowMemory: true });
+  const key = await readSecretKey(text, { password: new Uint8Array(1), mostRows: 2 });
+  const signer = await createSigner(key, { trustedComment: "comment", untrustedComment: key.keyId });
+  signer.update(new Uint8Array(signer.bytes));
+  const signature: string = await sign(data, key, { progress: (bytes: number) => bytes, trustedComment: await signer.end() });
+  // @ts-expect-error: a key that is not sealed is asked for by null
+  await writeSecretKey(made);
+  // @ts-expect-error: an option that there is not
+  await readSecretKey(text, { pass: "password" });
+  // @ts-expect-error: whether it is weak is not for a caller to say
+  key.isWeak = false;
+  clearSecretKey(key);
+  const code: ErrorCode = "WRONG_PASSWORD";
+  return code + signature + (await writePublicKey(made));
 }

@@ -8,5 +8,5 @@ export async function all(file: File, answer: Response, signature: Blob, key: st
   if (answer.body !== null) {
     verified.push(await verify(answer.body, text, key, { signal, allowLegacy: false }));
   }
-  return verified.map((it) => it.trustedComment);
+  return verified.map((one) => one.trustedComment);
 }

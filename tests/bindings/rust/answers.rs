@@ -77,7 +77,7 @@ fn verify_reader(case: &[Vec<u8>]) -> Result<String, Error> {
     let mut verifier = key.verify_stream(&signature)?;
     let mut told = vec![0];
     verifier.update_from(Slow(&case[1], false), |taken| told.push(taken))?;
-    let grows = told.windows(2).all(|it| it[0] < it[1] && it[1] <= it[0] + 1000);
+    let grows = told.windows(2).all(|two| two[0] < two[1] && two[1] <= two[0] + 1000);
     assert!(grows && told.last() == Some(&(case[1].len() as u64)), "it is told to be at {told:?}");
     assert!(verifier.update_from(Failing, |_| ()).is_err(), "a reader that fails");
     verifier.finalize().map(|()| signature.trusted_comment().into())
@@ -114,10 +114,10 @@ fn answer(verdict: Result<String, Error>) -> String {
     match verdict {
         Ok(comment) => format!("accepted {}", hex(comment.as_bytes())),
         Err(error) => {
-            let of_source = error.source().and_then(|it| it.downcast_ref::<Reason>());
-            let is_of_file = matches!(&error, Error::IoError(_)) && error.source().map_or(false, |it| it.is::<io::Error>());
+            let of_source = error.source().and_then(|source| source.downcast_ref::<Reason>());
+            let is_of_file = matches!(&error, Error::IoError(_)) && error.source().map_or(false, |source| source.is::<io::Error>());
             assert!(is_of_file || error.reason() == of_source, "its source is {of_source:?}");
-            format!("rejected {error:?} {}: {error}", error.reason().map_or(0, |it| it.0)).replace('\n', " ")
+            format!("rejected {error:?} {}: {error}", error.reason().map_or(0, |reason| reason.0)).replace('\n', " ")
         }
     }
 }
@@ -171,7 +171,7 @@ fn is_same_in_threads(cases: &[Vec<Vec<u8>>]) -> bool {
 /// Makes a pair of keys in a directory; with a password it is sealed by little work.
 fn make(directory: &str, password: Option<&str>) -> Result<(), Error> {
     let key = SecretKey::generate(&Sodium)?;
-    let work = Work { operations_limit: 32768, memory_limit: 1 << 20, ..Work::USUAL };
+    let work = Work { operations_limit: 524288, memory_limit: 1 << 24, ..Work::USUAL };
     let text = key.encode(&Sodium, password, &work)?;
     assert_eq!(password.is_some(), text != key.encode(&Sodium, password, &work)?, "of a sealed key each text has a salt of its own");
     fs::write(format!("{directory}/secret"), text).unwrap();
@@ -196,6 +196,19 @@ fn sign(key: &str, data: &str, to: &str, comment: &str, password: Option<&str>) 
     key.public_key()?.verify(&data, &read, false)
 }
 
+/// Whether a key is weak.
+fn opened(key: &str, password: Option<&str>) -> Result<&'static str, Error> {
+    Ok(if SecretKey::from_file(key, password, &Work::USUAL)?.is_weak() { "weak" } else { "strong" })
+}
+
+/// Seals a key under these limits.
+fn sealed(operations: &str, memory: &str) -> Result<(), Error> {
+    let work = Work { operations_limit: operations.parse().unwrap(), memory_limit: memory.parse().unwrap(), ..Work::USUAL };
+    let key = SecretKey::generate(&Sodium)?;
+    key.encode(&Sodium, None, &work)?;
+    key.encode(&Sodium, Some("pass word"), &work).map(|_| ())
+}
+
 /// What is shown of values: nothing secret.
 fn shown() {
     let key = SecretKey::generate(&Sodium).unwrap();
@@ -205,8 +218,8 @@ fn shown() {
     assert_eq!(format!("{key:?}"), format!("SecretKey({id:X})"));
     let signer = key.sign_stream(&Sodium);
     let verifier = public_key.verify_stream(&signature).unwrap();
-    for it in [format!("{signer:?}"), format!("{verifier:?}"), format!("{:?}", signer.clone()), format!("{:?}", Sodium.clone())] {
-        println!("{}", it.split(&[' ', '('][..]).next().unwrap());
+    for shown in [format!("{signer:?}"), format!("{verifier:?}"), format!("{:?}", signer.clone()), format!("{:?}", Sodium.clone())] {
+        println!("{}", shown.split(&[' ', '('][..]).next().unwrap());
     }
     println!("{:?} {:?} {}", Reason::WRONG_PASSWORD, Reason(77), Reason::WRONG_PASSWORD.name());
 }
@@ -236,6 +249,12 @@ fn main() {
             let key = PublicKey::from_base64(base64);
             println!("{:?}", key.map(|key| key.untrusted_comment().map(String::from)));
         }
+        ["opened", key] => println!("{}", opened(key, None).unwrap()),
+        ["opened", key, password] => println!("{}", opened(key, Some(password)).unwrap()),
+        ["sealed", operations, memory] => match sealed(operations, memory) {
+            Err(weak @ Error::WeakLimits) => println!("WEAK_LIMITS{}", if weak.to_string().contains("limits") { "" } else { ", unsaid" }),
+            other => println!("{other:?}"),
+        },
         ["make", directory] => println!("{:?}", make(directory, None)),
         ["make", directory, password] => println!("{:?}", make(directory, Some(password))),
         ["sign", key, data, to, comment] => println!("{:?}", sign(key, data, to, comment, None)),

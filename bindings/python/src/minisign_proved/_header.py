@@ -18,6 +18,9 @@ USUAL_ROWS = 1048576
 ANY_ROWS = 0xFFFFFFFFFFFFFFFF
 OPERATIONS_LIMIT = 33554432
 MEMORY_LIMIT = 1073741824
+LEAST_OPERATIONS_LIMIT = 524288
+LEAST_MEMORY_LIMIT = 16777216
+LEAST_LOG2_ROWS = 14
 RECORD_TEXT_BYTES = 258
 VERSION_TEXT = "0.3.0"
 SECRET_KEY_COMMENT = "minisign encrypted secret key"
@@ -305,13 +308,14 @@ class Calls:
             c_uint32,
             c_uint32,
             c_uint32,
+            c_uint32,
         )
         library.minisign_install_due.restype = c_uint32
         library.minisign_install_due.argtypes = (POINTER(Installation),)
         library.minisign_install_done.restype = error
         library.minisign_install_done.argtypes = (POINTER(Installation),)
         library.minisign_install_more.restype = error
-        library.minisign_install_more.argtypes = (POINTER(Installation),)
+        library.minisign_install_more.argtypes = (POINTER(Installation), c_size_t)
         library.minisign_install_failed.restype = error
         library.minisign_install_failed.argtypes = (POINTER(Installation), c_uint32)
         library.minisign_install_record.restype = error
@@ -319,6 +323,7 @@ class Calls:
             POINTER(Installation),
             c_void_p,
             c_size_t,
+            c_uint64,
         )
         library.minisign_install_no_record.restype = error
         library.minisign_install_no_record.argtypes = (POINTER(Installation),)
@@ -348,6 +353,8 @@ class Calls:
             c_uint32,
             c_uint32,
         )
+        library.minisign_install_is_vouched.restype = c_uint32
+        library.minisign_install_is_vouched.argtypes = (POINTER(Installation),)
         library.minisign_install_number.restype = c_uint64
         library.minisign_install_number.argtypes = (POINTER(Installation),)
         library.minisign_install_record_text.restype = c_size_t
@@ -548,10 +555,19 @@ class Calls:
         again: int,
         is_check: int,
         is_waiting: int,
+        must_expire: int,
         numbering: int,
     ) -> None:
         self._library.minisign_install_init(
-            installation, key, other, is_first, again, is_check, is_waiting, numbering
+            installation,
+            key,
+            other,
+            is_first,
+            again,
+            is_check,
+            is_waiting,
+            must_expire,
+            numbering,
         )
 
     def install_due(self, installation: Installation) -> int:
@@ -561,14 +577,18 @@ class Calls:
     def install_done(self, installation: Installation) -> None:
         self._library.minisign_install_done(installation)
 
-    def install_more(self, installation: Installation) -> None:
-        self._library.minisign_install_more(installation)
+    def install_more(self, installation: Installation, piece_len: int) -> None:
+        self._library.minisign_install_more(installation, piece_len)
 
     def install_failed(self, installation: Installation, why: int) -> None:
         self._library.minisign_install_failed(installation, why)
 
-    def install_record(self, installation: Installation, record: bytes) -> None:
-        self._library.minisign_install_record(installation, record, len(record))
+    def install_record(
+        self, installation: Installation, record: bytes, written: int
+    ) -> None:
+        self._library.minisign_install_record(
+            installation, record, len(record), written
+        )
 
     def install_no_record(self, installation: Installation) -> None:
         self._library.minisign_install_no_record(installation)
@@ -605,6 +625,10 @@ class Calls:
             ANSWER_YES if first is True else ANSWER_NO,
             ANSWER_YES if second is True else ANSWER_NO,
         )
+
+    def install_is_vouched(self, installation: Installation) -> int:
+        number: int = self._library.minisign_install_is_vouched(installation)
+        return number
 
     def install_number(self, installation: Installation) -> None:
         self._library.minisign_install_number(installation)

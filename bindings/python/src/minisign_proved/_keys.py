@@ -298,15 +298,21 @@ class SecretKey(AbstractContextManager["SecretKey"]):
     GiB.
     """
 
-    def __init__(self, opened: h.SecretKey) -> None:
+    def __init__(self, opened: h.SecretKey, *, _weak: bool = False) -> None:
         check_kind("opened", opened, h.SecretKey)
-        self._opened = opened
+        self._opened, self._weak = opened, _weak
         self._public_key = PublicKey(b"", _read=calls.public_key_of(opened))
 
     @property
     def public_key(self) -> PublicKey:
         """Its public key, also after it was cleared."""
         return self._public_key
+
+    @property
+    def is_weak(self) -> bool:
+        """Whether the text that it was opened from is sealed so weakly that passwords
+        are tried fast: under limits that `to_bytes` rejects. Seal such a key again."""
+        return self._weak
 
     def __repr__(self) -> str:
         return f"<SecretKey {self.public_key.key_id}>"
@@ -342,8 +348,9 @@ class SecretKey(AbstractContextManager["SecretKey"]):
         try:
             if typed is None:
                 return cls(calls.open_unsealed_key(unopened))
-            rows = ROWS[low_memory]
-            return cls(calls.open_sealed_key(unopened, typed, rows, most_rows))
+            rows, is_weak = ROWS[low_memory], unopened.log2_rows < h.LEAST_LOG2_ROWS
+            opened = calls.open_sealed_key(unopened, typed, rows, most_rows)
+            return cls(opened, _weak=is_weak)
         finally:
             ctypes.memset(ctypes.byref(unopened), 0, ctypes.sizeof(unopened))
 
@@ -368,14 +375,20 @@ class SecretKey(AbstractContextManager["SecretKey"]):
         *,
         comment: Text = h.SECRET_KEY_COMMENT,
         low_memory: bool = False,
+        operations_limit: int = h.OPERATIONS_LIMIT,
+        memory_limit: int = h.MEMORY_LIMIT,
     ) -> bytes:
         """The text of the key, sealed under the password and a new salt, with the
-        limits of minisign -G; with None it is not sealed. An empty password is a
-        ValueError."""
+        limits of minisign -G unless others are given; with None it is not sealed. An
+        empty password is a ValueError, and so are limits below the least that minisign
+        -G seals with."""
         typed = new_password("password", password)
         check_kind("low_memory", low_memory, bool)
+        least, most = h.LEAST_OPERATIONS_LIMIT, h.ANY_ROWS
+        check_number("operations_limit", operations_limit, least, most)
+        check_number("memory_limit", memory_limit, h.LEAST_MEMORY_LIMIT, h.MEMORY_LIMIT)
         salt = (ctypes.c_ubyte * 32)(*secrets.token_bytes(32))
-        sealing = h.Sealing(salt, h.OPERATIONS_LIMIT, h.MEMORY_LIMIT)
+        sealing = h.Sealing(salt, operations_limit, memory_limit)
         rows, told = ROWS[low_memory], text_octets("comment", comment)
         return calls.secret_key_text(self._opened, typed, sealing, rows, told)
 

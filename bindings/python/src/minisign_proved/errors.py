@@ -283,7 +283,7 @@ class BarePublicKeyNotBase64(MinisignError):
     number = 45
 
 
-class PlaceInUse(MinisignError):
+class TargetInUse(MinisignError):
     """Another run holds the lock on this target."""
 
     number = 46
@@ -361,6 +361,26 @@ class SameNumber(MinisignError):
     the target, and the caller did not ask for the update to be installed again."""
 
     number = 57
+
+
+class NoExpiry(MinisignError):
+    """The trusted comment has no field for when the update expires, and the caller
+    wants one."""
+
+    number = 58
+
+
+class BadSize(MinisignError):
+    """The trusted comment has more than one field for the length of the data, or one
+    with no number in decimal digits alone, or none below 2^64."""
+
+    number = 59
+
+
+class OtherSize(MinisignError):
+    """The data is longer than the trusted comment says, or shorter."""
+
+    number = 60
 
 
 class OtherSignatureText(MinisignError):
@@ -445,7 +465,7 @@ BY_NUMBER: "dict[int, type[MinisignError]]" = {
     43: WorkTooHigh,
     44: BarePublicKeyLength,
     45: BarePublicKeyNotBase64,
-    46: PlaceInUse,
+    46: TargetInUse,
     47: NoRecord,
     48: DamagedRecord,
     49: OtherFile,
@@ -457,6 +477,9 @@ BY_NUMBER: "dict[int, type[MinisignError]]" = {
     55: Expired,
     56: BadExpiry,
     57: SameNumber,
+    58: NoExpiry,
+    59: BadSize,
+    60: OtherSize,
     61: OtherSignatureText,
     62: SignatureNotRead,
     63: KeyNotRead,
@@ -512,7 +535,7 @@ __all__ = [
     "WorkTooHigh",
     "BarePublicKeyLength",
     "BarePublicKeyNotBase64",
-    "PlaceInUse",
+    "TargetInUse",
     "NoRecord",
     "DamagedRecord",
     "OtherFile",
@@ -524,6 +547,9 @@ __all__ = [
     "Expired",
     "BadExpiry",
     "SameNumber",
+    "NoExpiry",
+    "BadSize",
+    "OtherSize",
     "OtherSignatureText",
     "SignatureNotRead",
     "KeyNotRead",

@@ -3,54 +3,23 @@
 c/install/installing.c, which is in the library, makes the calls of the system. Here
 files that are open are received, Ed25519 answers, and what came of it is raised."""
 
+import ctypes
 import os
 import select
+import signal
 import tempfile
-from contextlib import contextmanager
-from ctypes import (
-    CFUNCTYPE,
-    POINTER,
-    Structure,
-    byref,
-    c_bool,
-    c_char_p,
-    c_int,
-    c_size_t,
-    c_ubyte,
-    c_uint,
-    c_uint32,
-    c_uint64,
-    c_void_p,
-)
-from ctypes import string_at
+import threading
+from contextlib import ExitStack, contextmanager
+from dataclasses import dataclass
 from enum import IntEnum
-from typing import (
-    IO,
-    TYPE_CHECKING,
-    Any,
-    Iterator,
-    List,
-    Optional,
-    Sequence,
-    Union,
-    cast,
-)
+from typing import IO, Iterator, Optional, Sequence, Union, cast
 
 from . import _header as h
-from ._arguments import (
-    Path,
-    check_function,
-    check_kind,
-    check_number,
-    choice,
-    path_text,
-)
+from ._arguments import Path, choice, path_text
+from ._arguments import check_function, check_kind, check_number
 from ._calls import ed25519, error_of, library
 from ._keys import Progress, PublicKey, Signature, TooLong, is_file, pieces_of
 from .errors import OlderUpdate
-
-if TYPE_CHECKING:
-    from ctypes import _Pointer
 
 # One key, or two during a change of keys.
 Keys = Union[PublicKey, Sequence[PublicKey]]
@@ -59,9 +28,8 @@ LONGEST = 2**63 - 1
 
 # What Ed25519 answers. Where this raises anything, as an interruption, the host is
 # answered 0: neither yes nor no, which ends the run.
-Answer = CFUNCTYPE(
-    c_uint, POINTER(c_ubyte * 64), c_void_p, c_size_t, POINTER(c_ubyte * 32)
-)
+AT = ctypes.c_void_p
+Answer = ctypes.CFUNCTYPE(ctypes.c_uint, AT, AT, ctypes.c_size_t, AT)
 
 
 class Offer(IntEnum):
@@ -75,52 +43,101 @@ class Offer(IntEnum):
     OLDER = 3
 
 
-class Wanted(Structure):
+@dataclass(frozen=True, eq=False)
+class Checked:
+    """What `check` tells: as an `Offer` its `status`, to which it is equal; of the
+    update its `number`, and `comment`, the signed comment, as the key has signed it.
+    What a person is to see of that, control characters too, is for the caller to say.
+    """
+
+    status: Offer
+    number: int
+    comment: str
+
+    def __eq__(self, other: object) -> bool:
+        return other == self.status
+
+    def __hash__(self) -> int:
+        return hash(self.status)
+
+
+class Wanted(ctypes.Structure):
     """`struct wanted` of c/install/installing.h."""
 
     _fields_ = [
-        ("target", c_char_p),
-        ("is_check", c_bool),
-        ("name", c_char_p),
-        ("shown", c_char_p),
-        ("data", c_int),
-        ("most", c_uint64),
-        ("is_first", c_bool),
-        ("again", c_bool),
-        ("wait", c_uint32),
-        ("numbering", c_uint),
-        ("has_mode", c_bool),
-        ("mode", c_uint),
-        ("keys", POINTER(h.PublicKey)),
-        ("key_count", c_int),
-        ("signature", c_char_p),
-        ("signature_len", c_size_t),
+        ("target", ctypes.c_char_p),
+        ("is_check", ctypes.c_bool),
+        ("name", ctypes.c_char_p),
+        ("shown", ctypes.c_char_p),
+        ("data", ctypes.c_int),
+        ("most", ctypes.c_uint64),
+        ("is_first", ctypes.c_bool),
+        ("again", ctypes.c_bool),
+        ("must_expire", ctypes.c_bool),
+        ("wait", ctypes.c_uint32),
+        ("numbering", ctypes.c_uint),
+        ("has_mode", ctypes.c_bool),
+        ("mode", ctypes.c_uint),
+        ("keys", ctypes.POINTER(h.PublicKey)),
+        ("key_count", ctypes.c_int),
+        ("signature", ctypes.c_char_p),
+        ("signature_len", ctypes.c_size_t),
         ("answer", Answer),
     ]
 
 
-class Installing(Structure):
+class Installing(ctypes.Structure):
     """The first fields of `struct installing`, and of its directory: what could not be
     used, if anything."""
 
     _fields_ = [
         ("machine", h.Installation),
-        ("call", c_uint),
-        ("error", c_uint),
-        ("is_too_long", c_bool),
-        ("done", c_uint64),
-        ("size", c_uint64),
-        ("shown", c_char_p),
-        ("cause", c_char_p),
-        ("number", c_int),
+        ("call", ctypes.c_uint),
+        ("error", ctypes.c_uint),
+        ("is_too_long", ctypes.c_bool),
+        ("done", ctypes.c_uint64),
+        ("size", ctypes.c_uint64),
+        ("shown", ctypes.c_char_p),
+        ("cause", ctypes.c_char_p),
+        ("number", ctypes.c_int),
     ]
 
 
 # (on other systems than Linux the library has no host)
 HAS_HOST = hasattr(library, "begin_installing")
 if HAS_HOST:
-    library.begin_installing.restype = POINTER(Installing)
-    library.make_call.restype = c_bool
+    library.begin_installing.restype = ctypes.POINTER(Installing)
+    library.make_call.restype = ctypes.c_bool
+    library.vouched_comment.restype = ctypes.c_void_p
+
+# What asks for the end. For some of them Python has a handler, which it runs once a
+# call of the host has returned; others would end the process at once.
+ENDS = ("SIGHUP", "SIGINT", "SIGQUIT", "SIGTERM")
+
+
+def _send(numbers: list[int]) -> None:
+    for number in dict.fromkeys(numbers):
+        signal.raise_signal(number)
+
+
+def _make_call(begun: "ctypes._Pointer[Installing]") -> bool:
+    """Has the host make the call that is due; where that is the renaming of the record,
+    also those until the target has its name. Then, in the main thread, which alone may,
+    what would end the process at once is noted, and sent again at the end. (The host
+    holds signals back from the thread that calls it alone, and one for the process then
+    goes to any other thread.)"""
+    came: list[int] = []
+    due = library.minisign_install_due(begun.contents.machine)
+    is_main = threading.current_thread() is threading.main_thread()
+    with ExitStack() as after:
+        after.callback(_send, came)
+        for name in ENDS if due == h.DUE_RENAME_RECORD and is_main else ():
+            end = getattr(signal, name)
+            if signal.getsignal(end) == signal.SIG_DFL:
+                after.callback(signal.signal, end, signal.SIG_DFL)
+                signal.signal(end, lambda number, _: came.append(number))
+        made = library.make_call(begun)
+    return bool(made)
 
 
 def _received(
@@ -142,40 +159,37 @@ def _wanted(
     signature: Signature,
     target: Path,
     first: bool,
+    must_expire: bool,
     numbering: str,
     name: Optional[Path],
 ) -> Wanted:
     """What an installation and a check have, once it was looked at."""
-    keys: List[PublicKey] = list(key) if isinstance(key, Sequence) else [key]
+    keys: list[PublicKey] = list(key) if isinstance(key, Sequence) else [key]
     for public_key in keys:
         check_kind("key", public_key, PublicKey)
     if len(keys) not in (1, 2):
         raise ValueError(f"key has to be one public key, or two, and not {len(keys)}")
     check_kind("signature", signature, Signature)
     check_kind("first", first, bool)
+    check_kind("must_expire", must_expire, bool)
     field = choice("numbering", numbering, NUMBERINGS)
     place = path_text("target", target)
     last = os.path.basename(place)
     if last in ("", ".", ".."):
-        raise ValueError(
-            f"target has to end with the name of a file, and not as {place!r}"
-        )
+        raise ValueError(f"target has to end with a file's name, not as {place!r}")
     file_name = last if name is None else path_text("name", name)
     accepts = ed25519().accepts
 
-    def answer(signature: Any, data: int, length: int, key: Any) -> int:
-        return (
-            h.ANSWER_YES
-            if accepts(
-                bytes(signature.contents), string_at(data, length), bytes(key.contents)
-            )
-            else h.ANSWER_NO
-        )
+    def answer(signature: int, data: int, length: int, key: int) -> int:
+        asked = (signature, 64), (data, length), (key, 32)
+        is_accepted = accepts(*(ctypes.string_at(at, size) for at, size in asked))
+        return h.ANSWER_YES if is_accepted else h.ANSWER_NO
 
     return Wanted(
         target=os.fsencode(place),
         name=os.fsencode(file_name),
         is_first=first,
+        must_expire=must_expire,
         numbering=field,
         keys=(h.PublicKey * len(keys))(*(public_key._read for public_key in keys)),
         key_count=len(keys),
@@ -186,13 +200,11 @@ def _wanted(
 
 
 @contextmanager
-def _begun(wanted: Wanted) -> Iterator["_Pointer[Installing]"]:
+def _begun(wanted: Wanted) -> Iterator["ctypes._Pointer[Installing]"]:
     """A run, which is ended, and what it has begun removed."""
     if not HAS_HOST:
-        raise NotImplementedError(
-            "installing is for Linux: the library for this system has no host for it"
-        )
-    begun = library.begin_installing(byref(wanted))
+        raise NotImplementedError("installing is for Linux: here is no host for it")
+    begun = library.begin_installing(ctypes.byref(wanted))
     if not begun:
         raise MemoryError()
     try:
@@ -205,14 +217,11 @@ def _must(run: Installing) -> None:
     """Raises what a run was rejected for, or which call failed."""
     if run.error != 0:
         why = (run.cause or b"").decode() or os.strerror(run.number)
-        raised = (
-            TooLong("the data is longer than it may be")
-            if run.is_too_long
-            else error_of(run.error)
-        )
-        raise raised from OSError(
-            run.number, why, os.fsdecode(run.shown)
-        ) if run.shown else None
+        raised = error_of(run.error)
+        if run.is_too_long:
+            raised = TooLong("the data is longer than it may be")
+        at = os.fsdecode(run.shown or b"")
+        raise raised from (OSError(run.number, why, at) if run.shown else None)
 
 
 def install(
@@ -223,6 +232,7 @@ def install(
     *,
     first: bool = False,
     again: bool = False,
+    must_expire: bool = False,
     numbering: str = "timestamp",
     name: Optional[Path] = None,
     mode: Optional[int] = None,
@@ -238,8 +248,10 @@ def install(
     `data` is a path or a binary file. What is no path of a regular file, as that of a
     pipe, or a file that is open, is received first, into a file without a name in the
     directory of the target. `key` is a public key, or two, of which the signature has
-    the identifier of one. `first` takes an update also where no number of the field is
-    kept, and `again` one of the number that is kept, where that is kept of other data.
+    the identifier of one; where both have it, either may have signed. `first` takes an
+    update also where no number of the field is kept, or the number of another key, and
+    `again` one of the number that is kept, where that is kept of other data. With
+    `must_expire` the signed comment has to say when the update expires.
     `numbering` is the field that has the number: `timestamp` or `version`. `name` is
     the file that the signed comment has to name, otherwise the last part of `target`.
     `mode` has the permissions, from 0 to 0o777, otherwise they are those of the file at
@@ -247,17 +259,27 @@ def install(
     `most` bytes is rejected. For a lock that another installation holds it is waited so
     many seconds at most as `wait` says, up to a day.
 
-    Raises the errors of verifying; OtherFile, NoNumber, BadExpiry, Expired,
-    OlderUpdate; PlaceInUse; NoRecord, DamagedRecord, KeptByTimestamp, KeptByVersion;
-    SameNumber; TooLong; ReadingFailed, WritingFailed, RandomSourceFailed, OutOfMemory.
-    Then the target is as before. With DirectoryNotSynced the update stands there, and a
-    crash may bring back what stood there before. `__cause__` says which call failed.
-    What `progress` raises comes out of it, and the target is as before. After an
+    Raises the errors of verifying; OtherFile, NoNumber, NoExpiry, BadExpiry, Expired,
+    BadSize, OtherSize, OlderUpdate; TargetInUse; NoRecord, DamagedRecord,
+    KeptByTimestamp, KeptByVersion; SameNumber; TooLong; ReadingFailed, WritingFailed,
+    RandomSourceFailed, OutOfMemory. Then the target is as before. With
+    DirectoryNotSynced the update stands there, and a crash may bring back what stood
+    there before. `__cause__` says which call failed, and of Expired by which time the
+    clock is wrong, where it shows less than when the record was written. What
+    `progress` raises comes out of it, and the target is as before. After an
     interruption, as KeyboardInterrupt, the update may stand there or not: it comes
-    before the record gets its name, or after the target has. OSError where the
-    directory or the data cannot be opened, or what is no regular file cannot be
-    received; ValueError where `target` does not end with the name of a file, and
-    TypeError or ValueError, which name it, of an argument that is none of these.
+    before the record gets its name, or after the target has.
+
+    In the main thread no signal that asks for the end (SIGHUP, SIGINT, SIGQUIT,
+    SIGTERM) ends the process between these two: one for which nothing is set, or for
+    which Python has a handler, is held back until then. In another thread that holds of
+    those for which Python has a handler, as for SIGINT, and of those that are sent to
+    that thread alone: another one ends the process there, and so does SIGKILL in any.
+    The next run of the same update then finishes it.
+
+    OSError where the directory or the data cannot be opened, or what is no regular file
+    cannot be received; ValueError where `target` does not end with the name of a file,
+    and TypeError or ValueError, which name it, of an argument that is none of these.
     """
     check_kind("again", again, bool)
     check_number("mode", 0 if mode is None else mode, 0, 0o777, oct)
@@ -267,7 +289,7 @@ def install(
     source: Union[str, IO[bytes]] = (
         cast("IO[bytes]", data) if is_file(data) else path_text("data", data)
     )
-    wanted = _wanted(key, signature, target, first, numbering, name)
+    wanted = _wanted(key, signature, target, first, must_expire, numbering, name)
     wanted.again, wanted.wait = again, wait
     wanted.has_mode, wanted.mode = mode is not None, mode or 0
     wanted.most = LONGEST if most is None else min(most, LONGEST)
@@ -281,7 +303,7 @@ def install(
         wanted.data = file.fileno()
         with _begun(wanted) as begun:
             run = begun.contents
-            while library.make_call(begun):
+            while _make_call(begun):
                 if progress is not None and run.call in (h.DUE_RECEIVE, h.DUE_COPY):
                     progress(run.done, run.size)
                 if library.minisign_install_due(run.machine) == h.DUE_RECEIVE:
@@ -297,27 +319,34 @@ def check(
     target: Path,
     *,
     first: bool = False,
+    must_expire: bool = False,
     numbering: str = "timestamp",
     name: Optional[Path] = None,
-) -> Offer:
+) -> Checked:
     """Tells what `install` would do with an update, by its signature, the record and
     what stands at the target: so an updater knows whether there is anything to install
-    before it fetches the data. Nothing is written, and no lock is taken.
+    before it fetches the data. Nothing is written, and no lock is taken. What it tells
+    is equal to an `Offer`, and has the number of the update and its signed comment.
 
     Raises what `install` raises of the same arguments: the errors of the text and of
-    the signature of the comment; OtherFile, NoNumber, BadExpiry, Expired; NoRecord,
-    DamagedRecord, KeptByTimestamp, KeptByVersion; SameNumber; ReadingFailed and
-    OutOfMemory, of which `__cause__` says which call failed. An older update is
-    answered, and not raised.
+    the signature of the comment; OtherFile, NoNumber, NoExpiry, BadExpiry, Expired,
+    BadSize; NoRecord, DamagedRecord, KeptByTimestamp, KeptByVersion; SameNumber;
+    ReadingFailed and OutOfMemory, of which `__cause__` says which call failed. An older
+    update is answered, and not raised.
     """
-    wanted = _wanted(key, signature, target, first, numbering, name)
+    wanted = _wanted(key, signature, target, first, must_expire, numbering, name)
     wanted.is_check = True
     with _begun(wanted) as begun:
         run = begun.contents
         while library.make_call(begun):
             pass
+        offer = Offer.THERE if run.call == h.DUE_ALREADY else Offer.NEWER
         try:
             _must(run)
         except OlderUpdate:
-            return Offer.OLDER
-        return Offer.THERE if run.call == h.DUE_ALREADY else Offer.NEWER
+            offer = Offer.OLDER
+        length = ctypes.c_size_t()
+        comment = library.vouched_comment(begun, ctypes.byref(length))
+        number = library.minisign_install_number(run.machine)
+        text = ctypes.string_at(comment, length.value).decode()
+        return Checked(offer, number, text)

@@ -101,7 +101,7 @@ impl Reason {
     /// A public key given as base64 alone is not base64.
     pub const BARE_PUBLIC_KEY_NOT_BASE64: Reason = Reason(45);
     /// Another run holds the lock on this target.
-    pub const PLACE_IN_USE: Reason = Reason(46);
+    pub const TARGET_IN_USE: Reason = Reason(46);
     /// No number is kept beside the target, and this was not said to be the first installation.
     pub const NO_RECORD: Reason = Reason(47);
     /// What is kept beside the target does not read as a number, and this was not said to be the
@@ -130,6 +130,13 @@ impl Reason {
     /// The number of the trusted comment is the one that is kept, other data stands at the target,
     /// and the caller did not ask for the update to be installed again.
     pub const SAME_NUMBER: Reason = Reason(57);
+    /// The trusted comment has no field for when the update expires, and the caller wants one.
+    pub const NO_EXPIRY: Reason = Reason(58);
+    /// The trusted comment has more than one field for the length of the data, or one with no
+    /// number in decimal digits alone, or none below 2^64.
+    pub const BAD_SIZE: Reason = Reason(59);
+    /// The data is longer than the trusted comment says, or shorter.
+    pub const OTHER_SIZE: Reason = Reason(60);
     /// The text is not the one that the signature was read from.
     pub const OTHER_SIGNATURE_TEXT: Reason = Reason(61);
     /// A signature that is asked about was not read.
@@ -192,7 +199,7 @@ impl Reason {
             43 => "WORK_TOO_HIGH",
             44 => "BARE_PUBLIC_KEY_LENGTH",
             45 => "BARE_PUBLIC_KEY_NOT_BASE64",
-            46 => "PLACE_IN_USE",
+            46 => "TARGET_IN_USE",
             47 => "NO_RECORD",
             48 => "DAMAGED_RECORD",
             49 => "OTHER_FILE",
@@ -204,6 +211,9 @@ impl Reason {
             55 => "EXPIRED",
             56 => "BAD_EXPIRY",
             57 => "SAME_NUMBER",
+            58 => "NO_EXPIRY",
+            59 => "BAD_SIZE",
+            60 => "OTHER_SIZE",
             61 => "OTHER_SIGNATURE_TEXT",
             62 => "SIGNATURE_NOT_READ",
             63 => "KEY_NOT_READ",
@@ -225,6 +235,9 @@ pub const USUAL_ROWS: usize = 1048576;
 pub const ANY_ROWS: u64 = 0xffffffffffffffff;
 pub const OPERATIONS_LIMIT: usize = 33554432;
 pub const MEMORY_LIMIT: usize = 1073741824;
+pub const LEAST_OPERATIONS_LIMIT: usize = 524288;
+pub const LEAST_MEMORY_LIMIT: usize = 16777216;
+pub const LEAST_LOG2_ROWS: usize = 14;
 pub const TEXT_BYTES: usize = 240;
 pub const SECRET_KEY_BYTES: usize = 233;
 pub const PUBLIC_KEY_BYTES: usize = 77;

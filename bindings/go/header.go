@@ -1,0 +1,164 @@
+// SPDX-License-Identifier: MIT
+
+//go:build cgo
+
+package minisign
+
+/*
+#include <string.h>
+#include "archive.h"
+#include <minisign.h>
+
+static enum minisign_error flat_minisign_signed_text(const minisign_secret_key *key, const uint8_t *signature,
+        const uint8_t *comment_signature, const uint8_t *trusted_comment, size_t trusted_comment_len,
+        const uint8_t *untrusted_comment, size_t untrusted_comment_len, uint8_t *text, size_t room,
+        size_t *text_len)
+{
+    minisign_signed_parts parts;
+
+    memcpy(parts.signature, signature, sizeof parts.signature);
+    memcpy(parts.comment_signature, comment_signature, sizeof parts.comment_signature);
+    parts.trusted_comment = trusted_comment;
+    parts.trusted_comment_len = trusted_comment_len;
+    parts.untrusted_comment = untrusted_comment;
+    parts.untrusted_comment_len = untrusted_comment_len;
+    return minisign_signed_text(key, &parts, text, room, text_len);
+}
+*/
+import "C"
+
+// The calls of minisign.h, made by tools/bindings.py. A password is sealed under where it is not nil.
+
+// The proved calls take no NULL, also where there are no bytes.
+var nothing [1]byte
+
+func pointer(bytes []byte) *C.uint8_t {
+	if len(bytes) == 0 {
+		bytes = nothing[:]
+	}
+	return (*C.uint8_t)(&bytes[0])
+}
+
+func done(err C.enum_minisign_error) error {
+	if err == C.MINISIGN_OK {
+		return nil
+	}
+	return Error(err)
+}
+
+func answer(accepted bool) C.enum_minisign_answer {
+	if accepted {
+		return C.MINISIGN_ANSWER_YES
+	}
+	return C.MINISIGN_ANSWER_NO
+}
+
+func isGiven(password []byte) C.uint32_t {
+	if password == nil {
+		return 0
+	}
+	return 1
+}
+
+func callInit() *C.minisign_state {
+	state := new(C.minisign_state)
+	C.minisign_init(state)
+	return state
+}
+
+func callUpdate(state *C.minisign_state, data []byte) error {
+	return done(C.minisign_update(state, pointer(data), C.size_t(len(data))))
+}
+
+func callDigest(state *C.minisign_state) ([64]byte, error) {
+	var digest [64]byte
+	err := C.minisign_digest(state, (*C.uint8_t)(&digest[0]))
+	return digest, done(err)
+}
+
+func callReadPublicKey(pkText []byte) (*C.minisign_public_key, error) {
+	key := new(C.minisign_public_key)
+	err := C.minisign_read_public_key(pointer(pkText), C.size_t(len(pkText)), key)
+	return key, done(err)
+}
+
+func callReadBarePublicKey(base64 []byte) (*C.minisign_public_key, error) {
+	key := new(C.minisign_public_key)
+	err := C.minisign_read_bare_public_key(pointer(base64), C.size_t(len(base64)), key)
+	return key, done(err)
+}
+
+func callReadSignature(sigText []byte) (*C.minisign_signature, error) {
+	signature := new(C.minisign_signature)
+	err := C.minisign_read_signature(pointer(sigText), C.size_t(len(sigText)), signature)
+	return signature, done(err)
+}
+
+func callAsk(state *C.minisign_state, key *C.minisign_public_key, signature *C.minisign_signature, sigText []byte, allowLegacy C.uint32_t) (*C.minisign_questions, []byte, error) {
+	questions := new(C.minisign_questions)
+	message := make([]byte, 64+signature.comment_len)
+	err := C.minisign_ask(state, key, signature, pointer(sigText), C.size_t(len(sigText)), allowLegacy, questions, pointer(message), C.size_t(len(message)))
+	return questions, message, done(err)
+}
+
+func callCommentVerdict(state *C.minisign_state, second bool) error {
+	return done(C.minisign_comment_verdict(state, answer(second)))
+}
+
+func callVerdict(state *C.minisign_state, first bool, second bool) error {
+	return done(C.minisign_verdict(state, answer(first), answer(second)))
+}
+
+func callReadSecretKey(skText []byte) (*C.minisign_unopened_key, error) {
+	unopened := new(C.minisign_unopened_key)
+	err := C.minisign_read_secret_key(pointer(skText), C.size_t(len(skText)), unopened)
+	return unopened, done(err)
+}
+
+func callOpenUnsealedKey(unopened *C.minisign_unopened_key) (*C.minisign_secret_key, error) {
+	key := new(C.minisign_secret_key)
+	err := C.minisign_open_unsealed_key(unopened, key)
+	return key, done(err)
+}
+
+func callOpenSealedKey(unopened *C.minisign_unopened_key, password []byte, keepEvery C.uint64_t, mostRows C.uint64_t) (*C.minisign_secret_key, error) {
+	key := new(C.minisign_secret_key)
+	err := C.minisign_open_sealed_key(unopened, pointer(password), C.size_t(len(password)), keepEvery, mostRows, key)
+	return key, done(err)
+}
+
+func callTakeSecretKey(keyId *[8]byte, secret *[64]byte) *C.minisign_secret_key {
+	key := new(C.minisign_secret_key)
+	C.minisign_take_secret_key((*C.uint8_t)(&keyId[0]), (*C.uint8_t)(&secret[0]), key)
+	return key
+}
+
+func callPublicKeyOf(key *C.minisign_secret_key) (*C.minisign_public_key, error) {
+	publicKey := new(C.minisign_public_key)
+	err := C.minisign_public_key_of(key, publicKey)
+	return publicKey, done(err)
+}
+
+func callCommentMessage(first *[64]byte, trusted []byte) ([]byte, error) {
+	message := make([]byte, len(first)+len(trusted))
+	err := C.minisign_comment_message((*C.uint8_t)(&first[0]), pointer(trusted), C.size_t(len(trusted)), pointer(message), C.size_t(len(message)))
+	return message, done(err)
+}
+
+func callSignedText(key *C.minisign_secret_key, signature *[64]byte, commentSignature *[64]byte, trustedComment []byte, untrustedComment []byte) ([]byte, error) {
+	text, length := make([]byte, 240+len(trustedComment)+len(untrustedComment)), C.size_t(0)
+	err := C.flat_minisign_signed_text(key, (*C.uint8_t)(&signature[0]), (*C.uint8_t)(&commentSignature[0]), pointer(trustedComment), C.size_t(len(trustedComment)), pointer(untrustedComment), C.size_t(len(untrustedComment)), pointer(text), C.size_t(len(text)), &length)
+	return text[:length], done(err)
+}
+
+func callSecretKeyText(key *C.minisign_secret_key, password []byte, sealing *C.minisign_sealing, keepEvery C.uint64_t, comment []byte) ([]byte, error) {
+	text, length := make([]byte, 233+len(comment)), C.size_t(0)
+	err := C.minisign_secret_key_text(key, isGiven(password), pointer(password), C.size_t(len(password)), sealing, keepEvery, pointer(comment), C.size_t(len(comment)), pointer(text), C.size_t(len(text)), &length)
+	return text[:length], done(err)
+}
+
+func callPublicKeyText(key *C.minisign_secret_key, comment []byte) ([]byte, error) {
+	text, length := make([]byte, 77+len(comment)), C.size_t(0)
+	err := C.minisign_public_key_text(key, pointer(comment), C.size_t(len(comment)), pointer(text), C.size_t(len(text)), &length)
+	return text[:length], done(err)
+}

@@ -1,0 +1,250 @@
+// SPDX-License-Identifier: MIT
+// What signing has of include/minisign.h: numbers, where fields stand in
+// structs, and calls, made by tools/bindings.py.
+
+import { held, loaded } from "./loaded.js";
+
+export const VERSION_MAJOR = 0;
+export const VERSION_MINOR = 3;
+export const VERSION_PATCH = 0;
+export const ERROR_TEXT_BYTES = 128;
+export const KEEP_EVERY_ROW = 1;
+export const KEEP_FEW_ROWS = 16;
+export const USUAL_ROWS = 1048576;
+export const ANY_ROWS = 0xffffffffffffffffn;
+export const OPERATIONS_LIMIT = 33554432;
+export const MEMORY_LIMIT = 1073741824;
+export const LEAST_OPERATIONS_LIMIT = 524288;
+export const LEAST_MEMORY_LIMIT = 16777216;
+export const LEAST_LOG2_ROWS = 14;
+export const VERSION_TEXT = "0.3.0";
+export const SECRET_KEY_COMMENT = "minisign encrypted secret key";
+export const PUBLIC_KEY_COMMENT = "minisign public key ";
+
+export const STRUCTS = {
+  public_key: {
+    key: [0, 32],
+    key_id: [32, 8],
+    size: 40,
+  },
+  unopened_key: {
+    mark: [0, 8],
+    bytes: [8, 158],
+    is_sealed: [166, 1],
+    log2_rows: [167, 1],
+    work: [168, 4],
+    reserved: [172, 4],
+    size: 176,
+  },
+  secret_key: {
+    mark: [0, 8],
+    key_id: [8, 8],
+    secret: [16, 64],
+    size: 80,
+  },
+  sealing: {
+    salt: [0, 32],
+    operations_limit: [32, 8],
+    memory_limit: [40, 8],
+    size: 48,
+  },
+};
+
+// No bytes, where there is no password.
+const NOTHING = new Uint8Array(0);
+
+// The bytes that stand in base64.
+export function decoded(letters) {
+  return Uint8Array.from(atob(letters), (it) => it.charCodeAt(0));
+}
+
+// The bytes of a field of a struct, where they lie.
+export function fieldOf(struct, field, bytes) {
+  const [begin, length] = STRUCTS[struct][field];
+  return bytes.subarray(begin, begin + length);
+}
+
+// A struct of these fields: bytes, or numbers of 64 bits.
+export function structOf(struct, fields) {
+  const bytes = new Uint8Array(STRUCTS[struct].size);
+  const view = new DataView(bytes.buffer);
+  for (const [name, value] of Object.entries(fields)) {
+    const [begin] = STRUCTS[struct][name];
+    if (typeof value === "number") {
+      view.setBigUint64(begin, BigInt(value), true);
+    } else {
+      bytes.set(value, begin);
+    }
+  }
+  return bytes;
+}
+
+// The text whose length a call has written.
+function cut(text, length) {
+  const count = new DataView(length.buffer).getUint32(0, true);
+  return new TextDecoder().decode(text.subarray(0, count));
+}
+
+// The calls of the module that tools/signing_module.py makes, which no other
+// file knows. Each answers what it writes, and rejects with what it is rejected
+// for.
+export class SigningCalls {
+  static #compiling;
+
+  static async load() {
+    const library = await loaded();
+    this.#compiling ??= import("./signing_module.js").then(
+      ({ SIGNING_MODULE }) => WebAssembly.compile(decoded(SIGNING_MODULE)),
+    );
+    const module = await this.#compiling;
+    return Object.assign(new this(), { library, module });
+  }
+
+  // Makes a call in a memory of its own, which is cleared at the end: bytes are
+  // copied in, and what the call has made of them is copied out.
+  async make(name, ...given) {
+    const { exports } = await WebAssembly.instantiate(this.module, {});
+    let at = Number(exports.__heap_base.value);
+    const places = given.map((it) => {
+      const place = Math.ceil(at / 16) * 16;
+      at = it instanceof Uint8Array ? place + it.length : at;
+      return it instanceof Uint8Array ? place : null;
+    });
+    const copied = (copy) =>
+      places.forEach((place, index) => {
+        const memory = new Uint8Array(exports.memory.buffer);
+        return place === null || copy(memory, place, given[index]);
+      });
+    const handed = places.map((place, index) =>
+      place === null ? given[index] : BigInt(place),
+    );
+    try {
+      copied((memory, place, bytes) => memory.set(bytes, place));
+      const number = exports[`machine_${name}`](...handed) >>> 0;
+      held(this.library, { number });
+      copied((memory, place, bytes) =>
+        bytes.set(memory.subarray(place, place + bytes.length)),
+      );
+    } finally {
+      new Uint8Array(exports.memory.buffer).fill(0);
+    }
+  }
+
+  async readSecretKey(skText) {
+    const unopened = new Uint8Array(STRUCTS.unopened_key.size);
+    await this.make(
+      "minisign_read_secret_key",
+      skText,
+      BigInt(skText.length),
+      unopened,
+    );
+    return unopened;
+  }
+
+  async openUnsealedKey(unopened) {
+    const key = new Uint8Array(STRUCTS.secret_key.size);
+    await this.make("minisign_open_unsealed_key", unopened, key);
+    return key;
+  }
+
+  async openSealedKey(unopened, password, keepEvery, mostRows) {
+    const key = new Uint8Array(STRUCTS.secret_key.size);
+    await this.make(
+      "minisign_open_sealed_key",
+      unopened,
+      password,
+      BigInt(password.length),
+      BigInt(keepEvery),
+      BigInt(mostRows),
+      key,
+    );
+    return key;
+  }
+
+  async takeSecretKey(keyId, secret) {
+    const key = new Uint8Array(STRUCTS.secret_key.size);
+    await this.make("minisign_take_secret_key", keyId, secret, key);
+    return key;
+  }
+
+  async publicKeyOf(key) {
+    const publicKey = new Uint8Array(STRUCTS.public_key.size);
+    await this.make("minisign_public_key_of", key, publicKey);
+    return publicKey;
+  }
+
+  async commentMessage(first, trusted) {
+    const message = new Uint8Array(first.length + trusted.length);
+    await this.make(
+      "minisign_comment_message",
+      first,
+      trusted,
+      BigInt(trusted.length),
+      message,
+      BigInt(message.length),
+    );
+    return message;
+  }
+
+  async signedText(
+    key,
+    signature,
+    commentSignature,
+    trustedComment,
+    untrustedComment,
+  ) {
+    const text = new Uint8Array(
+      240 + trustedComment.length + untrustedComment.length,
+    );
+    const length = new Uint8Array(8);
+    await this.make(
+      "minisign_signed_text",
+      key,
+      signature,
+      commentSignature,
+      trustedComment,
+      BigInt(trustedComment.length),
+      untrustedComment,
+      BigInt(untrustedComment.length),
+      text,
+      BigInt(text.length),
+      length,
+    );
+    return cut(text, length);
+  }
+
+  async secretKeyText(key, password, sealing, keepEvery, comment) {
+    const text = new Uint8Array(233 + comment.length);
+    const length = new Uint8Array(8);
+    await this.make(
+      "minisign_secret_key_text",
+      key,
+      password === null ? 0 : 1,
+      password ?? NOTHING,
+      BigInt(password?.length ?? 0),
+      sealing,
+      BigInt(keepEvery),
+      comment,
+      BigInt(comment.length),
+      text,
+      BigInt(text.length),
+      length,
+    );
+    return cut(text, length);
+  }
+
+  async publicKeyText(key, comment) {
+    const text = new Uint8Array(77 + comment.length);
+    const length = new Uint8Array(8);
+    await this.make(
+      "minisign_public_key_text",
+      key,
+      comment,
+      BigInt(comment.length),
+      text,
+      BigInt(text.length),
+      length,
+    );
+    return cut(text, length);
+  }
+}

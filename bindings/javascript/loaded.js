@@ -1,0 +1,34 @@
+// SPDX-License-Identifier: MIT
+// The library, loaded once, and what it answers.
+
+import { Library } from "./calls.js";
+import { hasEd25519 } from "./ed25519.js";
+import { MinisignError } from "./errors.js";
+import { decoded } from "./header.js";
+import { MODULE } from "./module.js";
+
+let loading;
+
+async function load() {
+  if (!(await hasEd25519())) {
+    throw new Error("there is no Ed25519 in WebCrypto here");
+  }
+  return Library.load(decoded(MODULE));
+}
+
+export function loaded() {
+  loading ??= load().catch((why) => {
+    loading = undefined;
+    throw why;
+  });
+  return loading;
+}
+
+// What the library answers, unless that is the number of an error.
+export function held(library, answer) {
+  if (answer.number !== 0) {
+    const words = library.errorText(answer.number);
+    throw new MinisignError(answer.number, words);
+  }
+  return answer;
+}
