@@ -35,11 +35,10 @@
 #include <time.h>
 
 #include "minisign.h"
-#include "signed_text.h"
+#include "texts_for_tests.h"
 
 enum { MOST = 256 };
 
-static unsigned passed, failed;
 /*
  * What the calls that are wrapped here note is volatile: the compiler knows malloc, free and madvise as functions that
  * change nothing of this file's own.
@@ -65,14 +64,9 @@ void *__wrap_realloc(void *old, size_t size);
 void __wrap_free(void *block);
 int __wrap_madvise(void *from, size_t len, int hint);
 
-static void check(int holds, const char *what, size_t len, size_t alignment)
+static void check_block_of(int holds, const char *what, size_t len, size_t alignment)
 {
-    if (holds) {
-        passed++;
-    } else {
-        failed++;
-        printf("%s: %zu bytes, aligned to %zu\n", what, len, alignment);
-    }
+    check(holds, "%s: %zu bytes, aligned to %zu", what, len, alignment);
 }
 
 void *__wrap_malloc(size_t size)
@@ -193,31 +187,31 @@ static void check_block(size_t len, size_t alignment, size_t other)
     hints = 0;
     errno = 77;
     one = rattle_alloc(len, alignment);
-    check(one.is_granted == 1 && (uintptr_t) one.block % alignment == 0, "a block", len, alignment);
-    check(errno == 77, "errno was changed", len, alignment);
-    check(hints == HINTS(len), "how often the system was asked", len, alignment);
+    check_block_of(one.is_granted == 1 && (uintptr_t) one.block % alignment == 0, "a block", len, alignment);
+    check_block_of(errno == 77, "errno was changed", len, alignment);
+    check_block_of(hints == HINTS(len), "how often the system was asked", len, alignment);
 #ifndef MINISIGN_MALLOC_ALONE
     for (unsigned at = 0; at < hints; at++) {
-        check(hinted[at].hint == (at == 0 ? MADV_HUGEPAGE : MADV_POPULATE_WRITE) && hinted[at].from == one.block
+        check_block_of(hinted[at].hint == (at == 0 ? MADV_HUGEPAGE : MADV_POPULATE_WRITE) && hinted[at].from == one.block
                   && hinted[at].len <= len && hinted[at].len + 65536 > len, "what the system was asked", len, alignment);
     }
 #endif
     paint(one.block, len);
     two = rattle_realloc(one.block, len, other, alignment);
-    check(two.is_granted == 1 && (uintptr_t) two.block % alignment == 0 && is_painted(two.block, kept), "growing", other, alignment);
-    check(blocks_held() == 1 && uncleared == 0, "the older block", len, alignment);
+    check_block_of(two.is_granted == 1 && (uintptr_t) two.block % alignment == 0 && is_painted(two.block, kept), "growing", other, alignment);
+    check_block_of(blocks_held() == 1 && uncleared == 0, "the older block", len, alignment);
     paint(two.block, other);
     is_refusing = 1;
     one = rattle_realloc(two.block, other, other + 1, alignment);
-    check(one.is_granted == 0 && one.block != NULL, "growing that is refused", other, alignment);
+    check_block_of(one.is_granted == 0 && one.block != NULL, "growing that is refused", other, alignment);
     one = rattle_alloc(len, alignment);
-    check(one.is_granted == 0 && one.block != NULL, "a block that is refused", len, alignment);
+    check_block_of(one.is_granted == 0 && one.block != NULL, "a block that is refused", len, alignment);
     is_refusing = 0;
-    check(blocks_held() == 1 && is_painted(two.block, other), "the block that could not grow", other, alignment);
+    check_block_of(blocks_held() == 1 && is_painted(two.block, other), "the block that could not grow", other, alignment);
     errno = 77;
     rattle_dealloc(two.block);
-    check(blocks_held() == 0 && uncleared == 0, "a block that was given back", other, alignment);
-    check(errno == 77, "errno was changed by giving back", other, alignment);
+    check_block_of(blocks_held() == 0 && uncleared == 0, "a block that was given back", other, alignment);
+    check_block_of(errno == 77, "errno was changed by giving back", other, alignment);
 }
 
 #ifndef MINISIGN_MALLOC_ALONE
@@ -243,26 +237,26 @@ static void check_parts(void)
     hints = 0;
     grant = rattle_alloc(len, 1);
     wait_for_pages(grant.block);
-    check(grant.is_granted == 1 && hints == 8, "a block of several parts", len, 1);
+    check_block_of(grant.is_granted == 1 && hints == 8, "a block of several parts", len, 1);
     for (unsigned part = 0; part < hints; part += 2) {
-        check(hinted[part].from == (char *) grant.block + at && hinted[part + 1].from == hinted[part].from
+        check_block_of(hinted[part].from == (char *) grant.block + at && hinted[part + 1].from == hinted[part].from
                   && hinted[part].len == hinted[part + 1].len && hinted[part + 1].hint == MADV_POPULATE_WRITE, "a part", len, 1);
-        check(system_is != SLOW || hinted[part].hint == (part == 2 ? MADV_HUGEPAGE : MADV_NOHUGEPAGE), "a slow part", len, 1);
-        check(part > 2 || hinted[part].hint == (part == 2 ? MADV_HUGEPAGE : MADV_NOHUGEPAGE), "the first parts", len, 1);
+        check_block_of(system_is != SLOW || hinted[part].hint == (part == 2 ? MADV_HUGEPAGE : MADV_NOHUGEPAGE), "a slow part", len, 1);
+        check_block_of(part > 2 || hinted[part].hint == (part == 2 ? MADV_HUGEPAGE : MADV_NOHUGEPAGE), "the first parts", len, 1);
         at += hinted[part].len;
     }
-    check(at <= len && at + 65536 > len, "all of a block", len, 1);
+    check_block_of(at <= len && at + 65536 > len, "all of a block", len, 1);
     paint(grant.block, len);
     rattle_dealloc(grant.block);
-    check(blocks_held() == 0 && uncleared == 0, "a block of several parts that was given back", len, 1);
+    check_block_of(blocks_held() == 0 && uncleared == 0, "a block of several parts that was given back", len, 1);
     /* One that is given back while its pages are still brought in. */
     grant = rattle_alloc(len, 1);
     paint(grant.block, PART_BYTES);
     rattle_dealloc(grant.block);
-    check(blocks_held() == 0 && uncleared == 0, "a block that was given back early", len, 1);
+    check_block_of(blocks_held() == 0 && uncleared == 0, "a block that was given back early", len, 1);
     at = hints;
     usleep(20000);
-    check(hints == at, "a thread that has not ended with its block", len, 1);
+    check_block_of(hints == at, "a thread that has not ended with its block", len, 1);
 }
 
 #endif
@@ -271,7 +265,7 @@ static void check_blocks(void)
 {
     static const size_t lens[] = { 0, 1, 15, 16, 17, 1000, LARGE_BYTES - 1, LARGE_BYTES, LARGE_BYTES + 123457 };
 
-    for (size_t one = 0; one < sizeof lens / sizeof *lens; one++) {
+    for (size_t one = 0; one < LENGTH(lens); one++) {
         for (size_t alignment = 1; alignment <= 4096; alignment *= NEXT_ALIGNMENT) {
             check_block(lens[one], alignment, lens[one] + 100);
             check_block(lens[one], alignment, lens[one] / 2);
@@ -294,11 +288,11 @@ static void check_lengths(void)
 {
     static const size_t lens[] = { SIZE_MAX, SIZE_MAX - 15, SIZE_MAX / 2 + 1, SIZE_MAX / 2, SIZE_MAX / 2 - 16 };
 
-    for (size_t one = 0; one < sizeof lens / sizeof *lens; one++) {
+    for (size_t one = 0; one < LENGTH(lens); one++) {
         unsigned before = requests;
         struct grant grant = rattle_alloc(lens[one], 1);
 
-        check(grant.is_granted == 0 && requests == before, "a length that cannot be", lens[one], 1);
+        check_block_of(grant.is_granted == 0 && requests == before, "a length that cannot be", lens[one], 1);
     }
 }
 
@@ -316,11 +310,11 @@ static void check_in_place(const minisign_unopened_key *unopened, const minisign
     memset(parts, 0x5a, sizeof parts);
     given_back = 0;
     error = minisign_open_sealed_key_in_place(unopened, password, len, MINISIGN_KEEP_EVERY_ROW, MINISIGN_USUAL_ROWS, words,
-                                              sizeof words / sizeof *words, parts, sizeof parts, &opened);
-    check(error == MINISIGN_OK && memcmp(&opened, key, sizeof opened) == 0, "opening it in place", memory, 1);
-    check(requests == before && given_back == 0 && hints == asked, "memory that was asked for in place", memory, 1);
-    check(words[0] == 0 && memcmp(words, words + 1, sizeof words - sizeof *words) == 0, "words that are not cleared", memory, 1);
-    check(parts[0] == 0 && memcmp(parts, parts + 1, sizeof parts - 1) == 0, "bytes that are not cleared", memory, 1);
+                                              LENGTH(words), parts, sizeof parts, &opened);
+    check_block_of(error == MINISIGN_OK && memcmp(&opened, key, sizeof opened) == 0, "opening it in place", memory, 1);
+    check_block_of(requests == before && given_back == 0 && hints == asked, "memory that was asked for in place", memory, 1);
+    check_block_of(is_zeros(words, sizeof words), "words that are not cleared", memory, 1);
+    check_block_of(is_zeros(parts, sizeof parts), "bytes that are not cleared", memory, 1);
 }
 
 /* The library's calls, with a key sealed in so many bytes of rows. */
@@ -339,18 +333,18 @@ static void check_library(size_t memory)
     minisign_take_secret_key(key_id, secret_key, &key);
     error = minisign_secret_key_text(&key, 1, password, sizeof password - 1, &sealing, MINISIGN_KEEP_EVERY_ROW,
                                      comment, 1, text, sizeof text, &len);
-    check(error == MINISIGN_OK && given_back > 0 && uncleared == 0 && blocks_held() == 0, "making a key", memory, 1);
+    check_block_of(error == MINISIGN_OK && given_back > 0 && uncleared == 0 && blocks_held() == 0, "making a key", memory, 1);
     given_back = 0;
     error = minisign_read_secret_key(text, len, &unopened);
-    check(error == MINISIGN_OK && given_back == 0 && blocks_held() == 0, "reading it", memory, 1);
+    check_block_of(error == MINISIGN_OK && given_back == 0 && blocks_held() == 0, "reading it", memory, 1);
     error = minisign_open_sealed_key(&unopened, password, sizeof password - 1, MINISIGN_KEEP_EVERY_ROW, MINISIGN_USUAL_ROWS,
                                      &opened);
-    check(error == MINISIGN_OK && given_back > 0 && uncleared == 0 && blocks_held() == 0, "opening it", memory, 1);
-    check(memcmp(&opened, &key, sizeof key) == 0, "another key was opened", memory, 1);
+    check_block_of(error == MINISIGN_OK && given_back > 0 && uncleared == 0 && blocks_held() == 0, "opening it", memory, 1);
+    check_block_of(memcmp(&opened, &key, sizeof key) == 0, "another key was opened", memory, 1);
     check_in_place(&unopened, &key, password, sizeof password - 1, memory);
     given_back = 0;
     error = make_signed_text(&opened, digit, digit, comment, 1, comment, 1, signed_text, sizeof signed_text, &len);
-    check(error == MINISIGN_OK && given_back > 0 && uncleared == 0 && blocks_held() == 0, "signing", memory, 1);
+    check_block_of(error == MINISIGN_OK && given_back > 0 && uncleared == 0 && blocks_held() == 0, "signing", memory, 1);
 }
 
 int main(void)
@@ -359,6 +353,5 @@ int main(void)
     check_lengths();
     check_library(1 << 20);
     check_library(LARGE_ROWS);
-    printf("%u passed, %u failed\n", passed, failed);
-    return failed != 0;
+    return ended();
 }

@@ -11,8 +11,8 @@ in one sentence, before anything is written or removed. It prints a line for eac
 `N passed, M failed`.
 
 Needs Python 3.9 or later, git where this is a clone, make, binutils, pkg-config, groff, a C compiler, rustc, cargo,
-golang-go, libsodium with its header, and Debian's Python with pip, setuptools and wheel, and installs what is not there
-where it may. Without npm the package for JavaScript is left out.
+golang-go, libsodium with its header, and Debian's Python with pip, setuptools and wheel, and, where npm is, clang and lld, and
+installs what is not there where it may. Without npm the package for JavaScript is left out.
 """
 
 import glob
@@ -139,7 +139,10 @@ def check_release(checks, copy):
 
 def check_packages(checks, copy):
     """Packages are packed, and what was packed is built."""
-    packages = ["rust", "go", "python", *(["javascript"] if shutil.which("npm", path=copy.environment["PATH"]) else [])]
+    packages = ["rust", "go", "python"]
+    if shutil.which("npm", path=copy.environment["PATH"]):
+        needs.program("clang", "clang"), needs.program("wasm-ld", "lld")
+        packages.append("javascript")
     print(f"blanks: packed are {', '.join(packages)}")
     words = (f"CARGO={copy.cargo}", f"PYTHON={copy.python}", f"PAGE={copy.path('dist/minisign.html')}")
     check_run(checks, "make -C bindings", copy.make("bindings", *packages, *words))

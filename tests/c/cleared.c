@@ -83,35 +83,29 @@ static uint8_t digest[64], message[256];
 static minisign_signed_parts parts = { .trusted_comment = COMMENT, .trusted_comment_len = sizeof COMMENT - 1,
                                        .untrusted_comment = COMMENT, .untrusted_comment_len = sizeof COMMENT - 1 };
 
-static void seal_with(uint64_t operations, uint64_t memory)
+/* Seals under limits, with so many rows kept. */
+static enum minisign_error make_sealed_with(uint64_t operations, uint64_t memory, uint64_t kept)
 {
-    sealing.operations_limit = operations;
-    sealing.memory_limit = memory;
+    sealing = (minisign_sealing) { .operations_limit = operations, .memory_limit = memory };
     memcpy(sealing.salt, SALT, sizeof sealing.salt);
-}
-
-static enum minisign_error make_sealed(void)
-{
+    rows = kept;
     return minisign_secret_key_text(&key, 1, password, sizeof password, &sealing, rows, COMMENT, sizeof COMMENT - 1, sealed,
                                     sizeof sealed, &sealed_len);
 }
 
 static enum minisign_error make_sealed_little(void)
 {
-    seal_with(LITTLE_OPERATIONS, LITTLE_MEMORY);
-    return make_sealed();
+    return make_sealed_with(LITTLE_OPERATIONS, LITTLE_MEMORY, MINISIGN_KEEP_EVERY_ROW);
 }
 
 static enum minisign_error make_sealed_large(void)
 {
-    seal_with(LARGE_OPERATIONS, LARGE_MEMORY);
-    return make_sealed();
+    return make_sealed_with(LARGE_OPERATIONS, LARGE_MEMORY, MINISIGN_KEEP_EVERY_ROW);
 }
 
 static enum minisign_error make_sealed_in_few_rows(void)
 {
-    rows = MINISIGN_KEEP_FEW_ROWS;
-    return make_sealed_little();
+    return make_sealed_with(LITTLE_OPERATIONS, LITTLE_MEMORY, MINISIGN_KEEP_FEW_ROWS);
 }
 
 static enum minisign_error make_unsealed(void)
@@ -136,37 +130,36 @@ static enum minisign_error tell_public(void)
     return minisign_public_key_of(&key, &public);
 }
 
-static enum minisign_error open_text(const uint8_t *of, size_t len, uint32_t with_password)
-{
-    enum minisign_error error = minisign_read_secret_key(of, len, &unopened);
-
-    return error != MINISIGN_OK ? error
-           : with_password      ? minisign_open_sealed_key(&unopened, password, sizeof password, rows, MINISIGN_ANY_ROWS, &opened)
-                                : minisign_open_unsealed_key(&unopened, &opened);
-}
-
 /* Memory that the caller lends: it is not the caller's own when it is searched, for the library has cleared it. */
 static uint32_t words[256 * (4096 + 3)];
 static uint8_t room_of_parts[1024];
 
-static enum minisign_error open_text_in_place(const uint8_t *of, size_t len)
+enum how { WITHOUT_PASSWORD, WITH_PASSWORD, IN_PLACE };
+
+static enum minisign_error open_text(const uint8_t *of, size_t len, enum how how)
 {
     enum minisign_error error = minisign_read_secret_key(of, len, &unopened);
 
-    return error != MINISIGN_OK ? error
-                                : minisign_open_sealed_key_in_place(&unopened, password, sizeof password, rows, MINISIGN_ANY_ROWS,
-                                                                    words, sizeof words / sizeof *words, room_of_parts,
-                                                                    sizeof room_of_parts, &opened);
+    if (error != MINISIGN_OK) {
+        return error;
+    }
+    switch (how) {
+    case WITHOUT_PASSWORD: return minisign_open_unsealed_key(&unopened, &opened);
+    case WITH_PASSWORD: return minisign_open_sealed_key(&unopened, password, sizeof password, rows, MINISIGN_ANY_ROWS, &opened);
+    default:
+        return minisign_open_sealed_key_in_place(&unopened, password, sizeof password, rows, MINISIGN_ANY_ROWS, words,
+                                                 sizeof words / sizeof *words, room_of_parts, sizeof room_of_parts, &opened);
+    }
 }
 
 static enum minisign_error open_in_place(void)
 {
-    return open_text_in_place(sealed, sealed_len);
+    return open_text(sealed, sealed_len, IN_PLACE);
 }
 
 static enum minisign_error open_sealed(void)
 {
-    return open_text(sealed, sealed_len, 1);
+    return open_text(sealed, sealed_len, WITH_PASSWORD);
 }
 
 /* The same with signals meanwhile, of which the system writes the registers on the stack that the call is on. */
@@ -198,26 +191,26 @@ static enum minisign_error open_in_place_with_signals(void)
 }
 
 /* A key whose checksum does not fit is opened all the same before that is seen. */
-static const uint8_t *with_damage(void)
+static enum minisign_error open_with_damage(enum how how)
 {
     memcpy(damaged, sealed, sealed_len);
     damaged[sealed_len - 10] ^= 1;
-    return damaged;
+    return open_text(damaged, sealed_len, how) == MINISIGN_WRONG_PASSWORD ? MINISIGN_OK : MINISIGN_NOT_DUE;
 }
 
 static enum minisign_error open_damaged(void)
 {
-    return open_text(with_damage(), sealed_len, 1) == MINISIGN_WRONG_PASSWORD ? MINISIGN_OK : MINISIGN_NOT_DUE;
+    return open_with_damage(WITH_PASSWORD);
 }
 
 static enum minisign_error open_damaged_in_place(void)
 {
-    return open_text_in_place(with_damage(), sealed_len) == MINISIGN_WRONG_PASSWORD ? MINISIGN_OK : MINISIGN_NOT_DUE;
+    return open_with_damage(IN_PLACE);
 }
 
 static enum minisign_error open_unsealed(void)
 {
-    return open_text(unsealed, unsealed_len, 0);
+    return open_text(unsealed, unsealed_len, WITHOUT_PASSWORD);
 }
 
 static enum minisign_error sign(void)

@@ -4,22 +4,7 @@
  *
  * Prints a line for each check that failed; the last line is `N passed, M failed`.
  */
-#include <stdio.h>
-#include <string.h>
-
-#include "minisign.h"
-
-static unsigned passed, failed;
-
-static void check(int holds, uint32_t number, const char *what)
-{
-    if (holds) {
-        passed++;
-    } else {
-        failed++;
-        printf("number %u: %s\n", number, what);
-    }
-}
+#include "texts_for_tests.h"
 
 #define GREATEST 70
 
@@ -73,18 +58,21 @@ static const char *const texts[GREATEST + 1] = {
     [MINISIGN_KEY_NOT_READ] = "the secret key was not read",
     [MINISIGN_SIGNATURE_NOT_READ] = "the signature was not read",
     [MINISIGN_OTHER_SIGNATURE_TEXT] = "the signature was read from another text",
-    [MINISIGN_PLACE_IN_USE] = "another installation is at work at this place",
-    [MINISIGN_NO_RECORD] = "no number is kept beside the place",
-    [MINISIGN_DAMAGED_RECORD] = "what is kept beside the place is no number",
+    [MINISIGN_TARGET_IN_USE] = "another installation is at work at this target",
+    [MINISIGN_NO_RECORD] = "no number is kept beside the target",
+    [MINISIGN_DAMAGED_RECORD] = "what is kept beside the target is no number",
     [MINISIGN_OTHER_FILE] = "the signed comment does not name this file",
     [MINISIGN_NO_NUMBER] = "the signed comment has no such number",
     [MINISIGN_OLDER_UPDATE] = "the update is older than what was installed",
     [MINISIGN_DIRECTORY_NOT_SYNCED] = "installed, but the directory could not be synced",
-    [MINISIGN_KEPT_BY_TIMESTAMP] = "the number that is kept beside the place is a timestamp, and no version",
-    [MINISIGN_KEPT_BY_VERSION] = "the number that is kept beside the place is a version, and no timestamp",
+    [MINISIGN_KEPT_BY_TIMESTAMP] = "the number that is kept beside the target is a timestamp, and no version",
+    [MINISIGN_KEPT_BY_VERSION] = "the number that is kept beside the target is a version, and no timestamp",
     [MINISIGN_EXPIRED] = "the update has expired",
     [MINISIGN_BAD_EXPIRY] = "the signed comment does not say once, in a number, when it expires",
-    [MINISIGN_SAME_NUMBER] = "an update of this number was installed, and other data stands at the place",
+    [MINISIGN_SAME_NUMBER] = "an update of this number was installed, and other data stands at the target",
+    [MINISIGN_NO_EXPIRY] = "the signed comment does not say when it expires",
+    [MINISIGN_BAD_SIZE] = "the signed comment does not say once, in a number, how long the data is",
+    [MINISIGN_OTHER_SIZE] = "the data has another size than the signed comment says",
     [MINISIGN_READING_FAILED] = "reading failed",
     [MINISIGN_WRITING_FAILED] = "writing failed",
     [MINISIGN_RANDOM_SOURCE_FAILED] = "random source failed",
@@ -102,16 +90,15 @@ int main(void)
         size_t len = strlen(text);
 
         memset(whole, 0xaa, sizeof whole);
-        check(minisign_error_text(number, whole, sizeof whole) == len, number, "another length");
-        check(len < sizeof whole && memcmp(whole, text, len + 1) == 0, number, "another text");
+        check(minisign_error_text(number, whole, sizeof whole) == len, "number %u: another length", number);
+        check(len < sizeof whole && memcmp(whole, text, len + 1) == 0, "number %u: another text", number);
         for (size_t room = 0; room <= len; room++) {
             memset(cut, 0xaa, sizeof cut);
-            check(minisign_error_text(number, cut, room) == len, number, "another length where it is cut");
-            check(room == 0 || (memcmp(cut, text, room - 1) == 0 && cut[room - 1] == 0), number, "it is cut elsewhere");
-            check(cut[room] == (char) 0xaa, number, "it is written after its room");
+            check(minisign_error_text(number, cut, room) == len, "number %u: another length where it is cut", number);
+            check(room == 0 || (memcmp(cut, text, room - 1) == 0 && cut[room - 1] == 0), "number %u: it is cut elsewhere", number);
+            check(cut[room] == (char) 0xaa, "number %u: it is written after its room", number);
         }
     }
-    check(minisign_error_text(UINT32_MAX, whole, sizeof whole) == strlen("unknown error"), UINT32_MAX, "another length");
-    printf("%u passed, %u failed\n", passed, failed);
-    return failed != 0;
+    check(minisign_error_text(UINT32_MAX, whole, sizeof whole) == strlen("unknown error"), "%u: another length", UINT32_MAX);
+    return ended();
 }

@@ -39,9 +39,18 @@ static uint8_t *copied(const void *bytes, size_t len)
     return to;
 }
 
+/* Room for a value of a type. */
+#define NEW(type) ((type *) (void *) buffer(sizeof(type)))
+
+/* So many of one letter. */
+static uint8_t *filled(size_t len, int letter)
+{
+    return memset(buffer(len), letter, len);
+}
+
 static minisign_state *begun(void)
 {
-    minisign_state *state = (minisign_state *) (void *) buffer(sizeof *state);
+    minisign_state *state = NEW(minisign_state);
 
     minisign_init(state);
     return state;
@@ -55,12 +64,10 @@ static void feeding(void)
     for (size_t i = 0; i < sizeof data; i++) {
         data[i] = (uint8_t) (i * 7);
     }
-    for (size_t i = 0; i < sizeof lens / sizeof lens[0]; i++) {
+    for (size_t i = 0; i < LENGTH(lens); i++) {
         for (size_t before = 0; before < 260; before += 43) {
-            minisign_state *state, other;
-
             used = 0;
-            state = begun();
+            minisign_state *state = begun(), other;
             CHECK(minisign_update(state, copied(data, before), before) == MINISIGN_OK);
             CHECK(minisign_update(state, copied(data, lens[i]), lens[i]) == MINISIGN_OK);
             minisign_init(&other);
@@ -74,25 +81,25 @@ static void feeding(void)
 /* A public key, alone in its bytes. */
 static minisign_public_key *public_key(void)
 {
-    minisign_public_key *key = (minisign_public_key *) (void *) buffer(sizeof *key);
+    minisign_public_key *key = NEW(minisign_public_key);
 
-    CHECK(minisign_read_public_key((const uint8_t *) KEY, sizeof KEY - 1, key) == MINISIGN_OK);
+    *key = key_of(KEY);
     return key;
 }
 
 /* A signature, alone in its bytes. */
 static minisign_signature *signature(void)
 {
-    minisign_signature *read = (minisign_signature *) (void *) buffer(sizeof *read);
+    minisign_signature *read = NEW(minisign_signature);
 
-    CHECK(minisign_read_signature((const uint8_t *) SIGNATURE, sizeof SIGNATURE - 1, read) == MINISIGN_OK);
+    *read = signature_of(SIGNATURE);
     return read;
 }
 
 /* Asks with so much of the text of a signature, and so much room. */
 static enum minisign_error ask_with(minisign_state *state, const minisign_signature *read, size_t len, size_t room)
 {
-    minisign_questions *q = (minisign_questions *) (void *) buffer(sizeof *q);
+    minisign_questions *q = NEW(minisign_questions);
 
     return minisign_ask(state, public_key(), read, copied(SIGNATURE, len), len, 0, q, buffer(room), room);
 }
@@ -100,14 +107,11 @@ static enum minisign_error ask_with(minisign_state *state, const minisign_signat
 /* A signature whose comment is said to begin here and to have this length: nothing outside the text is read. */
 static void ask_about_place(uint64_t offset, uint64_t len)
 {
-    minisign_signature *read;
-    enum minisign_error error;
-
     used = 0;
-    read = signature();
+    minisign_signature *read = signature();
     read->comment_offset = offset;
     read->comment_len = len;
-    error = ask_with(begun(), read, sizeof SIGNATURE - 1, 1024);
+    enum minisign_error error = ask_with(begun(), read, sizeof SIGNATURE - 1, 1024);
     CHECK(offset <= sizeof SIGNATURE - 1 && len <= sizeof SIGNATURE - 1 - offset ? error != MINISIGN_SIGNATURE_NOT_READ
                                                                                  : error == MINISIGN_OTHER_SIGNATURE_TEXT);
 }
@@ -119,21 +123,16 @@ static void asking(void)
                                        UINT64_MAX - 1, UINT64_MAX };
 
     for (size_t len = 0; len < sizeof SIGNATURE; len++) {
-        minisign_signature *cut;
-        int is_read;
-
         used = 0;
-        cut = (minisign_signature *) (void *) buffer(sizeof *cut);
-        is_read = minisign_read_signature(copied(SIGNATURE, len), len, cut) == MINISIGN_OK;
+        minisign_signature *cut = NEW(minisign_signature);
+        int is_read = minisign_read_signature(copied(SIGNATURE, len), len, cut) == MINISIGN_OK;
         CHECK(is_read || len < sizeof SIGNATURE - 1);
-        CHECK(ask_with(begun(), cut, len, len)
-              == (is_read ? MINISIGN_OK : MINISIGN_SIGNATURE_NOT_READ));
+        CHECK(ask_with(begun(), cut, len, len) == (is_read ? MINISIGN_OK : MINISIGN_SIGNATURE_NOT_READ));
         used = 0;
-        CHECK(ask_with(begun(), signature(), len, MESSAGE_LEN)
-              == (len < sizeof SIGNATURE - 1 ? MINISIGN_OTHER_SIGNATURE_TEXT : MINISIGN_OK));
+        CHECK(ask_with(begun(), signature(), len, MESSAGE_LEN) == (len < sizeof SIGNATURE - 1 ? MINISIGN_OTHER_SIGNATURE_TEXT : MINISIGN_OK));
     }
-    for (size_t i = 0; i < sizeof places / sizeof *places; i++) {
-        for (size_t j = 0; j < sizeof places / sizeof *places; j++) {
+    for (size_t i = 0; i < LENGTH(places); i++) {
+        for (size_t j = 0; j < LENGTH(places); j++) {
             ask_about_place(places[i], places[j]);
         }
     }
@@ -144,66 +143,59 @@ static void asking(void)
         CHECK(len > 57 || (minisign_read_bare_public_key(copied(KEY + sizeof KEY - 58, len), len, public_key()) == MINISIGN_OK) == (len == 56));
     }
     for (size_t room = 0; room <= MESSAGE_LEN; room++) {
-        minisign_state *state;
-        enum minisign_error wanted = room < MESSAGE_LEN ? MINISIGN_NO_ROOM : MINISIGN_OK;
+        const int is_asked = room == MESSAGE_LEN;
 
         used = 0;
-        state = begun();
-        CHECK(ask_with(state, signature(), sizeof SIGNATURE - 1, room) == wanted);
-        CHECK(minisign_comment_verdict(state, MINISIGN_ANSWER_YES) == (wanted == MINISIGN_OK ? MINISIGN_OK : MINISIGN_NOT_ASKED));
+        minisign_state *state = begun();
+        CHECK(ask_with(state, signature(), sizeof SIGNATURE - 1, room) == (is_asked ? MINISIGN_OK : MINISIGN_NO_ROOM));
+        CHECK(minisign_comment_verdict(state, YES) == (is_asked ? MINISIGN_OK : MINISIGN_NOT_ASKED));
         CHECK(minisign_digest(state, buffer(64)) == MINISIGN_OK);
-        CHECK(minisign_verdict(state, MINISIGN_ANSWER_YES, MINISIGN_ANSWER_YES)
-              == (wanted == MINISIGN_OK ? MINISIGN_OK : MINISIGN_NOT_ASKED));
+        CHECK(minisign_verdict(state, YES, YES) == (is_asked ? MINISIGN_OK : MINISIGN_NOT_ASKED));
     }
+}
+
+/* The key of the tests, opened. */
+static minisign_secret_key *opened_key(void)
+{
+    minisign_secret_key *key = NEW(minisign_secret_key);
+    minisign_unopened_key unopened;
+
+    CHECK(minisign_read_secret_key(bytes_of(SECRET_KEY), sizeof SECRET_KEY - 1, &unopened) == MINISIGN_OK);
+    CHECK(minisign_open_unsealed_key(&unopened, key) == MINISIGN_OK);
+    return key;
 }
 
 static void signing(void)
 {
     for (size_t len = 0; len < sizeof SECRET_KEY; len++) {
-        minisign_unopened_key *unopened;
-        minisign_secret_key *key;
-        int is_read;
-
         used = 0;
-        unopened = (minisign_unopened_key *) (void *) buffer(sizeof *unopened);
-        key = (minisign_secret_key *) (void *) buffer(sizeof *key);
+        minisign_unopened_key *unopened = NEW(minisign_unopened_key);
+        minisign_secret_key *key = NEW(minisign_secret_key);
         memset(unopened, 0, sizeof *unopened);
-        is_read = minisign_read_secret_key(copied(SECRET_KEY, len), len, unopened) == MINISIGN_OK;
+        int is_read = minisign_read_secret_key(copied(SECRET_KEY, len), len, unopened) == MINISIGN_OK;
         CHECK(is_read || len < sizeof SECRET_KEY - 2);
         CHECK(minisign_open_unsealed_key(unopened, key) == (is_read ? MINISIGN_OK : MINISIGN_KEY_NOT_READ));
         CHECK(minisign_open_sealed_key(unopened, buffer(0), 0, 1, 1, key) == (is_read ? MINISIGN_KEY_NOT_SEALED : MINISIGN_KEY_NOT_READ));
     }
     for (size_t len = 0; len < 200; len++) {
-        static const char letters[200] = "a";
-        uint8_t *trusted, *untrusted;
-        minisign_signed_parts *parts;
-        size_t *text_len, need = 0;
-        minisign_unopened_key unopened;
-        minisign_secret_key *key;
+        used = 0;
+        minisign_secret_key *key = opened_key();
+        minisign_signed_parts *parts = NEW(minisign_signed_parts);
+        uint8_t *trusted = filled(len, 't'), *untrusted = filled(len / 2, 'u');
+        size_t *text_len = NEW(size_t), room = 0;
         enum minisign_error error;
 
-        used = 0;
-        key = (minisign_secret_key *) (void *) buffer(sizeof *key);
-        CHECK(minisign_read_secret_key((const uint8_t *) SECRET_KEY, sizeof SECRET_KEY - 1, &unopened) == MINISIGN_OK);
-        CHECK(minisign_open_unsealed_key(&unopened, key) == MINISIGN_OK);
-        parts = (minisign_signed_parts *) (void *) buffer(sizeof *parts);
-        trusted = copied(letters, len);
-        memset(trusted, 't', len);
-        untrusted = copied(letters, len / 2);
-        memset(untrusted, 'u', len / 2);
         *parts = (minisign_signed_parts) { .trusted_comment = trusted, .trusted_comment_len = len,
                                            .untrusted_comment = untrusted, .untrusted_comment_len = len / 2 };
-        text_len = (size_t *) (void *) buffer(sizeof *text_len);
         CHECK(minisign_comment_message(parts->signature, trusted, len, buffer(64 + len), 64 + len) == MINISIGN_OK);
-        for (size_t room = 0;; room = room < 190 ? room + 95 : room + 1) {
+        for (;; room += room < 190 ? 95 : 1) {
             used = 5;
             error = minisign_signed_text(key, parts, buffer(room), room, text_len);
             if (error != MINISIGN_NO_ROOM) {
-                need = room;
                 break;
             }
         }
-        CHECK(error == MINISIGN_OK && need <= MINISIGN_TEXT_BYTES(len, len / 2) && *text_len <= need);
+        CHECK(error == MINISIGN_OK && room <= MINISIGN_TEXT_BYTES(len, len / 2) && *text_len <= room);
     }
 }
 
@@ -214,12 +206,9 @@ static void making(void)
     static const minisign_sealing none;
 
     for (size_t room = 0; room <= MINISIGN_SECRET_KEY_BYTES(1); room++) {
-        minisign_secret_key *key;
-        size_t *text_len;
-
         used = 0;
-        key = (minisign_secret_key *) (void *) buffer(sizeof *key);
-        text_len = (size_t *) (void *) buffer(sizeof *text_len);
+        minisign_secret_key *key = NEW(minisign_secret_key);
+        size_t *text_len = NEW(size_t);
         minisign_take_secret_key(copied("12345678", 8), copied((const char *) secret, 64), key);
         CHECK(minisign_public_key_of(key, public_key()) == MINISIGN_OK);
         used = 2;
@@ -241,35 +230,26 @@ static void opening_in_place(uint64_t p)
     uint8_t text[MINISIGN_SECRET_KEY_BYTES(0)];
     size_t text_len = 0;
 
-    minisign_take_secret_key((const uint8_t *) "12345678", secret, &key);
-    CHECK(minisign_secret_key_text(&key, 1, (const uint8_t *) "pw", 2, &sealing, 1, NULL, 0, text, sizeof text, &text_len) == MINISIGN_OK);
-    for (size_t i = 0; i < 4 * sizeof kept / sizeof *kept; i++) {
-        minisign_unopened_key *unopened;
-        minisign_secret_key *opened, before;
-        uint64_t *words_wanted, *bytes_wanted;
+    minisign_take_secret_key(bytes_of("12345678"), secret, &key);
+    CHECK(minisign_secret_key_text(&key, 1, bytes_of("pw"), 2, &sealing, 1, NULL, 0, text, sizeof text, &text_len) == MINISIGN_OK);
+    for (size_t i = 0; i < 4 * LENGTH(kept); i++) {
         const char *password = i % 4 == 3 ? "wp" : "pw";
-        size_t words_len, bytes_len;
-        uint8_t *words, *bytes;
 
         used = 0;
-        unopened = (minisign_unopened_key *) (void *) buffer(sizeof *unopened);
-        opened = (minisign_secret_key *) (void *) buffer(sizeof *opened);
-        before = *opened;
+        minisign_unopened_key *unopened = NEW(minisign_unopened_key);
+        minisign_secret_key *opened = NEW(minisign_secret_key), before = *opened;
         CHECK(minisign_read_secret_key(copied(text, text_len), text_len, unopened) == MINISIGN_OK);
-        words_wanted = (uint64_t *) (void *) buffer(sizeof *words_wanted);
-        bytes_wanted = (uint64_t *) (void *) buffer(sizeof *bytes_wanted);
+        uint64_t *words_wanted = NEW(uint64_t), *bytes_wanted = NEW(uint64_t);
         minisign_opening_memory(unopened, kept[i / 4], words_wanted, bytes_wanted);
         CHECK(4 * *words_wanted <= BYTES && *bytes_wanted <= BYTES);
-        words_len = (size_t) *words_wanted - (i % 4 == 1);
-        bytes_len = (size_t) *bytes_wanted - (i % 4 == 2);
-        words = buffer(4 * words_len);
-        bytes = buffer(bytes_len);
+        size_t words_len = (size_t) *words_wanted - (i % 4 == 1), parts_len = (size_t) *bytes_wanted - (i % 4 == 2);
+        uint8_t *words = buffer(4 * words_len), *parts = buffer(parts_len);
         CHECK(minisign_open_sealed_key_in_place(unopened, copied(password, 2), 2, kept[i / 4], 1024 * p, (uint32_t *) (void *) words,
-                                                words_len, bytes, bytes_len, opened)
+                                                words_len, parts, parts_len, opened)
               == (i % 4 == 0 ? MINISIGN_OK : i % 4 == 3 ? MINISIGN_WRONG_PASSWORD : MINISIGN_NO_ROOM));
         CHECK(memcmp(opened, i % 4 == 0 ? &key : &before, sizeof key) == 0);
-        CHECK(is_zeros(words, 4 * words_len) && is_zeros(bytes, bytes_len));
-        if (words_len == *words_wanted && bytes_len == *bytes_wanted) {
+        CHECK(is_zeros(words, 4 * words_len) && is_zeros(parts, parts_len));
+        if (words_len == *words_wanted && parts_len == *bytes_wanted) {
             CHECK(minisign_open_sealed_key(unopened, copied(password, 2), 2, MINISIGN_KEEP_EVERY_ROW, 1024 * p, opened)
                   == (i % 4 == 3 ? MINISIGN_WRONG_PASSWORD : MINISIGN_OK));
         }
@@ -279,22 +259,22 @@ static void opening_in_place(uint64_t p)
 /* Asks about the signature, with this room for the message, and has these answers. */
 static enum minisign_error ask_and_answer(minisign_installation *i)
 {
-    minisign_questions *q = (minisign_questions *) (void *) buffer(sizeof *q);
-    enum minisign_error error = minisign_install_ask(i, (const uint8_t *) SIGNATURE, sizeof SIGNATURE - 1, copied("test", 4), 4, 0,
+    minisign_questions *q = NEW(minisign_questions);
+    enum minisign_error error = minisign_install_ask(i, bytes_of(SIGNATURE), sizeof SIGNATURE - 1, copied("test", 4), 4, 0,
                                                      q, buffer(MESSAGE_LEN), MESSAGE_LEN);
 
-    return error == MINISIGN_OK ? minisign_install_answer(i, MINISIGN_ANSWER_YES, MINISIGN_ANSWER_YES) : error;
+    return error == MINISIGN_OK ? minisign_install_answer(i, YES, YES) : error;
 }
 
 /* An installation at which this is due. */
 static minisign_installation *installing(uint32_t due)
 {
-    minisign_installation *i = (minisign_installation *) (void *) buffer(sizeof *i);
-    enum minisign_error error = minisign_install_init(i, public_key(), public_key(), 0, 0, 0, 0, MINISIGN_NUMBERING_TIMESTAMP);
+    minisign_installation *i = NEW(minisign_installation);
+    enum minisign_error error = minisign_install_init(i, public_key(), public_key(), 0, 0, 0, 0, 0, MINISIGN_NUMBERING_TIMESTAMP);
 
     while (error == MINISIGN_OK && minisign_install_due(i) != due) {
         switch (minisign_install_due(i)) {
-        case MINISIGN_DUE_READ_RECORD: error = minisign_install_record(i, copied("5", 1), 1); break;
+        case MINISIGN_DUE_READ_RECORD: error = minisign_install_record(i, copied("5", 1), 1, 0); break;
         case MINISIGN_DUE_READ_BACK: error = minisign_install_piece(i, buffer(0), 0); break;
         case MINISIGN_DUE_JUDGE:
         case MINISIGN_DUE_ANSWER: error = ask_and_answer(i); break;
@@ -308,57 +288,42 @@ static minisign_installation *installing(uint32_t due)
 /* Records, names and comments of each length, and room of each length for the message and the record. */
 static void installations(void)
 {
-    static const char zeros[MINISIGN_RECORD_TEXT_BYTES + 1] = "0";
-    static const char comment[] = "timestamp:1556193335\tfile:test";
+    static const char comment[] = COMMENT;
     const size_t len = sizeof SIGNATURE - 1, record_len = sizeof "timestamp:1556193335" + 64 + 1 + 128;
 
-    for (size_t size = 0; size < sizeof zeros; size++) {
-        uint8_t *record;
-        minisign_installation *i;
-
+    for (size_t size = 0; size <= MINISIGN_RECORD_TEXT_BYTES; size++) {
         used = 0;
-        i = installing(MINISIGN_DUE_READ_RECORD);
-        record = copied(zeros, size);
-        memset(record, '0', size);
-        CHECK(minisign_install_record(i, record, size) == MINISIGN_OK);
+        minisign_installation *i = installing(MINISIGN_DUE_READ_RECORD);
+        CHECK(minisign_install_record(i, filled(size, '0'), size, 0) == MINISIGN_OK);
         CHECK(minisign_install_due(i) == (0 < size && size <= 64 ? MINISIGN_DUE_JUDGE : MINISIGN_DUE_REFUSED));
     }
     for (size_t room = 0; room <= MESSAGE_LEN; room++) {
-        minisign_installation *i;
-        minisign_questions *q;
-
         used = 0;
-        i = installing(MINISIGN_DUE_JUDGE);
+        minisign_installation *i = installing(MINISIGN_DUE_JUDGE);
         used = 2;
-        q = (minisign_questions *) (void *) buffer(sizeof *q);
+        minisign_questions *q = NEW(minisign_questions);
         CHECK(minisign_install_ask(i, copied(SIGNATURE, len), len, copied("test", 4), 4, 0, q, buffer(room), room)
               == (room < MESSAGE_LEN ? MINISIGN_NO_ROOM : MINISIGN_OK));
     }
     for (size_t size = 0; size < len; size++) {
         minisign_signature read;
-        minisign_installation *i;
-        minisign_questions *q;
 
         used = 0;
-        i = installing(MINISIGN_DUE_JUDGE);
+        minisign_installation *i = installing(MINISIGN_DUE_JUDGE);
         used = 2;
-        q = (minisign_questions *) (void *) buffer(sizeof *q);
+        minisign_questions *q = NEW(minisign_questions);
         CHECK(minisign_install_ask(i, copied(SIGNATURE, size), size, copied("test", 4), 4, 0, q, buffer(MESSAGE_LEN), MESSAGE_LEN)
-              == minisign_read_signature((const uint8_t *) SIGNATURE, size, &read));
+              == minisign_read_signature(bytes_of(SIGNATURE), size, &read));
     }
     for (size_t room = 0; room <= MINISIGN_RECORD_TEXT_BYTES; room++) {
-        minisign_installation *i;
-
         used = 0;
-        i = installing(MINISIGN_DUE_WRITE_RECORD);
+        minisign_installation *i = installing(MINISIGN_DUE_WRITE_RECORD);
         used = 3;
         CHECK(minisign_install_record_text(i, buffer(room), room) == (room < record_len ? 0 : record_len));
     }
     for (size_t size = 0; size < sizeof comment; size++) {
-        uint64_t *number;
-
         used = 0;
-        number = (uint64_t *) (void *) buffer(sizeof *number);
+        uint64_t *number = NEW(uint64_t);
         CHECK(minisign_judge_comment(copied(comment, size), size, copied("test", 4), 4, MINISIGN_NUMBERING_TIMESTAMP, 0, 0, number)
               == (size < sizeof comment - 1 ? MINISIGN_OTHER_FILE : MINISIGN_OK));
     }
@@ -397,6 +362,5 @@ int main(void)
         installations();
         texts();
     }
-    printf("%u passed, %u failed\n", passed, failed);
-    return failed != 0;
+    return ended();
 }

@@ -29,6 +29,7 @@ import needs
 import static_library
 from minisign_signing import MEMORY, sealed_key
 from process import run_apart
+from running import read, write
 
 TOP = os.path.join(HERE, "..", "..")
 EXAMPLES = os.path.join(TOP, "c", "examples")
@@ -150,18 +151,6 @@ def with_half_changed(text, at):
     zeros."""
     first, second = text.split(b"\n")[:2]
     return first + b"\n" + base64.b64encode(changed(base64.b64decode(second), at)) + b"\n"
-
-
-def write(room, name, data):
-    path = os.path.join(room, name)
-    with open(path, "wb") as file:
-        file.write(data)
-    return path
-
-
-def read(path):
-    with open(path, "rb") as file:
-        return file.read()
 
 
 def verifying_cases(room, minisign):

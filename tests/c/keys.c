@@ -18,15 +18,11 @@
 #include <string.h>
 
 #include "minisign.h"
+#include "texts_for_tests.h"
 
 #define BYTES 4096
 
 static uint8_t text[BYTES];
-
-static const uint8_t *bytes(const char *letters)
-{
-    return (const uint8_t *) letters;
-}
 
 static void read_hexadecimal(uint8_t *to, size_t len, const char *digits)
 {
@@ -45,7 +41,7 @@ static void write_hexadecimal(const uint8_t *from, size_t len)
     }
 }
 
-static int ended(uint32_t error)
+static int status_of(uint32_t error)
 {
     if (error != MINISIGN_OK) {
         printf("%" PRIu32 "\n", error);
@@ -74,42 +70,44 @@ static int made(uint32_t error, size_t text_len)
     if (error == MINISIGN_OK) {
         fwrite(text, 1, text_len, stdout);
     }
-    return ended(error);
+    return status_of(error);
+}
+
+/* The key of a key ID and a secret. */
+static minisign_secret_key taken(char **argv)
+{
+    uint8_t key_id[8], secret[64];
+    minisign_secret_key key;
+
+    read_hexadecimal(key_id, sizeof key_id, argv[2]);
+    read_hexadecimal(secret, sizeof secret, argv[3]);
+    minisign_take_secret_key(key_id, secret, &key);
+    return key;
 }
 
 static int make_secret(int argc, char **argv)
 {
-    uint8_t key_id[8], secret[64];
-    minisign_secret_key key;
+    const minisign_secret_key key = taken(argv);
     minisign_sealing sealing;
     size_t text_len = BYTES + 1;
     const char *password = argc > 10 ? argv[10] : "";
     uint32_t error;
 
-    read_hexadecimal(key_id, sizeof key_id, argv[2]);
-    read_hexadecimal(secret, sizeof secret, argv[3]);
-    minisign_take_secret_key(key_id, secret, &key);
     read_hexadecimal(sealing.salt, sizeof sealing.salt, argv[4]);
     sealing.operations_limit = strtoull(argv[5], NULL, 10);
     sealing.memory_limit = strtoull(argv[6], NULL, 10);
-    error = minisign_secret_key_text(&key, argc > 10, bytes(password), strlen(password), &sealing,
-                                     strtoull(argv[7], NULL, 10), bytes(argv[9]), strlen(argv[9]), text,
+    error = minisign_secret_key_text(&key, argc > 10, bytes_of(password), strlen(password), &sealing,
+                                     strtoull(argv[7], NULL, 10), bytes_of(argv[9]), strlen(argv[9]), text,
                                      strtoull(argv[8], NULL, 10), &text_len);
     return made(error, text_len);
 }
 
 static int make_public(char **argv)
 {
-    uint8_t key_id[8], secret[64];
-    minisign_secret_key key;
+    const minisign_secret_key key = taken(argv);
     size_t text_len = BYTES + 1;
-    uint32_t error;
+    uint32_t error = minisign_public_key_text(&key, bytes_of(argv[5]), strlen(argv[5]), text, strtoull(argv[4], NULL, 10), &text_len);
 
-    read_hexadecimal(key_id, sizeof key_id, argv[2]);
-    read_hexadecimal(secret, sizeof secret, argv[3]);
-    minisign_take_secret_key(key_id, secret, &key);
-    error = minisign_public_key_text(&key, bytes(argv[5]), strlen(argv[5]), text,
-                                     strtoull(argv[4], NULL, 10), &text_len);
     return made(error, text_len);
 }
 
@@ -139,13 +137,6 @@ static void *filled(uint64_t count, size_t size)
     return memset(at, 0x5a, (size_t) count * size);
 }
 
-static int is_zeros(const void *at, size_t len)
-{
-    const uint8_t *all = at;
-
-    return all[0] == 0 && memcmp(all, all + 1, len - 1) == 0;
-}
-
 static uint32_t open_in_place(const minisign_unopened_key *unopened, const char *password, uint64_t every, uint64_t rows,
                               minisign_secret_key *key)
 {
@@ -156,7 +147,7 @@ static uint32_t open_in_place(const minisign_unopened_key *unopened, const char 
     minisign_opening_memory(unopened, every, &words_wanted, &bytes_wanted);
     words = filled(words_wanted, sizeof *words);
     parts = filled(bytes_wanted, 1);
-    error = minisign_open_sealed_key_in_place(unopened, bytes(password), strlen(password), every, rows, words,
+    error = minisign_open_sealed_key_in_place(unopened, bytes_of(password), strlen(password), every, rows, words,
                                               (size_t) words_wanted, parts, (size_t) bytes_wanted, key);
     if (!is_zeros(words, (size_t) words_wanted * sizeof *words) || !is_zeros(parts, (size_t) bytes_wanted)) {
         printf("the memory does not hold zeros\n");
@@ -177,7 +168,7 @@ static int tell_memory(char **argv)
         minisign_opening_memory(&unopened, strtoull(argv[2], NULL, 10), &words, &parts);
         printf("%" PRIu64 " %" PRIu64 "\n", words, parts);
     }
-    return ended(error);
+    return status_of(error);
 }
 
 static int open_key(int argc, char **argv)
@@ -190,7 +181,7 @@ static int open_key(int argc, char **argv)
 
     if (error == MINISIGN_OK) {
         error = strcmp(argv[1], "place") == 0 ? open_in_place(&unopened, password, every, rows, &key)
-                : argc > 5 ? minisign_open_sealed_key(&unopened, bytes(password), strlen(password), every, rows, &key)
+                : argc > 5 ? minisign_open_sealed_key(&unopened, bytes_of(password), strlen(password), every, rows, &key)
                            : (uint32_t) minisign_open_unsealed_key(&unopened, &key);
     }
     if (error == MINISIGN_OK) {
@@ -199,7 +190,7 @@ static int open_key(int argc, char **argv)
         write_hexadecimal(key.secret, sizeof key.secret);
         putchar('\n');
     }
-    return ended(error);
+    return status_of(error);
 }
 
 int main(int argc, char **argv)

@@ -27,6 +27,7 @@ sys.path.append(os.path.join(HERE, "..", "shared"))
 import ending
 import needs
 import static_library
+from running import read, write
 
 INCLUDE = os.path.join(HERE, "..", "..", "include")
 SECONDS = 1200
@@ -63,16 +64,6 @@ def run(command, directory, typed=b"", preloaded=None):
         ran.returncode = os.waitstatus_to_exitcode(status)
         output.seek(0)
         return ran.returncode, output.read(), used.ru_maxrss << 10
-
-
-def read(directory, name):
-    with open(os.path.join(directory, name), "rb") as file:
-        return file.read()
-
-
-def write(directory, name, data):
-    with open(os.path.join(directory, name), "wb") as file:
-        file.write(data)
 
 
 def record_of(text):

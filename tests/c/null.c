@@ -8,13 +8,7 @@
 #include <string.h>
 
 #include "minisign.h"
-#include "signed_text.h"
 #include "texts_for_tests.h"
-
-static const uint8_t *bytes(const char *text)
-{
-    return (const uint8_t *) text;
-}
 
 static minisign_state begun(void)
 {
@@ -29,11 +23,11 @@ static void feeding(void)
     minisign_state fed = begun(), empty = begun(), never;
 
     CHECK(minisign_update(&fed, NULL, 0) == MINISIGN_OK);
-    CHECK(minisign_update(&empty, bytes(""), 0) == MINISIGN_OK);
+    CHECK(minisign_update(&empty, bytes_of(""), 0) == MINISIGN_OK);
     CHECK(memcmp(&fed, &empty, sizeof fed) == 0);
-    CHECK(minisign_update(&fed, bytes("abc"), 3) == MINISIGN_OK);
+    CHECK(minisign_update(&fed, bytes_of("abc"), 3) == MINISIGN_OK);
     CHECK(minisign_update(&fed, NULL, 0) == MINISIGN_OK);
-    CHECK(minisign_update(&empty, bytes("abc"), 3) == MINISIGN_OK);
+    CHECK(minisign_update(&empty, bytes_of("abc"), 3) == MINISIGN_OK);
     CHECK(memcmp(&fed, &empty, sizeof fed) == 0);
     memset(&never, 0, sizeof never);
     CHECK(minisign_update(&never, NULL, 0) == MINISIGN_NOT_BEGUN);
@@ -51,7 +45,7 @@ static void asking(void)
     CHECK(minisign_read_signature(NULL, 0, &signature) == MINISIGN_MISSING_UNTRUSTED_COMMENT);
     CHECK(minisign_ask(&state, &key, &signature, NULL, 0, 0, &q, NULL, 0) == MINISIGN_SIGNATURE_NOT_READ);
     CHECK(minisign_ask(&state, &key, &read, NULL, 0, 0, &q, NULL, 0) == MINISIGN_OTHER_SIGNATURE_TEXT);
-    CHECK(minisign_ask(&state, &key, &read, bytes(SIGNATURE), sizeof SIGNATURE - 1, 0, &q, NULL, 0) == MINISIGN_NO_ROOM);
+    CHECK(minisign_ask(&state, &key, &read, bytes_of(SIGNATURE), sizeof SIGNATURE - 1, 0, &q, NULL, 0) == MINISIGN_NO_ROOM);
 }
 
 static void signing(void)
@@ -64,7 +58,7 @@ static void signing(void)
     size_t text_len = 0, empty_len = 0;
 
     CHECK(minisign_read_secret_key(NULL, 0, &unopened) == MINISIGN_MISSING_SECRET_KEY_COMMENT);
-    CHECK(minisign_read_secret_key(bytes(SECRET_KEY), sizeof SECRET_KEY - 1, &unopened) == MINISIGN_OK);
+    CHECK(minisign_read_secret_key(bytes_of(SECRET_KEY), sizeof SECRET_KEY - 1, &unopened) == MINISIGN_OK);
     CHECK(minisign_open_sealed_key(&unopened, NULL, 0, 1, 1, &key) == MINISIGN_KEY_NOT_SEALED);
     CHECK(minisign_open_sealed_key_in_place(&unopened, NULL, 0, 1, 1, NULL, 0, NULL, 0, &key) == MINISIGN_KEY_NOT_SEALED);
     CHECK(minisign_open_unsealed_key(&unopened, &key) == MINISIGN_OK);
@@ -74,7 +68,7 @@ static void signing(void)
     CHECK(minisign_comment_message(first, NULL, 0, NULL, 0) == MINISIGN_NO_ROOM);
     CHECK(make_signed_text(&key, first, second, NULL, 0, NULL, 0, NULL, 0, &text_len) == MINISIGN_NO_ROOM);
     CHECK(make_signed_text(&key, first, second, NULL, 0, NULL, 0, text, sizeof text, &text_len) == MINISIGN_OK);
-    CHECK(make_signed_text(&key, first, second, bytes(""), 0, bytes(""), 0, empty, sizeof empty, &empty_len)
+    CHECK(make_signed_text(&key, first, second, bytes_of(""), 0, bytes_of(""), 0, empty, sizeof empty, &empty_len)
           == MINISIGN_OK);
     CHECK(text_len == empty_len && text_len <= MINISIGN_TEXT_BYTES(0, 0) && memcmp(text, empty, text_len) == 0);
 }
@@ -89,12 +83,12 @@ static void opening(void)
     minisign_secret_key key = { 0 }, opened = { 0 }, in_place = { 0 };
     size_t text_len = 0;
 
-    minisign_take_secret_key(bytes("12345678"), room, &key);
+    minisign_take_secret_key(bytes_of("12345678"), room, &key);
     CHECK(minisign_secret_key_text(&key, 1, NULL, 0, &little, 16, NULL, 0, text, sizeof text, &text_len) == MINISIGN_OK);
     CHECK(minisign_read_secret_key(text, text_len, &unopened) == MINISIGN_OK);
     CHECK(minisign_open_sealed_key(&unopened, NULL, 0, 16, MINISIGN_USUAL_ROWS, &opened) == MINISIGN_OK);
     CHECK(memcmp(&key, &opened, sizeof key) == 0);
-    CHECK(minisign_open_sealed_key_in_place(&unopened, NULL, 0, 16, MINISIGN_USUAL_ROWS, words, sizeof words / sizeof *words,
+    CHECK(minisign_open_sealed_key_in_place(&unopened, NULL, 0, 16, MINISIGN_USUAL_ROWS, words, LENGTH(words),
                                             room, sizeof room, &in_place) == MINISIGN_OK);
     CHECK(memcmp(&key, &in_place, sizeof key) == 0);
     CHECK(minisign_open_sealed_key_in_place(&unopened, NULL, 0, 16, MINISIGN_USUAL_ROWS, NULL, 0, NULL, 0, &in_place)
@@ -108,6 +102,5 @@ int main(void)
     signing();
     opening();
     CHECK(minisign_error_text(MINISIGN_OK, NULL, 0) == strlen("no error"));
-    printf("%u passed, %u failed\n", passed, failed);
-    return failed != 0;
+    return ended();
 }

@@ -67,7 +67,8 @@ def check_script(checks, script, *arguments):
     found = collections.Counter()
     for line in lines:
         if line.startswith("FAILED: "):
-            pattern = next((pattern for pattern in weaker if re.match(pattern, line.removeprefix("FAILED: "))), None)
+            name = line.removeprefix("FAILED: ").removeprefix("minisign-install: ")
+            pattern = next((pattern for pattern in weaker if re.match(pattern, name)), None)
             found[pattern] += 1
             checks.check(pattern is not None, line)
     for pattern, why in weaker.items():

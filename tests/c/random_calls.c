@@ -10,7 +10,6 @@
 #include <string.h>
 
 #include "minisign.h"
-#include "signed_text.h"
 #include "texts_for_tests.h"
 
 #ifdef IS_EMULATED
@@ -45,7 +44,7 @@ static const struct {
     { COMMENT_LINES RECORD "\ntrusted comment: abc\n!", MINISIGN_SIGNATURE_NOT_BASE64, 0, 0, 0 },
 };
 
-enum { ROWS = sizeof rows / sizeof rows[0] };
+enum { ROWS = LENGTH(rows) };
 enum phase { NONE, FED, TOLD };
 
 /* What a state is. */
@@ -78,14 +77,15 @@ static uint32_t draw(uint32_t below)
 
 static uint32_t draw_answer(void)
 {
-    static const uint32_t answers[] = { MINISIGN_ANSWER_YES, MINISIGN_ANSWER_YES, MINISIGN_ANSWER_YES, MINISIGN_ANSWER_NO, 0, 1, UINT32_MAX };
+    static const uint32_t answers[] = { 0, 1, 2, 3, YES - 1, YES + 1, NO - 1, NO + 1, 0x736579, 0x6f6e, 0xff796573, 0x80006e6f, 255, 256, 65536,
+                                        0x80000000, 0xfffffffe, UINT32_MAX };
 
-    return answers[draw(sizeof answers / sizeof answers[0])];
+    return draw(8) == 0 ? answers[draw(LENGTH(answers))] : draw(4) ? YES : NO;
 }
 
 static int is_answer(uint32_t number)
 {
-    return number == MINISIGN_ANSWER_YES || number == MINISIGN_ANSWER_NO;
+    return number == YES || number == NO;
 }
 
 static void update(int at)
@@ -154,7 +154,7 @@ static void ask(int at)
     memset(&q, 0xaa, sizeof q);
     memset(message, 0xaa, sizeof message);
     memset(before, 0xaa, sizeof before);
-    CHECK(minisign_ask(&states[at], &public_key, &signatures[by], (const uint8_t *) rows[row].text, strlen(rows[row].text),
+    CHECK(minisign_ask(&states[at], &public_key, &signatures[by], bytes_of(rows[row].text), strlen(rows[row].text),
                        legacy, &q, room == 0 ? NULL : message, room) == wanted);
     if (wanted == MINISIGN_OK) {
         model->asked = 1;
@@ -176,7 +176,7 @@ static void comment_verdict(int at)
     enum minisign_error wanted = !is_answer(second)                                    ? MINISIGN_BAD_ANSWER
                                  : model->phase == NONE                                ? MINISIGN_NOT_BEGUN
                                  : !model->asked                                       ? MINISIGN_NOT_ASKED
-                                 : model->whole && second == MINISIGN_ANSWER_YES       ? MINISIGN_OK
+                                 : model->whole && second == YES       ? MINISIGN_OK
                                                                                        : MINISIGN_COMMENT_SIGNATURE_REFUSED;
 
     CHECK(minisign_comment_verdict(&states[at], (enum minisign_answer) second) == wanted);
@@ -189,8 +189,8 @@ static int verdict(int at)
     enum minisign_error wanted = !is_answer(first) || !is_answer(second)               ? MINISIGN_BAD_ANSWER
                                  : model->phase == NONE                                ? MINISIGN_NOT_BEGUN
                                  : model->phase == FED || !model->asked                ? MINISIGN_NOT_ASKED
-                                 : first != MINISIGN_ANSWER_YES                        ? MINISIGN_SIGNATURE_REFUSED
-                                 : model->whole && second == MINISIGN_ANSWER_YES       ? MINISIGN_OK
+                                 : first != YES                        ? MINISIGN_SIGNATURE_REFUSED
+                                 : model->whole && second == YES       ? MINISIGN_OK
                                                                                        : MINISIGN_COMMENT_SIGNATURE_REFUSED;
     int ends = is_answer(first) && is_answer(second) && model->phase == TOLD && model->asked;
 
@@ -230,12 +230,16 @@ static void on_key(void)
     static const minisign_sealing none;
     static uint8_t text[ROOM];
     static uint32_t words[2];
-    int at = (int) draw(KEYS), bad_flag = draw(4) == 0;
+    int at = (int) draw(KEYS), bad_flag = draw(4) == 0, bad_comment = draw(4) == 0;
+    const uint8_t *comment = bad_comment ? bytes_of("\xff") : NULL;
     minisign_secret_key before = keys[at];
     minisign_public_key half;
     uint8_t secret[64], key_id[8];
     size_t len = 0, room = draw(3) == 0 ? 70 : sizeof text;
-    enum minisign_error wanted = opened[at] ? room < 77 ? MINISIGN_NO_ROOM : MINISIGN_OK : MINISIGN_KEY_NOT_OPENED;
+    enum minisign_error wanted = !opened[at]   ? MINISIGN_KEY_NOT_OPENED
+                                 : bad_comment ? MINISIGN_NOT_UTF8
+                                 : room < 77   ? MINISIGN_NO_ROOM
+                                               : MINISIGN_OK;
 
     switch (draw(8)) {
     case 0:
@@ -255,9 +259,9 @@ static void on_key(void)
         CHECK(opened[at] ? memcmp(half.key, keys[at].secret + 32, 32) == 0 && memcmp(half.key_id, keys[at].key_id, 8) == 0
                          : half.key[0] == 0xaa && half.key_id[7] == 0xaa);
         break;
-    case 4: CHECK(minisign_public_key_text(&keys[at], NULL, 0, text, room, &len) == wanted); break;
+    case 4: CHECK(minisign_public_key_text(&keys[at], comment, comment != NULL, text, room, &len) == wanted); break;
     case 5:
-        CHECK(minisign_secret_key_text(&keys[at], bad_flag ? 2 + draw(9) : 0, NULL, 0, &none, draw(3), NULL, 0, text, room, &len)
+        CHECK(minisign_secret_key_text(&keys[at], bad_flag ? 2 + draw(9) : 0, NULL, 0, &none, draw(3), comment, comment != NULL, text, room, &len)
               == (bad_flag ? MINISIGN_BAD_PASSWORD_FLAG : wanted));
         if (!bad_flag && wanted == MINISIGN_OK) {
             minisign_unopened_key unopened = { 0 };
@@ -276,7 +280,7 @@ static void on_key(void)
         }
         break;
     default:
-        CHECK(make_signed_text(&keys[at], any_signature, any_signature, NULL, 0, NULL, 0, text, room, &len) == wanted);
+        CHECK(make_signed_text(&keys[at], any_signature, any_signature, comment, comment != NULL, NULL, 0, text, room, &len) == wanted);
     }
     CHECK(memcmp(&before, &keys[at], sizeof before) == 0 && (len != 0) <= opened[at]);
 }
@@ -293,7 +297,7 @@ static void on_signature(void)
     case 1: signature->mark ^= UINT64_C(1) << draw(64); return;
     case 2: row = draw(SIGNATURES); *signature = signatures[row]; row_of[at] = row_of[row]; return;
     default:
-        CHECK(minisign_read_signature((const uint8_t *) rows[row].text, len, signature) == wanted);
+        CHECK(minisign_read_signature(bytes_of(rows[row].text), len, signature) == wanted);
         if (wanted != MINISIGN_OK) {
             CHECK(memcmp(signature, &before, sizeof before) == 0);
             return;
@@ -325,6 +329,5 @@ int main(void)
             on_state();
         }
     }
-    printf("%u passed, %u failed\n", passed, failed);
-    return failed != 0;
+    return ended();
 }

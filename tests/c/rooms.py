@@ -29,7 +29,7 @@ import static_library
 C = static_library.DIRECTORY
 # All but boundary.c, which is made, and what the calls as C need besides.
 BY_HAND = ("minisign/*.[ch]", "install/*.[ch]", "shared/*.[ch]", "library/allocation.[ch]", "library/clearing.[ch]")
-MAX_LINES, MAX_FUNCTION = 7300, 50
+MAX_LINES, MAX_FUNCTION = 7098, 50
 # Of which rooms each room takes headers besides its own.
 TAKES = {"minisign": {"shared", "library"}, "install": {"shared"}, "shared": set(), "library": set()}
 # What only Linux has, in which file alone, and with which words the names of a place that is written through.

@@ -3,23 +3,48 @@
 #ifndef TEXTS_FOR_TESTS_H
 #define TEXTS_FOR_TESTS_H
 
+#include <stdarg.h>
 #include <stdio.h>
 #include <string.h>
 
 #include "minisign.h"
 
+#define LENGTH(array) (sizeof(array) / sizeof *(array))
+#define YES MINISIGN_ANSWER_YES
+#define NO MINISIGN_ANSWER_NO
+
 static unsigned passed, failed;
 
-#define CHECK(condition) check((condition), #condition, __LINE__)
-
-static void check(int holds, const char *condition, int line)
+/* Counts what holds, and prints what does not, as printf does. */
+#ifdef __GNUC__
+__attribute__((format(printf, 2, 3)))
+#endif
+static void check(int holds, const char *what, ...)
 {
-    if (holds) {
-        passed++;
-    } else {
-        failed++;
-        printf("line %d: not so: %s\n", line, condition);
+    va_list rest;
+
+    passed += holds != 0;
+    failed += holds == 0;
+    if (!holds) {
+        va_start(rest, what);
+        vprintf(what, rest);
+        va_end(rest);
+        putchar('\n');
     }
+}
+
+#define CHECK(condition) check((condition), "line %d: not so: %s", __LINE__, #condition)
+
+/* Prints the last line: the exit status. */
+static inline int ended(void)
+{
+    printf("%u passed, %u failed\n", passed, failed);
+    return failed != 0;
+}
+
+static inline const uint8_t *bytes_of(const char *text)
+{
+    return (const uint8_t *) text;
 }
 
 /* Whether all of these bytes are zeros. */
@@ -30,13 +55,33 @@ static inline int is_zeros(const void *at, size_t len)
     return len == 0 || (all[0] == 0 && memcmp(all, all + 1, len - 1) == 0);
 }
 
+/* Whether bytes are those that these hexadecimal digits write. */
+static inline int is_hex(const uint8_t *at, const char *digits)
+{
+    char shown[3];
+
+    for (; *digits != 0; digits += 2) {
+        snprintf(shown, sizeof shown, "%02x", *at++);
+        if (memcmp(shown, digits, 2) != 0) {
+            return 0;
+        }
+    }
+    return 1;
+}
+
+/* The Blake2b digest of `abc`, RFC 7693, appendix A. */
+#define HEX_OF_ABC                                                     \
+    "ba80a53f981c4d0d6a2797b69f12f6e94c212f14685ac4b74b12bb6fdbffa2d1" \
+    "7d87c5392aab792dc252d5de4533cc9518d38aa8dbf1925ab92386edd4009923"
+
 /* The published key, and its signature of `test`. */
 static const char KEY[] = "untrusted comment: minisign public key E7620F1842B4E81F\n"
                           "RWQf6LRCGA9i53mlYecO4IzT51TGPpvWucNSCh1CBM0QTaLn73Y7GFO3\n";
+#define COMMENT "timestamp:1556193335\tfile:test"
 static const char SIGNATURE[] =
     "untrusted comment: signature from minisign secret key\n"
     "RUQf6LRCGA9i559r3g7V1qNyJDApGip8MfqcadIgT9CuhV3EMhHoN1mGTkUidF/z7SrlQgXdy8ofjb7bNJJylDOocrCo8KLzZwo=\n"
-    "trusted comment: timestamp:1556193335\tfile:test\n"
+    "trusted comment: " COMMENT "\n"
     "y/rUw2y8/hOUYjZU71eHp/Wo1KZ40fGy2VJEDl34XMJM+TX48Ss/17u3IvIfbVR1FkZZSNCisQbuQY+bHwhEBg==";
 /* Its signature of `test` over the data itself. */
 static const char LEGACY_SIGNATURE[] =
@@ -50,7 +95,7 @@ static const char OTHER_SIGNATURE[] =
     "RUS4oO+OTGvmIe/AFUZesFY/ONgyTgR9P0wlXFBD98cDX7Pao0WBeMSBQywks6PdOxlxIHanFJJYpkqO7tBvYfnm/DXVQmwFYQ0=\n"
     "trusted comment: a trusted comment\n"
     "VFXOnLXSP360tFPUt7eqzsSHMo0p1bPS9fRkoO0MOvNy8kHZu0k9okhkkORQyQv79DEl+OdNXurVl1Qt+AMEAQ==\n";
-#define MESSAGE_LEN (64 + sizeof "timestamp:1556193335\tfile:test" - 1)
+#define MESSAGE_LEN (64 + sizeof COMMENT - 1)
 
 /* What the text of a public key reads as. */
 static inline minisign_public_key key_of(const char *text)
@@ -58,7 +103,7 @@ static inline minisign_public_key key_of(const char *text)
     minisign_public_key key;
 
     memset(&key, 0, sizeof key);
-    CHECK(minisign_read_public_key((const uint8_t *) text, strlen(text), &key) == MINISIGN_OK);
+    CHECK(minisign_read_public_key(bytes_of(text), strlen(text), &key) == MINISIGN_OK);
     return key;
 }
 
@@ -68,7 +113,7 @@ static inline minisign_signature signature_of(const char *text)
     minisign_signature signature;
 
     memset(&signature, 0, sizeof signature);
-    CHECK(minisign_read_signature((const uint8_t *) text, strlen(text), &signature) == MINISIGN_OK);
+    CHECK(minisign_read_signature(bytes_of(text), strlen(text), &signature) == MINISIGN_OK);
     return signature;
 }
 
@@ -77,13 +122,12 @@ static inline enum minisign_error read_and_ask(minisign_state *state, const mini
                                                uint32_t allow_legacy, minisign_questions *questions, uint8_t *message,
                                                size_t room)
 {
-    const uint8_t *bytes = (const uint8_t *) text;
     minisign_signature signature;
-    enum minisign_error error = minisign_read_signature(bytes, strlen(text), &signature);
+    enum minisign_error error = minisign_read_signature(bytes_of(text), strlen(text), &signature);
 
     return error != MINISIGN_OK
                ? error
-               : minisign_ask(state, key, &signature, bytes, strlen(text), allow_legacy, questions, message, room);
+               : minisign_ask(state, key, &signature, bytes_of(text), strlen(text), allow_legacy, questions, message, room);
 }
 
 /* A secret key that Minisign made with -G -W, for these checks alone. */
@@ -92,5 +136,19 @@ static const char SECRET_KEY[] =
     "RWQAAEIyAAAAAAAAAAAAAAAAAAAAAAAAAAAAAAAAAAAAAAAAAAAAAAAAAAAAAAAAAAAAAAAAu82A"
     "eu/lPqv5tw414tB2l3S0AV4BthpWrWHyA+ItsehisjsR8AROg+V8Ng82TAEWPpchqblhFFay7/kQ"
     "ioiXfnOLD1OmyTi9AAAAAAAAAAAAAAAAAAAAAAAAAAAAAAAAAAAAAAAAAAA=\n";
+
+/* Makes the text of a signature of what stands in different places. */
+static inline enum minisign_error make_signed_text(const minisign_secret_key *key, const uint8_t signature[64],
+                                                   const uint8_t comment_signature[64], const uint8_t *trusted,
+                                                   size_t trusted_len, const uint8_t *untrusted, size_t untrusted_len,
+                                                   uint8_t *text, size_t room, size_t *text_len)
+{
+    minisign_signed_parts parts = { .trusted_comment = trusted, .trusted_comment_len = trusted_len,
+                                    .untrusted_comment = untrusted, .untrusted_comment_len = untrusted_len };
+
+    memcpy(parts.signature, signature, sizeof parts.signature);
+    memcpy(parts.comment_signature, comment_signature, sizeof parts.comment_signature);
+    return minisign_signed_text(key, &parts, text, room, text_len);
+}
 
 #endif

@@ -11,7 +11,6 @@
 #include <string.h>
 
 #include "minisign.h"
-#include "signed_text.h"
 #include "texts_for_tests.h"
 
 enum { THREADS = 8, ROUNDS = 40, BYTES = 30011 };
@@ -38,13 +37,13 @@ static void run(struct told *told, int number, int rounds)
     for (int round = 0; round < rounds; round++) {
         minisign_state state;
         minisign_public_key key;
-        enum minisign_error error = minisign_read_public_key((const uint8_t *) KEY, sizeof KEY - 1, &key);
+        enum minisign_error error = minisign_read_public_key(bytes_of(KEY), sizeof KEY - 1, &key);
 
         told->good &= error == MINISIGN_OK;
-        error = minisign_read_signature((const uint8_t *) SIGNATURE, sizeof SIGNATURE - 1, &told->signature);
+        error = minisign_read_signature(bytes_of(SIGNATURE), sizeof SIGNATURE - 1, &told->signature);
         told->good &= error == MINISIGN_OK;
         minisign_init(&state);
-        error = minisign_ask(&state, &key, &told->signature, (const uint8_t *) SIGNATURE, sizeof SIGNATURE - 1, 0,
+        error = minisign_ask(&state, &key, &told->signature, bytes_of(SIGNATURE), sizeof SIGNATURE - 1, 0,
                              &told->questions, told->message, sizeof told->message);
         told->good &= error == MINISIGN_OK;
         error = minisign_update(&state, data, sizeof data);
@@ -53,12 +52,12 @@ static void run(struct told *told, int number, int rounds)
         told->good &= error == MINISIGN_OK;
         error = minisign_verdict(&state, MINISIGN_ANSWER_YES, number % 2 ? MINISIGN_ANSWER_YES : MINISIGN_ANSWER_NO);
         told->good &= error == (number % 2 ? MINISIGN_OK : MINISIGN_COMMENT_SIGNATURE_REFUSED);
-        error = minisign_read_secret_key((const uint8_t *) SECRET_KEY, sizeof SECRET_KEY - 1, &told->unopened);
+        error = minisign_read_secret_key(bytes_of(SECRET_KEY), sizeof SECRET_KEY - 1, &told->unopened);
         told->good &= error == MINISIGN_OK;
         error = minisign_open_unsealed_key(&told->unopened, &told->key);
         told->good &= error == MINISIGN_OK;
         error = make_signed_text(&told->key, told->questions.signature, told->questions.comment_signature,
-                                     (const uint8_t *) "12345678", (size_t) number, NULL, 0, told->text, sizeof told->text,
+                                     bytes_of("12345678"), (size_t) number, NULL, 0, told->text, sizeof told->text,
                                      &told->text_len);
         told->good &= error == MINISIGN_OK;
     }
@@ -88,6 +87,5 @@ int main(void)
         CHECK(memcmp(&alone[n], &together[n], sizeof alone[n]) == 0);
         CHECK(n == 0 || memcmp(alone[n].questions.digest, alone[n - 1].questions.digest, 64) != 0);
     }
-    printf("%u passed, %u failed\n", passed, failed);
-    return failed != 0;
+    return ended();
 }

@@ -1,37 +1,30 @@
 /*
- * Calls of the library in the wrong order, on states that were never begun and with answers that are none: each
- * is an error number, and changes nothing. Also right calls beside them, so that it is the use that is rejected.
+ * Calls that are used wrongly: a signature with another text than its own, keys that were not read or opened, buffers that are too
+ * short, comments that Minisign would not read back, and work that is not allowed. Each is an error number, and changes nothing.
+ * Also right calls beside them, so that it is the use that is rejected. What is called in the wrong order is in random_calls.c.
  *
  * Prints a line for each check that failed; the last line is `N passed, M failed`.
  */
-#include <stdio.h>
-#include <stdlib.h>
 #include <string.h>
 
 #include "minisign.h"
-#include "signed_text.h"
 #include "texts_for_tests.h"
-
-#define COMMENT "timestamp:1556193335\tfile:test"
-
-#define YES MINISIGN_ANSWER_YES
-#define NO MINISIGN_ANSWER_NO
 
 /* The data. */
 static const uint8_t ABC[] = { 'a', 'b', 'c' };
 
-/* The Blake2b digest of `abc`, RFC 7693, appendix A. */
-static const uint8_t DIGEST_OF_ABC[64] = {
-    0xba, 0x80, 0xa5, 0x3f, 0x98, 0x1c, 0x4d, 0x0d, 0x6a, 0x27, 0x97, 0xb6, 0x9f, 0x12, 0xf6, 0xe9,
-    0x4c, 0x21, 0x2f, 0x14, 0x68, 0x5a, 0xc4, 0xb7, 0x4b, 0x12, 0xbb, 0x6f, 0xdb, 0xff, 0xa2, 0xd1,
-    0x7d, 0x87, 0xc5, 0x39, 0x2a, 0xab, 0x79, 0x2d, 0xc2, 0x52, 0xd5, 0xde, 0x45, 0x33, 0xcc, 0x95,
-    0x18, 0xd3, 0x8a, 0xa8, 0xdb, 0xf1, 0x92, 0x5a, 0xb9, 0x23, 0x86, 0xed, 0xd4, 0x00, 0x99, 0x23,
-};
-
 static minisign_questions questions;
-static uint8_t message[1024], digest[64];
-/* One that was not read. */
-static const minisign_signature unread;
+static uint8_t message[1024];
+
+/* A state that was fed the data. */
+static minisign_state fed(void)
+{
+    minisign_state state;
+
+    minisign_init(&state);
+    CHECK(minisign_update(&state, ABC, sizeof ABC) == MINISIGN_OK);
+    return state;
+}
 
 /* Asks about a signature with this text, whether it was read from that or not. */
 static enum minisign_error ask_with(minisign_state *state, const minisign_signature *signature, const char *sig_text,
@@ -39,155 +32,32 @@ static enum minisign_error ask_with(minisign_state *state, const minisign_signat
 {
     const minisign_public_key key = key_of(KEY);
 
-    return minisign_ask(state, &key, signature, (const uint8_t *) sig_text, sig_text_len, allow_legacy, &questions, message, room);
+    return minisign_ask(state, &key, signature, bytes_of(sig_text), sig_text_len, allow_legacy, &questions, message, room);
 }
 
-/* Asks about a signature that was not read, with a text of nothing. */
-static enum minisign_error ask_unread(minisign_state *state, uint32_t allow_legacy)
+/* The least room there is for what is asked. */
+static void least_room(void)
 {
-    return ask_with(state, &unread, "", 0, allow_legacy, 0);
-}
+    const minisign_signature signature = signature_of(SIGNATURE);
+    minisign_state state = fed(), before = state;
 
-static enum minisign_error ask_for(minisign_state *state, const char *sig_text, uint32_t allow_legacy, size_t room)
-{
-    const minisign_signature signature = signature_of(sig_text);
-
-    return ask_with(state, &signature, sig_text, strlen(sig_text), allow_legacy, room);
-}
-
-static enum minisign_error ask(minisign_state *state)
-{
-    return ask_for(state, SIGNATURE, 0, sizeof message);
-}
-
-static enum minisign_error feed(minisign_state *state)
-{
-    return minisign_update(state, ABC, sizeof ABC);
-}
-
-static enum minisign_error tell(minisign_state *state)
-{
-    return minisign_digest(state, questions.digest);
-}
-
-/* All calls but the beginning, on a state that was never begun or was ended: each says so and leaves it. */
-static void refused_all(minisign_state *state)
-{
-    minisign_state before = *state;
-
-    memset(digest, 0xaa, sizeof digest);
-    CHECK(feed(state) == MINISIGN_NOT_BEGUN);
-    CHECK(minisign_digest(state, digest) == MINISIGN_NOT_BEGUN && digest[0] == 0xaa);
-    CHECK(ask(state) == MINISIGN_NOT_BEGUN);
-    CHECK(ask_unread(state, 1) == MINISIGN_NOT_BEGUN);
-    CHECK(ask_unread(state, 2) == MINISIGN_BAD_LEGACY_FLAG);
-    CHECK(minisign_comment_verdict(state, YES) == MINISIGN_NOT_BEGUN);
-    CHECK(minisign_comment_verdict(state, 1) == MINISIGN_BAD_ANSWER);
-    CHECK(minisign_verdict(state, YES, YES) == MINISIGN_NOT_BEGUN);
-    CHECK(minisign_verdict(state, NO, NO) == MINISIGN_NOT_BEGUN);
-    CHECK(minisign_verdict(state, NO, 1) == MINISIGN_BAD_ANSWER);
-    CHECK(memcmp(&before, state, sizeof before) == 0);
-}
-
-static void never_begun(void)
-{
-    minisign_state state;
-    for (int byte = 0; byte < 256; byte++) {
-        memset(&state, byte, sizeof state);
-        refused_all(&state);
-    }
-    minisign_init(&state);
-    CHECK(ask(&state) == MINISIGN_OK);
-    CHECK(tell(&state) == MINISIGN_OK);
-    CHECK(minisign_verdict(&state, YES, YES) == MINISIGN_OK);
-    refused_all(&state);
-    minisign_init(&state);
-    CHECK(feed(&state) == MINISIGN_OK);
-}
-
-/* The questions are asked once, the digest is told once, and then no data is taken. */
-static void after_asking(void)
-{
-    minisign_state state, before;
-    minisign_questions asked;
-
-    minisign_init(&state);
-    CHECK(ask(&state) == MINISIGN_OK);
-    before = state;
-    asked = questions;
-    CHECK(ask(&state) == MINISIGN_ALREADY_ASKED);
-    CHECK(ask_unread(&state, 0) == MINISIGN_ALREADY_ASKED);
-    CHECK(ask_unread(&state, 2) == MINISIGN_BAD_LEGACY_FLAG);
-    CHECK(minisign_verdict(&state, YES, YES) == MINISIGN_NOT_ASKED);
-    CHECK(memcmp(&before, &state, sizeof before) == 0);
-    CHECK(memcmp(&asked, &questions, sizeof asked) == 0);
-    CHECK(feed(&state) == MINISIGN_OK);
-    CHECK(tell(&state) == MINISIGN_OK && memcmp(questions.digest, DIGEST_OF_ABC, 64) == 0);
-    before = state;
-    memset(digest, 0xaa, sizeof digest);
-    CHECK(feed(&state) == MINISIGN_ALREADY_ASKED);
-    CHECK(minisign_update(&state, ABC, 0) == MINISIGN_ALREADY_ASKED);
-    CHECK(minisign_digest(&state, digest) == MINISIGN_ALREADY_ASKED && digest[0] == 0xaa);
-    CHECK(ask(&state) == MINISIGN_ALREADY_ASKED);
-    CHECK(ask_unread(&state, 0) == MINISIGN_ALREADY_ASKED);
-    CHECK(memcmp(&before, &state, sizeof before) == 0);
-    CHECK(minisign_verdict(&state, YES, YES) == MINISIGN_OK);
-}
-
-/* A digest that was told without questions gives no verdict. */
-static void told_unasked(void)
-{
-    minisign_state state, before;
-
-    minisign_init(&state);
-    CHECK(feed(&state) == MINISIGN_OK);
-    CHECK(minisign_digest(&state, digest) == MINISIGN_OK && memcmp(digest, DIGEST_OF_ABC, 64) == 0);
-    before = state;
-    CHECK(minisign_verdict(&state, YES, YES) == MINISIGN_NOT_ASKED);
-    CHECK(minisign_comment_verdict(&state, YES) == MINISIGN_NOT_ASKED);
-    CHECK(ask(&state) == MINISIGN_ALREADY_ASKED);
-    CHECK(memcmp(&before, &state, sizeof before) == 0);
-}
-
-static void before_asking(void)
-{
-    minisign_state state, before;
-
-    minisign_init(&state);
-    CHECK(feed(&state) == MINISIGN_OK);
-    before = state;
-    CHECK(minisign_verdict(&state, YES, YES) == MINISIGN_NOT_ASKED);
-    CHECK(minisign_verdict(&state, NO, NO) == MINISIGN_NOT_ASKED);
-    CHECK(minisign_verdict(&state, 2, 2) == MINISIGN_BAD_ANSWER);
-    CHECK(minisign_comment_verdict(&state, YES) == MINISIGN_NOT_ASKED);
-    CHECK(ask_for(&state, SIGNATURE, 2, sizeof message) == MINISIGN_BAD_LEGACY_FLAG);
-    CHECK(ask_for(&state, SIGNATURE, UINT32_MAX, sizeof message) == MINISIGN_BAD_LEGACY_FLAG);
-    CHECK(ask_for(&state, LEGACY_SIGNATURE, 0, sizeof message) == MINISIGN_LEGACY_NOT_ACCEPTED);
     for (size_t room = 0; room < MESSAGE_LEN; room++) {
-        CHECK(ask_for(&state, SIGNATURE, 0, room) == MINISIGN_NO_ROOM);
+        CHECK(ask_with(&state, &signature, SIGNATURE, sizeof SIGNATURE - 1, 0, room) == MINISIGN_NO_ROOM);
     }
     CHECK(memcmp(&before, &state, sizeof before) == 0);
-    CHECK(ask_for(&state, SIGNATURE, 0, MESSAGE_LEN) == MINISIGN_OK);
-    CHECK(questions.message_len == MESSAGE_LEN);
-    CHECK(memcmp(message, questions.signature, 64) == 0);
-    CHECK(questions.comment_offset == 64 && questions.comment_len == sizeof COMMENT - 1);
-    CHECK(memcmp(message + 64, COMMENT, sizeof COMMENT - 1) == 0);
-    CHECK(tell(&state) == MINISIGN_OK && memcmp(questions.digest, DIGEST_OF_ABC, 64) == 0);
-    CHECK(questions.legacy == 0);
+    CHECK(ask_with(&state, &signature, SIGNATURE, sizeof SIGNATURE - 1, 0, MESSAGE_LEN) == MINISIGN_OK);
+    CHECK(minisign_digest(&state, questions.digest) == MINISIGN_OK && is_hex(questions.digest, HEX_OF_ABC));
 }
 
 /* Asks, which is rejected as a usage error: state, questions and message stay as they were. */
 static enum minisign_error ask_in_vain(const minisign_signature *signature, const char *sig_text, size_t sig_text_len,
                                        uint32_t allow_legacy, size_t room)
 {
-    minisign_state state, before;
+    minisign_state state = fed(), before = state;
     minisign_questions no_questions;
     uint8_t no_message[sizeof message];
     enum minisign_error error;
 
-    minisign_init(&state);
-    CHECK(feed(&state) == MINISIGN_OK);
-    before = state;
     memset(&questions, 0xaa, sizeof questions);
     memset(message, 0xaa, sizeof message);
     no_questions = questions;
@@ -196,30 +66,6 @@ static enum minisign_error ask_in_vain(const minisign_signature *signature, cons
     CHECK(memcmp(&state, &before, sizeof state) == 0 && memcmp(&questions, &no_questions, sizeof questions) == 0);
     CHECK(memcmp(message, no_message, sizeof message) == 0);
     return error;
-}
-
-/* Nothing is asked about a signature that was not read, whatever it holds, and a text that is rejected is not read. */
-static void signatures_of_no_text(void)
-{
-    const size_t len = sizeof SIGNATURE - 1;
-    minisign_signature other, before;
-
-    for (int byte = 0; byte < 256; byte++) {
-        memset(&other, byte, sizeof other);
-        before = other;
-        CHECK(ask_in_vain(&other, SIGNATURE, len, 0, sizeof message) == MINISIGN_SIGNATURE_NOT_READ);
-        CHECK(ask_in_vain(&other, "", 0, 1, 0) == MINISIGN_SIGNATURE_NOT_READ);
-        CHECK(minisign_read_signature((const uint8_t *) "\xff", 1, &other) == MINISIGN_NOT_UTF8);
-        CHECK(minisign_read_signature((const uint8_t *) "", 0, &other) == MINISIGN_MISSING_UNTRUSTED_COMMENT);
-        CHECK(minisign_read_signature((const uint8_t *) SIGNATURE, len - 89, &other) == MINISIGN_MISSING_COMMENT_SIGNATURE);
-        CHECK(memcmp(&other, &before, sizeof other) == 0);
-    }
-    /* Nor where a bit of its mark is another. */
-    for (int bit = 0; bit < 64; bit++) {
-        other = signature_of(SIGNATURE);
-        other.mark ^= UINT64_C(1) << bit;
-        CHECK(ask_in_vain(&other, SIGNATURE, len, 0, sizeof message) == MINISIGN_SIGNATURE_NOT_READ);
-    }
 }
 
 /* Nothing is asked about a signature with another text than that which it was read from. */
@@ -263,7 +109,7 @@ static void other_places(void)
     const size_t len = sizeof SIGNATURE - 1;
     const minisign_signature signature = signature_of(SIGNATURE);
 
-    for (size_t i = 0; i < sizeof far / sizeof far[0]; i++) {
+    for (size_t i = 0; i < LENGTH(far); i++) {
         minisign_signature other = signature;
 
         other.comment_offset = len - other.comment_len + far[i];
@@ -276,70 +122,12 @@ static void other_places(void)
     }
 }
 
-static void answers(void)
-{
-    static const uint32_t none[] = { 0, 1, 2, 3, YES - 1, YES + 1, NO - 1, NO + 1, 0x736579, 0x6f6e, 0xff796573, 0x80006e6f, 255, 256, 65536,
-                                     0x80000000, 0xfffffffe, 0xffffffff };
-    static const enum minisign_answer given[2] = { NO, YES };
-    static const enum minisign_error verdicts[2][2] = {
-        { MINISIGN_SIGNATURE_REFUSED, MINISIGN_SIGNATURE_REFUSED },
-        { MINISIGN_COMMENT_SIGNATURE_REFUSED, MINISIGN_OK },
-    };
-    minisign_state asked, state;
-
-    minisign_init(&asked);
-    CHECK(ask(&asked) == MINISIGN_OK);
-    /* The second question alone, before any data. */
-    state = asked;
-    CHECK(minisign_comment_verdict(&state, YES) == MINISIGN_OK);
-    CHECK(minisign_comment_verdict(&state, NO) == MINISIGN_COMMENT_SIGNATURE_REFUSED);
-    CHECK(memcmp(&asked, &state, sizeof asked) == 0);
-    CHECK(tell(&asked) == MINISIGN_OK);
-    for (size_t i = 0; i < sizeof none / sizeof none[0]; i++) {
-        state = asked;
-        CHECK(minisign_verdict(&state, none[i], YES) == MINISIGN_BAD_ANSWER);
-        CHECK(minisign_verdict(&state, YES, none[i]) == MINISIGN_BAD_ANSWER);
-        CHECK(minisign_verdict(&state, NO, none[i]) == MINISIGN_BAD_ANSWER);
-        CHECK(minisign_verdict(&state, none[i], none[i]) == MINISIGN_BAD_ANSWER);
-        CHECK(minisign_comment_verdict(&state, none[i]) == MINISIGN_BAD_ANSWER);
-        CHECK(memcmp(&asked, &state, sizeof asked) == 0);
-    }
-    for (uint32_t first = 0; first < 2; first++) {
-        for (uint32_t second = 0; second < 2; second++) {
-            state = asked;
-            CHECK(minisign_verdict(&state, given[first], given[second]) == verdicts[first][second]);
-            CHECK(minisign_verdict(&state, YES, YES) == MINISIGN_NOT_BEGUN);
-            CHECK(minisign_comment_verdict(&state, YES) == MINISIGN_NOT_BEGUN);
-        }
-    }
-}
-
-/* A copied state goes on by itself; data in pieces is data in one piece, whether asked about before, between or
- * after. */
-static void copies(void)
-{
-    minisign_state one, two;
-
-    minisign_init(&one);
-    CHECK(minisign_update(&one, ABC, 0) == MINISIGN_OK);
-    CHECK(minisign_update(&one, ABC, 1) == MINISIGN_OK);
-    two = one;
-    CHECK(ask(&one) == MINISIGN_OK);
-    CHECK(minisign_update(&one, ABC + 1, 1) == MINISIGN_OK);
-    CHECK(minisign_update(&one, ABC + 2, 1) == MINISIGN_OK);
-    CHECK(minisign_update(&two, ABC + 1, 2) == MINISIGN_OK);
-    CHECK(tell(&one) == MINISIGN_OK && memcmp(questions.digest, DIGEST_OF_ABC, 64) == 0);
-    CHECK(ask_for(&two, LEGACY_SIGNATURE, 1, sizeof message) == MINISIGN_OK);
-    CHECK(tell(&two) == MINISIGN_OK && memcmp(questions.digest, DIGEST_OF_ABC, 64) == 0);
-    CHECK(questions.legacy == 1);
-}
-
 static minisign_unopened_key unopened;
 static minisign_secret_key key;
 
 static enum minisign_error open_for(const char *sk_text, int with_password)
 {
-    enum minisign_error error = minisign_read_secret_key((const uint8_t *) sk_text, strlen(sk_text), &unopened);
+    enum minisign_error error = minisign_read_secret_key(bytes_of(sk_text), strlen(sk_text), &unopened);
 
     return error != MINISIGN_OK ? error
            : with_password      ? minisign_open_sealed_key(&unopened, ABC, sizeof ABC, MINISIGN_KEEP_EVERY_ROW,
@@ -358,7 +146,7 @@ static enum minisign_error open_for(const char *sk_text, int with_password)
 
 /* Memory to open keys in, enough for all rows of one whose N is 1024 and whose p is the greatest. */
 static uint32_t words[256 * (1024 + 3)];
-static uint8_t bytes[1024 * MOST_PARTS];
+static uint8_t parts[1024 * MOST_PARTS];
 
 /* Opens in so much of that memory, which holds something: all of it is zeros then. */
 static enum minisign_error open_in_place(const minisign_unopened_key *from, const char *password, uint64_t keep_every,
@@ -367,12 +155,12 @@ static enum minisign_error open_in_place(const minisign_unopened_key *from, cons
     enum minisign_error error;
 
     memset(words, 0xa5, sizeof words);
-    memset(bytes, 0xa5, sizeof bytes);
-    error = minisign_open_sealed_key_in_place(from, (const uint8_t *) password, strlen(password), keep_every, most_rows, words,
-                                              (size_t) words_len, bytes, (size_t) bytes_len, to);
-    CHECK(is_zeros(words, (size_t) words_len * sizeof *words) && is_zeros(bytes, (size_t) bytes_len));
-    CHECK(words_len == sizeof words / sizeof *words || words[words_len] == 0xa5a5a5a5);
-    CHECK(bytes_len == sizeof bytes || bytes[bytes_len] == 0xa5);
+    memset(parts, 0xa5, sizeof parts);
+    error = minisign_open_sealed_key_in_place(from, bytes_of(password), strlen(password), keep_every, most_rows, words,
+                                              (size_t) words_len, parts, (size_t) bytes_len, to);
+    CHECK(is_zeros(words, (size_t) words_len * sizeof *words) && is_zeros(parts, (size_t) bytes_len));
+    CHECK(words_len == LENGTH(words) || words[words_len] == 0xa5a5a5a5);
+    CHECK(bytes_len == sizeof parts || parts[bytes_len] == 0xa5);
     return error;
 }
 
@@ -382,8 +170,8 @@ static size_t text_len;
 static enum minisign_error make_text(const minisign_secret_key *by, const char *trusted, size_t trusted_len,
                                      const char *untrusted, size_t untrusted_len, size_t room)
 {
-    return make_signed_text(by, questions.signature, questions.comment_signature, (const uint8_t *) trusted,
-                                trusted_len, (const uint8_t *) untrusted, untrusted_len, text, room, &text_len);
+    return make_signed_text(by, questions.signature, questions.comment_signature, bytes_of(trusted),
+                                trusted_len, bytes_of(untrusted), untrusted_len, text, room, &text_len);
 }
 
 static enum minisign_error make_short_text(const minisign_secret_key *by, const char *trusted, const char *untrusted, size_t room)
@@ -415,7 +203,7 @@ static void keys_of_no_text(void)
     minisign_unopened_key other, before;
     minisign_secret_key none, opened;
 
-    CHECK(minisign_read_secret_key((const uint8_t *) SECRET_KEY, strlen(SECRET_KEY), &unopened) == MINISIGN_OK);
+    CHECK(minisign_read_secret_key(bytes_of(SECRET_KEY), strlen(SECRET_KEY), &unopened) == MINISIGN_OK);
     CHECK(unopened.is_sealed == 0 && unopened.log2_rows == 0 && unopened.work == 0 && unopened.reserved == 0);
     for (int byte = 0; byte < 256; byte++) {
         memset(&other, byte, sizeof other);
@@ -423,11 +211,11 @@ static void keys_of_no_text(void)
         before = other;
         opened = none;
         CHECK(minisign_open_unsealed_key(&other, &opened) == MINISIGN_KEY_NOT_READ);
-        CHECK(minisign_open_sealed_key(&other, (const uint8_t *) "\xff", 1, 1, 0, &opened) == MINISIGN_KEY_NOT_READ);
+        CHECK(minisign_open_sealed_key(&other, bytes_of("\xff"), 1, 1, 0, &opened) == MINISIGN_KEY_NOT_READ);
         CHECK(open_in_place(&other, "\xff", 1, 0, 0, 3, &opened) == MINISIGN_KEY_NOT_READ);
         CHECK(memcmp(&opened, &none, sizeof none) == 0);
-        CHECK(minisign_read_secret_key((const uint8_t *) "\xff", 1, &other) == MINISIGN_NOT_UTF8);
-        CHECK(minisign_read_secret_key((const uint8_t *) SIGNATURE, strlen(SIGNATURE), &other) == MINISIGN_RECORD_TOO_SHORT);
+        CHECK(minisign_read_secret_key(bytes_of("\xff"), 1, &other) == MINISIGN_NOT_UTF8);
+        CHECK(minisign_read_secret_key(bytes_of(SIGNATURE), strlen(SIGNATURE), &other) == MINISIGN_RECORD_TOO_SHORT);
         CHECK(memcmp(&other, &before, sizeof other) == 0);
     }
     /* Nor where a bit of its mark is another. */
@@ -436,34 +224,6 @@ static void keys_of_no_text(void)
         other.mark ^= UINT64_C(1) << bit;
         CHECK(minisign_open_unsealed_key(&other, &opened) == MINISIGN_KEY_NOT_READ);
     }
-}
-
-/* No text is made of a key that was not opened, whatever it holds. */
-static void texts_of_no_key(void)
-{
-    static const minisign_sealing none;
-    minisign_secret_key other;
-    minisign_public_key public_key, untouched;
-
-    memset(&untouched, 0xaa, sizeof untouched);
-    for (int byte = 0; byte < 256; byte++) {
-        memset(&other, byte, sizeof other);
-        public_key = untouched;
-        CHECK(make_short_text(&other, "t", "u", sizeof text) == MINISIGN_KEY_NOT_OPENED);
-        CHECK(make_short_text(&other, "\xff", "u", 0) == MINISIGN_KEY_NOT_OPENED);
-        CHECK(minisign_secret_key_text(&other, 0, NULL, 0, &none, 1, NULL, 0, text, sizeof text, &text_len) == MINISIGN_KEY_NOT_OPENED);
-        CHECK(minisign_secret_key_text(&other, 2, NULL, 0, &none, 1, NULL, 0, text, sizeof text, &text_len) == MINISIGN_BAD_PASSWORD_FLAG);
-        CHECK(minisign_public_key_text(&other, (const uint8_t *) "\xff", 1, text, 0, &text_len) == MINISIGN_KEY_NOT_OPENED);
-        CHECK(minisign_public_key_of(&other, &public_key) == MINISIGN_KEY_NOT_OPENED);
-        CHECK(memcmp(&public_key, &untouched, sizeof untouched) == 0);
-    }
-    /* Nor where a bit of its mark is another. */
-    for (int bit = 0; bit < 64; bit++) {
-        other = key;
-        other.mark ^= UINT64_C(1) << bit;
-        CHECK(make_short_text(&other, "t", "u", sizeof text) == MINISIGN_KEY_NOT_OPENED);
-    }
-    CHECK(text_len == 0 && text[0] == 0);
 }
 
 /* A key that is taken in is the one that its text opens to. */
@@ -486,16 +246,24 @@ static void taken_in(void)
     text_len = 0;
 }
 
+/* A key of zeros. */
+static minisign_secret_key zeros(void)
+{
+    static const uint8_t key_id[8], secret[64];
+    minisign_secret_key made;
+
+    minisign_take_secret_key(key_id, secret, &made);
+    return made;
+}
+
 /* Makes a key of zeros, sealed with little work where there is a password: N is 1024, of which p is so many. */
 static enum minisign_error make_key_of(uint64_t p, uint32_t with_password, uint64_t memory_limit, const char *comment, size_t room)
 {
-    static const uint8_t key_id[8], secret[64];
-    minisign_sealing sealing = { .operations_limit = 32768 * p, .memory_limit = memory_limit };
-    minisign_secret_key zeros;
+    const minisign_sealing sealing = { .operations_limit = 32768 * p, .memory_limit = memory_limit };
+    const minisign_secret_key of_zeros = zeros();
 
-    minisign_take_secret_key(key_id, secret, &zeros);
-    return minisign_secret_key_text(&zeros, with_password, ABC, sizeof ABC, &sealing, MINISIGN_KEEP_FEW_ROWS,
-                                    (const uint8_t *) comment, strlen(comment), text, room, &text_len);
+    return minisign_secret_key_text(&of_zeros, with_password, ABC, sizeof ABC, &sealing, MINISIGN_KEEP_FEW_ROWS,
+                                    bytes_of(comment), strlen(comment), text, room, &text_len);
 }
 
 static enum minisign_error make_key(uint32_t with_password, uint64_t memory_limit, const char *comment, size_t room)
@@ -507,13 +275,12 @@ static enum minisign_error make_key(uint32_t with_password, uint64_t memory_limi
 static void keys_made(void)
 {
     static const uint64_t little = 1 << 20;
-    static const uint8_t key_id[8], secret[64];
     static const minisign_sealing none;
     const size_t room = MINISIGN_SECRET_KEY_BYTES(1);
-    minisign_secret_key zeros, opened, before;
+    const minisign_secret_key of_zeros = zeros();
+    minisign_secret_key opened, before;
     uint8_t sealed[MINISIGN_SECRET_KEY_BYTES(1)];
 
-    minisign_take_secret_key(key_id, secret, &zeros);
     memset(text, 0, sizeof text);
     text_len = 0;
     CHECK(make_key(2, UINT64_MAX, "\xff", 0) == MINISIGN_BAD_PASSWORD_FLAG);
@@ -521,15 +288,15 @@ static void keys_made(void)
     CHECK(make_key(1, UINT64_MAX, "\n\xff", 0) == MINISIGN_NOT_UTF8);
     CHECK(make_key(1, UINT64_MAX, "\n\r", 0) == MINISIGN_BAD_COMMENT);
     CHECK(make_key(1, UINT64_MAX, "\r", 0) == MINISIGN_UNREADABLE_COMMENT);
-    CHECK(minisign_secret_key_text(&zeros, 0, NULL, 0, &none, 1, (const uint8_t *) "\0", 1, text, sizeof text, &text_len)
+    CHECK(minisign_secret_key_text(&of_zeros, 0, NULL, 0, &none, 1, bytes_of("\0"), 1, text, sizeof text, &text_len)
           == MINISIGN_UNREADABLE_COMMENT);
-    CHECK(minisign_public_key_text(&zeros, (const uint8_t *) "\0", 1, text, sizeof text, &text_len)
+    CHECK(minisign_public_key_text(&of_zeros, bytes_of("\0"), 1, text, sizeof text, &text_len)
           == MINISIGN_UNREADABLE_COMMENT);
     CHECK(make_key(1, UINT64_MAX, "c", room - 1) == MINISIGN_NO_ROOM);
     CHECK(make_key(1, UINT64_MAX, "c", room) == MINISIGN_PARAMETERS_TOO_HIGH);
-    CHECK(minisign_public_key_text(&zeros, (const uint8_t *) "c", 1, text, 77, &text_len) == MINISIGN_NO_ROOM);
+    CHECK(minisign_public_key_text(&of_zeros, bytes_of("c"), 1, text, 77, &text_len) == MINISIGN_NO_ROOM);
     CHECK(text_len == 0 && text[0] == 0);
-    CHECK(minisign_public_key_text(&zeros, (const uint8_t *) "c", 1, text, 78, &text_len) == MINISIGN_OK);
+    CHECK(minisign_public_key_text(&of_zeros, bytes_of("c"), 1, text, 78, &text_len) == MINISIGN_OK);
     CHECK(text_len == MINISIGN_PUBLIC_KEY_BYTES(1));
     CHECK(make_key(1, little, "c", room) == MINISIGN_OK);
     CHECK(text_len == sizeof sealed);
@@ -539,25 +306,24 @@ static void keys_made(void)
     CHECK(minisign_read_secret_key(sealed, sizeof sealed, &unopened) == MINISIGN_OK);
     CHECK(unopened.is_sealed == 1 && unopened.log2_rows == 10 && unopened.work == 4 && unopened.reserved == 0);
     CHECK(minisign_open_unsealed_key(&unopened, &opened) == MINISIGN_KEY_SEALED);
-    CHECK(minisign_open_sealed_key(&unopened, (const uint8_t *) "\xff", 1, 0, 0, &opened) == MINISIGN_NOT_UTF8);
+    CHECK(minisign_open_sealed_key(&unopened, bytes_of("\xff"), 1, 0, 0, &opened) == MINISIGN_NOT_UTF8);
     CHECK(minisign_open_sealed_key(&unopened, ABC, sizeof ABC, 0, 4 * 1024 - 1, &opened) == MINISIGN_WORK_TOO_HIGH);
     CHECK(minisign_open_sealed_key(&unopened, ABC, 2, 1, 4 * 1024, &opened) == MINISIGN_WRONG_PASSWORD);
     CHECK(memcmp(&before, &opened, sizeof before) == 0);
     unopened.is_sealed = unopened.log2_rows = 0;
     unopened.work = 1;
     CHECK(minisign_open_sealed_key(&unopened, ABC, sizeof ABC, FEWEST_KEPT, 4 * 1024, &opened) == MINISIGN_OK);
-    CHECK(memcmp(&opened, &zeros, sizeof zeros) == 0);
+    CHECK(memcmp(&opened, &of_zeros, sizeof of_zeros) == 0);
 }
 
 /* How the rows of a key are bounded, and what opening in place takes and answers. What it holds of rows is 1 KiB each. */
 static void rows_bounded(uint64_t p)
 {
     static const uint64_t kept[] = { 16, 0, 1, FEWEST_KEPT };
-    static const uint8_t key_id[8], secret[64];
     const uint64_t rows = 1024 * p;
-    minisign_secret_key zeros, opened, before;
+    const minisign_secret_key of_zeros = zeros();
+    minisign_secret_key opened, before;
 
-    minisign_take_secret_key(key_id, secret, &zeros);
     memset(&before, 0xaa, sizeof before);
     CHECK(make_key_of(p, 1, 1 << 20, "c", sizeof text) == MINISIGN_OK);
     CHECK(minisign_read_secret_key(text, text_len, &unopened) == MINISIGN_OK && unopened.work == p);
@@ -566,14 +332,14 @@ static void rows_bounded(uint64_t p)
     CHECK(minisign_open_sealed_key(&unopened, ABC, sizeof ABC, 1, 0, &opened) == MINISIGN_WORK_TOO_HIGH);
     CHECK(memcmp(&opened, &before, sizeof before) == 0);
     CHECK(minisign_open_sealed_key(&unopened, ABC, sizeof ABC, 1, rows, &opened) == MINISIGN_OK);
-    CHECK(memcmp(&opened, &zeros, sizeof zeros) == 0);
+    CHECK(memcmp(&opened, &of_zeros, sizeof of_zeros) == 0);
     opened = before;
     CHECK(minisign_open_sealed_key(&unopened, ABC, sizeof ABC, 16, MINISIGN_USUAL_ROWS, &opened) == MINISIGN_OK);
-    CHECK(memcmp(&opened, &zeros, sizeof zeros) == 0);
+    CHECK(memcmp(&opened, &of_zeros, sizeof of_zeros) == 0);
     opened = before;
     CHECK(minisign_open_sealed_key(&unopened, ABC, sizeof ABC, 16, MINISIGN_ANY_ROWS, &opened) == MINISIGN_OK);
     /* (few rows of many parts take long) */
-    for (size_t i = 0; i < (p == 1 ? sizeof kept / sizeof *kept : 1); i++) {
+    for (size_t i = 0; i < (p == 1 ? LENGTH(kept) : 1); i++) {
         const uint64_t every = kept[i] > 1 ? kept[i] : 1, held = 1024 / every + (1024 % every != 0);
         uint64_t words_len = 0, bytes_len = 0;
 
@@ -587,11 +353,11 @@ static void rows_bounded(uint64_t p)
         CHECK(open_in_place(&unopened, "ab", kept[i], rows, words_len, bytes_len, &opened) == MINISIGN_WRONG_PASSWORD);
         CHECK(memcmp(&opened, &before, sizeof before) == 0);
         CHECK(open_in_place(&unopened, "abc", kept[i], rows, words_len, bytes_len, &opened) == MINISIGN_OK);
-        CHECK(memcmp(&opened, &zeros, sizeof zeros) == 0);
+        CHECK(memcmp(&opened, &of_zeros, sizeof of_zeros) == 0);
     }
     opened = before;
-    CHECK(open_in_place(&unopened, "abc", 1, MINISIGN_USUAL_ROWS, sizeof words / sizeof *words, sizeof bytes, &opened) == MINISIGN_OK);
-    CHECK(memcmp(&opened, &zeros, sizeof zeros) == 0);
+    CHECK(open_in_place(&unopened, "abc", 1, MINISIGN_USUAL_ROWS, LENGTH(words), sizeof parts, &opened) == MINISIGN_OK);
+    CHECK(memcmp(&opened, &of_zeros, sizeof of_zeros) == 0);
 }
 
 /* A key that wants no password takes no memory, and none is needed to reject it. */
@@ -599,7 +365,7 @@ static void no_memory_wanted(void)
 {
     uint64_t words_len = 5, bytes_len = 6;
 
-    CHECK(minisign_read_secret_key((const uint8_t *) SECRET_KEY, strlen(SECRET_KEY), &unopened) == MINISIGN_OK);
+    CHECK(minisign_read_secret_key(bytes_of(SECRET_KEY), strlen(SECRET_KEY), &unopened) == MINISIGN_OK);
     minisign_opening_memory(&unopened, 1, &words_len, &bytes_len);
     CHECK(words_len == 0 && bytes_len == 0);
 }
@@ -629,15 +395,15 @@ static void texts_of_signatures(void)
     static const char untrusted[] = "signature from minisign secret key";
     static char expected[sizeof SIGNATURE + 1];
     const size_t second_line = strlen("untrusted comment: ") + sizeof untrusted;
+    const minisign_signature signature = signature_of(SIGNATURE);
     minisign_secret_key before = key;
-    minisign_state state;
+    minisign_state state = fed();
 
-    minisign_init(&state);
-    CHECK(ask(&state) == MINISIGN_OK);
+    CHECK(ask_with(&state, &signature, SIGNATURE, sizeof SIGNATURE - 1, 0, sizeof message) == MINISIGN_OK);
     for (size_t room = 0; room < sizeof SIGNATURE; room++) {
         CHECK(make_short_text(&key, COMMENT, untrusted, room) == MINISIGN_NO_ROOM);
     }
-    for (size_t i = 0; i < sizeof rejected / sizeof rejected[0]; i++) {
+    for (size_t i = 0; i < LENGTH(rejected); i++) {
         CHECK(make_short_text(&key, rejected[i][0], rejected[i][1], 0) == MINISIGN_BAD_COMMENT);
     }
     CHECK(make_short_text(&key, "\xff", "u\r", 0) == MINISIGN_NOT_UTF8);
@@ -650,10 +416,10 @@ static void texts_of_signatures(void)
     CHECK(text_len == sizeof SIGNATURE && memcmp(text, expected, text_len) == 0);
     CHECK(memcmp(&before, &key, sizeof before) == 0);
     for (size_t room = 0; room < MESSAGE_LEN; room++) {
-        CHECK(minisign_comment_message(questions.signature, (const uint8_t *) COMMENT, sizeof COMMENT - 1, text, room)
+        CHECK(minisign_comment_message(questions.signature, bytes_of(COMMENT), sizeof COMMENT - 1, text, room)
               == MINISIGN_NO_ROOM);
     }
-    CHECK(minisign_comment_message(questions.signature, (const uint8_t *) COMMENT, sizeof COMMENT - 1, text,
+    CHECK(minisign_comment_message(questions.signature, bytes_of(COMMENT), sizeof COMMENT - 1, text,
                                    MESSAGE_LEN) == MINISIGN_OK);
     CHECK(memcmp(text, message, MESSAGE_LEN) == 0);
 }
@@ -673,7 +439,7 @@ static void texts_for_minisign(void)
     CHECK(make_text(&key, "a\0b", 3, "u", 1, sizeof text) == MINISIGN_UNREADABLE_COMMENT);
     CHECK(make_text(&key, "t", 1, "a\0b", 3, sizeof text) == MINISIGN_UNREADABLE_COMMENT);
     CHECK(make_text(&key, "t", 1, "\0", 1, sizeof text) == MINISIGN_UNREADABLE_COMMENT);
-    for (size_t i = 0; i < sizeof rejected / sizeof rejected[0]; i++) {
+    for (size_t i = 0; i < LENGTH(rejected); i++) {
         CHECK(make_short_text(&key, rejected[i][0], rejected[i][1], sizeof text) == MINISIGN_UNREADABLE_COMMENT);
     }
 }
@@ -687,18 +453,11 @@ static void numbers(void)
 
 int main(void)
 {
-    never_begun();
-    after_asking();
-    before_asking();
-    signatures_of_no_text();
+    least_room();
     other_texts();
     other_places();
-    answers();
-    copies();
-    told_unasked();
     before_opening();
     keys_of_no_text();
-    texts_of_no_key();
     taken_in();
     texts_of_signatures();
     texts_for_minisign();
@@ -707,6 +466,5 @@ int main(void)
     rows_bounded(MOST_PARTS);
     no_memory_wanted();
     numbers();
-    printf("%u passed, %u failed\n", passed, failed);
-    return failed != 0;
+    return ended();
 }

@@ -28,22 +28,15 @@ import installed_verify
 import needs
 import static_library
 from process import run
+from running import write
 
 REJECTED = "Signature verification failed"
 ACCEPTED = "Comment signature verification failed"
 
 
-def put(room, name, data):
-    """Writes a file; its path."""
-    path = os.path.join(room, name)
-    with open(path, "wb") as file:
-        file.write(data)
-    return path
-
-
 def sodium_failures(room, compiler):
     """What is wrong with the answers of the libsodium that the programs are built over."""
-    source = put(room, "all.c", b"#include <sodium.h>\nint main(void) { return 0; }\n")
+    source = write(room, "all.c", b"#include <sodium.h>\nint main(void) { return 0; }\n")
     subprocess.run([compiler, "-shared", "-fPIC", "-o", f"{room}/all.so", source, "-Wl,--no-as-needed", "-lsodium"],
                    check=True)
     sodium, failures = ctypes.CDLL(f"{room}/all.so"), []
@@ -60,7 +53,7 @@ def program_failures(room, program):
     failures = []
     for vector in edges.vectors():
         key, signature = edges.legacy_texts(vector)
-        paths = [put(room, "key", key), put(room, "data", bytes.fromhex(vector["msg"])), put(room, "signature", signature)]
+        paths = [write(room, "key", key), write(room, "data", bytes.fromhex(vector["msg"])), write(room, "signature", signature)]
         status, said = run([program, "-V", "-p", paths[0], "-m", paths[1], "-x", paths[2]])
         wanted = ACCEPTED if vector["sodium"] else REJECTED
         if status != 1 or said.strip() != wanted:
@@ -83,10 +76,10 @@ def python_failures():
 def every_file_failures(room, commands):
     """What is wrong where a signature of small order would fit every file: each program has to reject it."""
     key, signature = edges.texts_for_every_file()
-    paths = {"key": put(room, "key", key), "signature": put(room, "signature", signature)}
+    paths = {"key": write(room, "key", key), "signature": write(room, "signature", signature)}
     failures = []
     for data in (b"", b"data", bytes(100_000)):
-        paths["data"] = put(room, "data", data)
+        paths["data"] = write(room, "data", data)
         for what, command in commands.items():
             status, said = run([part.format(**paths) for part in command])
             if status != 1 or said.strip() != REJECTED:

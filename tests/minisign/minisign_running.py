@@ -5,6 +5,8 @@ import re
 import subprocess
 from dataclasses import dataclass
 
+from running import write
+
 SECONDS = 120
 
 
@@ -47,16 +49,6 @@ def run(command, directory, stdin=None, stdout=subprocess.PIPE, **more):
     how = {"input": stdin} if stdin is not None else {"stdin": subprocess.DEVNULL}
     ran = subprocess.run(command, cwd=directory, stdout=stdout, stderr=subprocess.PIPE, timeout=SECONDS, **how, **more)
     return Answer(ran.returncode, ran.stdout or b"", ran.stderr)
-
-
-def write(directory, name, data):
-    with open(os.path.join(directory, name), "wb") as file:
-        file.write(data)
-
-
-def read(directory, name):
-    with open(os.path.join(directory, name), "rb") as file:
-        return file.read()
 
 
 def put_case(directory, case):

@@ -1,16 +1,17 @@
 """What `c/minisign -S` signs, beside Minisign's own program: the text has to be the same byte for byte, as
-Ed25519 is deterministic, and Minisign and our verifier have to accept it."""
+Ed25519 is deterministic, and Minisign and our verifier have to accept it. (Comments by default, passwords and files that are not there
+`tests/whole/whole_cases.py` has.)"""
 
 import base64
 import collections
 import hashlib
 import os
-import re
 import tempfile
 
 import minisign_differences as differences
-from minisign_cases import LENGTHS, PASSWORD, TRUSTED_COMMENTS, UNTRUSTED_COMMENTS, joined, lines, pattern
-from minisign_running import read, run, write
+from minisign_cases import LENGTHS, TRUSTED_COMMENTS, UNTRUSTED_COMMENTS, joined, lines, pattern
+from minisign_running import run
+from running import read, write
 
 # What ends no line and stands between no white space, and what does not: such a comment would not be read back.
 MORE_COMMENTS = [b"x", b"a  b", b"\xf0\x9f\x94\x91", b"timestamp:1\tfile:x\thashed", b"=" * 100, b"\x01"]
@@ -77,7 +78,6 @@ class Signing:
         """Ours rejects, and writes nothing."""
         ran, text = self.ours(key, *flags, typed=typed)
         self.case(name, f"ours: {ran}" if ran.status != 2 or text is not None or said not in ran.said else "")
-
 
     def both(self, text, password):
         """What both programs do with a key: whether each signs so that Minisign accepts it, and what they said."""
@@ -183,7 +183,7 @@ def signing_cases(programs, minisign):
     """Signs with keys that Minisign makes: the failures, how many cases ran, and how often each entry explained a difference."""
     with tempfile.TemporaryDirectory(prefix="real-signing-") as directory:
         signing = Signing(programs, directory)
-        for name in ("first.key", "first.pub", "sealed.key", "sealed.pub"):
+        for name in ("first.key", "first.pub"):
             write(directory, name, minisign.read(name))
         write(directory, "checked.key", with_checksum(minisign.read("first.key")))
         write(directory, "checked.pub", minisign.read("first.pub"))
@@ -202,8 +202,6 @@ def signing_cases(programs, minisign):
                     signing.signs(f"untrusted comment {comment[:20]!r}", pattern(length), b"t", comment)
             else:
                 signing.rejects(f"untrusted comment {comment[:20]!r}", "first.key", "-t", "t", "-c", comment)
-        by_default(signing)
-        sealed(signing)
         for name, text, said in damaged_keys(read(directory, "checked.key")):
             write(directory, "damaged.key", text)
             signing.rejects(f"key with {name}", "damaged.key", typed=b"x\n", said=said)
@@ -211,29 +209,4 @@ def signing_cases(programs, minisign):
             signing.differs(entry, text, password)
         for name, text, password in sealed_alike(read(directory, "first.key")):
             signing.signs_alike(name, text, password)
-        signing.rejects("no key file", "missing.key")
-        os.remove(os.path.join(directory, "data"))
-        signing.rejects("no data", "first.key")
         return signing.failures, signing.count, signing.entries
-
-
-def by_default(signing):
-    """The default comments, as Minisign writes them."""
-    write(signing.directory, "data", b"some data\n")
-    _, text = signing.ours("first.key")
-    wanted = rb"untrusted comment: signature from minisign secret key\n[^\n]*\n" \
-        rb"trusted comment: timestamp:[0-9]+\tfile:data\thashed\n[^\n]*\n"
-    signing.case("default comments", "" if text is not None and re.fullmatch(wanted, text) else f"{text!r}")
-    signing.case("default comments, accepted", ", ".join(signing.accepted("first.pub")))
-
-
-def sealed(signing):
-    """A sealed key, with its password and with others."""
-    write(signing.directory, "data", pattern(1000))
-    for end in (b"\n", b"\r\n", b""):
-        ran, text = signing.ours("sealed.key", "-t", "t", typed=PASSWORD.encode() + end)
-        rejecting = signing.accepted("sealed.pub") if text is not None else ["ours"]
-        signing.case(f"sealed key, {end!r}", f"{ran}, rejected by {rejecting}" if ran.status != 0 or rejecting else "")
-    signing.rejects("wrong password", "sealed.key", typed=b"wrong\n", said=b"Wrong password for that key")
-    signing.rejects("no password", "sealed.key", typed=b"")
-    signing.rejects("a password that is no UTF-8", "sealed.key", typed=b"\xff\n", said=b"The password is not UTF-8")

@@ -149,7 +149,7 @@ def check_focus(person, minisign):
             while len(found) < MOST_BACK and "key-text" not in found:
                 found.append(browser.tab_back())
                 checks.check(not browser.run(IS_BEHIND), f"the focus at {size}, after {found}: it is behind the band")
-            checks.same([it for it in found if it != "comment"], ["signature-text", "files", "key-remove", "key-file", "key-text"], f"the keyboard backwards at {size}")
+            checks.same([name for name in found if name != "comment"], ["signature-text", "files", "key-remove", "key-file", "key-text"], f"the keyboard backwards at {size}")
     finally:
         browser.resize()
 

@@ -63,18 +63,21 @@ ERRORS = (
     ("FormattingFailed", 79, "Io", "an error occurred when formatting an argument"),
     ("InvalidUtf8", 80, "Encoding", "invalid UTF-8"),
     # Those of installing, whose texts are this library's own.
-    ("PlaceInUse", 46, "Io", "another installation is at work at this place"),
-    ("NoRecord", 47, "Io", "no number is kept beside the place"),
-    ("DamagedRecord", 48, "Io", "what is kept beside the place is no number"),
+    ("TargetInUse", 46, "Io", "another installation is at work at this target"),
+    ("NoRecord", 47, "Io", "no number is kept beside the target"),
+    ("DamagedRecord", 48, "Io", "what is kept beside the target is no number"),
     ("OtherFile", 49, "Verify", "the signed comment does not name this file"),
     ("NoNumber", 50, "Verify", "the signed comment has no such number"),
     ("OlderUpdate", 51, "Verify", "the update is older than what was installed"),
     ("DirectoryNotSynced", 52, "Io", "installed, but the directory could not be synced"),
-    ("KeptByTimestamp", 53, "Io", "the number that is kept beside the place is a timestamp, and no version"),
-    ("KeptByVersion", 54, "Io", "the number that is kept beside the place is a version, and no timestamp"),
+    ("KeptByTimestamp", 53, "Io", "the number that is kept beside the target is a timestamp, and no version"),
+    ("KeptByVersion", 54, "Io", "the number that is kept beside the target is a version, and no timestamp"),
     ("Expired", 55, "Verify", "the update has expired"),
     ("BadExpiry", 56, "Verify", "the signed comment does not say once, in a number, when it expires"),
-    ("SameNumber", 57, "Verify", "an update of this number was installed, and other data stands at the place"),
+    ("SameNumber", 57, "Verify", "an update of this number was installed, and other data stands at the target"),
+    ("NoExpiry", 58, "Verify", "the signed comment does not say when it expires"),
+    ("BadSize", 59, "Verify", "the signed comment does not say once, in a number, how long the data is"),
+    ("OtherSize", 60, "Verify", "the data has another size than the signed comment says"),
 )
 
 

@@ -52,6 +52,13 @@ class AtTerminal:
         while self.shows_typed() and time.monotonic() < end:
             time.sleep(0.002)
 
+    def finish(self, line=b""):
+        """Types a line, if any, and waits for the end: the exit status."""
+        if line:
+            self.type(line)
+        self.read_until(None)
+        return self.end()
+
     def end(self):
         """Lets go of the terminal: the exit status."""
         if self.process.poll() is None:
@@ -81,5 +88,4 @@ def type_at_terminal(command, program, directory, environment, lines):
             break
         at.wait_for_hiding()
         at.type(line)
-    at.read_until(None)
-    return at.end(), at.shown
+    return at.finish(), at.shown

@@ -2,14 +2,10 @@
    terminal, and each time that it raises a signal against itself. Adds "+" or "-" to the file FIND_SAYS each time, with "!"
    before it where a signal is raised. FIND has the bytes in hexadecimal digits, each with all bits turned, so that the
    environment does not hold them. */
-#define _GNU_SOURCE
-#include <dlfcn.h>
+#include "preload.h"
+
 #include <signal.h>
-#include <stdio.h>
-#include <stdlib.h>
-#include <string.h>
 #include <sys/select.h>
-#include <unistd.h>
 
 static size_t length;
 
@@ -53,11 +49,8 @@ static void look(const char *before)
 
 int pselect(int count, fd_set *reads, fd_set *writes, fd_set *others, const struct timespec *most, const sigset_t *mask)
 {
-    int (*real)(int, fd_set *, fd_set *, fd_set *, const struct timespec *, const sigset_t *) =
-        (int (*)(int, fd_set *, fd_set *, fd_set *, const struct timespec *, const sigset_t *))dlsym(RTLD_NEXT, "pselect");
-
     look("");
-    return real(count, reads, writes, others, most, mask);
+    return REAL(pselect)(count, reads, writes, others, most, mask);
 }
 
 int raise(int number)

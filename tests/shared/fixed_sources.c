@@ -2,15 +2,10 @@
    the time one moment: so two programs that draw the same bytes in the same order write the same files. With FIXED_RANDOM
    the device of random bytes has so many that count up from 0, and ends; with FIXED_MOMENT the moment is that one, which
    the system's clock shows too. */
-#define _GNU_SOURCE
-#include <dlfcn.h>
-#include <fcntl.h>
-#include <stdarg.h>
-#include <stdlib.h>
-#include <string.h>
+#include "preload.h"
+
 #include <sys/types.h>
 #include <time.h>
-#include <unistd.h>
 
 #define MOMENT 1234567890
 #define DEVICE "/dev/urandom"
@@ -42,10 +37,8 @@ time_t time(time_t *found)
 
 int clock_gettime(clockid_t clock, struct timespec *found)
 {
-    int (*real)(clockid_t, struct timespec *) = (int (*)(clockid_t, struct timespec *))dlsym(RTLD_NEXT, "clock_gettime");
-
     if (clock != CLOCK_REALTIME || !getenv("FIXED_MOMENT"))
-        return real(clock, found);
+        return REAL(clock_gettime)(clock, found);
     found->tv_sec = moment();
     found->tv_nsec = 0;
     return 0;
@@ -69,15 +62,10 @@ static int count_to(size_t length)
 
 int open(const char *path, int flags, ...)
 {
-    int (*real)(const char *, int, ...) = (int (*)(const char *, int, ...))dlsym(RTLD_NEXT, "open");
     const char *length = getenv("FIXED_RANDOM");
-    mode_t mode;
-    va_list more;
+    mode_t mode = MODE_BEHIND(flags);
 
-    va_start(more, flags);
-    mode = flags & (O_CREAT | O_TMPFILE) ? va_arg(more, mode_t) : 0;
-    va_end(more);
     if (length && strcmp(path, DEVICE) == 0)
         return count_to((size_t) atoll(length));
-    return real(path, flags, mode);
+    return REAL(open)(path, flags, mode);
 }

@@ -13,7 +13,7 @@ import tempfile
 from dataclasses import dataclass
 
 import needs
-from running import NOBODY, SECONDS, Failure, Skip
+from running import NOBODY, SECONDS, Failure, Skip, expect
 
 ACCESS_LIST = "system.posix_acl_access"
 # A group of which nobody is no member, and a user in lists.
@@ -86,12 +86,11 @@ def run_case(replacing, case):
         user = {"user": NOBODY, "group": NOBODY, "extra_groups": []} if case.as_nobody else {}
         status, said = replacing.run(directory, case.asked, breaking, user)
         after, newer = os.stat(path), list_of(path)
-        if status != 0 or after.st_ino == before.st_ino:
-            raise Failure(f"it ended with status {status}, said {said}, and the file was{' not' * (after.st_ino == before.st_ino)} replaced")
+        expect(status == 0 and after.st_ino != before.st_ino,
+               f"it ended with status {status}, said {said}, and the file was{' not' * (after.st_ino == before.st_ino)} replaced")
         if stat.S_IMODE(after.st_mode) != case.mode:
             raise Failure(f"the file has the mode {stat.S_IMODE(after.st_mode):o} in place of {case.mode:o}")
-        if newer != (older if case.has_list else None):
-            raise Failure(f"the file has the list {newer}, where the older one had {older}")
+        expect(newer == (older if case.has_list else None), f"the file has the list {newer}, where the older one had {older}")
 
 
 # What holds of each program. Where the group cannot be given, all others get no more than it had.

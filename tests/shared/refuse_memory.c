@@ -1,11 +1,8 @@
 /* Preloaded into a program, refuses its request for memory number REFUSE_AT, and where REFUSE_REST is
    set each one after it too. Says so by one byte on the descriptor REFUSE_SAYS. */
-#define _GNU_SOURCE
-#include <dlfcn.h>
-#include <errno.h>
+#include "preload.h"
+
 #include <stddef.h>
-#include <stdlib.h>
-#include <unistd.h>
 
 static long requests;
 
@@ -29,7 +26,7 @@ void *malloc(size_t size)
     static void *(*given)(size_t);
 
     if (!given)
-        given = (void *(*)(size_t))dlsym(RTLD_NEXT, "malloc");
+        given = REAL(malloc);
     return is_refused() ? NULL : given(size);
 }
 
@@ -38,6 +35,6 @@ void *realloc(void *old, size_t size)
     static void *(*given)(void *, size_t);
 
     if (!given)
-        given = (void *(*)(void *, size_t))dlsym(RTLD_NEXT, "realloc");
+        given = REAL(realloc);
     return is_refused() ? NULL : given(old, size);
 }

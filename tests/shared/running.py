@@ -205,6 +205,26 @@ class Skip(Exception):
     """A run that cannot be made here, and why."""
 
 
+def expect(holds, said):
+    """Raises a `Failure` that says this, where something does not hold."""
+    if not holds:
+        raise Failure(said)
+
+
+def read(*path):
+    """All that a file holds, which is named by the parts of its path."""
+    with open(os.path.join(*path), "rb") as file:
+        return file.read()
+
+
+def write(directory, name, data):
+    """Writes a file: its path."""
+    path = os.path.join(directory, name)
+    with open(path, "wb") as file:
+        file.write(data)
+    return path
+
+
 def run_cases(cases):
     """Runs named cases one after another: what failed, and how many were not skipped."""
     failures, count = [], 0
@@ -241,7 +261,7 @@ class Runner:
             self.run_each(case, "request for memory", "REFUSE", self.preloading("refuse_memory", **rest))
         elif case.breaking:
             broken = {"BREAK_CALLS": case.breaking, "BREAK_ERRNO": str(errno.EIO)}
-            self.run_each(case, f"call of {case.breaking}", "BREAK", self.preloading("break_calls", **broken))
+            self.run_each(case, f"call of {case.breaking}", "BREAK", self.preloading("disturbed_calls", **broken))
         elif case.sources:
             given = {"FIXED_RANDOM": str(case.sources.random), "FIXED_MOMENT": str(case.sources.moment)}
             self.run_once(case, self.preloading("fixed_sources", **given))
@@ -260,8 +280,7 @@ class Runner:
         for number in range(1, 1000):
             given = {**environment, f"{word}_AT": str(number)}
             if not self.run_refused(case, f"{what} number {number}", given, f"{word}_SAYS"):
-                if number == 1:
-                    raise Failure(f"it made no {what}")
+                expect(number != 1, f"it made no {what}")
                 return
         raise Failure(f"it came to {what} number 1000")
 
@@ -275,8 +294,7 @@ class Runner:
             return None
 
         failure, was_refused = told(run)
-        if was_refused and failure:
-            raise Failure(f"with {what} rejected: {failure}")
+        expect(not was_refused or not failure, f"with {what} rejected: {failure}")
         return was_refused
 
     def run_once(self, case, environment=None, passed=()):
@@ -349,16 +367,14 @@ class NamedPipe:
             except OSError:
                 return
             self.opened = True
-            if not self.has_to_open:
-                raise Failure(f"it opened {self.name}, which it had to leave closed")
+            expect(self.has_to_open, f"it opened {self.name}, which it had to leave closed")
             if self.data is not None:
                 os.set_blocking(self.writer, True)
                 threading.Thread(target=feed, args=(self.writer, self.data), daemon=True).start()
                 self.writer = None
 
     def check(self):
-        if self.has_to_open and not self.opened:
-            raise Failure(f"it never opened {self.name}")
+        expect(not self.has_to_open or self.opened, f"it never opened {self.name}")
 
     def close(self):
         if self.writer is not None:
@@ -380,8 +396,7 @@ class DrainedPipe:
 
     def check(self):
         came = os.read(self.reader, 1 << 16)
-        if came != self.data:
-            raise Failure(f"in {self.name} came {came[:200]} in place of {self.data[:200]}")
+        expect(came == self.data, f"in {self.name} came {came[:200]} in place of {self.data[:200]}")
 
     def close(self):
         os.close(self.reader)
@@ -396,8 +411,7 @@ def wait(process, pipes):
             pipe.poll()
         if ended:
             break
-        if time.monotonic() > end:
-            raise Failure(f"it had not ended after {SECONDS} seconds")
+        expect(time.monotonic() <= end, f"it had not ended after {SECONDS} seconds")
         time.sleep(0.001)
     for pipe in pipes:
         pipe.check()
@@ -603,11 +617,10 @@ def compare(case, status, streams):
     if status != case.status:
         ended = f"status {status}" if status >= 0 else signal.Signals(-status).name
         raise Failure(f"it ended with {ended} in place of status {case.status}, and said {writes}")
-    if writes not in (case.lines.choices if isinstance(case.lines, OneOf) else (case.lines,)):
-        raise Failure(f"it said {writes} in place of {case.lines}")
+    expect(writes in (case.lines.choices if isinstance(case.lines, OneOf) else (case.lines,)),
+           f"it said {writes} in place of {case.lines}")
     if isinstance(case.output, PrefixOf):
-        if not case.output.whole.startswith(output):
-            raise Failure(f"it wrote {output[:200]}, which is no prefix of {case.output.whole[:200]}")
+        expect(case.output.whole.startswith(output), f"it wrote {output[:200]}, which is no prefix of {case.output.whole[:200]}")
     elif output != case.output:
         raise Failure(f"it wrote {output[:200]} in place of {case.output[:200]}")
 
@@ -646,8 +659,7 @@ def set_list(path, entries):
     """Gives a file entries of an access control list, whose mask then stands in the group's bits of its mode."""
     before = os.stat(path).st_mode
     subprocess.run([needs.program("setfacl", "acl"), "-m", entries, path], check=True, timeout=SECONDS)
-    if os.stat(path).st_mode == before:
-        raise Failure(f"the list of {path} has no mask")
+    expect(os.stat(path).st_mode != before, f"the list of {path} has no mask")
 
 
 def is_forbidding(kind):

@@ -2,10 +2,8 @@
  * end. What goes into no core file is its own place for secrets. With SEARCH_SAYS a file of that name gets a line each
  * time: what the program does, a needle, and how often it is found in registers, on the stack, elsewhere, and in that
  * place. */
-#define _GNU_SOURCE
-#include <fcntl.h>
-#include <stdarg.h>
-#include <stdio.h>
+#include "preload.h"
+
 #include <sys/syscall.h>
 
 #include "search_memory.h"
@@ -62,34 +60,16 @@ __attribute__((destructor)) static void end(void)
     LOOK("end");
 }
 
-/* The permissions of a new file, which a call that opens one is told behind its flags. */
-static mode_t mode_of(int flags, va_list rest)
-{
-    return (flags & O_CREAT) != 0 || (flags & O_TMPFILE) == O_TMPFILE ? va_arg(rest, mode_t) : 0;
-}
-
 int open(const char *name, int flags, ...)
 {
-    va_list rest;
-    mode_t mode;
-
     LOOK("open");
-    va_start(rest, flags);
-    mode = mode_of(flags, rest);
-    va_end(rest);
-    return (int) syscall(SYS_openat, AT_FDCWD, name, flags, mode);
+    return (int) syscall(SYS_openat, AT_FDCWD, name, flags, MODE_BEHIND(flags));
 }
 
 int openat(int directory, const char *name, int flags, ...)
 {
-    va_list rest;
-    mode_t mode;
-
     LOOK("open");
-    va_start(rest, flags);
-    mode = mode_of(flags, rest);
-    va_end(rest);
-    return (int) syscall(SYS_openat, directory, name, flags, mode);
+    return (int) syscall(SYS_openat, directory, name, flags, MODE_BEHIND(flags));
 }
 
 ssize_t write(int fd, const void *bytes, size_t len)

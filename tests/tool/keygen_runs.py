@@ -6,34 +6,10 @@ import os
 import stat
 from dataclasses import replace
 
-from running import (
-    CLOSED,
-    DIRECTORY,
-    FULL,
-    LOCKED,
-    WRITE_ONLY,
-    PrefixOf,
-    Case,
-    Failure,
-    FromFile,
-    Link,
-    NO_READER,
-    OneOf,
-    Pieces,
-    ReadPipe,
-    RoomFor,
-    SecondName,
-    Sources,
-    Typed,
-    WithList,
-    WithMode,
-)
+from running import (CLOSED, DIRECTORY, FULL, LOCKED, NO_READER, WRITE_ONLY, Case, Failure, FromFile, Link, OneOf, Pieces, PrefixOf, ReadPipe,
+                     RoomFor, SecondName, Sources, Typed, WithList, WithMode, expect)
+from toy import NOT_UTF8, OUT_OF_MEMORY, READING_FAILED, WARNING, WRITING_FAILED
 
-WARNING = "warning: insecure toy scheme, for tests only\n"
-OUT_OF_MEMORY = "error: out of memory\n"
-READING_FAILED = "error: reading failed\n"
-WRITING_FAILED = "error: writing failed\n"
-NOT_UTF8 = "error: stream did not contain valid UTF-8\n"
 END_OF_INPUT = "error: unexpected end of input\n"
 TOO_LONG = "error: passphrase can't exceed 1024 bytes length\n"
 DIFFERENT = "error: passwords don't match!\n"
@@ -71,8 +47,7 @@ class Pair:
 
     def __call__(self, directory):
         names = set(os.listdir(directory))
-        if names != {PK, SK}:
-            raise Failure(f"it left the files {sorted(names)}")
+        expect(names == {PK, SK}, f"it left the files {sorted(names)}")
         for name, mode in self.modes.items():
             has_mode(directory, name, mode)
         check_pair(self.password, read(directory, PK), read(directory, SK))
@@ -89,15 +64,14 @@ class Linked:
 
     def __call__(self, directory):
         for name, target in self.links.items():
-            if not os.path.islink(os.path.join(directory, name)) or os.readlink(os.path.join(directory, name)) != target:
-                raise Failure(f"the link {name} is gone")
+            expect(os.path.islink(os.path.join(directory, name)) and os.readlink(os.path.join(directory, name)) == target,
+                   f"the link {name} is gone")
         for name, mode in self.modes.items():
             has_mode(directory, name, mode)
         check_pair(b"p", read(directory, self.public), read(directory, self.secret))
         names = {os.path.join(at, name) for at, _, files in os.walk(directory) for name in files}
         wanted = {os.path.join(directory, name) for name in (*self.links, self.public, self.secret)}
-        if names != wanted:
-            raise Failure(f"it left the files {sorted(names)}")
+        expect(names == wanted, f"it left the files {sorted(names)}")
 
 
 class OneFile:
@@ -111,11 +85,9 @@ class OneFile:
 
     def __call__(self, directory):
         names = set(os.listdir(directory))
-        if names != {self.name, *self.links}:
-            raise Failure(f"it left the files {sorted(names)}")
+        expect(names == {self.name, *self.links}, f"it left the files {sorted(names)}")
         for name in self.links:
-            if not os.path.islink(os.path.join(directory, name)):
-                raise Failure(f"{name} is no link any more")
+            expect(os.path.islink(os.path.join(directory, name)), f"{name} is no link any more")
         has_mode(directory, self.name, self.mode)
         record_of(read(directory, self.name), 158)
 
@@ -128,12 +100,10 @@ class Left:
 
     def __call__(self, directory):
         names = set(os.listdir(directory))
-        if names != set(self.files):
-            raise Failure(f"it left the files {sorted(names)} in place of {sorted(self.files)}")
+        expect(names == set(self.files), f"it left the files {sorted(names)} in place of {sorted(self.files)}")
         for name, data in self.files.items():
             if data in (DIRECTORY, LOCKED):
-                if os.listdir(os.path.join(directory, name)):
-                    raise Failure(f"it left something in the directory {name}")
+                expect(not os.listdir(os.path.join(directory, name)), f"it left something in the directory {name}")
             elif read(directory, name) != data:
                 raise Failure(f"{name} holds {read(directory, name)[:200]} in place of {data[:200]}")
 
@@ -153,8 +123,7 @@ def read(directory, name):
 def has_mode(directory, name, mode):
     """Raises a `Failure` where a file has another mode."""
     found = stat.S_IMODE(os.stat(os.path.join(directory, name)).st_mode)
-    if found != mode:
-        raise Failure(f"{name} has the mode {found:o} in place of {mode:o}")
+    expect(found == mode, f"{name} has the mode {found:o} in place of {mode:o}")
 
 
 def record_of(text, length):
@@ -165,8 +134,8 @@ def record_of(text, length):
         record = base64.b64decode(second, validate=True)
     except ValueError as error:
         raise Failure(f"a text is {text!r}") from error
-    if not first.startswith(label) or rest or len(record) != length or base64.b64encode(record) != second:
-        raise Failure(f"a text is {text!r}")
+    expect(first.startswith(label) and not rest and len(record) == length and base64.b64encode(record) == second,
+           f"a text is {text!r}")
     return first[len(label):], record
 
 
@@ -174,8 +143,7 @@ def public_record(text):
     """The record of a public key, whose identifier its comment names."""
     comment, record = record_of(text, 42)
     shown = b"%016X" % int.from_bytes(record[2:10], "little")
-    if comment != b"minisign public key: " + shown or record[:2] != b"Ed":
-        raise Failure(f"a public key's text is {text!r}")
+    expect(comment == b"minisign public key: " + shown and record[:2] == b"Ed", f"a public key's text is {text!r}")
     return record
 
 
@@ -183,19 +151,17 @@ def check_pair(password, public_text, secret_text):
     """Opens the secret key, and compares both keys with what a pair of the toy scheme has to be."""
     public = public_record(public_text)
     comment, sealed = record_of(secret_text, 158)
-    if comment != b"rsign encrypted secret key":
-        raise Failure(f"a secret key's text is {secret_text!r}")
+    expect(comment == b"rsign encrypted secret key", f"a secret key's text is {secret_text!r}")
     if sealed[:6] != b"EdScB2" or sealed[38:54] != bytes.fromhex("00001000000000000000000200000000"):
         raise Failure(f"a secret key begins with {sealed[:54].hex()}")
     stream = hashlib.scrypt(password, salt=sealed[6:38], n=1 << 15, r=8, p=1, dklen=104, maxmem=1 << 26)
     opened = bytes(a ^ b for a, b in zip(sealed[54:], stream))
     keynum, seed, key, checksum = opened[:8], opened[8:40], opened[40:72], opened[72:]
-    if checksum != hashlib.blake2b(b"Ed" + opened[:72], digest_size=32).digest():
-        raise Failure("the secret key does not open under the password")
-    if key != bytes(byte ^ 0x5A for byte in seed) or public[2:10] != keynum or public[10:] != key:
-        raise Failure("the two keys do not belong together")
-    if keynum in MADE_BEFORE or sealed[6:38] == seed:
-        raise Failure("random bytes come twice")
+    expect(checksum == hashlib.blake2b(b"Ed" + opened[:72], digest_size=32).digest(),
+           "the secret key does not open under the password")
+    expect(key == bytes(byte ^ 0x5A for byte in seed) and public[2:10] == keynum and public[10:] == key,
+           "the two keys do not belong together")
+    expect(keynum not in MADE_BEFORE and sealed[6:38] != seed, "random bytes come twice")
     MADE_BEFORE.add(keynum)
 
 
@@ -358,8 +324,8 @@ class KeptPublic:
     """Looks at the directory that a run leaves: the older public file, and a link."""
 
     def __call__(self, directory):
-        if set(os.listdir(directory)) != {PK, SK} or read(directory, PK) != b"older":
-            raise Failure(f"it left the files {sorted(os.listdir(directory))}")
+        expect(set(os.listdir(directory)) == {PK, SK} and read(directory, PK) == b"older",
+               f"it left the files {sorted(os.listdir(directory))}")
 
 
 def one_file_cases():

@@ -14,13 +14,14 @@ import os
 import subprocess
 import sys
 import tempfile
+from functools import partial
 
 HERE = os.path.dirname(os.path.realpath(__file__))
 sys.path.append(os.path.join(HERE, "..", "shared"))
 
 import needs
 from keygen_runs import keygen_cases
-from running import CLOSED, Case, FULL, Failure, Runner, Skip
+from running import CLOSED, Case, FULL, Runner, run_cases
 from sign_runs import sign_cases
 from toy import WARNING
 from verify_raw_runs import KEY, SIGNATURE, by_bytes, verify_raw_cases
@@ -81,21 +82,17 @@ CASES = {
 
 def run_all(program):
     """Runs all cases, prints those that failed or were skipped, and answers how many passed and how many failed."""
-    passed, failed = 0, 0
     with tempfile.TemporaryDirectory(prefix="real-runs-") as room:
         runner = Runner(program, room)
-        for command, cases in CASES.items():
-            for case in cases():
-                name = f"{os.path.basename(program)}: {command}: {case.name}"
-                try:
-                    runner.run(case)
-                    passed += 1
-                except Skip as why:
-                    print(f"skipped: {name}: {why}")
-                except (Failure, needs.Missing) as why:
-                    failed += 1
-                    print(f"FAILED: {name}: {why}")
-    return passed, failed
+        return run_named(program, ((f"{command}: {case.name}", partial(runner.run, case)) for command, cases in CASES.items() for case in cases()))
+
+
+def run_named(program, cases):
+    """Runs named cases over a program, prints what failed, and answers how many passed and how many failed."""
+    failures, count = run_cases(cases)
+    for failure in failures:
+        print(f"FAILED: {os.path.basename(program)}: {failure}")
+    return count - len(failures), len(failures)
 
 
 def built_programs():

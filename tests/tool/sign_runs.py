@@ -7,30 +7,8 @@ from dataclasses import replace
 
 import toy
 from keygen_runs import MADE, PK
-from running import (
-    CLOSED,
-    DIRECTORY,
-    FULL,
-    LOCKED,
-    MISSING,
-    NO_READER,
-    WRITE_ONLY,
-    PrefixOf,
-    Case,
-    Failure,
-    FedPipe,
-    FromFile,
-    OneOf,
-    OpenedPipe,
-    Pieces,
-    RoomFor,
-    Sources,
-    Typed,
-    UnopenedPipe,
-    Unreadable,
-    WithList,
-    WithMode,
-)
+from running import (CLOSED, DIRECTORY, FULL, LOCKED, MISSING, NO_READER, WRITE_ONLY, Case, Failure, FedPipe, FromFile, OneOf, OpenedPipe,
+                     Pieces, PrefixOf, RoomFor, Sources, Typed, UnopenedPipe, Unreadable, WithList, WithMode, expect)
 from toy import NOT_UTF8, OUT_OF_MEMORY, READING_FAILED, TOO_SHORT, WARNING, WRITING_FAILED
 
 WRONG_PASSWORD = "error: Wrong password for that key\n"
@@ -78,12 +56,9 @@ class Signed:
 
     def __call__(self, directory):
         path = os.path.join(directory, self.name)
-        if not os.path.exists(path):
-            raise Failure("it left no signature")
-        if os.stat(path).st_mode & 0o777 != self.mode:
-            raise Failure(f"the signature has the mode {os.stat(path).st_mode & 0o777:o}")
-        if not set(os.listdir(directory)) <= {SK, FILE, self.name}:
-            raise Failure(f"it left the files {sorted(os.listdir(directory))}")
+        expect(os.path.exists(path), "it left no signature")
+        expect(os.stat(path).st_mode & 0o777 == self.mode, f"the signature has the mode {os.stat(path).st_mode & 0o777:o}")
+        expect(set(os.listdir(directory)) <= {SK, FILE, self.name}, f"it left the files {sorted(os.listdir(directory))}")
         with open(path, "rb") as file:
             check_signature(self.data, file.read())
 
@@ -97,18 +72,14 @@ class Left:
     def __call__(self, directory):
         path = os.path.join(directory, SIG)
         if self.signature == MISSING:
-            if os.path.exists(path):
-                raise Failure("it left a signature")
+            expect(not os.path.exists(path), "it left a signature")
         elif self.signature == DIRECTORY:
-            if os.listdir(path):
-                raise Failure("it left something in a directory")
+            expect(not os.listdir(path), "it left something in a directory")
         else:
             with open(path, "rb") as file:
                 held = file.read()
-            if held != self.signature:
-                raise Failure(f"it left {held[:200]} in place of {self.signature[:200]}")
-        if not set(os.listdir(directory)) <= {SK, FILE, SIG, "locked"}:
-            raise Failure(f"it left the files {sorted(os.listdir(directory))}")
+            expect(held == self.signature, f"it left {held[:200]} in place of {self.signature[:200]}")
+        expect(set(os.listdir(directory)) <= {SK, FILE, SIG, "locked"}, f"it left the files {sorted(os.listdir(directory))}")
 
 
 def check_signature(data, text):
@@ -120,18 +91,15 @@ def check_signature(data, text):
         seconds = int(moment)
     except ValueError as error:
         raise Failure(f"a signature is {text!r}") from error
-    if first != b"untrusted comment: signature from rsign secret key" or rest:
-        raise Failure(f"a signature is {text!r}")
-    if label != b"trusted comment: timestamp" or abs(seconds - time.time()) > 60 or moment != b"%d" % seconds:
-        raise Failure(f"a trusted comment is {third!r}")
-    if len(record) != 74 or record[:10] != b"ED" + toy.KEYNUM:
-        raise Failure(f"a record is {record!r}")
+    expect(first == b"untrusted comment: signature from rsign secret key" and not rest, f"a signature is {text!r}")
+    expect(label == b"trusted comment: timestamp" and abs(seconds - time.time()) <= 60 and moment == b"%d" % seconds,
+           f"a trusted comment is {third!r}")
+    expect(len(record) == 74 and record[:10] == b"ED" + toy.KEYNUM, f"a record is {record!r}")
     trusted = third[len(b"trusted comment: "):]
-    if not toy.is_accepted(toy.digest(data), record[10:]) or not toy.is_accepted(record[10:] + trusted, comment_signature):
-        raise Failure("a signature is not accepted")
+    expect(toy.is_accepted(toy.digest(data), record[10:]) and toy.is_accepted(record[10:] + trusted, comment_signature),
+           "a signature is not accepted")
     drawn = {record[10:42], comment_signature[:32]}
-    if len(drawn) < 2 or drawn & DRAWN_BEFORE or bytes(32) in drawn:
-        raise Failure("random bytes come twice")
+    expect(len(drawn) >= 2 and not drawn & DRAWN_BEFORE and bytes(32) not in drawn, "random bytes come twice")
     DRAWN_BEFORE.update(drawn)
 
 

@@ -11,6 +11,7 @@ Without arguments it runs the program that `rt ci` or `rt run` left in the direc
 Needs Python 3.9 or later and a C compiler, which it installs where it may.
 """
 
+import contextlib
 import errno
 import os
 import resource
@@ -25,19 +26,18 @@ HERE = os.path.dirname(os.path.realpath(__file__))
 sys.path.append(os.path.join(HERE, "..", "shared"))
 
 import toy
+from disturbed import content, in_turn, place_for, run_at_once, small_disk, without_room
 from keygen_runs import PK, SK, public_record, record_of
 from process import told
-from real_runs import count_over
-from running import NOBODY, SECONDS, Failure, Skip, build_preload
+from real_runs import count_over, run_named
+from running import NOBODY, SECONDS, Failure, Skip, build_preload, expect
 from sign_runs import FILE, OPEN_KEY, SIG, check_signature
 
 WRITING_FAILED = toy.WRITING_FAILED.encode()
 LEGACY = b"error: Legacy signatures are not accepted\n"
 STAGE = ".minisign_tool-"
 PUBLIC_FRONT, SECRET_FRONT = b"untrusted comment: minisign", b"untrusted comment: rsign"
-MEMORY = "/dev/shm"
 TYPED = b"p\np\n"
-MAX_CALLS = 500
 
 
 class Task:
@@ -66,21 +66,19 @@ class Task:
         """Which of the targets are new. Raises a `Failure` where one is neither the old nor a new one, where anything
         else was changed, and where a file stands beside them."""
         for name, target in self.links.items():
-            if not os.path.islink(os.path.join(directory, name)) or os.readlink(os.path.join(directory, name)) != target:
-                raise Failure(f"the link {name} is gone")
+            expect(os.path.islink(os.path.join(directory, name)) and os.readlink(os.path.join(directory, name)) == target,
+                   f"the link {name} is gone")
         found = {os.path.relpath(os.path.join(at, name), directory) for at, _, names in os.walk(directory) for name in names}
         for name in sorted(found - set(self.files) - set(self.links) - set(self.targets)):
             self.check_stage(directory, name, killed)
         for name, data in self.files.items():
-            if name not in self.targets and content(directory, name) != data:
-                raise Failure(f"{name} was changed")
+            expect(name in self.targets or content(directory, name) == data, f"{name} was changed")
         return tuple(self.is_new(directory, name, judge) for name, judge in self.targets.items())
 
     def check_stage(self, directory, name, killed):
         """Only a killed run leaves a file beside the others, under a name of its own. It has no more permissions than the
         files that were there, or than a new file of its kind, whatever it holds by then."""
-        if not killed or not os.path.basename(name).startswith(STAGE):
-            raise Failure(f"it left {name}")
+        expect(killed and os.path.basename(name).startswith(STAGE), f"it left {name}")
         if mode_of(directory, name) & ~self.permissions_of(directory, name):
             raise Failure(f"{name} has the mode {mode_of(directory, name):o}")
 
@@ -99,21 +97,11 @@ class Task:
         held, older = content(directory, name), self.files.get(name)
         if held == older:
             return False
-        if held is None:
-            raise Failure(f"{name} is gone")
+        expect(held is not None, f"{name} is gone")
         judge(held)
         if older is not None and mode_of(directory, name) != self.mode:
             raise Failure(f"{name} has the mode {mode_of(directory, name):o}")
         return True
-
-
-def content(directory, name):
-    """What a file holds, or None where it is not there."""
-    try:
-        with open(os.path.join(directory, name), "rb") as file:
-            return file.read()
-    except FileNotFoundError:
-        return None
 
 
 def mode_of(directory, name):
@@ -156,49 +144,52 @@ class Surviving:
     def __init__(self, program, room):
         self.program = program
         self.room = room
-        self.place = MEMORY if os.access(MEMORY, os.W_OK) else room
-        self.preload = build_preload(room, "break_calls")
+        self.place = place_for(room)
+        self.preload = build_preload(room, "disturbed_calls")
 
-    def run(self, directory, arguments, environment=None, passed=(), prepare=None, stdin=TYPED):
+    @contextlib.contextmanager
+    def made(self, task):
+        """A fresh directory with what stands there before a task."""
+        with tempfile.TemporaryDirectory(dir=self.place) as directory:
+            task.make(directory)
+            yield directory
+
+    def run(self, directory, arguments, environment=None, program=None, **how):
         """The exit status and the error stream of a run in a directory."""
-        ran = subprocess.run([self.program, *arguments], cwd=directory, env=environment or {}, input=stdin, pass_fds=passed,
-                             stdout=subprocess.PIPE, stderr=subprocess.PIPE, preexec_fn=prepare, umask=0o022, timeout=SECONDS)
+        given = {} if "stdin" in how else {"input": TYPED}
+        ran = subprocess.run([program or self.program, *arguments], cwd=directory, env=environment or {}, umask=0o022, timeout=SECONDS,
+                             stderr=subprocess.PIPE, **{"stdout": subprocess.PIPE, **given, **how})
         return ran.returncode, ran.stderr
 
     def run_broken(self, directory, task, **how):
         """The same with a call broken, and whether the run came to that call."""
         environment = {"LD_PRELOAD": self.preload, **{name: str(value) for name, value in how.items()}}
-        (status, said), came = told(lambda says: self.run(directory, task.arguments, {**environment, "BREAK_SAYS": str(says)}, [says]))
+        (status, said), came = told(lambda says: self.run(directory, task.arguments, {**environment, "BREAK_SAYS": str(says)}, pass_fds=[says]))
         return status, said, came
 
     def break_each(self, task, judge, **how):
         """Breaks each of the calls in turn, and hands to `judge` what each run left; answers how many there were."""
-        for number in range(1, MAX_CALLS):
-            with tempfile.TemporaryDirectory(dir=self.place) as directory:
-                task.make(directory)
-                status, said, came = self.run_broken(directory, task, BREAK_AT=number, **how)
-                try:
-                    judge(number if came else None, status, said, directory)
-                except Failure as why:
-                    raise Failure(f"at call {number}: {why}") from why
-            if not came:
-                return number - 1
-        raise Failure(f"it made {MAX_CALLS} calls")
+
+        def attempt(number, directory):
+            task.make(directory)
+            status, said, came = self.run_broken(directory, task, BREAK_AT=number, **how)
+            judge(number if came else None, status, said, directory)
+            return came
+
+        return in_turn(self.place, attempt)
 
     def killed(self, task):
         """A run that is killed before each of its calls. The secret key is replaced last."""
         seen = set()
 
         def judge(number, status, said, directory):
-            expect(status, -signal.SIGKILL if number else 0, said)
+            ended(status, -signal.SIGKILL if number else 0, said)
             new = task.check(directory, killed=number is not None)
-            if list(new) != sorted(new, reverse=True):
-                raise Failure("a later file is new, and an earlier one is not")
+            expect(list(new) == sorted(new, reverse=True), "a later file is new, and an earlier one is not")
             seen.add(sum(new))
 
         self.break_each(task, judge)
-        if seen != set(range(len(task.targets) + 1)):
-            raise Failure(f"the kills left {sorted(seen)} new files alone")
+        expect(seen == set(range(len(task.targets) + 1)), f"the kills left {sorted(seen)} new files alone")
 
     def failing(self, task, calls, number_of_new, number=errno.EIO, **how):
         """A run in which each of these calls fails in turn; `number_of_new` answers how many files are new then, or
@@ -208,46 +199,33 @@ class Surviving:
             new = sum(task.check(directory))
             wanted = number_of_new(at) if at else None
             if wanted is None:
-                expect(status, 0, said)
+                ended(status, 0, said)
                 wanted = len(task.targets)
             else:
-                expect(status, 1, said)
-                if not said.endswith(WRITING_FAILED):
-                    raise Failure(f"it said {said}")
-            if new != wanted:
-                raise Failure(f"{new} files are new in place of {wanted}")
+                ended(status, 1, said)
+                expect(said.endswith(WRITING_FAILED), f"it said {said}")
+            expect(new == wanted, f"{new} files are new in place of {wanted}")
 
-        if not self.break_each(task, judge, BREAK_CALLS=calls, BREAK_ERRNO=number, **how):
-            raise Failure("it made no such call")
+        expect(self.break_each(task, judge, BREAK_CALLS=calls, BREAK_ERRNO=number, **how), "it made no such call")
 
     def failing_whatever(self, task, calls):
         """A run in which each of these calls fails in turn, and which ends with all files old or all new."""
 
         def judge(at, status, said, directory):
             new = sum(task.check(directory))
-            if (status, new) not in [(0, len(task.targets)), (1, 0)]:
-                raise Failure(f"it ended with status {status} and {new} new files, and said {said}")
+            expect((status, new) in [(0, len(task.targets)), (1, 0)],
+                   f"it ended with status {status} and {new} new files, and said {said}")
 
         self.break_each(task, judge, BREAK_CALLS=calls, BREAK_ERRNO=errno.EIO)
 
     def on_full_disk(self, task):
         """A run on a small file system without room."""
-        with tempfile.TemporaryDirectory(dir=self.place) as directory, SmallDisk(directory):
+        with tempfile.TemporaryDirectory(dir=self.place) as directory, small_disk(directory):
             task.make(directory)
-            fill = os.open(os.path.join(directory, "fill"), os.O_WRONLY | os.O_CREAT)
-            try:
-                while True:
-                    os.write(fill, bytes(4096))
-            except OSError as error:
-                if error.errno != errno.ENOSPC:
-                    raise
-            finally:
-                os.close(fill)
-            status, said = self.run(directory, task.arguments)
-            os.remove(os.path.join(directory, "fill"))
-            expect(status, 1, said)
-            if not said.endswith(WRITING_FAILED) or any(task.check(directory)):
-                raise Failure(f"it said {said}")
+            with without_room(directory):
+                status, said = self.run(directory, task.arguments)
+            ended(status, 1, said)
+            expect(said.endswith(WRITING_FAILED) and not any(task.check(directory)), f"it said {said}")
 
     def within_file_size(self, task, ignored):
         """A run with a limit on the size of files, whose signal ends it, or is ignored as its caller may have it."""
@@ -256,105 +234,82 @@ class Surviving:
             resource.setrlimit(resource.RLIMIT_FSIZE, (100, 100))
             signal.signal(signal.SIGXFSZ, signal.SIG_IGN if ignored else signal.SIG_DFL)
 
-        with tempfile.TemporaryDirectory(dir=self.place) as directory:
-            task.make(directory)
-            status, said = self.run(directory, task.arguments, prepare=prepare)
-            expect(status, 1 if ignored else -signal.SIGXFSZ, said)
-            if any(task.check(directory, killed=not ignored)):
-                raise Failure("a file is new")
-            if ignored and not said.endswith(WRITING_FAILED):
-                raise Failure(f"it said {said}")
+        with self.made(task) as directory:
+            status, said = self.run(directory, task.arguments, preexec_fn=prepare)
+            ended(status, 1 if ignored else -signal.SIGXFSZ, said)
+            expect(not any(task.check(directory, killed=not ignored)), "a file is new")
+            expect(not ignored or said.endswith(WRITING_FAILED), f"it said {said}")
 
     def keeps_owner(self):
         """A run as root over another's file, which stays that one's."""
         if os.geteuid() != 0:
             raise Skip("only root may give a file away")
-        task = REPLACED_PAIR
-        with tempfile.TemporaryDirectory(dir=self.place) as directory:
-            task.make(directory)
+        with self.made(REPLACED_PAIR) as directory:
             for name in (PK, SK):
                 os.chown(os.path.join(directory, name), 12345, 54321)
-            status, said = self.run(directory, task.arguments)
-            expect(status, 0, said)
-            if not all(task.check(directory)):
-                raise Failure("a file is old")
+            status, said = self.run(directory, REPLACED_PAIR.arguments)
+            ended(status, 0, said)
+            expect(all(REPLACED_PAIR.check(directory)), "a file is old")
             for name in (PK, SK):
                 found = os.stat(os.path.join(directory, name))
-                if (found.st_uid, found.st_gid) != (12345, 54321):
-                    raise Failure(f"{name} belongs to {found.st_uid} and {found.st_gid}")
+                expect((found.st_uid, found.st_gid) == (12345, 54321), f"{name} belongs to {found.st_uid} and {found.st_gid}")
 
     def takes_what_it_may(self, owner, group, mode, left):
         """A run as nobody over a file that may be written, of this owner, group and mode, which leaves `left`."""
         if os.geteuid() != 0:
             raise Skip("only root may give a file away and become nobody")
-        with tempfile.TemporaryDirectory(dir=self.place) as directory:
-            REPLACED_SIGNATURE.make(directory)
-            program = os.path.join(self.room, "program")
-            shutil.copy(self.program, program)
+        with self.made(REPLACED_SIGNATURE) as directory:
+            program = shutil.copy(self.program, os.path.join(self.room, "program"))
             os.chmod(self.room, 0o711)
             os.chown(directory, NOBODY, NOBODY)
             os.chown(os.path.join(directory, SIG), owner, group)
             os.chmod(os.path.join(directory, SIG), mode)
-            ran = subprocess.run([program, *SIGN], cwd=directory, env={}, stdin=subprocess.DEVNULL, stdout=subprocess.DEVNULL,
-                                 stderr=subprocess.PIPE, user=NOBODY, group=NOBODY, extra_groups=[], timeout=SECONDS)
-            expect(ran.returncode, 0, ran.stderr)
+            status, said = self.run(directory, SIGN, program=program, user=NOBODY, group=NOBODY, extra_groups=[])
+            ended(status, 0, said)
             is_signature(content(directory, SIG))
             found = os.stat(os.path.join(directory, SIG))
-            if (found.st_uid, found.st_gid, stat.S_IMODE(found.st_mode)) != left:
-                raise Failure(f"it left the owner {found.st_uid}, the group {found.st_gid} and the mode {stat.S_IMODE(found.st_mode):o}")
+            expect((found.st_uid, found.st_gid, stat.S_IMODE(found.st_mode)) == left, f"it left {found}")
 
     def taken_names(self, count):
         """A run that draws the same number each time, in a directory in which so many names from that one on are taken."""
         taken = [f"{STAGE}{number:016x}" for number in range(count)]
         environment = {"LD_PRELOAD": self.preload, "DRAW_ZEROS": "1"}
-        with tempfile.TemporaryDirectory(dir=self.place) as directory:
-            REPLACED_PAIR.make(directory)
+        with self.made(REPLACED_PAIR) as directory:
             for name in taken:
                 with open(os.path.join(directory, name), "wb") as file:
                     file.write(b"another's")
             status, said = self.run(directory, REPLACED_PAIR.arguments, environment)
             for name in taken:
-                if content(directory, name) != b"another's":
-                    raise Failure(f"{name} was changed")
+                expect(content(directory, name) == b"another's", f"{name} was changed")
                 os.remove(os.path.join(directory, name))
-            expect(status, 0 if count < 99 else 1, said)
-            if sum(REPLACED_PAIR.check(directory)) != (2 if status == 0 else 0):
-                raise Failure("a file is old, or new")
+            ended(status, 0 if count < 99 else 1, said)
+            expect(sum(REPLACED_PAIR.check(directory)) == (2 if status == 0 else 0), "a file is old, or new")
 
-    def at_once(self, runs=8):
+    def at_once(self):
         """Runs that replace the same file at once."""
-        with tempfile.TemporaryDirectory(dir=self.place) as directory:
-            NEW_SIGNATURE.make(directory)
-            started = [subprocess.Popen([self.program, *SIGN], cwd=directory, env={}, stdin=subprocess.DEVNULL, stdout=subprocess.DEVNULL,
-                                        stderr=subprocess.PIPE) for _ in range(runs)]
-            for process in started:
-                said = process.communicate(timeout=SECONDS)[1]
-                expect(process.returncode, 0, said)
-            if not all(NEW_SIGNATURE.check(directory)):
-                raise Failure("there is no signature")
+        with self.made(NEW_SIGNATURE) as directory:
+            for status, said in run_at_once([self.program, *SIGN], directory, {}):
+                ended(status, 0, said)
+            expect(all(NEW_SIGNATURE.check(directory)), "there is no signature")
 
     def into_standard_output(self):
         """A signature into a file that standard output leads into goes into that very file."""
-        with tempfile.TemporaryDirectory(dir=self.place) as directory:
-            NEW_SIGNATURE.make(directory)
+        with self.made(NEW_SIGNATURE) as directory:
             with open(os.path.join(directory, SIG), "w+b") as output:
                 inode = os.fstat(output.fileno()).st_ino
-                ran = subprocess.run([self.program, "sign", SK, FILE, "/dev/stdout"], cwd=directory, env={}, stdin=subprocess.DEVNULL,
-                                     stdout=output, stderr=subprocess.PIPE, timeout=SECONDS)
-                expect(ran.returncode, 0, ran.stderr)
+                status, said = self.run(directory, ["sign", SK, FILE, "/dev/stdout"], stdout=output)
+                ended(status, 0, said)
             is_signature(content(directory, SIG))
-            if os.stat(os.path.join(directory, SIG)).st_ino != inode or set(os.listdir(directory)) != {SK, FILE, SIG, "kept"}:
-                raise Failure("it replaced the file")
+            expect(os.stat(os.path.join(directory, SIG)).st_ino == inode and set(os.listdir(directory)) == {SK, FILE, SIG, "kept"},
+                   "it replaced the file")
 
     def under_odd_path(self):
         """A program whose path is no UTF-8."""
-        with tempfile.TemporaryDirectory(dir=self.place) as directory:
+        with self.made(NEW_SIGNATURE) as directory:
             odd = os.path.join(os.fsencode(self.room), b"tool\xff")
             shutil.copy(self.program, odd)
-            NEW_SIGNATURE.make(directory)
-            ran = subprocess.run([odd, b"sign", os.fsencode(SK), os.fsencode(FILE), os.fsencode(SIG)], cwd=directory, env={},
-                                 stdin=subprocess.DEVNULL, stdout=subprocess.PIPE, stderr=subprocess.PIPE, timeout=SECONDS)
-            expect(ran.returncode, 0, ran.stderr)
+            status, said = self.run(directory, map(os.fsencode, SIGN), program=odd)
+            ended(status, 0, said)
             is_signature(content(directory, SIG))
 
     def legacy_within(self, command, mebibytes=2):
@@ -370,12 +325,10 @@ class Surviving:
             os.truncate(os.path.join(directory, "large"), 1 << 30)
             least = next((kibibytes for kibibytes in range(1024, 65536, 256)
                           if self.run_within(directory, command, "nothing", "new", kibibytes)[0] == 0), None)
-            if least is None:
-                raise Failure("64 MiB are not enough for no data")
+            expect(least is not None, "64 MiB are not enough for no data")
             status, said = self.run_within(directory, command, "large", "old", least + 1024 * mebibytes)
-            expect(status, 1, said)
-            if not said.endswith(LEGACY):
-                raise Failure(f"it said {said}")
+            ended(status, 1, said)
+            expect(said.endswith(LEGACY), f"it said {said}")
 
     def run_within(self, directory, command, data, signature, kibibytes):
         """A run of a command that verifies within so much memory."""
@@ -383,31 +336,13 @@ class Surviving:
         arguments = [command, "raw.pk", signature + ".raw"] if raw else [command, PK, data, signature + ".sig"]
         bound = kibibytes * 1024
         with open(os.path.join(directory, data), "rb") as file:
-            ran = subprocess.run([self.program, *arguments], cwd=directory, env={}, stdin=file if raw else subprocess.DEVNULL,
-                                 stdout=subprocess.DEVNULL, stderr=subprocess.PIPE, timeout=SECONDS,
-                                 preexec_fn=lambda: resource.setrlimit(resource.RLIMIT_AS, (bound, bound)))
-        return ran.returncode, ran.stderr
+            return self.run(directory, arguments, stdin=file if raw else subprocess.DEVNULL, stdout=subprocess.DEVNULL,
+                            preexec_fn=lambda: resource.setrlimit(resource.RLIMIT_AS, (bound, bound)))
 
 
-class SmallDisk:
-    """A file system of 64 KiB in a directory, while it is entered."""
-
-    def __init__(self, directory):
-        self.directory = directory
-
-    def __enter__(self):
-        if os.geteuid() != 0 or shutil.which("mount") is None:
-            raise Skip("no small disk may be mounted here")
-        if subprocess.run(["mount", "-t", "tmpfs", "-o", "size=64k", "tmpfs", self.directory], stderr=subprocess.DEVNULL).returncode:
-            raise Skip("no small disk may be mounted here")
-
-    def __exit__(self, *_):
-        subprocess.run(["umount", self.directory], check=True)
-
-
-def expect(status, wanted, said):
-    if status != wanted:
-        raise Failure(f"it ended with status {status} in place of {wanted}, and said {said}")
+def ended(status, wanted, said):
+    """Raises a `Failure` where a run ended with another status."""
+    expect(status == wanted, f"it ended with status {status} in place of {wanted}, and said {said}")
 
 
 def cases(surviving):
@@ -456,18 +391,8 @@ def cases(surviving):
 
 def run_all(program):
     """Runs all cases, prints those that failed or were skipped, and answers how many passed and how many failed."""
-    passed, failed = 0, 0
     with tempfile.TemporaryDirectory(prefix="surviving-") as room:
-        for name, run in cases(Surviving(program, room)):
-            try:
-                run()
-                passed += 1
-            except Skip as why:
-                print(f"skipped: {os.path.basename(program)}: {name}: {why}")
-            except (Failure, subprocess.SubprocessError) as why:
-                failed += 1
-                print(f"FAILED: {os.path.basename(program)}: {name}: {why}")
-    return passed, failed
+        return run_named(program, cases(Surviving(program, room)))
 
 
 if __name__ == "__main__":

@@ -4,21 +4,8 @@ import os
 from dataclasses import replace
 
 import toy
-from running import (
-    CLOSED,
-    DIRECTORY,
-    FULL,
-    MISSING,
-    NO_READER,
-    WRITE_ONLY,
-    Case,
-    FromFile,
-    OpenedPipe,
-    Pieces,
-    RoomFor,
-    UnopenedPipe,
-    Unreadable,
-)
+from running import (CLOSED, DIRECTORY, FULL, MISSING, NO_READER, WRITE_ONLY, Case, FromFile, OpenedPipe, Pieces, RoomFor, UnopenedPipe,
+                     Unreadable)
 from toy import OUT_OF_MEMORY, READING_FAILED, TOO_SHORT, WARNING
 
 VERIFIED = "Signature and comment signature verified\n"

@@ -4,26 +4,8 @@ import os
 from dataclasses import replace
 
 import toy
-from running import (
-    CLOSED,
-    DIRECTORY,
-    FULL,
-    MISSING,
-    NO_READER,
-    PrefixOf,
-    Case,
-    Failure,
-    FedPipe,
-    IntoFile,
-    Link,
-    OneOf,
-    OpenedPipe,
-    ReadLate,
-    RoomFor,
-    SecondName,
-    UnopenedPipe,
-    Unreadable,
-)
+from running import (CLOSED, DIRECTORY, FULL, MISSING, NO_READER, Case, FedPipe, IntoFile, Link, OneOf, OpenedPipe, PrefixOf, ReadLate, RoomFor,
+                     SecondName, UnopenedPipe, Unreadable, expect)
 from toy import NOT_UTF8, OUT_OF_MEMORY, READING_FAILED, TOO_SHORT, WARNING, WRITING_FAILED
 
 VERIFIED = "Signature and comment signature verified\nTrusted comment: t\n"
@@ -304,8 +286,7 @@ class Holds:
     def __call__(self, directory):
         with open(os.path.join(directory, self.name), "rb") as file:
             held = file.read()
-        if held != self.data:
-            raise Failure(f"{self.name} holds {held[:200]} in place of {self.data}")
+        expect(held == self.data, f"{self.name} holds {held[:200]} in place of {self.data}")
 
 
 def changed_cases():

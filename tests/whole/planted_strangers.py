@@ -75,7 +75,7 @@ BUGS = [
         "if (place.is_secret && S_ISFIFO(found->st_mode) && is_strangers(found) && !S_ISDIR",
         "a stranger's terminal, by its name"),
     Bug("standard streams are as other pipes", "minisign/places.c",
-        " && !is_stream(found)) {\n        reject", ") {\n        reject",
+        " && !is_stream(found)) {\n        blame", ") {\n        blame",
         "a stranger's pipe without a name, as standard output"),
     Bug("links are left to the system", "minisign/places.c",
         "if (is_put_by_stranger(place, link, &around, S_IWOTH)) {",

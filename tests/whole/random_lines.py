@@ -30,7 +30,7 @@ sys.path += [os.path.join(HERE, "..", name) for name in ("shared", "minisign", "
 import ending
 import needs
 import static_library
-from running import Failure, build_preload
+from running import Failure, build_preload, expect
 from whole_breaking import STAGE, is_secret
 from whole_cases import CLOSED, OPEN, OTHER, PASSWORD, PUBLIC, keys_of
 from whole_minisign import heed_signals
@@ -224,25 +224,21 @@ def check_files(before, directory, line):
     for at, _, names in os.walk(directory):
         for name in names:
             path = os.path.join(at, name)
-            if name.startswith(STAGE):
-                raise Failure(f"it left {name}")
+            expect(not name.startswith(STAGE), f"it left {name}")
             if not os.path.islink(path):
                 with open(path, "rb") as file:
                     found[os.path.relpath(path, directory)] = file.read()
     for name, data in before.files.items():
         path = os.path.join(directory, name)
-        if name not in found:
-            raise Failure(f"{name!r} is gone")
-        if found[name] != data and os.path.realpath(path) not in outputs:
-            raise Failure(f"{name!r} was changed")
+        expect(name in found, f"{name!r} is gone")
+        expect(found[name] == data or os.path.realpath(path) in outputs, f"{name!r} was changed")
         if data in before.secrets and (name == line.secret and line.command != "G" or line.command == "C"):
             is_secret(found[name])
     for name, data in found.items():
         mode = stat.S_IMODE(os.stat(os.path.join(directory, name)).st_mode)
-        if data.startswith(b"untrusted comment: minisign encrypted secret key") and data != before.files.get(name) and mode != 0o600:
-            raise Failure(f"{name!r} has the mode {mode:o}")
-        if data == b"" and before.files.get(name) != b"":
-            raise Failure(f"{name!r} is empty")
+        expect(not data.startswith(b"untrusted comment: minisign encrypted secret key") or data == before.files.get(name) or mode == 0o600,
+               f"{name!r} has the mode {mode:o}")
+        expect(data != b"" or before.files.get(name) == b"", f"{name!r} is empty")
 
 
 def check_signatures(before, directory, line):
@@ -255,8 +251,7 @@ def check_signatures(before, directory, line):
         return
     command = [before.whole.theirs, "-Vm", data, "-P", before.inline]
     ran = subprocess.run(command, cwd=directory, stdin=subprocess.DEVNULL, stdout=subprocess.DEVNULL, stderr=subprocess.PIPE, timeout=SECONDS_OF_LINE)
-    if ran.returncode != 0:
-        raise Failure(f"Minisign does not verify what was signed: {ran.stderr!r}")
+    expect(ran.returncode == 0, f"Minisign does not verify what was signed: {ran.stderr!r}")
 
 
 def check_line(before, line):
@@ -264,16 +259,16 @@ def check_line(before, line):
     with tempfile.TemporaryDirectory(prefix="random-line-") as directory:
         before.make(directory)
         ran = run(before.whole.ours, directory, line)
-        if ran.returncode not in (0, 1, 2) or any(word in ran.stderr for word in REPORTS):
-            raise Failure(f"it ended with {ran.returncode}, and said {ran.stderr[-1500:].decode(errors='replace')}")
+        expect(ran.returncode in (0, 1, 2) and not any(word in ran.stderr for word in REPORTS),
+               f"it ended with {ran.returncode}, and said {ran.stderr[-1500:].decode(errors='replace')}")
         check_files(before, directory, line)
         if line.command == "S" and ran.returncode == 0 and not any(flag in line.arguments for flag in ("-v", "-p", "-P")):
             check_signatures(before, directory, line)
         if line.command == "V" and line.is_plain():
             theirs = run(before.whole.theirs, directory, line)
             is_same_verdict = (theirs.returncode == 0) == (ran.returncode == 0)
-            if theirs.returncode != ran.returncode and not (is_same_verdict and line.may_be_tested_in_another_order(directory)):
-                raise Failure(f"it ended with {ran.returncode}, {ran.stderr!r}, and Minisign with {theirs.returncode}, {theirs.stderr!r}")
+            expect(theirs.returncode == ran.returncode or is_same_verdict and line.may_be_tested_in_another_order(directory),
+                   f"it ended with {ran.returncode}, {ran.stderr!r}, and Minisign with {theirs.returncode}, {theirs.stderr!r}")
 
 
 def check_lines(before, seed, numbers, end):

@@ -2,6 +2,7 @@
 and within a bound on the size of files, while it makes keys, changes one, writes a public key again and signs. After each
 run every file is the older one or a new one, whole, and a secret key is its owner's alone."""
 
+import contextlib
 import errno
 import os
 import resource
@@ -11,14 +12,12 @@ import stat
 import subprocess
 import tempfile
 
+from disturbed import in_turn, place_for, run_at_once, small_disk, without_room
 from permissions import COMMON, WITH_LISTS, permission_cases
 from process import told
-from running import Failure, build_preload, run_cases
-from surviving import SmallDisk
+from running import Failure, build_preload, expect, run_cases
 from whole_running import SECONDS, files_in, put_files, record_of
 
-MEMORY = "/dev/shm"
-MAX_CALLS = 400
 STAGE = ".minisign-"
 
 
@@ -36,40 +35,35 @@ class Task:
         new = 0
         for name, (mode, data) in found.items():
             if name.endswith(".key") or data.startswith(b"untrusted comment: minisign encrypted"):
-                if mode != 0o600:
-                    raise Failure(f"{name} has the mode {mode:o}")
+                expect(mode == 0o600, f"{name} has the mode {mode:o}")
             if name in self.judges:
                 if data != self.files.get(name):
                     self.judges[name](data)
                     new += 1
             elif name not in self.files:
-                if not killed or not os.path.basename(name).startswith(STAGE):
-                    raise Failure(f"it left {name}")
+                expect(killed and os.path.basename(name).startswith(STAGE), f"it left {name}")
             elif data != self.files[name]:
                 raise Failure(f"{name} was changed")
         lost = set(self.files) - set(found)
-        if lost:
-            raise Failure(f"{sorted(lost)} are gone")
+        expect(not lost, f"{sorted(lost)} are gone")
         return new
 
 
 def is_public(data):
     """A whole text of a public key."""
-    if not data.startswith(b"untrusted comment: minisign public key ") or len(record_of(data)) != 42 or not data.endswith(b"\n"):
-        raise Failure(f"it left {data!r}")
+    expect(data.startswith(b"untrusted comment: minisign public key ") and len(record_of(data)) == 42 and data.endswith(b"\n"),
+           f"it left {data!r}")
 
 
 def is_secret(data):
     """A whole text of a secret key."""
-    if not data.startswith(b"untrusted comment: ") or len(record_of(data)) != 158 or not data.endswith(b"\n"):
-        raise Failure(f"it left {data!r}")
+    expect(data.startswith(b"untrusted comment: ") and len(record_of(data)) == 158 and data.endswith(b"\n"), f"it left {data!r}")
 
 
 def is_signature(data):
     """A whole text of a signature."""
     lines = data.split(b"\n")
-    if len(lines) != 5 or lines[4] != b"" or len(record_of(data)) != 74 or len(lines[3]) != 88:
-        raise Failure(f"it left {data!r}")
+    expect(len(lines) == 5 and lines[4] == b"" and len(record_of(data)) == 74 and len(lines[3]) == 88, f"it left {data!r}")
 
 
 def tasks(keys):
@@ -98,9 +92,16 @@ class Breaking:
 
     def __init__(self, program, room):
         self.program = program
-        self.place = MEMORY if os.access(MEMORY, os.W_OK) else room
-        self.preload = build_preload(room, "break_calls")
+        self.place = place_for(room)
+        self.preload = build_preload(room, "disturbed_calls")
         self.rejecting = build_preload(room, "refuse_memory")
+
+    @contextlib.contextmanager
+    def made(self, task):
+        """A fresh directory with what stands there before a task."""
+        with tempfile.TemporaryDirectory(dir=self.place) as directory:
+            put_files(directory, task.files)
+            yield directory
 
     def run(self, directory, task, environment=None, passed=(), prepare=None):
         ran = subprocess.run([self.program, *task.arguments], cwd=directory, env=environment or {}, stdin=subprocess.DEVNULL,
@@ -115,17 +116,14 @@ class Breaking:
 
     def break_each(self, task, judge, **how):
         """Breaks each of the calls in turn, and hands to `judge` what each run left: how many calls there were."""
-        for number in range(1, MAX_CALLS):
-            with tempfile.TemporaryDirectory(dir=self.place) as directory:
-                put_files(directory, task.files)
-                (status, said), came = self.broken_at(number, task, directory, how)
-                try:
-                    judge(came, status, said, directory)
-                except Failure as why:
-                    raise Failure(f"at call {number}: {why}") from why
-            if not came:
-                return number - 1
-        raise Failure(f"it made {MAX_CALLS} calls")
+
+        def attempt(number, directory):
+            put_files(directory, task.files)
+            (status, said), came = self.broken_at(number, task, directory, how)
+            judge(came, status, said, directory)
+            return came
+
+        return in_turn(self.place, attempt)
 
     def killed(self, task):
         """A run that is killed before each of its calls leaves each number of new files, the public key before the
@@ -133,16 +131,14 @@ class Breaking:
         seen = set()
 
         def judge(came, status, said, directory):
-            if status != (-signal.SIGKILL if came else 0):
-                raise Failure(f"it ended with {status}, and said {said}")
+            expect(status == (-signal.SIGKILL if came else 0), f"it ended with {status}, and said {said}")
             new = task.check(directory, killed=came)
             seen.add(new)
-            if new == 1 and len(task.judges) == 2 and files_in(directory).get("a.pub", (0, None))[1] == task.files.get("a.pub"):
-                raise Failure("the secret key is new, and the public one is not")
+            expect(new != 1 or len(task.judges) != 2 or files_in(directory).get("a.pub", (0, None))[1] != task.files.get("a.pub"),
+                   "the secret key is new, and the public one is not")
 
         self.break_each(task, judge)
-        if seen != set(range(len(task.judges) + 1)):
-            raise Failure(f"the kills left {sorted(seen)} new files")
+        expect(seen == set(range(len(task.judges) + 1)), f"the kills left {sorted(seen)} new files")
 
     def failing(self, task, number, **how):
         """A run in which each call fails in turn: it exits with status 2 and says why, or does all that it has to."""
@@ -150,86 +146,71 @@ class Breaking:
 
         def judge(came, status, said, directory):
             new = task.check(directory)
-            if status == 0 and new != count or status != 0 and (status != 2 or not said) or task.belong_together and new not in (0, count):
-                raise Failure(f"it ended with {status} and {new} new files, and said {said}")
-            if not came and status != 0:
-                raise Failure(f"it ended with {status}, and said {said}")
+            expect((status != 0 or new == count) and (status == 0 or status == 2 and said) and (not task.belong_together or new in (0, count)),
+                   f"it ended with {status} and {new} new files, and said {said}")
+            expect(came or status == 0, f"it ended with {status}, and said {said}")
 
-        if self.break_each(task, judge, BREAK_ERRNO=number, **how) < 3:
-            raise Failure("it made hardly any call")
+        expect(self.break_each(task, judge, BREAK_ERRNO=number, **how) >= 3, "it made hardly any call")
 
     def failing_writes(self, task, number, **how):
         """A run in which a write fails: nothing is new but what was written before."""
 
         def judge(came, status, said, directory):
             new = task.check(directory)
-            if came and (status != 2 or new > task.before_failing or os.strerror(number).encode() not in said):
-                raise Failure(f"it ended with {status} and {new} new files, and said {said}")
+            expect(not came or status == 2 and new <= task.before_failing and os.strerror(number).encode() in said,
+                   f"it ended with {status} and {new} new files, and said {said}")
 
-        if not self.break_each(task, judge, BREAK_ERRNO=number, BREAK_CALLS="write", **how):
-            raise Failure("it writes nothing")
+        expect(self.break_each(task, judge, BREAK_ERRNO=number, BREAK_CALLS="write", **how), "it writes nothing")
 
     def refused_allocations(self, task):
         """A run with each of its allocations failing in turn exits with status 2 and no new file, or does all that it has to."""
-        count = len(task.judges)
-        for number in range(1, MAX_CALLS):
-            with tempfile.TemporaryDirectory(dir=self.place) as directory:
-                put_files(directory, task.files)
-                environment = {"LD_PRELOAD": self.rejecting, "REFUSE_AT": str(number)}
-                (status, said), came = told(lambda says: self.run(directory, task, {**environment, "REFUSE_SAYS": str(says)}, [says]))
-                new = task.check(directory)
-                if (status, new) != (0, count) and (status != 2 or not said or not came):
-                    raise Failure(f"request {number}: it ended with {status} and {new} new files, and said {said}")
-            if not came:
-                return
-        raise Failure(f"it made {MAX_CALLS} requests")
+
+        def attempt(number, directory):
+            put_files(directory, task.files)
+            environment = {"LD_PRELOAD": self.rejecting, "REFUSE_AT": str(number)}
+            (status, said), came = told(lambda says: self.run(directory, task, {**environment, "REFUSE_SAYS": str(says)}, [says]))
+            new = task.check(directory)
+            expect((status, new) == (0, len(task.judges)) or status == 2 and said and came,
+                   f"it ended with {status} and {new} new files, and said {said}")
+            return came
+
+        in_turn(self.place, attempt)
 
     def on_full_disk(self, task):
         """A run on a file system without room: nothing is new, and it says so."""
-        with tempfile.TemporaryDirectory(dir=self.place) as directory, SmallDisk(directory):
+        with tempfile.TemporaryDirectory(dir=self.place) as directory, small_disk(directory):
             put_files(directory, task.files)
-            with open(os.path.join(directory, "fill"), "wb", buffering=0) as fill:
-                try:
-                    while True:
-                        fill.write(bytes(4096))
-                except OSError as error:
-                    if error.errno != errno.ENOSPC:
-                        raise
-            status, said = self.run(directory, task)
-            os.remove(os.path.join(directory, "fill"))
-            if status != 2 or os.strerror(errno.ENOSPC).encode() not in said or task.check(directory) != 0:
-                raise Failure(f"it ended with {status}, and said {said}")
+            with without_room(directory):
+                status, said = self.run(directory, task)
+            expect(status == 2 and os.strerror(errno.ENOSPC).encode() in said and task.check(directory) == 0,
+                   f"it ended with {status}, and said {said}")
 
     def within_file_size(self, task):
         """A run with a bound on the size of files."""
-        with tempfile.TemporaryDirectory(dir=self.place) as directory:
-            put_files(directory, task.files)
+        with self.made(task) as directory:
             status, said = self.run(directory, task, prepare=lambda: resource.setrlimit(resource.RLIMIT_FSIZE, (50, 50)))
-            if status != 2 or os.strerror(errno.EFBIG).encode() not in said or task.check(directory) != 0:
-                raise Failure(f"it ended with {status}, and said {said}")
+            expect(status == 2 and os.strerror(errno.EFBIG).encode() in said and task.check(directory) == 0,
+                   f"it ended with {status}, and said {said}")
 
     def ended_by_signal(self, task, number):
         """A run gets a signal when it brings its file to the disk or puts it in its place: nothing is left beside it."""
-        with tempfile.TemporaryDirectory(dir=self.place) as directory:
-            put_files(directory, task.files)
+        with self.made(task) as directory:
             status, said = self.run(directory, task, {"LD_PRELOAD": self.preload, "BREAK_AT": "1", "BREAK_CALLS": "fsync linkat rename renameat renameat2",
                                                    "BREAK_SIGNAL": str(int(number))})
-            if status != -number or task.check(directory) != 0:
-                raise Failure(f"it ended with {status}, and said {said}")
+            expect(status == -number and task.check(directory) == 0, f"it ended with {status}, and said {said}")
 
     def keeps_permissions(self, task, mode):
         """A run over a file with these permissions, of another owner where that can be had, keeps both."""
         name = next(iter(task.judges))
-        with tempfile.TemporaryDirectory(dir=self.place) as directory:
-            put_files(directory, task.files)
+        with self.made(task) as directory:
             path = os.path.join(directory, name)
             os.chmod(path, mode)
             owner = (12345, 54321) if os.geteuid() == 0 else (os.geteuid(), os.stat(path).st_gid)
             os.chown(path, *owner)
             status, said = self.run(directory, task)
             found = os.stat(path)
-            if status != 0 or (found.st_uid, found.st_gid, stat.S_IMODE(found.st_mode)) != (*owner, mode):
-                raise Failure(f"it ended with {status}, and left {found.st_uid}, {found.st_gid}, {found.st_mode:o}: {said}")
+            expect(status == 0 and (found.st_uid, found.st_gid, stat.S_IMODE(found.st_mode)) == (*owner, mode),
+                   f"it ended with {status}, and left {found.st_uid}, {found.st_gid}, {found.st_mode:o}: {said}")
 
     def through_links(self, task):
         """A run over files that are reached by links, of which the last may lead to nothing yet, keeps the links."""
@@ -242,43 +223,33 @@ class Breaking:
                 os.symlink(f"./kept/{name}", os.path.join(directory, f"{name}.link"))
                 os.symlink(f"{name}.link", os.path.join(directory, name))
             status, said = self.run(directory, task)
-            if status != 0 or not all(os.path.islink(os.path.join(directory, name)) for name in task.judges):
-                raise Failure(f"it ended with {status}, and said {said}")
+            expect(status == 0 and all(os.path.islink(os.path.join(directory, name)) for name in task.judges),
+                   f"it ended with {status}, and said {said}")
             for name, judge in task.judges.items():
                 with open(os.path.join(directory, "kept", name), "rb") as file:
                     judge(file.read())
 
     def into_pipe(self, task):
         """A signature that goes into a pipe."""
-        with tempfile.TemporaryDirectory(dir=self.place) as directory:
-            put_files(directory, task.files)
+        with self.made(task) as directory:
             ran = subprocess.run([self.program, *task.arguments, "-x", "/dev/stdout"], cwd=directory, stdin=subprocess.DEVNULL,
                                  stdout=subprocess.PIPE, stderr=subprocess.PIPE, timeout=SECONDS)
-            if ran.returncode != 0:
-                raise Failure(f"it ended with {ran.returncode}, and said {ran.stderr}")
+            expect(ran.returncode == 0, f"it ended with {ran.returncode}, and said {ran.stderr}")
             is_signature(ran.stdout)
 
-    def at_once(self, task, runs=8):
+    def at_once(self, task):
         """Runs that write the same files at once: all end well, and each file is whole."""
-        with tempfile.TemporaryDirectory(dir=self.place) as directory:
-            put_files(directory, task.files)
-            started = [subprocess.Popen([self.program, *task.arguments], cwd=directory, stdin=subprocess.DEVNULL,
-                                        stdout=subprocess.DEVNULL, stderr=subprocess.PIPE, umask=0o022) for _ in range(runs)]
-            ended = [(process.communicate(timeout=SECONDS)[1], process.returncode) for process in started]
-            if any(status for _, status in ended) or task.check(directory) != len(task.judges):
-                raise Failure(f"they ended with {ended}")
+        with self.made(task) as directory:
+            ended = run_at_once([self.program, *task.arguments], directory)
+            expect(not any(status for status, _ in ended) and task.check(directory) == len(task.judges), f"they ended with {ended}")
 
-    def first_alone(self, task, runs=8):
+    def first_alone(self, task):
         """Runs that make the same new pair at once: it is the pair of one of them."""
         with tempfile.TemporaryDirectory(dir=self.place) as directory:
-            started = [subprocess.Popen([self.program, *task.arguments], cwd=directory, stdin=subprocess.DEVNULL,
-                                        stdout=subprocess.DEVNULL, stderr=subprocess.PIPE, umask=0o022) for _ in range(runs)]
-            statuses = sorted(process.wait(SECONDS) for process in started)
-            for process in started:
-                process.stderr.close()
+            statuses = sorted(status for status, _ in run_at_once([self.program, *task.arguments], directory))
             public, secret = (record_of(files_in(directory)[name][1]) for name in ("a.pub", "a.key"))
-            if statuses != [0] + [1] * (runs - 1) or (public[2:10], public[10:]) != (secret[54:62], secret[94:126]):
-                raise Failure(f"they ended with {statuses}")
+            expect(statuses == [0] + [1] * (len(statuses) - 1) and (public[2:10], public[10:]) == (secret[54:62], secret[94:126]),
+                   f"they ended with {statuses}")
 
 
 class ReplacingBySigning:

@@ -1,5 +1,5 @@
-"""Damaged files, and keys of one program that the other uses: what Minisign's own program and `c/minisign` do with each.
-Where they differ, docs/DIFFERENCES.md has a row that speaks of the text."""
+"""Damaged secret keys: what Minisign's own program and `c/minisign` do with each. Where they differ, docs/DIFFERENCES.md has a row that
+speaks of the text. (Damaged signatures and public keys `tests/minisign/real_minisign.py` has.)"""
 
 import collections
 import concurrent.futures
@@ -8,50 +8,15 @@ import random
 import tempfile
 
 import minisign_differences as differences
-from minisign_cases import Minisign, damaged, fresh_cases, letter_damages, line_damages, lines, random_cases, randomly_changed, record_damages, \
-    whole_damages, with_line
-from minisign_running import Answer, arguments_of, put_case, run
-from real_minisign import kept_cases, wrong_of
+from minisign_cases import letter_damages, line_damages, lines, randomly_changed, record_damages, whole_damages, with_line
+from running import read
 from whole_cases import CLOSED, OPEN, PASSWORD
-from whole_running import HOME, Step, checksum_of, names_text, put_files, run_step, sealed
+from whole_running import HOME, Step, checksum_of, put_files, run_step
 
-SIGNATURES = 1500
 KEYS = 900
-LABEL = b"untrusted comment: "
 LONGEST_LINE = 1022
 RECORD_BYTES = 158
 LETTERS = 212
-
-
-# ---- Signatures and public keys ----
-
-
-def signature_cases(whole, room):
-    """Texts of public keys and signatures, damaged and not, some of all those of tests/minisign/real_minisign.py."""
-    directory = os.path.join(room, "signatures")
-    os.mkdir(directory)
-    kept, _ = kept_cases()
-    found = [*fresh_cases(Minisign(whole.theirs, directory)), *random_cases(kept, SIGNATURES)]
-    return random.Random(35).sample(found, SIGNATURES)
-
-
-def run_signatures(whole, cases):
-    """Verifies these cases with both programs: the failures, and how many ran."""
-    failures = []
-    with tempfile.TemporaryDirectory(prefix="whole-signatures-") as directory:
-        for case in cases:
-            put_case(directory, case)
-            theirs, ours = (run([program, *arguments_of(case)], directory) for program in (whole.theirs, whole.ours))
-            # (that the line after the first one is right is tested in `whole_words.py`)
-            if theirs.status == ours.status == 2 and names_text(theirs.said, ours.said):
-                ours = Answer(ours.status, ours.output, theirs.said)
-            wrong, _ = wrong_of(case, theirs, ours, None)
-            if wrong:
-                failures.append(f"{case.name}: {wrong}")
-    return failures, len(cases), {}
-
-
-# ---- Secret keys ----
 
 
 def damaged_keys(keys):
@@ -130,8 +95,7 @@ def answer(program, preload, directory):
             os.remove(path)
         ran.append(run_step(program, preload, directory, Step(arguments, PASSWORD + b"\n")))
         if os.path.exists(path):
-            with open(path, "rb") as file:
-                left[made] = file.read()
+            left[made] = read(path)
     return ran, left
 
 
@@ -152,19 +116,9 @@ def wrong_of_key(answers, text):
     return f"Minisign {theirs[0]}, {theirs[1]}; ours {ours[0]}, {ours[1]}", ""
 
 
-# ---- All of it ----
-
-
-def run_damaged(whole, room, keys):
-    """Runs all of it: the failures, how many cases ran, and how often each row explained a difference."""
-    cases, texts = signature_cases(whole, room), damaged_keys(keys)
-    workers = os.cpu_count() or 1
-    count = 2 * workers
+def run_damaged(whole, keys):
+    """Runs all of them: the failures, how many cases ran, and how often each row explained a difference."""
+    texts, workers = damaged_keys(keys), os.cpu_count() or 1
     with concurrent.futures.ProcessPoolExecutor(workers) as pool:
-        jobs = [pool.submit(run_signatures, whole, cases[start::count]) for start in range(count)]
-        jobs += [pool.submit(run_keys, whole, texts[start::count]) for start in range(count)]
-        results = [job.result() for job in jobs]
-    seen = collections.Counter()
-    for _, _, entries in results:
-        seen.update(entries)
-    return [failure for some, _, _ in results for failure in some], sum(ran for _, ran, _ in results), seen
+        results = list(pool.map(run_keys, [whole] * workers, [texts[start::workers] for start in range(workers)]))
+    return [failure for some, _, _ in results for failure in some], len(texts), sum((seen for _, _, seen in results), collections.Counter())

@@ -16,9 +16,9 @@ import time
 import needs
 import static_library
 from minisign_streams import full_pipe, wait_for_rest
-from running import Failure, build_preload
+from running import Failure, build_preload, expect, run_cases
 from whole_cases import CLOSED, DATA, OPEN, OTHER, PASSWORD, PUBLIC
-from whole_running import HOME, SECONDS, AtTerminal, Step, put_files, record_of, run_step, run_steps, sealed, text_of
+from whole_running import HOME, SECONDS, AtTerminal, Step, put_files, record_of, run_step, run_steps, text_of
 
 HERE = os.path.dirname(os.path.realpath(__file__))
 C_DIRECTORY = static_library.DIRECTORY
@@ -62,11 +62,15 @@ class Safety:
     def ours(self, directory, *arguments, typed=b"", at_terminal=False):
         return run_step(self.whole.ours, "", directory, Step(arguments, typed, at_terminal=at_terminal))
 
+    def costly(self):
+        """The sealed key with the limits of a usual one: it takes seconds to find out that a password is wrong."""
+        record = record_of(self.keys[CLOSED])
+        return text_of(record[:38] + (33554432).to_bytes(8, "little") + (1 << 30).to_bytes(8, "little") + record[54:])
+
     def asked(self, directory, *arguments):
         """A run at a terminal that has asked for a password."""
         at = AtTerminal(["minisign", *arguments], self.whole.ours, directory, {"HOME": HOME})
-        if not at.read_until(QUESTION):
-            raise Failure(f"it never asked: {at.shown!r}")
+        expect(at.read_until(QUESTION), f"it never asked: {at.shown!r}")
         wait_until(lambda: not at.shows_typed(), "it shows what is typed")
         return at
 
@@ -81,8 +85,7 @@ class Safety:
             at.process.wait(SECONDS)
             shows = at.shows_typed()
             status = at.end()
-            if status != -number or not shows:
-                raise Failure(f"it ended with {status}, and the terminal shows what is typed: {shows}")
+            expect(status == -number and shows, f"it ended with {status}, and the terminal shows what is typed: {shows}")
 
     def echo_by_key(self):
         """The keys of a person that end a program do the same."""
@@ -90,25 +93,19 @@ class Safety:
         at.type(b"half\x03")
         at.process.wait(SECONDS)
         shows = at.shows_typed()
-        if at.end() != -signal.SIGINT or not shows:
-            raise Failure("the terminal does not show what is typed")
+        expect(at.end() == -signal.SIGINT and shows, "the terminal does not show what is typed")
 
     def stopped_and_continued(self):
         """A program that a person stops while it asks lets the terminal show what is typed, and asks again afterwards."""
         directory = self.directory()
         at = AtTerminal(["python", "-c", SHELL, self.whole.ours, "-Sm", "data", "-s", CLOSED], sys.executable, directory, {"HOME": HOME})
-        if not at.read_until(QUESTION):
-            raise Failure(f"it never asked: {at.shown!r}")
+        expect(at.read_until(QUESTION), f"it never asked: {at.shown!r}")
         wait_until(lambda: not at.shows_typed(), "it shows what is typed")
         at.type(b"half\x1a")
         wait_until(at.shows_typed, "the terminal does not show what is typed")
-        if not at.read_until(rb"Password: [^P]*Password: $"):
-            raise Failure(f"it does not ask again: {at.shown!r}")
+        expect(at.read_until(rb"Password: [^P]*Password: $"), f"it does not ask again: {at.shown!r}")
         wait_until(lambda: not at.shows_typed(), "it shows what is typed")
-        at.type(PASSWORD + b"\n")
-        at.read_until(None)
-        if at.end() != 0 or not os.path.exists(os.path.join(directory, "data.minisig")):
-            raise Failure(f"it did not sign: {at.shown!r}")
+        expect(at.finish(PASSWORD + b"\n") == 0 and os.path.exists(os.path.join(directory, "data.minisig")), f"it did not sign: {at.shown!r}")
 
     def locked(self):
         """While it asks, its secrets are locked in memory, and no core file would be written."""
@@ -119,8 +116,8 @@ class Safety:
             core = re.search(r"Max core file size\s+(\d+)", limits.read())
         at.process.kill()
         at.end()
-        if kibibytes < 12 or core is None or int(core.group(1)) != 0:
-            raise Failure(f"{kibibytes} KiB are locked, and core files: {core}")
+        expect(kibibytes >= 12 and core is not None and int(core.group(1)) == 0,
+               f"{kibibytes} KiB are locked, and core files: {core}")
 
     def cleared_by_signal(self, number):
         """A signal at the second question of a new pair: the password that was typed, and the secret key that was drawn, were in
@@ -135,8 +132,7 @@ class Safety:
             at = AtTerminal(["minisign", "-G", "-p", "a.pub", "-s", "a.key"], self.whole.ours, directory,
                             {"HOME": HOME, "LD_PRELOAD": f"{finder} {draws}", "FIND": turned, "FIND_SAYS": says})
             for question, typed in ((QUESTION, b"a long password\n"), (rb"\(one more time\): $", b"a long p")):
-                if not at.read_until(question):
-                    raise Failure(f"it never asked: {at.shown!r}")
+                expect(at.read_until(question), f"it never asked: {at.shown!r}")
                 at.wait_for_hiding()
                 at.type(typed)
             at.process.send_signal(number)
@@ -144,8 +140,8 @@ class Safety:
             status = at.end()
             with open(says, encoding="ascii") as file:
                 found = file.read()
-            if status != -number or not re.search(r"\+!\+!-$", found):
-                raise Failure(f"it ended with {status}, and {secret!r} was found so: {found[-20:]}")
+            expect(status == -number and re.search(r"\+!\+!-$", found),
+                   f"it ended with {status}, and {secret!r} was found so: {found[-20:]}")
 
     def passwords_apart(self):
         """Bytes after the line of a password are left on the pipe."""
@@ -155,8 +151,7 @@ class Safety:
         with os.fdopen(reader, "rb", buffering=0) as pipe:
             ran = subprocess.run([self.whole.ours, "-Sm", "data", "-s", CLOSED], cwd=self.directory(), stdin=pipe,
                                  stdout=subprocess.PIPE, stderr=subprocess.PIPE, timeout=SECONDS)
-            if ran.returncode != 0 or pipe.read() != b"left over":
-                raise Failure(f"it ended with {ran.returncode}: {ran.stderr!r}")
+            expect(ran.returncode == 0 and pipe.read() == b"left over", f"it ended with {ran.returncode}: {ran.stderr!r}")
 
     # ---- Memory ----
 
@@ -167,55 +162,50 @@ class Safety:
             raise Failure(f"Minisign makes no key: {ran[0]}")
         directory = self.directory(**{"default.key": files["a.key"][1], "default.pub": files["a.pub"][1]})
         status, kibibytes, said = with_memory([self.whole.ours, "-Sm", "data", "-s", "default.key", "-k", ROWS], directory, b"p\n")
-        if status != 0 or kibibytes > 1024 * MEBIBYTES:
-            raise Failure(f"it ended with {status} and took {kibibytes} KiB: {said!r}")
+        expect(status == 0 and kibibytes <= 1024 * MEBIBYTES, f"it ended with {status} and took {kibibytes} KiB: {said!r}")
         self.expect_accepted(directory, "default.pub")
         status, kibibytes, said = with_memory([self.whole.ours, "-C", "-s", "default.key", "-k", ROWS], directory, b"p\nq\nq\n")
-        if status != 0 or kibibytes > 1024 * MEBIBYTES:
-            raise Failure(f"changing: it ended with {status} and took {kibibytes} KiB: {said!r}")
+        expect(status == 0 and kibibytes <= 1024 * MEBIBYTES,
+               f"changing: it ended with {status} and took {kibibytes} KiB: {said!r}")
         ran = run_step(self.whole.theirs, "", directory, Step(("-Sm", "more", "-s", "default.key"), b"q\n"))
-        if ran.status != 0:
-            raise Failure(f"Minisign does not open what was changed: {ran}")
+        expect(ran.status == 0, f"Minisign does not open what was changed: {ran}")
 
     def opens_where_memory_is_short(self):
         """A key of usual limits opens where there is no room for all of its rows: of those that do not fit, fewer are kept."""
-        record = record_of(self.keys[CLOSED])
-        costly = text_of(record[:38] + (33554432).to_bytes(8, "little") + (1 << 30).to_bytes(8, "little") + record[54:])
-        directory = self.directory(**{"costly.key": costly})
+        directory = self.directory(**{"costly.key": self.costly()})
         bound = 300 << 20
         ran = subprocess.run([self.whole.ours, "-Sm", "data", "-s", "costly.key"], cwd=directory, input=b"wrong\n", stdout=subprocess.PIPE,
                              stderr=subprocess.PIPE, timeout=SECONDS, preexec_fn=lambda: resource.setrlimit(resource.RLIMIT_AS, (bound, bound)))
-        if ran.returncode != 2 or not ran.stderr.endswith(b"Wrong password for that key\n"):
-            raise Failure(f"it ended with {ran.returncode}: {ran.stderr!r}")
+        expect(ran.returncode == 2 and ran.stderr.endswith(b"Wrong password for that key\n"),
+               f"it ended with {ran.returncode}: {ran.stderr!r}")
 
     def expect_accepted(self, directory, public):
         for program in (self.whole.theirs, self.whole.ours):
             ran = run_step(program, "", directory, Step(("-Vm", "data", "-p", public)))
-            if ran.status != 0:
-                raise Failure(f"{program} rejects it: {ran}")
+            expect(ran.status == 0, f"{program} rejects it: {ran}")
 
     def shows_derivation(self):
         """At a terminal a long derivation shows a dot each second."""
-        record = record_of(self.keys[CLOSED])
-        costly = record[:38] + (33554432).to_bytes(8, "little") + (1 << 30).to_bytes(8, "little") + record[54:]
-        at = self.asked(self.directory(**{"costly.key": text_of(costly)}), "-Sm", "data", "-s", "costly.key", "-k", "2")
-        at.type(b"wrong\n")
-        at.read_until(None)
-        if at.end() != 2 or not re.search(rb"secret key\.\.\. \.+done\r\n\r\nWrong password", at.shown):
-            raise Failure(f"it showed {at.shown!r}")
+        at = self.asked(self.directory(**{"costly.key": self.costly()}), "-Sm", "data", "-s", "costly.key", "-k", "2")
+        expect(at.finish(b"wrong\n") == 2 and re.search(rb"secret key\.\.\. \.+done\r\n\r\nWrong password", at.shown), f"it showed {at.shown!r}")
 
     def shows_reading(self):
         """At a terminal it shows how much of a file was read that takes long, and takes that away at the end."""
         directory = self.directory()
         self.ours(directory, "-Sm", "data", "-s", OPEN)
-        os.mkfifo(os.path.join(directory, "slow"))
-        writer = threading.Thread(target=write_slowly, args=(os.path.join(directory, "slow"), DATA["data"]))
+        status, shown = self.read_slowly(directory, "slow")
+        expect(status == 0 and re.search(rb"\rslow 0 MiB\r\x1b\[KSignature and", shown), f"it showed {shown!r}")
+
+    def read_slowly(self, directory, name, *flags):
+        """Verifies the data at a terminal while it comes slowly through a pipe of this name: the exit status, and what was shown."""
+        path = os.path.join(directory, name)
+        os.mkfifo(path)
+        writer = threading.Thread(target=write_slowly, args=(path, DATA["data"]))
         writer.start()
-        at = AtTerminal(["minisign", "-Vm", "slow", "-x", "data.minisig", "-p", PUBLIC], self.whole.ours, directory, {})
+        at = AtTerminal(["minisign", "-Vm", name, "-x", "data.minisig", "-p", PUBLIC, *flags], self.whole.ours, directory, {})
         at.read_until(None)
         writer.join(SECONDS)
-        if at.end() != 0 or not re.search(rb"\rslow 0 MiB\r\x1b\[KSignature and", at.shown):
-            raise Failure(f"it showed {at.shown!r}")
+        return at.end(), at.shown
 
     # ---- What is shown and copied ----
 
@@ -226,15 +216,14 @@ class Safety:
         directory = self.directory()
         self.ours(directory, "-Sm", "data", "-s", OPEN, "-t", comment)
         piped = self.ours(directory, "-Vm", "data", "-p", PUBLIC)
-        if not piped.output.endswith(f"Trusted comment: {comment}\n".encode()):
-            raise Failure(f"into a pipe: {piped}")
+        expect(piped.output.endswith(f"Trusted comment: {comment}\n".encode()), f"into a pipe: {piped}")
         for flags in ((), ("-Q",)):
             shown = self.ours(directory, "-Vm", "data", "-p", PUBLIC, *flags, at_terminal=True)
             wanted = ("tab\there \\u{1b}[31mred\\u{7} \\u{7f} \\u{85} \\u{9b}2J \\u{202e}gnp\\u{202c} \\u{2066}x\\u{2069} "
                       "\u00e9\u20ac\U0001f511\r\n")
             # A terminal may show a tab as spaces.
-            if not re.sub(rb"[\t ]+", b" ", shown.output).endswith(re.sub(rb"[\t ]+", b" ", wanted.encode())):
-                raise Failure(f"at a terminal: {shown}")
+            expect(re.sub(rb"[\t ]+", b" ", shown.output).endswith(re.sub(rb"[\t ]+", b" ", wanted.encode())),
+                   f"at a terminal: {shown}")
 
     def copies_of_pipes(self):
         """Data from a pipe is copied out once it was verified, and nothing is copied where it was not."""
@@ -242,8 +231,7 @@ class Safety:
         self.ours(directory, "-Sm", "data", "-s", OPEN)
         for data, wanted in ((DATA["data"], (0, DATA["data"])), (b"other data\n", (1, b""))):
             ran = self.ours(directory, "-Vom", "/dev/stdin", "-x", "data.minisig", "-p", PUBLIC, typed=data)
-            if (ran.status, ran.output) != wanted:
-                raise Failure(f"{data!r}: {ran}")
+            expect((ran.status, ran.output) == wanted, f"{data!r}: {ran}")
 
     def changed_while_copied(self, change):
         """Data that changes once it was verified: what is copied is the front of what was verified, and it ends badly."""
@@ -277,8 +265,7 @@ class Safety:
             for length in (0, 1, 8, 15, 16, 17, 4095, 4096, 4097, 70000, 131071, 131072):
                 piece = os.urandom(length)
                 ran = subprocess.run([program], input=key + piece, stdout=subprocess.PIPE, timeout=SECONDS, check=True)
-                if int(ran.stdout, 16) != tag_of(key, piece):
-                    raise Failure(f"{length} bytes have the tag {ran.stdout}, {flags}")
+                expect(int(ran.stdout, 16) == tag_of(key, piece), f"{length} bytes have the tag {ran.stdout}, {flags}")
 
     def copies_large_files(self):
         """Data of many pieces is copied whole."""
@@ -287,8 +274,7 @@ class Safety:
             directory = self.directory(large=data)
             self.ours(directory, "-Sm", "large", "-s", OPEN)
             ran = self.ours(directory, "-Vom", "large", "-p", PUBLIC)
-            if ran.status != 0 or ran.output != data:
-                raise Failure(f"{length} bytes: {ran.status}, {len(ran.output)} bytes")
+            expect(ran.status == 0 and ran.output == data, f"{length} bytes: {ran.status}, {len(ran.output)} bytes")
 
     def full_output(self):
         """Where the output is full it does not end well."""
@@ -298,8 +284,7 @@ class Safety:
             with open("/dev/full", "wb") as full:
                 ran = subprocess.run([self.whole.ours, *arguments], cwd=directory, stdin=subprocess.DEVNULL, stdout=full,
                                      stderr=subprocess.PIPE, timeout=SECONDS)
-            if ran.returncode != 2:
-                raise Failure(f"{arguments}: it ended with {ran.returncode}")
+            expect(ran.returncode == 2, f"{arguments}: it ended with {ran.returncode}")
 
     # ---- Keys ----
 
@@ -309,8 +294,7 @@ class Safety:
         record[94:126] = record_of(self.keys[OTHER])[10:]
         directory = self.directory(**{"mixed.key": text_of(bytes(record))})
         ran = self.ours(directory, "-Sm", "data", "-s", "mixed.key")
-        if ran.status != 2 or os.path.exists(os.path.join(directory, "data.minisig")):
-            raise Failure(f"{ran}")
+        expect(ran.status == 2 and not os.path.exists(os.path.join(directory, "data.minisig")), f"{ran}")
 
 
 def nh(key, message):
@@ -357,8 +341,7 @@ def write_slowly(path, data):
 def wait_until(holds, otherwise):
     end = time.monotonic() + SECONDS / 10
     while not holds():
-        if time.monotonic() > end:
-            raise Failure(otherwise)
+        expect(time.monotonic() <= end, otherwise)
         time.sleep(0.01)
 
 
@@ -419,11 +402,4 @@ def cases(safety):
 
 def run_safety(whole, room, keys):
     """Runs all of them: the failures, and how many cases there were."""
-    failures, count = [], 0
-    for name, run in cases(Safety(whole, room, keys)):
-        count += 1
-        try:
-            run()
-        except (Failure, subprocess.SubprocessError, OSError) as why:
-            failures.append(f"{name}: {why}")
-    return failures, count
+    return run_cases(cases(Safety(whole, room, keys)))

@@ -18,10 +18,10 @@ from dataclasses import dataclass
 from functools import partial
 
 from permissions import list_of
-from running import NOBODY, Failure, Skip, build_preload, run_cases, set_list
-from whole_breaking import MEMORY, is_public, is_secret, is_signature
+from disturbed import Mounted, place_for, while_stopped
+from running import NOBODY, Failure, Skip, build_preload, expect, read, run_cases, set_list
+from whole_breaking import is_public, is_secret, is_signature
 from whole_cases import CLOSED, OPEN, PASSWORD, PUBLIC
-from whole_places import Mounted
 from whole_running import PASSED_THROUGH, AtTerminal, put_files
 
 # A run that does not end within so many seconds waits for somebody.
@@ -104,10 +104,10 @@ class Strangers:
 
     def __init__(self, program, room, keys):
         self.keys = keys
-        self.kept = tempfile.TemporaryDirectory(dir=MEMORY if os.access(MEMORY, os.W_OK) else None)
+        self.kept = tempfile.TemporaryDirectory(dir=place_for(None))
         os.chmod(self.kept.name, PASSED_THROUGH)
         self.program = shutil.copy(program, os.path.join(self.kept.name, "minisign"))
-        self.preload = build_preload(room, "break_calls")
+        self.preload = build_preload(room, "disturbed_calls")
         self.commands = commands_with(keys)
 
     def directory(self, user, owner=ROOT, mode=0o1777):
@@ -151,14 +151,12 @@ class Strangers:
     def accepted(self, user, command, standing, owner=None):
         """It is written: into the pipe, or over the file, which has this owner then."""
         ended, path = self.over(user, command, standing)
-        if ended.status != 0:
-            raise Failure(f"it ended with {ended.status}, and said {ended.said!r}")
+        expect(ended.status == 0, f"it ended with {ended.status}, and said {ended.said!r}")
         if standing.what == PIPE:
             command.judge(ended.read)
             return
         command.judge(read(path))
-        if os.stat(path).st_uid != owner:
-            raise Failure(f"it is {os.stat(path).st_uid}'s in place of {owner}'s")
+        expect(os.stat(path).st_uid == owner, f"it is {os.stat(path).st_uid}'s in place of {owner}'s")
 
     def never_opened(self, user, command):
         """A stranger's pipe that nobody reads: nothing waits for that."""
@@ -177,8 +175,7 @@ class Strangers:
     def asked(self, directory, *arguments, **variables):
         """A run of root's at a terminal that has asked for a password."""
         at = AtTerminal(["minisign", *arguments], self.program, directory, {"HOME": "own", **variables})
-        if not at.read_until(QUESTION):
-            raise Failure(f"it never asked: {at.shown!r}")
+        expect(at.read_until(QUESTION), f"it never asked: {at.shown!r}")
         at.wait_for_hiding()
         return at
 
@@ -190,8 +187,8 @@ class Strangers:
         reader = put(path, standing, OLDER)
         answer(at, typed)
         ended = at.end()
-        if ended != status or said.encode() not in at.shown or take(reader):
-            raise Failure(f"it ended with {ended}, and showed {at.shown!r}")
+        expect(ended == status and said.encode() in at.shown and not take(reader),
+               f"it ended with {ended}, and showed {at.shown!r}")
         expect_untouched(path, standing, OLDER)
 
     def swapped_meanwhile(self, arguments, typed):
@@ -207,8 +204,8 @@ class Strangers:
         make(path, Standing(FILE, STRANGER), b"his")
         answer(at, typed)
         ended = at.end()
-        if ended != 2 or f"shared/it: {NOW_ANOTHERS}".encode() not in at.shown or read(path) != b"his":
-            raise Failure(f"it ended with {ended}, and showed {at.shown!r}")
+        expect(ended == 2 and f"shared/it: {NOW_ANOTHERS}".encode() in at.shown and read(path) == b"his",
+               f"it ended with {ended}, and showed {at.shown!r}")
 
     def stopping(self, directory, number):
         """A run for a new secret key that is stopped before its call of this number that opens something."""
@@ -221,22 +218,20 @@ class Strangers:
         """In a directory where all may do all: a stranger puts a pipe that is read in the place of root's own, before each call that
         opens something. No key goes into the stranger's."""
         for number in range(1, MAX_OPENINGS):
-            directory = self.directory(ROOT, mode=0o777)
+            directory, others = self.directory(ROOT, mode=0o777), []
             path = os.path.join(directory, "shared", "it")
             own = put(path, Standing(PIPE, ROOT), b"")
-            with self.stopping(directory, number) as process:
-                _, status = os.waitpid(process.pid, os.WUNTRACED)
-                if not os.WIFSTOPPED(status):
-                    process.returncode = os.waitstatus_to_exitcode(status)
-                    is_secret(take(own))
-                    return
+
+            def swap(path=path, others=others):
                 os.rename(path, path + ".own")
-                others = put(path, Standing(PIPE, STRANGER), b"")
-                process.send_signal(signal.SIGCONT)
-                _, said = process.communicate(timeout=SECONDS)
-            got, kept = take(others), take(own)
-            if got or (process.returncode == 0) != (kept != b""):
-                raise Failure(f"at opening {number} a stranger got {got!r}, and root {kept!r}: {said!r}")
+                others.append(put(path, Standing(PIPE, STRANGER), b""))
+
+            is_stopped, status, said = while_stopped(self.stopping(directory, number), swap, SECONDS)
+            got, kept = b"".join(map(take, others)), take(own)
+            expect(not got and (status == 0) == (kept != b""), f"at opening {number} a stranger got {got!r}, and root {kept!r}: {said!r}")
+            if not is_stopped:
+                is_secret(kept)
+                return
         raise Failure(f"it never ended: {said!r}")
 
     def comes_at_each_opening(self):
@@ -246,28 +241,22 @@ class Strangers:
             directory = self.directory(ROOT, mode=0o777)
             path = os.path.join(directory, "shared", "it")
             make(path, Standing(FILE, ROOT), OLDER)
-            process = self.stopping(directory, number)
-            with process:
-                _, status = os.waitpid(process.pid, os.WUNTRACED)
-                if not os.WIFSTOPPED(status):
-                    process.returncode = os.waitstatus_to_exitcode(status)
-                    break
+
+            def swap(path=path):
                 os.rename(path, path + ".older")
                 make(path, Standing(PIPE, STRANGER), OLDER)
-                process.send_signal(signal.SIGCONT)
-                try:
-                    _, said = process.communicate(timeout=SECONDS)
-                except subprocess.TimeoutExpired as why:
-                    process.kill()
-                    raise Failure(f"at opening {number} it waits for a stranger") from why
+
+            is_stopped, status, said = while_stopped(self.stopping(directory, number), swap, SECONDS)
+            if not is_stopped:
+                break
             # (the key may have been put in its place before the pipe came)
             is_taken = stat.S_ISFIFO(os.lstat(path).st_mode)
-            if process.returncode == 0 and (not is_taken or read(path + ".older") != OLDER):
+            if status == 0 and (not is_taken or read(path + ".older") != OLDER):
                 is_secret(read(path + ".older" if is_taken else path))
             else:
-                expect_rejected(Ended(process.returncode, said.decode()), "shared/it", TO_ANOTHER)
-        if number < FEWEST_OPENINGS or process.returncode != 0:
-            raise Failure(f"it opened {number - 1} files, and ended with {process.returncode}")
+                expect_rejected(Ended(status, said.decode()), "shared/it", TO_ANOTHER)
+        expect(number >= FEWEST_OPENINGS and status == 0,
+               f"it opened {number - 1} files, and ended with {status}")
 
     # ---- Links ----
 
@@ -286,11 +275,9 @@ class Strangers:
         ended = self.run(directory, user, command.at(name))
         if why:
             expect_rejected(ended, name, why)
-            if everything(directory) != before:
-                raise Failure("something was made or changed")
+            expect(everything(directory) == before, "something was made or changed")
             return
-        if ended.status != 0:
-            raise Failure(f"it ended with {ended.status}, and said {ended.said!r}")
+        expect(ended.status == 0, f"it ended with {ended.status}, and said {ended.said!r}")
         # (a link may lead by the directory that a program runs in, and the system may follow it for the user alone)
         shown = subprocess.run(["cat", name], cwd=directory, user=user, group=user, stdout=subprocess.PIPE, check=True)
         command.judge(shown.stdout)
@@ -366,8 +353,7 @@ class Strangers:
         os.remove(path + ".first")
         ended = self.run(directory, ROOT, ("-Sm", "own/data", "-x", "/dev/stdout", "-s", "own/k.key"), stdout=writer)
         os.close(writer)
-        if ended.status != 0:
-            raise Failure(f"it ended with {ended.status}, and said {ended.said!r}")
+        expect(ended.status == 0, f"it ended with {ended.status}, and said {ended.said!r}")
         is_signature(take(reader))
 
     def in_directory_without_name(self):
@@ -379,8 +365,7 @@ class Strangers:
             os.mkdir("made", 0o755, dir_fd=opened)
             name = f"/dev/fd/{opened}/made/it"
             ended = self.run(directory, ROOT, ("-Sm", "own/data", "-x", name, "-s", "own/k.key"), pass_fds=[opened])
-            if ended.status != 0:
-                raise Failure(f"it ended with {ended.status}, and said {ended.said!r}")
+            expect(ended.status == 0, f"it ended with {ended.status}, and said {ended.said!r}")
             with open(os.open("made/it", os.O_RDONLY, dir_fd=opened), "rb") as file:
                 is_signature(file.read())
         finally:
@@ -394,8 +379,7 @@ class Strangers:
         self.run(directory, ROOT, ("-Sm", "own/data", "-s", "own/k.key"))
         with open(path, "r+b") as output:
             ended = self.run(directory, ROOT, ("-Vom", "own/data", "-p", "own/k.pub"), stdout=output)
-        if ended.status != 0 or read(path) != b"some data\n":
-            raise Failure(f"it ended with {ended.status}, and said {ended.said!r}")
+        expect(ended.status == 0 and read(path) == b"some data\n", f"it ended with {ended.status}, and said {ended.said!r}")
 
     # ---- Keys whose password is removed ----
 
@@ -409,8 +393,8 @@ class Strangers:
             set_list(path, entries)
         ended = self.run(directory, ROOT, ("-CW", "-s", "own/k.key"))
         found = os.stat(path)
-        if ended.status != 0 or found.st_uid != owner or stat.S_IMODE(found.st_mode) != mode & 0o700 or list_of(path) is not None:
-            raise Failure(f"it ended with {ended.status}, {ended.said!r}, and left {found.st_uid}, {found.st_mode:o}")
+        expect(ended.status == 0 and found.st_uid == owner and stat.S_IMODE(found.st_mode) == mode & 0o700 and list_of(path) is None,
+               f"it ended with {ended.status}, {ended.said!r}, and left {found.st_uid}, {found.st_mode:o}")
         is_secret(read(path))
 
 
@@ -467,11 +451,6 @@ def take(reader):
         os.close(reader)
 
 
-def read(path):
-    with open(path, "rb") as file:
-        return file.read()
-
-
 def everything(directory):
     """The names, owners and bytes of all that is in a directory."""
     found = {}
@@ -486,8 +465,7 @@ def everything(directory):
 def answer(at, typed):
     """Types a line at each question, of which the first one stands there, and waits for the end."""
     for number, line in enumerate(typed, 1):
-        if not at.read_until(rb"(?s)(?:Password.*){%d}: $" % number):
-            raise Failure(f"it never asked again: {at.shown!r}")
+        expect(at.read_until(rb"(?s)(?:Password.*){%d}: $" % number), f"it never asked again: {at.shown!r}")
         at.wait_for_hiding()
         at.type(line)
     at.read_until(None)
@@ -497,21 +475,19 @@ def answer(at, typed):
 
 
 def expect_rejected(ended, name, why):
-    if ended != Ended(2, f"{name}: {why}\n"):
-        raise Failure(f"it ended with {ended.status}, said {ended.said!r}, and {ended.read!r} was read")
+    expect(ended == Ended(2, f"{name}: {why}\n"), f"it ended with {ended.status}, said {ended.said!r}, and {ended.read!r} was read")
 
 
 def expect_untouched(path, standing, data):
     found = os.lstat(path)
-    if found.st_uid != standing.whose or stat.S_IMODE(found.st_mode) != 0o666 or (standing.what == FILE and read(path) != data):
-        raise Failure(f"it left {found.st_uid}'s of {found.st_mode:o}")
+    expect(found.st_uid == standing.whose and stat.S_IMODE(found.st_mode) == 0o666 and (standing.what != FILE or read(path) == data),
+           f"it left {found.st_uid}'s of {found.st_mode:o}")
 
 
 def expect_secret_or(ended, came, is_written, name):
     """A secret key came out of a stream, in front of what is said there, or nothing."""
     if is_written:
-        if ended.status != 0:
-            raise Failure(f"it ended with {ended.status}, and said {ended.said!r}")
+        expect(ended.status == 0, f"it ended with {ended.status}, and said {ended.said!r}")
         is_secret(b"".join(came.splitlines(True)[:2]))
     else:
         expect_rejected(Ended(ended.status, ended.said, came), name, TO_ANOTHER)

@@ -6,14 +6,13 @@ import os
 import signal
 import subprocess
 import sys
-import threading
 import time
 
 from remedies import BY_FLAG
-from running import Failure
-from whole_cases import CLOSED, DATA, OPEN, OTHER, PASSWORD, PUBLIC
+from running import Failure, expect, read, run_cases
+from whole_cases import CLOSED, OPEN, OTHER, PASSWORD, PUBLIC
 from whole_running import FEW_ROWS, HOME, SECONDS, AtTerminal, record_of, sealed_for, text_of
-from whole_safety import QUESTION, Safety, wait_until, write_slowly
+from whole_safety import QUESTION, Safety, wait_until
 
 # The first line and the rest of texts of others: as their programs write them.
 SSH = b"ssh-ed25519 AAAAC3NzaC1lZDI1NTE5AAAAIK0wmN/Cr3JXqmLW7u+g9pTh+wyqDHpSQEIQczXkVx9q me@home\n"
@@ -94,25 +93,24 @@ class Words(Safety):
         ours = self.ours(directory, *arguments)
         theirs = subprocess.run([self.whole.theirs, *arguments], cwd=directory, stdin=subprocess.DEVNULL, stderr=subprocess.PIPE, timeout=SECONDS)
         lines = ours.said.split(b"\n")
-        if ours.status != 2 or len(lines) != 3 or lines[1] != b"wrong: " + words or os.path.exists(os.path.join(directory, "made")):
-            raise Failure(f"{ours}")
+        expect(ours.status == 2 and len(lines) == 3 and lines[1] == b"wrong: " + words and not os.path.exists(os.path.join(directory, "made")),
+               f"{ours}")
         first = theirs.stderr.split(b"\n")[0]
-        if theirs.returncode == 2 and first != lines[0] and lines[0] not in ROWS_OF_FIRST_LINES.get(first, (NOT_UTF8,)):
-            raise Failure(f"Minisign says {theirs.stderr!r}, ours {ours}")
+        expect(theirs.returncode != 2 or first == lines[0] or lines[0] in ROWS_OF_FIRST_LINES.get(first, (NOT_UTF8,)),
+               f"Minisign says {theirs.stderr!r}, ours {ours}")
 
     def cut_at_its_end(self):
         """A signature that ends in its last line, where the line is base64 still, is told as cut; whole ones of other data are not."""
         directory = self.signed()
-        text = read_file(directory, "data.minisig")
+        text = read(directory, "data.minisig")
         for end in (-41, -5):
             with open(os.path.join(directory, "cut"), "wb") as file:
                 file.write(text[:end])
             ran = self.ours(directory, "-Vm", "data", "-p", PUBLIC, "-x", "cut")
-            if ran.status not in (1, 2) or not ran.said.startswith((b"Comment signature", b"base64")) or b"\ncut: this signature is " not in ran.said:
-                raise Failure(f"{end}: {ran}")
+            expect(ran.status in (1, 2) and ran.said.startswith((b"Comment signature", b"base64")) and b"\ncut: this signature is " in ran.said,
+                   f"{end}: {ran}")
         ran = self.ours(directory, "-Vm", "more", "-p", PUBLIC, "-x", "data.minisig")
-        if (ran.status, ran.said) != (1, b"Signature verification failed\n"):
-            raise Failure(f"{ran}")
+        expect((ran.status, ran.said) == (1, b"Signature verification failed\n"), f"{ran}")
 
     def damaged_key(self):
         """A key of which one half is another's is told as damaged, and a wrong public key is told as that."""
@@ -121,11 +119,9 @@ class Words(Safety):
         record[126:158] = bytes(32)
         directory = self.directory(**{"broken.key": text_of(bytes(record))})
         ran = self.ours(directory, "-Sm", "data", "-s", "broken.key")
-        if ran.status != 2 or b"\nbroken.key: this secret key is damaged: " not in ran.said:
-            raise Failure(f"{ran}")
+        expect(ran.status == 2 and b"\nbroken.key: this secret key is damaged: " in ran.said, f"{ran}")
         ran = self.ours(directory, "-Sm", "data", "-s", OPEN, "-p", OTHER)
-        if ran.status != 2 or not ran.said.endswith(f"\n{OTHER}: this is not the public key of {OPEN}\n".encode()):
-            raise Failure(f"{ran}")
+        expect(ran.status == 2 and ran.said.endswith(f"\n{OTHER}: this is not the public key of {OPEN}\n".encode()), f"{ran}")
 
     def names_of_comments(self):
         """A name of a file that cannot stand in the default trusted comment is not told as a comment that was given; with one that
@@ -138,15 +134,12 @@ class Words(Safety):
             with open(os.path.join(os.fsencode(directory), name), "wb") as file:
                 file.write(b"data")
             ran = self.ours(directory, "-S", *flags, "-s", OPEN, "-m", name)
-            if ran.status != 2 or words not in ran.said or b"The comment" in ran.said:
-                raise Failure(f"{name}: {ran}")
+            expect(ran.status == 2 and words in ran.said and b"The comment" not in ran.said, f"{name}: {ran}")
             ran = self.ours(directory, "-S", *flags, "-s", OPEN, "-m", name, "-t", "given")
-            if ran.status != 0:
-                raise Failure(f"{name}, with a comment: {ran}")
+            expect(ran.status == 0, f"{name}, with a comment: {ran}")
         directory = self.directory()
         ran = self.ours(directory, "-Sm", "data", "-s", OPEN, "-t", b"\xff")
-        if ran.said != b"The comment is not UTF-8\n":
-            raise Failure(f"a comment that is given: {ran}")
+        expect(ran.said == b"The comment is not UTF-8\n", f"a comment that is given: {ran}")
 
     # ---- Work ----
 
@@ -154,8 +147,7 @@ class Words(Safety):
         """A key of little work opens, though its p is 32."""
         directory = self.directory(**{"cheap.key": sealed_for(self.keys[OPEN], PASSWORD, 32)})
         ran = self.ours(directory, "-Sm", "data", "-s", "cheap.key", typed=PASSWORD + b"\n")
-        if ran.status != 0:
-            raise Failure(f"{ran}")
+        expect(ran.status == 0, f"{ran}")
         self.expect_accepted(directory, PUBLIC)
 
     def dear_key_is_rejected(self):
@@ -165,16 +157,14 @@ class Words(Safety):
             start = time.monotonic()
             ran = self.ours(directory, "-Sm", "data", "-s", "dear.key", typed=PASSWORD + b"\n")
             says = b"\ndear.key: opening this key takes 17 times" in ran.said and b"-K 17" in ran.said
-            if ran.status != 2 or not says or time.monotonic() - start > AT_ONCE:
-                raise Failure(f"{rows} rows, {times} times: {ran}")
+            expect(ran.status == 2 and says and time.monotonic() - start <= AT_ONCE, f"{rows} rows, {times} times: {ran}")
 
     def flag_allows_work(self):
         """What -K allows opens, and what it does not allow does not."""
         directory = self.directory(**{"dear.key": sealed_for(self.keys[OPEN], PASSWORD, 1100)})
         for flags, wanted in ((("-K", "1"), 2), (("-K", "2"), 0)):
             ran = self.ours(directory, "-Sm", "data", "-s", "dear.key", *flags, typed=PASSWORD + b"\n")
-            if ran.status != wanted:
-                raise Failure(f"{flags}: {ran}")
+            expect(ran.status == wanted, f"{flags}: {ran}")
 
     # ---- Terminals and timers ----
 
@@ -185,60 +175,39 @@ class Words(Safety):
         if not at.read_until(rb"(?:stopped|not stopped) (?:shows|hides)") or b"not stopped" in at.shown or b"hides" in at.shown:
             at.process.kill()
             raise Failure(f"it showed {at.shown!r}")
-        if not at.read_until(QUESTION):
-            raise Failure(f"it does not ask in the foreground: {at.shown!r}")
+        expect(at.read_until(QUESTION), f"it does not ask in the foreground: {at.shown!r}")
         wait_until(lambda: not at.shows_typed(), "it shows what is typed")
-        at.type(PASSWORD + b"\n")
-        at.read_until(None)
-        if at.end() != 0 or b"secret key... done\r\n\r\n" not in at.shown:
-            raise Failure(f"it showed {at.shown!r}")
+        expect(at.finish(PASSWORD + b"\n") == 0 and b"secret key... done\r\n\r\n" in at.shown, f"it showed {at.shown!r}")
 
     def alarm_before(self, at_terminal):
         """A timer that was set before it ends a derivation of a key, and nothing is written into a stream that is no terminal."""
-        record = record_of(self.keys[CLOSED])
-        costly = text_of(record[:38] + (33554432).to_bytes(8, "little") + (1 << 30).to_bytes(8, "little") + record[54:])
-        directory = self.directory(**{"costly.key": costly})
+        directory = self.directory(**{"costly.key": self.costly()})
         command = ["python", "-c", ALARMED, self.whole.ours, "-Sm", "data", "-s", "costly.key", "-k", "64"]
         if at_terminal:
             at = AtTerminal(command, sys.executable, directory, {"HOME": HOME})
             at.read_until(QUESTION)
             at.wait_for_hiding()
-            at.type(b"wrong\n")
-            at.read_until(None)
-            status, said = at.end(), b""
+            status, said = at.finish(b"wrong\n"), b""
         else:
             ran = subprocess.run(command, executable=sys.executable, cwd=directory, input=b"wrong\n", stdout=subprocess.PIPE,
                                  stderr=subprocess.PIPE, timeout=SECONDS)
             status, said = ran.returncode, ran.stderr
-        if status != -signal.SIGALRM or b"." in said:
-            raise Failure(f"it ended with {status}, and said {said!r}")
+        expect(status == -signal.SIGALRM and b"." not in said, f"it ended with {status}, and said {said!r}")
 
     def quiet(self, flag):
         """With -q and -Q neither dots nor how far it is are shown at a terminal."""
-        record = record_of(self.keys[CLOSED])
-        costly = text_of(record[:38] + (33554432).to_bytes(8, "little") + (1 << 30).to_bytes(8, "little") + record[54:])
-        directory = self.signed(**{"costly.key": costly})
+        directory = self.signed(**{"costly.key": self.costly()})
         at = self.asked(directory, "-Sm", "data", "-s", "costly.key", "-k", "2", flag)
-        at.type(b"wrong\n")
-        at.read_until(None)
-        if at.end() != 2 or b"secret key... done" not in at.shown:
-            raise Failure(f"it showed {at.shown!r}")
-        os.mkfifo(os.path.join(directory, "slow"))
-        writer = slow_writer(os.path.join(directory, "slow"))
-        at = AtTerminal(["minisign", "-Vm", "slow", "-x", "data.minisig", "-p", PUBLIC, flag], self.whole.ours, directory, {})
-        at.read_until(None)
-        writer.join(SECONDS)
-        if at.end() != 0 or b"MiB" in at.shown or b"\x1b" in at.shown:
-            raise Failure(f"it showed {at.shown!r}")
+        expect(at.finish(b"wrong\n") == 2 and b"secret key... done" in at.shown, f"it showed {at.shown!r}")
+        status, shown = self.read_slowly(directory, "slow", flag)
+        expect(status == 0 and b"MiB" not in shown and b"\x1b" not in shown, f"it showed {shown!r}")
 
     def nothing_at_terminal(self):
         """At a terminal no control sequence is written where nothing was shown."""
         directory = self.signed()
         for arguments in (("-Vm", "data", "-p", PUBLIC), ("-Sm", "data", "-s", OPEN)):
             at = AtTerminal(["minisign", *arguments], self.whole.ours, directory, {"HOME": HOME})
-            at.read_until(None)
-            if at.end() != 0 or b"\x1b" in at.shown:
-                raise Failure(f"{arguments}: it showed {at.shown!r}")
+            expect(at.finish() == 0 and b"\x1b" not in at.shown, f"{arguments}: it showed {at.shown!r}")
 
     def without_error_stream(self, *arguments):
         """Where nobody can be asked, as the error stream is closed, a command that needs a password fails as Minisign's does, and
@@ -248,7 +217,7 @@ class Words(Safety):
             directory = self.directory()
             ran = subprocess.run(["minisign", *arguments], executable=program, cwd=directory, input=PASSWORD + b"\nnew\nnew\n",
                                  stdout=subprocess.DEVNULL, timeout=SECONDS, preexec_fn=lambda: os.close(2))
-            came.append((ran.returncode, {name: read_file(directory, name) for name in os.listdir(directory) if name != HOME}))
+            came.append((ran.returncode, {name: read(directory, name) for name in os.listdir(directory) if name != HOME}))
         if came[0] != came[1] or came[1][0] != 2:
             raise Failure(f"Minisign ended with {came[0][0]} and ours with {came[1][0]}, with other files: {came[0][1] != came[1][1]}")
 
@@ -261,8 +230,8 @@ class Words(Safety):
         ran = self.ours(directory, *arguments)
         theirs = subprocess.run([self.whole.theirs, *arguments], cwd=directory, env={"HOME": HOME}, stdin=subprocess.DEVNULL,
                                 stderr=subprocess.PIPE, timeout=SECONDS)
-        if (ran.status, ran.said) != (status, theirs.stderr + words + b"\n") or theirs.returncode != status or not theirs.stderr:
-            raise Failure(f"{ran}, where Minisign says {theirs.stderr!r}")
+        expect((ran.status, ran.said) == (status, theirs.stderr + words + b"\n") and theirs.returncode == status and theirs.stderr,
+               f"{ran}, where Minisign says {theirs.stderr!r}")
 
     # ---- Names ----
 
@@ -283,33 +252,18 @@ class Words(Safety):
             for at_terminal in (False, True):
                 ran = self.ours(directory, *arguments, at_terminal=at_terminal)
                 said = ran.output + ran.said
-                if shown not in said or odd.encode() in said or b"\x1b" in said or "\u202e".encode() in said:
-                    raise Failure(f"{arguments}, at a terminal {at_terminal}: {ran}")
+                expect(shown in said and odd.encode() not in said and b"\x1b" not in said and "\u202e".encode() not in said,
+                       f"{arguments}, at a terminal {at_terminal}: {ran}")
                 if at_terminal is False and "-GW" in arguments and ran.status == 0:
                     break
         directory = self.directory()
         ran = self.ours(directory, "-Sm", b"caf\xe9", "-s", OPEN)
-        if not ran.said.startswith(b"caf\\xe9: No such file or directory\n"):
-            raise Failure(f"a name in Latin-1: {ran}")
+        expect(ran.said.startswith(b"caf\\xe9: No such file or directory\n"), f"a name in Latin-1: {ran}")
 
     def name_while_reading(self):
         """So it is while a file is read."""
-        directory = self.signed()
-        odd = "s\x1blow"
-        os.mkfifo(os.path.join(directory, odd))
-        writer = slow_writer(os.path.join(directory, odd))
-        at = AtTerminal(["minisign", "-Vm", odd, "-x", "data.minisig", "-p", PUBLIC], self.whole.ours, directory, {})
-        at.read_until(None)
-        writer.join(SECONDS)
-        if at.end() != 0 or rb"s\u{1b}low 0 MiB" not in at.shown:
-            raise Failure(f"it showed {at.shown!r}")
-
-
-def slow_writer(path):
-    """Writes the data into a pipe, slowly, beside what follows."""
-    writer = threading.Thread(target=write_slowly, args=(path, DATA["data"]))
-    writer.start()
-    return writer
+        status, shown = self.read_slowly(self.signed(), "s\x1blow")
+        expect(status == 0 and rb"s\u{1b}low 0 MiB" in shown, f"it showed {shown!r}")
 
 
 def wrong_texts(keys, signature):
@@ -353,7 +307,7 @@ def wrong_texts(keys, signature):
 
 def cases(words):
     """The names of all cases, and what runs each."""
-    signature = read_file(words.signed(), "data.minisig")
+    signature = read(words.signed(), "data.minisig")
     for number, (flag, text, said) in enumerate(wrong_texts(words.keys, signature)):
         yield f"a wrong text {number} for {flag}: {said.decode()}", lambda f=flag, t=text, s=said: words.wrong_text(f, t, s)
     yield "a signature that is cut at its end", words.cut_at_its_end
@@ -383,18 +337,6 @@ def cases(words):
     yield "a name with control characters while it is read", words.name_while_reading
 
 
-def read_file(directory, name):
-    with open(os.path.join(directory, name), "rb") as file:
-        return file.read()
-
-
 def run_words(whole, room, keys):
     """Runs all of them: the failures, and how many cases there were."""
-    failures, count = [], 0
-    for name, run in cases(Words(whole, room, keys)):
-        count += 1
-        try:
-            run()
-        except (Failure, subprocess.SubprocessError, OSError) as why:
-            failures.append(f"{name}: {why}")
-    return failures, count
+    return run_cases(cases(Words(whole, room, keys)))
