@@ -3,33 +3,33 @@
  *
  * SPDX-License-Identifier: MIT
  *
- * The library does all of it but Ed25519: it reads the texts of keys and signatures, hashes the data, and says what
- * has to be asked of Ed25519. You ask a library that you trust, and pass its answers back; the library gives the
- * verdict. What Ed25519 answers is yours.
+ * The library does everything but Ed25519. It reads the texts of keys and signatures, hashes the data, and tells you
+ * two signatures to check, or two messages to sign. You check or sign with an Ed25519 library that you trust. Pass
+ * both results back, and the library returns the verdict, or the text of a signature.
  *
- * The calls stand in the order in which a program has things. To verify: a public key is read, from two lines or
- * from its base64 alone, and a signature from its text; minisign_ask takes both, rejects what does not belong together,
- * and tells the two questions; the data is fed; minisign_digest completes the first question; minisign_verdict takes
- * the two answers. To sign: a secret key is read and opened; the data is fed; minisign_digest tells what is signed
- * first; the key and the two signatures make the text.
+ * The calls stand in the order of use. To verify: read a public key, from two lines or from its base64 alone, and
+ * read the signature's text. minisign_ask takes both, rejects what does not belong together, and gives you the two
+ * questions. Feed the data. minisign_digest completes the first question. minisign_verdict takes your two answers.
+ * To sign: read and open a secret key. Feed the data. minisign_digest gives you the first message to sign. The key
+ * and your two signatures make the text.
  *
- * What is proved, for a caller that meets "Requirements" below: what each call answers and writes, as the contract
- * of its export says in crates/minisign_c/src/lib.rt of the sources, and what the calls that verify, and those that
- * sign, come to in their order, as in_a_row.rt there says. By tests alone is shown: that what was taken from malloc
- * is cleared and given back, and that no secret stays behind on the stack or in registers; that MINISIGN_TEXT_BYTES
- * is room enough; what c/library/boundary.c, c/library/allocation.c and c/library/clearing.c do, which stand
- * between this page, the proved calls and malloc; and that the English of this page says what the contracts say.
+ * Proved, for a caller that meets "Requirements" below: what each call returns and writes, as the contract of its
+ * export says in crates/minisign_c/src/lib.rt of the sources; and what the calls that verify, and those that sign,
+ * come to in their order, as in_a_row.rt there says. Shown by tests alone: what was taken from malloc is cleared and
+ * freed; no secret stays on the stack or in registers; MINISIGN_TEXT_BYTES is room enough; what
+ * c/library/boundary.c, c/library/allocation.c and c/library/clearing.c do, which stand between this header, the
+ * proved calls and malloc; and the English of this header says what the contracts say.
  *
- * For x86-64 and AArch64 under Linux the calls are those that were proved and built, of x86-64 in one copy for
- * processors with AVX2 (x86-64-v3), and one for those since 2009 (x86-64-v2). For any other processor or system, also
- * where pointers have 32 bits, they are C that was translated from the same code: by a script that is tested and not
- * proved. So they are on an older x86-64.
+ * For x86-64 and AArch64 under Linux you get the calls that were proved and built. For x86-64 there are two copies:
+ * one for processors with AVX2 (x86-64-v3), and one for those since 2009 (x86-64-v2). For any other processor or
+ * system, also where pointers have 32 bits, and for an older x86-64, the calls are C that a script translated from
+ * the same code. The script is tested and not proved.
  *
- * Compile and link with the flags that `pkg-config --cflags --libs minisign` tells. There is no more to link. Each call
- * says since which version it has been called as it is now. Before 1.0 the name of the shared library has the second
- * number too, as libminisign.so.0.3: a program that was built for another one does not start with it.
+ * Compile and link with the flags that `pkg-config --cflags --libs minisign` prints. There is no more to link.
+ * "Since" names the version from which on a call is as it is now. Before 1.0 the name of the shared library has the
+ * second number too, as libminisign.so.0.3: a program that was built for another one does not start with it.
  *
- * Two whole programs over libsodium stand in the manual page, minisign(3), and in the sources: c/examples/verify.c and
+ * The manual page minisign(3) has two whole programs over libsodium; in the sources they are c/examples/verify.c and
  * c/examples/sign.c. Installing updates has a header of its own, minisign_install.h.
  */
 #ifndef MINISIGN_H
@@ -38,7 +38,7 @@
 #include <stddef.h>
 #include <stdint.h>
 
-/* The version of this header; minisign_version tells that of the library. */
+/* The version of this header; minisign_version returns that of the library. */
 #define MINISIGN_VERSION_MAJOR 0
 #define MINISIGN_VERSION_MINOR 3
 #define MINISIGN_VERSION_PATCH 0
@@ -47,7 +47,7 @@
     ((uint32_t) MINISIGN_VERSION_MAJOR << 16 | (uint32_t) MINISIGN_VERSION_MINOR << 8 \
      | (uint32_t) MINISIGN_VERSION_PATCH)
 
-/* On a call whose result has to be looked at: the compiler warns where it is not. */
+/* Marks a call whose result you have to test: the compiler warns where you do not. */
 #if defined(__cplusplus) && __cplusplus >= 201703L
 #define MINISIGN_MUST_USE [[nodiscard]]
 #elif defined(__GNUC__)
@@ -61,52 +61,53 @@ extern "C" {
 #endif
 
 /*
- * Requirements. The library cannot test these; where one is broken, nothing is promised.
+ * Requirements. The library cannot test these; where you break one, nothing is promised.
  *
- * - A pointer with a length points to so many bytes, at most 2^63 - 1, that you may read, and where it is not const
- *   also write; where the length is 0 it may be NULL. No other pointer is NULL: one to a struct points to one,
- *   aligned as your compiler aligns it, and one to an array to all of it. Where a call writes to the front of a buffer,
- *   what stands behind that stays as it was.
- * - What a call may write overlaps nothing else that the call was given. No other thread touches what a call was
- *   given before the call has returned. Different states may be used by different threads at once: the library has
- *   no variables that change, but what the processor can is found out once, before main.
- * - All memory is yours. The library keeps no pointer beyond a call, and what it takes from malloc during one it
- *   has cleared and given back when the call returns. malloc and free belong together, and align a block of n bytes
- *   to every power of two up to 16 that divides n. Verifying does not allocate. The calls that do,
- *   minisign_open_sealed_key, minisign_signed_text, minisign_secret_key_text and minisign_public_key_text, are not
- *   made in a signal handler or in the forked child of a process with threads.
- *   While scrypt runs, which is where a key is opened or sealed under a password, a thread of the library brings in the
- *   memory that was taken: it heeds no signal, and has ended when the call returns. Where none can be begun, or the
- *   library was built with -DMINISIGN_NO_THREADS, the call takes a little longer. minisign_open_sealed_key_in_place
- *   takes no memory and begins no thread.
- * - No secret stays behind. A call that is given a secret key, its text or a password clears, before it returns, what
- *   it took from malloc, the registers that a call need not keep, and the 16 KiB of the stack below its own frame,
- *   which is more than twice what any of them uses. So they need 20 KiB of stack. tests/c/cleared.py shows it: it
- *   searches all memory that the program may write, and all registers, for the first half of the key and its first 16
- *   bytes, for its base64, for the password and for what scrypt derives of it, after keys were made, opened and signed
- *   with, also with a wrong checksum and while signals come, with the C library of GNU and with musl, at -O0 and -O2,
- *   on x86-64-v2 and -v3 and AArch64, there also of the calls as C. Not cleared is what you hold: the password, the
- *   texts, the minisign_unopened_key, the minisign_secret_key. A signal handler that runs on another stack
- *   (sigaltstack) has registers written there by the system, which the library cannot clear. Registers are
- *   cleared on x86-64 and AArch64 with ELF, and under Linux on s390x, 32-bit ARM and 64-bit RISC-V; elsewhere the memory
- *   and the stack alone are.
- * - The bytes of a state are written by the library alone, beginning with minisign_init; so are those of a signature,
- *   and the marks of a secret key, unopened or open. Each may be copied by assignment or memcpy: a state to go on from
- *   one point twice. A state needs no clearing at the end, but holds up to 256 of the last bytes of the data. Set a
- *   signature, and a secret key, unopened or open, to zeros before its first use, and clear a secret key after the last.
- * - The answers are those of an Ed25519 on exactly the questions that were asked.
+ * - Pointers. A pointer with a length points to so many bytes, at most 2^63 - 1. You may read them, and where it is
+ *   not const also write them. Where the length is 0 it may be NULL. No other pointer is NULL: one to a struct
+ *   points to one, aligned as your compiler aligns it, and one to an array points to all of it. Where a call writes
+ *   to the front of a buffer, the rest of the buffer stays.
+ * - Overlap and threads. What a call may write overlaps nothing else that you passed to it. No other thread touches
+ *   what you passed to a call before the call has returned. Different threads may use different states at once. The
+ *   library has no variables that change, but one: it finds out once, before main, what the processor can do.
+ * - Memory. All memory is yours. The library keeps no pointer beyond a call. What it takes from malloc during a call
+ *   it has cleared and freed when the call returns. malloc and free belong together, and align a block of n bytes to
+ *   every power of two up to 16 that divides n. Verifying does not allocate. The calls that do are
+ *   minisign_open_sealed_key, minisign_signed_text, minisign_secret_key_text and minisign_public_key_text. Do not
+ *   make them in a signal handler, or in the forked child of a process with threads.
+ * - The thread of scrypt. scrypt runs where you open or seal a key under a password. While it runs, a thread of the
+ *   library brings in the memory: it blocks all signals, and has ended when the call returns. Where no thread can
+ *   begin, or the library was built with -DMINISIGN_NO_THREADS, the call takes a little longer.
+ *   minisign_open_sealed_key_in_place takes no memory and begins no thread.
+ * - No secret stays behind. If you pass a secret key, its text or a password to a call, it clears three things
+ *   before it returns: what it took from malloc, the registers that a call need not keep, and the 16 KiB of the
+ *   stack below its own frame, more than twice what any call uses. So these calls need 20 KiB of stack.
+ *   tests/c/cleared.py shows it. It searches all memory that the program may write, and all registers, for the first
+ *   half of the key and its first 16 bytes, for its base64, for the password and for what scrypt derives of it. It
+ *   does so after keys were made, opened and signed with, also with a wrong checksum and while signals come; with
+ *   the C library of GNU and with musl; at -O0 and -O2; on x86-64-v2 and -v3 and AArch64, there also of the calls as
+ *   C. What you hold is not cleared: the password, the texts, the minisign_unopened_key, the minisign_secret_key. If
+ *   a signal handler runs on another stack (sigaltstack), the system writes registers there, which the library
+ *   cannot clear. Registers are cleared on x86-64 and AArch64 with ELF, and under Linux on s390x, 32-bit ARM and
+ *   64-bit RISC-V; elsewhere only the memory and the stack are.
+ * - Opaque bytes. Only the library writes the bytes of a state, beginning with minisign_init, those of a signature,
+ *   and the marks of a secret key, unopened or open. You may copy each by assignment or memcpy: copy a state to go
+ *   on from one point twice. You need not clear a state at the end, but it holds up to 256 of the last bytes of the
+ *   data. Set a signature, and a secret key, unopened or open, to zeros before its first use. Clear a secret key
+ *   after the last.
+ * - Answers. They are those of an Ed25519 on exactly the questions that were asked.
  *
- * A usage error that a state or a key shows is an error number and changes nothing: a state never begun (its first
- * eight bytes are not those of minisign_init), data or questions after the digest was told, questions asked twice, or
- * about a signature that was not read or was read from another text, a verdict before the questions or the digest,
- * opening a secret key that was not read, a text of one that was not opened.
+ * A usage error that a state or a key shows is an error number, and changes nothing. These are usage errors: a state
+ * that was not begun (its first eight bytes are not those of minisign_init); data or questions after the digest;
+ * asking twice, or about a signature that was not read or was read from another text; a verdict before the questions
+ * or the digest; opening a secret key that was not read; a text of a key that was not opened.
  */
 
-/* The version of the library, as MINISIGN_VERSION of the header that it came with. Since 0.1. */
+/* Returns the version of the library, as MINISIGN_VERSION of the header that it came with. Since 0.1. */
 uint32_t minisign_version(void);
 
-/* Numbers of errors: up to 15, and from 61 to 63, of usage, of memory and of bytes that are not UTF-8, from 16 on of
- * what the texts say. */
+/* Error numbers. Up to 15, and from 61 to 63: usage, memory, and bytes that are not UTF-8. The others: what the texts
+ * say, installing, and devices. */
 /* Numbers, made by tools/header.py. */
 enum minisign_error {
     MINISIGN_OK = 0,
@@ -202,7 +203,7 @@ enum minisign_error {
     /* A public key given as base64 alone is not base64. */
     MINISIGN_BARE_PUBLIC_KEY_NOT_BASE64 = 45,
     /* Another run holds the lock on this target. */
-    MINISIGN_PLACE_IN_USE = 46,
+    MINISIGN_TARGET_IN_USE = 46,
     /* No number is kept beside the target, and this was not said to be the first installation. */
     MINISIGN_NO_RECORD = 47,
     /* What is kept beside the target does not read as a number, and this was not said to be the first
@@ -231,6 +232,13 @@ enum minisign_error {
     /* The number of the trusted comment is the one that is kept, other data stands at the target, and the caller
      * did not ask for the update to be installed again. */
     MINISIGN_SAME_NUMBER = 57,
+    /* The trusted comment has no field for when the update expires, and the caller wants one. */
+    MINISIGN_NO_EXPIRY = 58,
+    /* The trusted comment has more than one field for the length of the data, or one with no number in decimal
+     * digits alone, or none below 2^64. */
+    MINISIGN_BAD_SIZE = 59,
+    /* The data is longer than the trusted comment says, or shorter. */
+    MINISIGN_OTHER_SIZE = 60,
     /* The text is not the one that the signature was read from. */
     MINISIGN_OTHER_SIGNATURE_TEXT = 61,
     /* A signature that is asked about was not read. */
@@ -246,41 +254,41 @@ enum minisign_error {
 };
 /* The end of the numbers. */
 
-/* What an error number means, in English, ended by a 0 byte and cut where there is no room for more: to be shown to
- * people. Returns the length of the whole text without its 0, as snprintf does. With room 0 nothing is written.
+/* Writes what an error number means, in English, to show to people. The text ends with a 0 byte, and is cut where it
+ * has no room. Returns the length of the whole text without its 0, as snprintf does. With room 0 nothing is written.
  * MINISIGN_ERROR_TEXT_BYTES is room enough for each. Since 0.1. */
 #define MINISIGN_ERROR_TEXT_BYTES 128
 size_t minisign_error_text(uint32_t error, char *text, size_t room);
 
-/* A state, for one file: yours, of fixed size, its bytes the library's. */
+/* A state, for one file. It is yours and has a fixed size; only the library writes its bytes. */
 typedef struct minisign_state {
     uint64_t opaque[64];
 } minisign_state;
 
-/* Begins: the state was fed nothing. Whatever it held before is gone. Does not allocate. Since 0.1. */
+/* Begins a state, which then was fed nothing. What it held before is gone. Does not allocate. Since 0.1. */
 void minisign_init(minisign_state *state);
 
-/* Feeds the next len bytes of the data: pieces of any length, 64 KiB and more being the fastest. Does not allocate,
- * whatever the length of the data. MINISIGN_NOT_BEGUN; MINISIGN_ALREADY_ASKED, where the digest was told: the state
+/* Feeds the next len bytes of the data. A piece may have any length; 64 KiB and more are the fastest. Does not
+ * allocate, whatever the length of the data. MINISIGN_NOT_BEGUN; MINISIGN_ALREADY_ASKED, after the digest: the state
  * stays as it was. Since 0.1. */
 MINISIGN_MUST_USE enum minisign_error minisign_update(minisign_state *state, const uint8_t *data, size_t len);
 
-/* Tells the Blake2b digest of all of the data that was fed: the message of the first question, in verifying and in
- * signing. The state then takes no more data. Does not allocate. MINISIGN_NOT_BEGUN; MINISIGN_ALREADY_ASKED, where the
- * digest was told before: state and digest stay as they were. Since 0.2. */
+/* Writes the Blake2b digest of all data that was fed. It is the message of the first question, and the first message
+ * to sign. The state then takes no more data. Does not allocate. MINISIGN_NOT_BEGUN; MINISIGN_ALREADY_ASKED, where
+ * you got the digest before: state and digest stay as they were. Since 0.2. */
 MINISIGN_MUST_USE enum minisign_error minisign_digest(minisign_state *state, uint8_t digest[64]);
 
 /* ---- Verifying ---- */
 
-/* A public key: its 32 bytes and its key ID, which minisign shows as one little-endian number. */
+/* A public key: its 32 bytes, and its key ID, which minisign shows as one little-endian number. */
 typedef struct minisign_public_key {
     uint8_t key[32];
     uint8_t key_id[8];
 } minisign_public_key;
 
 /*
- * Reads a public key: from its text, both lines of a file such as minisign.pub, or from its base64 alone, the 56
- * letters that stand in the second line and after minisign -P, as an updater has it built in. Does not allocate.
+ * Reads a public key: from its text, both lines of a file such as minisign.pub; or from its base64 alone, the 56
+ * letters of the second line, as minisign -P takes them and as an updater has them built in. Does not allocate.
  *
  * The errors, in this order: MINISIGN_NOT_UTF8; of two lines MINISIGN_MISSING_PUBLIC_KEY_COMMENT,
  * MINISIGN_MISSING_PUBLIC_KEY, MINISIGN_PUBLIC_KEY_LENGTH, MINISIGN_PUBLIC_KEY_NOT_BASE64,
@@ -292,14 +300,14 @@ MINISIGN_MUST_USE enum minisign_error minisign_read_public_key(
 MINISIGN_MUST_USE enum minisign_error minisign_read_bare_public_key(
     const uint8_t *base64, size_t base64_len, minisign_public_key *key);
 
-/* A signature as its text has it. The mark and the digest of the text are the library's; what else stands here is for
- * you to read: a key can be chosen by key_id, and a legacy signature recognized, before anything is asked. */
+/* A signature as its text has it. The mark and the digest of the text are the library's. Read the rest: choose a key
+ * by key_id, and see a legacy signature, before you ask. */
 typedef struct minisign_signature {
     uint64_t mark;
     uint8_t key_id[8];             /* of the key that signed, as the text has it */
     uint8_t signature[64];         /* of the digest of the data, or of the data itself where legacy is 1 */
     uint8_t comment_signature[64]; /* zeros where the text has fewer than 64 bytes of it */
-    /* Where in the text the trusted comment stands, which nothing vouches for yet: from which byte on, and how many. */
+    /* Where in the text the trusted comment stands: its first byte, and how many. Nothing vouches for it yet. */
     uint64_t comment_offset;
     uint64_t comment_len;
     uint8_t text_digest[32]; /* Blake2b-256 of the text */
@@ -310,8 +318,8 @@ typedef struct minisign_signature {
 } minisign_signature;
 
 /*
- * Reads the signature of a text, all of a file such as data.minisig. Keep the text until minisign_ask: the trusted
- * comment stands there. Does not allocate.
+ * Reads the signature of a text, the whole of a file such as data.minisig. Keep the text until minisign_ask: it has
+ * the trusted comment. Does not allocate.
  *
  * The errors, in this order: MINISIGN_NOT_UTF8; MINISIGN_MISSING_UNTRUSTED_COMMENT, MINISIGN_MISSING_SIGNATURE,
  * MINISIGN_MISSING_TRUSTED_COMMENT, MINISIGN_MISSING_COMMENT_SIGNATURE; MINISIGN_UNTRUSTED_COMMENT_PREFIX;
@@ -322,20 +330,20 @@ typedef struct minisign_signature {
 MINISIGN_MUST_USE enum minisign_error minisign_read_signature(
     const uint8_t *sig_text, size_t sig_text_len, minisign_signature *signature);
 
-/* What has to be asked of Ed25519, both times under public_key. */
+/* The two signatures to check with Ed25519, both under public_key. */
 typedef struct minisign_questions {
     uint8_t public_key[32];
-    /* The first question: does Ed25519 accept the signature for this message? Its message is the digest, or, where
-     * legacy is 1, all of the data itself, which you hold. Zeros until minisign_digest writes it. */
+    /* The first question: does Ed25519 accept the signature for the digest? Where legacy is 1 the message is not the
+     * digest but all of the data, which you hold. The digest is zeros until minisign_digest writes it. */
     uint8_t digest[64];
     uint8_t signature[64];
-    /* The second question: and this signature, for the message_len bytes in the buffer? They are the first
+    /* The second question: does it accept this signature for the message_len bytes in the buffer? They are the first
      * signature followed by the trusted comment. Zeros where the text has fewer than 64 bytes here: the verdict then
-     * rejects, whatever the second answer is. */
+     * rejects, whatever you answer. */
     uint8_t comment_signature[64];
     uint64_t message_len;
-    /* Where in that message the trusted comment stands: from which byte on, and how many. Show this one: it is what
-     * Ed25519 was asked about. */
+    /* Where in that message the trusted comment stands: its first byte, and how many. Show this one: it is what you
+     * asked Ed25519 about. */
     uint64_t comment_offset;
     uint64_t comment_len;
     uint32_t legacy;   /* 1 where the signature is over the data itself ("Ed"), 0 where it is over the digest ("ED") */
@@ -343,16 +351,16 @@ typedef struct minisign_questions {
 } minisign_questions;
 
 /*
- * Asks, before any data: from the public key, the signature and the text that it was read from what Ed25519 has to
- * answer. The text is not read again: of it only the trusted comment is taken. The message of the second question is
- * written to message, of room bytes: 64 + comment_len of the signature are room enough, and no less. The state then
- * takes the data.
+ * Gives you the two questions, before any data. It takes the public key, the signature, and the text that the
+ * signature was read from. It does not read that text again, and takes only the trusted comment from it. It writes
+ * the message of the second question to message, of room bytes: 64 + comment_len of the signature are room enough,
+ * and no less. Then feed the data.
  *
- * allow_legacy is 1 where signatures over the data itself will do, otherwise 0. Such a question is about the data
+ * allow_legacy is 1 where you accept signatures over the data itself, otherwise 0. Such a question is about the data
  * and not its digest, so hold the data in memory if you allow them.
  *
- * The second question can be answered at once, as for a program that wants to know whether there is anything newer:
- * see minisign_comment_verdict. A state that was fed before it is asked goes on from there: the questions are about
+ * You can answer the second question at once, as a program does that wants to know whether there is anything newer:
+ * see minisign_comment_verdict. If you fed the state before you ask, it goes on from there: the questions are about
  * all that it was fed.
  *
  * After an error the state, the questions and the message stay as they were, and you may ask again. The errors, in
@@ -365,8 +373,8 @@ MINISIGN_MUST_USE enum minisign_error minisign_ask(
     const uint8_t *sig_text, size_t sig_text_len, uint32_t allow_legacy, minisign_questions *questions,
     uint8_t *message, size_t room);
 
-/* Your answers: the letters "yes" and "no" as numbers. Any other number is an error, so that no truth value, no
- * "0 for success" or "-1 for failure" of another library, and no error number is taken for one. */
+/* Your answers: the letters "yes" and "no" as numbers. Any other number is an error. So no truth value, no "0 for
+ * success" or "-1 for failure" of another library, and no error number passes for an answer. */
 /* Answers, made by tools/header.py. */
 enum minisign_answer {
     MINISIGN_ANSWER_YES = 0x796573,
@@ -374,53 +382,53 @@ enum minisign_answer {
 };
 /* The end of the answers. */
 
-/* What the answer to the second question is worth by itself. MINISIGN_OK exactly where the comment signature has its
- * 64 bytes and Ed25519 accepts it: whoever has the secret key has signed this trusted comment, together with the first
- * signature. Nothing is said of any data, and nothing of whether the first signature is accepted. Otherwise
- * MINISIGN_COMMENT_SIGNATURE_REFUSED. It may be asked from minisign_ask on; the state stays as it is. Does not
+/* Judges the trusted comment alone, from the second answer. MINISIGN_OK exactly where the comment signature has its
+ * 64 bytes and Ed25519 accepts it: the owner of the secret key has signed this trusted comment, together with the
+ * first signature. It says nothing of any data, nor whether the first signature is accepted. Otherwise
+ * MINISIGN_COMMENT_SIGNATURE_REFUSED. You may call it from minisign_ask on; the state stays as it is. Does not
  * allocate. MINISIGN_BAD_ANSWER, then MINISIGN_NOT_BEGUN, MINISIGN_NOT_ASKED. Since 0.2. */
 MINISIGN_MUST_USE enum minisign_error minisign_comment_verdict(const minisign_state *state,
                                                                enum minisign_answer second);
 
 /*
- * The verdict, from what Ed25519 answered to the two questions, once the digest was told; it ends the state. Does
- * not allocate.
+ * Returns the verdict, from what Ed25519 answered to the two questions. Call it after minisign_digest; it ends the
+ * state. Does not allocate.
  *
  * MINISIGN_OK exactly where the public key and the text of the signature vouch for all of the data that was fed,
  * under the scheme that answered so: the text reads as a signature of the same key ID, of an algorithm that is
  * allowed, Ed25519 accepts the signature, and for that signature followed by the trusted comment the other.
  * Otherwise MINISIGN_SIGNATURE_REFUSED or MINISIGN_COMMENT_SIGNATURE_REFUSED: the first of these that fails.
  *
- * MINISIGN_BAD_ANSWER, then MINISIGN_NOT_BEGUN; MINISIGN_NOT_ASKED, where the questions were not asked or the
- * digest was not told: the state stays as it was. Since 0.1.
+ * MINISIGN_BAD_ANSWER, then MINISIGN_NOT_BEGUN; MINISIGN_NOT_ASKED, before minisign_ask or minisign_digest: the state
+ * stays as it was. Since 0.1.
  */
 MINISIGN_MUST_USE enum minisign_error minisign_verdict(minisign_state *state, enum minisign_answer first,
                                                        enum minisign_answer second);
 
 /* ---- Signing ---- */
 
-/* A secret key as its text has it, which is not opened yet. The mark and the bytes are the library's, which opens by
- * them alone: what else stands here is for you to read. */
+/* A secret key as its text has it, not opened yet. The mark and the bytes are the library's, which opens by them
+ * alone. The rest is for you to read. */
 typedef struct minisign_unopened_key {
     uint64_t mark;
     uint8_t bytes[158]; /* of the key's record; the secret as it is, where the key is not sealed */
     /* 1 where the key wants a password, otherwise 0. */
     uint8_t is_sealed;
-    /* What opening takes: of how many rows of 1 KiB the logarithm to base 2, which is at most 20, and how often all of
+    /* What opening takes: the logarithm to base 2 of the number of rows of 1 KiB, at most 20, and how often all of
      * them are made. Zeros where the key is not sealed, and where its limits are rejected. */
     uint8_t log2_rows;
     uint32_t work;
     uint32_t reserved; /* 0 */
 } minisign_unopened_key;
 
-/* Reads the secret key of a text (both lines of a file such as minisign.key), which is then opened. Does not allocate.
+/* Reads the secret key of a text, both lines of a file such as minisign.key. Then open it. Does not allocate.
  * The errors, in this order: MINISIGN_NOT_UTF8; MINISIGN_MISSING_SECRET_KEY_COMMENT, MINISIGN_MISSING_SECRET_KEY,
  * MINISIGN_SECRET_KEY_NOT_BASE64, MINISIGN_RECORD_TOO_SHORT. Then the key stays as it was. Since 0.2. */
 MINISIGN_MUST_USE enum minisign_error minisign_read_secret_key(
     const uint8_t *sk_text, size_t sk_text_len, minisign_unopened_key *unopened);
 
-/* A secret key that was opened or taken in. The mark is the library's: texts are made only of a key that has it, so
- * that an error that nobody looked at leads to no signature under a key ID of zeros. */
+/* A secret key that was opened or taken in. The mark is the library's, which makes texts only of a key that has it.
+ * So an error that you did not look at leads to no signature under a key ID of zeros. */
 typedef struct minisign_secret_key {
     uint64_t mark;
     uint8_t key_id[8];
@@ -428,12 +436,12 @@ typedef struct minisign_secret_key {
 } minisign_secret_key;
 
 /*
- * Opens a secret key that was read and was never sealed (minisign -G -W): is_sealed of what was read says so.
+ * Opens a secret key that was read and was never sealed (minisign -G -W): is_sealed of what was read is then 0.
  *
- * Whether the two halves of the secret belong together is not tested, here and where a sealed key is opened: that takes
- * an Ed25519. Of a key that is damaged, or that somebody has changed, they may not: then no signature of it verifies,
- * and one that others get to see gives the secret half away. So verify what you make under the public half, which is
- * the last 32 bytes, before you write it or send it, as c/examples/sign.c does.
+ * Neither this call nor the one for a sealed key tests whether the two halves of the secret belong together: that
+ * takes an Ed25519. In a key that is damaged, or that somebody has changed, they may not. Then no signature of it
+ * verifies, and one that you show to others gives the secret half away. So verify what you make under the public
+ * half, the last 32 bytes, before you write it or send it, as c/examples/sign.c does.
  *
  * After an error the key stays as it was. The errors, in this order: MINISIGN_KEY_NOT_READ; MINISIGN_KEY_SEALED,
  * MINISIGN_KEY_CORRUPTED. Does not allocate. Since 0.3.
@@ -442,14 +450,14 @@ MINISIGN_MUST_USE enum minisign_error minisign_open_unsealed_key(
     const minisign_unopened_key *unopened, minisign_secret_key *key);
 
 /*
- * Opens a sealed secret key that was read, with its password. That takes the memory and the time of scrypt, for which
- * the key's own limits ask: rows of 1 KiB, of which there are at most 2^20, made once or more often. You bound both:
+ * Opens a sealed secret key that was read, with its password. That takes the memory and the time of scrypt. The
+ * key's own limits say how much: rows of 1 KiB, at most 2^20 of them, made once or more often. You bound both:
  *
- * - Every keep_every-th row is kept in memory, and the others are made again when they are named. 0 and 1 keep them
- *   all, which is the fastest and takes 1 GiB with the limits of minisign -G; MINISIGN_KEEP_FEW_ROWS, which is 16,
- *   takes 65 MiB at most, and some three times the time. What is opened does not depend on it.
- * - most_rows is how many rows may be made in all, whatever number is kept: of a key 2^log2_rows times its work, in
- *   words of RFC 7914 N times p. MINISIGN_USUAL_ROWS, which is 2^20, is enough for the keys of minisign -G; with
+ * - keep_every: every keep_every-th row is kept in memory, and the others are made again when they are needed. 0 and
+ *   1 keep them all, which is the fastest and takes 1 GiB with the limits of minisign -G. MINISIGN_KEEP_FEW_ROWS,
+ *   which is 16, takes 65 MiB at most, and some three times the time. The opened key does not depend on it.
+ * - most_rows: how many rows may be made in all, whatever number is kept. A key takes 2^log2_rows times its work; in
+ *   words of RFC 7914, N times p. MINISIGN_USUAL_ROWS, which is 2^20, is enough for the keys of minisign -G. With
  *   MINISIGN_ANY_ROWS a stranger's key may run for hours. A key that asks for more is MINISIGN_WORK_TOO_HIGH, before
  *   anything is derived.
  *
@@ -466,41 +474,41 @@ MINISIGN_MUST_USE enum minisign_error minisign_open_sealed_key(
     const minisign_unopened_key *unopened, const uint8_t *password, size_t password_len, uint64_t keep_every,
     uint64_t most_rows, minisign_secret_key *key);
 
-/* Tells how much memory of yours the next call takes: so many uint32_t, and so many bytes. Zeros for a key that wants
- * no password, and where its limits are rejected. Does not allocate. Since 0.3. */
+/* Writes how much memory of yours the next call takes: so many uint32_t, and so many bytes. Zeros for a key that
+ * wants no password, and where its limits are rejected. Does not allocate. Since 0.3. */
 void minisign_opening_memory(
     const minisign_unopened_key *unopened, uint64_t keep_every, uint64_t *words_wanted, uint64_t *bytes_wanted);
 
 /*
- * Opens a sealed secret key as minisign_open_sealed_key does, in memory of yours: words, aligned as a uint32_t is, and
- * bytes, at least as many of each as minisign_opening_memory tells for the same keep_every. Neither allocates nor begins
- * a thread. What the memory holds is not read; all of it holds zeros when the call returns, after an error too.
+ * Opens a sealed secret key as minisign_open_sealed_key does, in memory of yours: words, aligned as a uint32_t is,
+ * and bytes. Pass at least as many of each as minisign_opening_memory writes for the same keep_every. Neither
+ * allocates nor begins a thread. It does not read what the memory holds. All of it holds zeros when the call
+ * returns, also after an error.
  *
- * After an error the key stays as it was. The errors, in this order: MINISIGN_KEY_NOT_READ; MINISIGN_NO_ROOM; those of
- * minisign_open_sealed_key after its first, of which MINISIGN_OUT_OF_MEMORY never comes. Since 0.3.
+ * After an error the key stays as it was. The errors, in this order: MINISIGN_KEY_NOT_READ; MINISIGN_NO_ROOM; those
+ * of minisign_open_sealed_key after its first, of which MINISIGN_OUT_OF_MEMORY never comes. Since 0.3.
  */
 MINISIGN_MUST_USE enum minisign_error minisign_open_sealed_key_in_place(
     const minisign_unopened_key *unopened, const uint8_t *password, size_t password_len, uint64_t keep_every,
     uint64_t most_rows, uint32_t *words, size_t words_len, uint8_t *bytes, size_t bytes_len, minisign_secret_key *key);
 
-/* Takes in a new secret key, of your Ed25519 and your random bytes: see "Making keys". Does not allocate. Since
+/* Takes in a new secret key, made by your Ed25519 and your random bytes: see "Making keys". Does not allocate. Since
  * 0.2. */
 void minisign_take_secret_key(const uint8_t key_id[8], const uint8_t secret[64], minisign_secret_key *key);
 
-/* Tells the public key of a secret key: the last 32 of its 64 bytes, and its key ID. Does not allocate.
+/* Writes the public key of a secret key: the last 32 of its 64 bytes, and its key ID. Does not allocate.
  * MINISIGN_KEY_NOT_OPENED: the public key stays as it was. Since 0.2. */
 MINISIGN_MUST_USE enum minisign_error minisign_public_key_of(
     const minisign_secret_key *key, minisign_public_key *public_key);
 
-/* Writes the message of the second question to the beginning of message, of room bytes: the first signature followed
- * by the trusted comment, 64 + trusted_len bytes. The message of the first one is the digest of the data, which
- * minisign_digest tells. Both are signed with the secret of the key. Does not allocate. MINISIGN_NO_ROOM: the message
- * stays as it was. Since 0.1. */
+/* Writes the second message to sign to the beginning of message, of room bytes: your first signature followed by the
+ * trusted comment, 64 + trusted_len bytes. The first message is the digest, which minisign_digest writes. Sign both
+ * with the secret of the key. Does not allocate. MINISIGN_NO_ROOM: the message stays as it was. Since 0.1. */
 MINISIGN_MUST_USE enum minisign_error minisign_comment_message(
     const uint8_t first[64], const uint8_t *trusted, size_t trusted_len, uint8_t *message, size_t room);
 
-/* What the text of a signature is made of, by names, so that none is taken for another. The second signature is that
- * of the message that minisign_comment_message writes. A pointer may be NULL where its length is 0. */
+/* What makes the text of a signature, by names, so that you mistake none for another. comment_signature is that of
+ * the message that minisign_comment_message writes. A pointer may be NULL where its length is 0. */
 typedef struct minisign_signed_parts {
     uint8_t signature[64];
     uint8_t comment_signature[64];
@@ -515,12 +523,12 @@ typedef struct minisign_signed_parts {
     (240 + (size_t) (trusted_comment_len) + (size_t) (untrusted_comment_len))
 
 /*
- * Writes the text of the signature that your two signatures make, four lines of UTF-8 as minisign -V reads them, to
- * the front of text, of room bytes, and its length to text_len. The text repeats the key ID of the key.
+ * Writes the text that your two signatures make, four lines of UTF-8 as minisign -V reads them, to the front of
+ * text, of room bytes, and its length to text_len. The text has the key ID of the key.
  *
- * The text reads as a signature with exactly this key ID, these comments and these two signatures. So it vouches
- * for the data under every public key of this key ID under which Ed25519 accepts your signatures of the digest and
- * of the message of the second question: minisign_verdict is then MINISIGN_OK.
+ * It reads as a signature with exactly this key ID, these comments and these two signatures. So it vouches for the
+ * data under every public key of this key ID under which Ed25519 accepts both signatures, of the digest and of the
+ * message of the second question: minisign_verdict is then MINISIGN_OK.
  *
  * After an error the text and its length stay as they were. The errors, in this order: MINISIGN_KEY_NOT_OPENED;
  * MINISIGN_NOT_UTF8; MINISIGN_BAD_COMMENT, where a comment has a line feed, the trusted one white space at either
@@ -534,13 +542,14 @@ MINISIGN_MUST_USE enum minisign_error minisign_signed_text(
 
 /* ---- Making keys ---- */
 
-/* A new key takes 8 random bytes of a key ID, a pair of Ed25519, such as crypto_sign_keypair of libsodium makes, both
- * of which minisign_take_secret_key takes in, and 32 random bytes of a salt. With the limits and the comments of
- * minisign -G the texts of a sealed key and of its public key are those that it would have written. A password is
- * changed by opening a key, with minisign_open_sealed_key, and writing its text again with a new salt; a lost public
- * key is written again from the secret one. */
+/* For a new key, make 8 random bytes of a key ID, a pair of Ed25519, as crypto_sign_keypair of libsodium does, and
+ * 32 random bytes of a salt. minisign_take_secret_key takes in the key ID and the pair. With the limits and the
+ * comments of minisign -G you get the texts that it would have written. To change a password, open the key with
+ * minisign_open_sealed_key and write its text again with a new salt. To get a lost public key back, write it from
+ * the secret one. */
 
-/* How a secret key is sealed, by libsodium's limits: with 0 and 0 a guess takes two rows of 1 KiB, made 512 times. */
+/* How a secret key is sealed, by libsodium's limits. Look at "Weak limits" below before you choose others than those of
+ * minisign -G. */
 typedef struct minisign_sealing {
     uint8_t salt[32];          /* random bytes, of no other key */
     uint64_t operations_limit; /* how much work scrypt is */
@@ -551,8 +560,20 @@ typedef struct minisign_sealing {
 #define MINISIGN_OPERATIONS_LIMIT 33554432
 #define MINISIGN_MEMORY_LIMIT 1073741824
 
-/* The comments that minisign -G writes; after that of a public key stands its key ID as one little-endian number,
- * as printf writes it by "%" PRIX64. */
+/*
+ * Weak limits. Where minisign -G gets too little memory, it halves both limits, and goes down to the next two. A key is
+ * weak where one of its limits is below these: that is where it has fewer than 2^14 rows of 1 KiB, a log2_rows below
+ * MINISIGN_LEAST_LOG2_ROWS, as minisign_read_secret_key tells of a sealed key. With 0 and 0 somebody who tries a password
+ * takes two rows, made 512 times. The library seals and opens weak keys, since what a password is worth is for you to
+ * know: so compare with these before you seal, and after you have read. The packages for other languages seal under no
+ * weak limits, and say of a key that they opened whether it is weak.
+ */
+#define MINISIGN_LEAST_OPERATIONS_LIMIT 524288
+#define MINISIGN_LEAST_MEMORY_LIMIT 16777216
+#define MINISIGN_LEAST_LOG2_ROWS 14
+
+/* The comments that minisign -G writes. After that of a public key it writes the key ID as one little-endian number,
+ * as printf does by "%" PRIX64. */
 #define MINISIGN_SECRET_KEY_COMMENT "minisign encrypted secret key"
 #define MINISIGN_PUBLIC_KEY_COMMENT "minisign public key "
 
@@ -561,16 +582,16 @@ typedef struct minisign_sealing {
 #define MINISIGN_PUBLIC_KEY_BYTES(comment_len) (77 + (size_t) (comment_len))
 
 /*
- * Writes the text of a secret key, both lines of a file such as minisign.key, to the beginning of text, of room bytes,
- * and its length to text_len.
+ * Writes the text of a secret key, both lines of a file such as minisign.key, to the beginning of text, of room
+ * bytes, and its length to text_len.
  *
- * with_password is 1 where the key is sealed under the password, with the salt and the limits of sealing; and 0 where
- * it is not, whatever password and sealing hold: the text then has the key's checksum, where minisign -G -W writes
+ * with_password is 1 to seal the key under the password, with the salt and the limits of sealing. It is 0 not to
+ * seal it, whatever password and sealing hold: the text then has the key's checksum, where minisign -G -W writes
  * zeros. The text opens under that password, or without one, to exactly this key. Sealing takes the memory and the
- * time of scrypt; keep_every is that of minisign_open_sealed_key, and the text does not depend on it. Minisign takes
+ * time of scrypt. keep_every is that of minisign_open_sealed_key, and the text does not depend on it. Minisign takes
  * passwords of at most 1,023 bytes, with no line break and no zero byte: the library seals under any UTF-8.
  *
- * Whether the 64 bytes belong together is not tested: that takes an Ed25519.
+ * The call does not test whether the 64 bytes belong together: that takes an Ed25519.
  *
  * After an error the text and its length stay as they were. The errors, in this order: MINISIGN_BAD_PASSWORD_FLAG;
  * MINISIGN_KEY_NOT_OPENED; MINISIGN_NOT_UTF8 of the comment or the password; MINISIGN_BAD_COMMENT, where the
@@ -584,8 +605,8 @@ MINISIGN_MUST_USE enum minisign_error minisign_secret_key_text(
     size_t room, size_t *text_len);
 
 /* Writes the text of the public key of a secret key, both lines of a file such as minisign.pub, to the beginning of
- * text, of room bytes, and its length to text_len. It takes the secret key, so that no seed is published where a
- * public key was meant. After an error the text and its length stay as they were. The errors, in this order:
+ * text, of room bytes, and its length to text_len. It takes the secret key, so that you publish no seed by mistake
+ * for a public key. After an error the text and its length stay as they were. The errors, in this order:
  * MINISIGN_KEY_NOT_OPENED; MINISIGN_NOT_UTF8; MINISIGN_BAD_COMMENT, MINISIGN_UNREADABLE_COMMENT, as above;
  * MINISIGN_NO_ROOM; MINISIGN_OUT_OF_MEMORY. Since 0.2. */
 MINISIGN_MUST_USE enum minisign_error minisign_public_key_text(

@@ -1,6 +1,7 @@
 /*
- * minisign_simple.h: data in memory is verified and signed by one call each, with functions of the type of libsodium's
- * crypto_sign_verify_detached and crypto_sign_detached. They are made of the calls of minisign.h, and tested.
+ * minisign_simple.h: verifies and signs data in memory, by one call each. You pass functions of the type of
+ * libsodium's crypto_sign_verify_detached and crypto_sign_detached. These calls are made of those of minisign.h, and
+ * are tested.
  *
  * SPDX-License-Identifier: MIT
  */
@@ -15,9 +16,9 @@ typedef int minisign_verify_detached(const unsigned char *sig, const unsigned ch
 typedef int minisign_sign_detached(unsigned char *sig, unsigned long long *sig_len, const unsigned char *m,
                                    unsigned long long m_len, const unsigned char *sk);
 
-/* MINISIGN_OK exactly where a public key and the text of a signature vouch for the data; legacy signatures are rejected.
- * The trusted comment is then told by q: comment_len bytes of message from comment_offset on. Room for sig_text_len bytes
- * is always enough. */
+/* MINISIGN_OK exactly where a public key and the text of a signature vouch for the data; legacy signatures are
+ * rejected. The trusted comment is then comment_len bytes of message, from comment_offset of q on. Room for
+ * sig_text_len bytes is always enough. */
 MINISIGN_MUST_USE static inline enum minisign_error minisign_verify_in_memory(
     const minisign_public_key *key, const uint8_t *sig_text, size_t sig_text_len, const uint8_t *data, size_t len,
     minisign_verify_detached *verify, minisign_questions *q, uint8_t *message, size_t room)
@@ -35,9 +36,10 @@ MINISIGN_MUST_USE static inline enum minisign_error minisign_verify_in_memory(
                             answers[verify(q->comment_signature, message, q->message_len, q->public_key) != 0]);
 }
 
-/* Writes the text of a signature of the data under a key that was opened, with the comments of parts, which gets both
- * signatures. room is that of text and of message: MINISIGN_TEXT_BYTES is enough. The text was verified; where it was not
- * accepted, as of a damaged key, it is cleared, so that it gives nothing away: MINISIGN_SIGNATURE_REFUSED. */
+/* Writes the text of a signature of the data under a key that was opened, with the comments of parts, and both
+ * signatures to parts. room is that of text and of message: MINISIGN_TEXT_BYTES is enough. The call verifies the
+ * text. Where that fails, as with a damaged key, it clears the text, so that it gives nothing away:
+ * MINISIGN_SIGNATURE_REFUSED. */
 MINISIGN_MUST_USE static inline enum minisign_error minisign_sign_in_memory(
     const minisign_secret_key *key, minisign_signed_parts *parts, const uint8_t *data, size_t len,
     minisign_sign_detached *sign, minisign_verify_detached *verify, uint8_t *message, uint8_t *text, size_t room,

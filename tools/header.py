@@ -103,11 +103,11 @@ def misuses():
 
 
 def fault_rows():
-    """The named errors in their order: their names, numbers, kinds and texts, with A and B for identifiers."""
+    """The named errors in their order: their names, numbers, kinds and texts, with A and B for key IDs."""
     longer, specs = {}, read(FAULT_ROWS)
     for name, body in re.findall(r"^named_text \(?fault\.(\w+)[^=]*=\s*(.*(?:\n    .*)*)", specs, re.M):
         letters = iter("AB")
-        longer[name] = "".join(piece or next(letters) for piece, _ in re.findall(r'codes "([^"]*)"|(identifier_text)', body))
+        longer[name] = "".join(piece or next(letters) for piece, _ in re.findall(r'codes "([^"]*)"|(key_id_text)', body))
     rows = re.findall(r'^fault_row \(?fault\.(\w+)[^=]*=\s+row (\d+) kind\.(\w+)\s+\(codes "([^"]*)"\)', specs, re.M)
     if len(rows) != len(re.findall(r"^fault_row \(?fault\.", specs, re.M)):
         raise Unfit(f"{FAULT_ROWS}: a row of an error is not read")

@@ -32,14 +32,10 @@ OPENING = Part((("minisign", "open_with_password", ""),), "open_key")
 SIGNING = Part((("minisign", "sign_bytes", "headline"),))
 DEVICES = Part((("minisign", "verify_texts", "headline"), ("minisign", "SecretKey::from_box", "headline"),
                 ("minisign", "sign_texts", "headline")))
-INSTALLING = Part((("minisign_install", "any_run_installs_only_updates", "safe"),))
-# The calls from C that verify, sign and make keys, by the exports of `minisign_c`, and the clauses that say what they are for.
-FROM_C = Part(tuple(("minisign_c", f"minisign_{path}", clause) for path, clause in (
-    ("read_public_key", ""), ("read_bare_public_key", ""), ("read_signature", "number"), ("read_signature", "read"), ("ask", "number"), ("ask", "asked"),
-    ("update", "fed"), ("digest", "digest"), ("comment_verdict", "verdict"), ("verdict", "verdict"),
-    ("read_secret_key", "read"), ("read_secret_key", "opens"), ("open_unsealed_key", ""), ("open_sealed_key", ""),
-    ("public_key_of", ""),
-    ("signed_text", "text"), ("take_secret_key", ""), ("secret_key_text", "text"), ("public_key_text", "text"))))
+INSTALLING = Part((("minisign_install", "any_run_installs_only_updates", "safe"),
+                   ("minisign_install", "any_sequence_of_runs_ends_well", "ends")))
+# The calls from C in their order: what they come to together, whoever makes them.
+FROM_C = Part((("minisign_c", "verify_in_a_row", ""), ("minisign_c", "sign_in_a_row", "verifies")))
 KIT = Part(())
 PARTS = (VERDICT, OPENING, SIGNING, DEVICES, INSTALLING, FROM_C, KIT)
 
@@ -50,7 +46,7 @@ SHOWN_LINES = 5
 # A name of antt, with what it may hold beside letters.
 NAME_OF = re.compile(r"[^\W\d][\w'-]*")
 # Files of what errors are, and their names: they end the part that reaches them.
-OF_FAULTS = re.compile(r"/specs/(?:Fault|Faults|Identifiers)\.antt|/src/(?:errors|faults|identifiers)\.rt")
+OF_FAULTS = re.compile(r"/specs/(?:Fault|Faults|KeyIds)\.antt|/src/(?:errors|faults|key_ids)\.rt")
 
 
 def function_of(library, crate, path, clause):
