@@ -1,10 +1,10 @@
 -- Base64 read and written: a text is the base64 of one list of bytes at most, and its letters are neither
 -- line feeds nor white space; base64 in pieces: all but the last are whole groups of four letters without
 -- padding.
-use Rattle.std.proofs.Common.{◌≡◌, ℕ, zero, suc, ◌%◌, ◌<◌, true, false, List, [], ◌∷◌, length, map, refl, sym}
-use Rattle.std.proofs.Common.{ap, subst, ◌∙◌, arith, Option, None, Some, Ok, Err, ◌+◌, ◌*◌, ◌/◌, ◌≤◌, Bool}
-use Rattle.std.proofs.Common.{◌++◌, take, drop, is_some, MatchOption, Result, length-append, length-take-le}
-use Rattle.std.proofs.Common.{take-append-drop}
+use Rattle.std.proofs.Common.{◌≡◌, ℕ, zero, suc, ◌%◌, ◌<◌, true, false, List, [], ◌∷◌, length, map, refl}
+use Rattle.std.proofs.Common.{sym, ap, subst, ◌∙◌, arith, Option, None, Some, Ok, Err, ◌+◌, ◌*◌, ◌/◌, ◌≤◌}
+use Rattle.std.proofs.Common.{Bool, ◌++◌, take, drop, is_some, MatchOption, Result, length-append}
+use Rattle.std.proofs.Common.{length-take-le, take-append-drop}
 use Rattle.minisign.proofs.Common.{false_from_ne_true, bytes_eq-Decides, standard, IsBytes, IsDecodeFailure}
 use Rattle.minisign.proofs.Common.{decode_of, decoded_bytes_of, decode_slice_of, decode_of-encode_of}
 use Rattle.minisign.proofs.Common.{decode_of_strict, encode_of-append, front_bytes, length-replicate}
@@ -28,7 +28,7 @@ all_bytes (x ∷ xs) (suc i) = all_bytes xs i
 bytes_same : (xs : List ℕ) → IsBytes xs → map (λ b. b % 256) xs ≡ xs
 bytes_same [] h = refl
 bytes_same (x ∷ xs) h =
-    let small : x < 256 = h 0 in
+    let small = h 0 in
     let same : x % 256 ≡ x = omega arith in
     λ i. same i ∷ bytes_same xs (λ k. h (suc k)) i
 
@@ -56,28 +56,27 @@ is_read s b h = (bytes_eq-Decides s _).1 (h.encoded ∙ ap base64_of (sym (bytes
 
 pub reads : (s : List ℕ) → is_base64 s ≡ true → IsBase64Of s (base64_bytes s)
 unfolding is_base64 base64_bytes
-reads s h = record { each = all_bytes (decoded_bytes_of standard s); encoded = (bytes_eq-Decides s _).0 h }
+reads s h = record { each = all_bytes _; encoded = (bytes_eq-Decides s _).0 h }
 
 -- what does not decode is no base64
 pub not_read : (s t : List ℕ) (e : DecodeAllocError) (d : DecodeError) → s ≡ t → IsDecodeFailure standard s e
     → e ≡ Failed d → is_base64 t ≡ false
 not_read s t e d same failure is =
-    let failed : decode_of standard t ≡ Err d = subst (λ v. decode_of standard v ≡ Err d) same
-    (subst (IsDecodeFailure standard s) is failure) in
-    false_from_ne_true (is_base64 t)
-    (λ read. let ok = sym (decoded t (base64_bytes t) (reads t read)) ∙ failed in cc ok)
+    let failed = rw same at (subst (IsDecodeFailure standard s) is failure) in
+    false_from_ne_true _
+    (λ read. let ok = sym (decoded t _ (reads t read)) ∙ failed in cc ok)
 
 -- base64 of bytes that are too few
 pub short_of : (text b d : List ℕ) (n : ℕ) → IsBase64Of text b → d ≡ b → length d < n
     → (is_base64 text ≡ true) × (length (base64_bytes text) < n)
 short_of text b d n h same short = (
-  is_read text b h,
-  subst (λ (l : List ℕ). length l < n) (same ∙ sym (bytes_read text b h)) short,
+  is_read _ b h,
+  rw (same ∙ sym (bytes_read text b h)) at short,
 )
 
 -- bytes that have a base64
 pub own_base64 : (t b d : List ℕ) → IsBase64Of t b → b ≡ d → IsBase64Of (base64_of d) d
-own_base64 t b d h same = record { each = subst IsBytes same h.each; encoded = refl }
+own_base64 t b d h same = record { each = rw same at h.each; encoded = refl }
 
 -- what decoding into a slice that has room answers
 error_of : List ℕ → Option DecodeError
@@ -89,8 +88,8 @@ in_room : (s : List ℕ) (room : ℕ) → decoded_estimate (length s) ≤ room �
     ≡ or_error (error_of s) (Ok (length (decoded_bytes_of standard s)))
 unfolding error_of
 in_room s room fits =
-    slice_result_room standard.decode_table s standard.padding.value
-    standard.config.decode_allow_trailing_bits standard.config.decode_padding_mode room fits
+    slice_result_room standard.decode_table _ _ standard.config.decode_allow_trailing_bits
+    standard.config.decode_padding_mode _ fits
 
 outcome_ok : (x : Option DecodeError) (d b : List ℕ) → decode_outcome x d ≡ Ok b → x ≡ None
 outcome_ok None d b h = refl
@@ -102,11 +101,10 @@ pub piece_read : (s : List ℕ) (room n : ℕ) (r : Result ℕ DecodeSliceError)
     → r ≡ decode_slice_of standard s room → r ≡ Ok n → IsBase64Of s (decoded_bytes_of standard s)
     × (length (decoded_bytes_of standard s) ≡ n)
 unfolding error_of base64_of
-piece_read s room n r fits each bytes value ok =
+piece_read s _ n r fits each bytes value ok =
     let parts = or_error_ok (error_of s) (length (decoded_bytes_of standard s)) n
-    (sym (in_room s room fits) ∙ sym value ∙ ok) in
-    let whole : decode_of standard s ≡ Ok (decoded_bytes_of standard s) = ap
-    (λ e. decode_outcome e (decoded_bytes_of standard s)) parts.0 in
+    (sym (in_room s _ fits) ∙ sym value ∙ ok) in
+    let whole = ap (λ e. decode_outcome e (decoded_bytes_of standard s)) parts.0 in
     (record { each = bytes; encoded = decode_of_strict standard s _ (refl, refl) each whole }, parts.1)
 
 -- what was not is none
@@ -114,9 +112,9 @@ pub piece_unread : (s : List ℕ) (room : ℕ) (e : DecodeSliceError) (r : Resul
     → decoded_estimate (length s) ≤ room
     → r ≡ decode_slice_of standard s room → r ≡ Err e → is_base64 s ≡ false
 unfolding error_of
-piece_unread s room e r fits value err = false_from_ne_true (is_base64 s) (λ read.
-    let none : error_of s ≡ None = outcome_ok _ _ _ (decoded s (base64_bytes s) (reads s read)) in
-    let no = sym err ∙ value ∙ in_room s room fits
+piece_unread s room e r fits value err = false_from_ne_true _ (λ read.
+    let none = outcome_ok _ _ _ (decoded s _ (reads s read)) in
+    let no = sym err ∙ value ∙ in_room s _ fits
     ∙ ap (λ x. or_error x (Ok (length (decoded_bytes_of standard s)))) none in
     cc no)
 
@@ -124,7 +122,7 @@ piece_unread s room e r fits value err = false_from_ne_true (is_base64 s) (λ re
 pub length_base64 : (b : List ℕ) → length (base64_of b) ≡ 4 * ((length b + 2) / 3)
 unfolding base64_of
 length_base64 b =
-    let n : ℕ = length b in
+    let n = length b in
     let exact : unpadded_len n + padding_len n ≡ 4 * ((n + 2) / 3) = omega arith in
     length-append _ _ ∙ (λ i. length-encode_symbols standard.encode_table b i + length-replicate {A = ℕ}
     (padding_len n) 61 i) ∙ exact
@@ -162,22 +160,22 @@ pub record IsCut (s t b : List ℕ) : Type 0 where
 
 pub cut : (s t b : List ℕ) → IsBase64Of (s ++ t) b → length s % 4 ≡ 0 → 0 < length t → IsCut s t b
 cut s t b h groups some =
-    let k : ℕ = length s / 4 in
-    let all : length s + length t ≡ 4 * ((length b + 2) / 3) = sym (length-append s t) ∙ ap length h.encoded
+    let k = length s / 4 in
+    let all = sym (length-append s t) ∙ ap length h.encoded
     ∙ length_base64 b in
     let fits : k * 3 ≤ length b = omega arith in
-    let a : List ℕ = take (k * 3) b in
-    let c : List ℕ = drop (k * 3) b in
-    let la : length a ≡ k * 3 = length-take-le (k * 3) b fits in
-    let whole : b ≡ a ++ c = sym (take-append-drop (k * 3) b) in
-    let each : IsBytes (a ++ c) = subst IsBytes whole h.each in
-    let apart : s ++ t ≡ base64_of a ++ base64_of c = h.encoded ∙ ap base64_of whole
+    let a = take (k * 3) b in
+    let c = drop (k * 3) b in
+    let la = length-take-le _ b fits in
+    let whole = sym (take-append-drop (k * 3) b) in
+    let each = rw whole at h.each in
+    let apart = h.encoded ∙ ap base64_of whole
     ∙ split a c (omega (arith, la)) in
     let same_length : length s ≡ length (base64_of a) = omega (arith, length_base64 a, la) in
-    let front : s ≡ base64_of a = sym (take-append_seam s t) ∙ ap (λ (n : ℕ). take n (s ++ t)) same_length
-    ∙ ap (take (length (base64_of a))) apart ∙ take-append_seam (base64_of a) (base64_of c) in
-    let back : t ≡ base64_of c = sym (drop-append_seam s t) ∙ ap (λ (n : ℕ). drop n (s ++ t)) same_length
-    ∙ ap (drop (length (base64_of a))) apart ∙ drop-append_seam (base64_of a) (base64_of c) in
+    let front = sym (take-append_seam s t) ∙ ap (λ n. take n (s ++ t)) same_length
+    ∙ ap (take (length (base64_of a))) apart ∙ take-append_seam _ _ in
+    let back = sym (drop-append_seam s t) ∙ ap (λ n. drop n (s ++ t)) same_length
+    ∙ ap (drop (length (base64_of a))) apart ∙ drop-append_seam (base64_of a) _ in
     record {
       front = a;
       back = c;
@@ -199,29 +197,27 @@ module _ (s t text : List ℕ) (is : text ≡ s ++ t) (groups : length s % 4 ≡
   pub piece_judged : (a : List ℕ) → IsBase64Of s a → length a ≡ length s / 4 * 3
       → is_base64 text ≡ is_base64 t
   piece_judged a h long = same_truth _ _
-      (λ all. let parts = cut_text all in is_read t parts.back parts.back_read)
-      (λ rest. is_read text (a ++ base64_bytes t)
-      (subst (λ x. IsBase64Of x (a ++ base64_bytes t)) (sym is)
-      (joined s t a (base64_bytes t) h (reads t rest) (omega (arith, long)))))
+      (λ all. let parts = cut_text all in is_read t _ parts.back_read) (λ rest. is_read _ _
+      (rw (sym is) at (joined s t a (base64_bytes t) h (reads t rest) (omega (arith, long)))))
 
   -- and none where the piece is none, or has padding
   pub piece_refused : is_base64 s ≡ false → is_base64 text ≡ false
   piece_refused none = false_from_ne_true _ (λ all.
       let parts = cut_text all in
-      let no = sym none ∙ is_read s parts.front parts.front_read in
+      let no = sym none ∙ is_read s _ parts.front_read in
       cc no)
 
   pub piece_padded : (a : List ℕ) (n : ℕ) → IsBase64Of s a → n ≡ length a → (n ≡ length s / 4 * 3 → ⊥)
       → is_base64 text ≡ false
   piece_padded a n h long differs = false_from_ne_true _ (λ all.
       let parts = cut_text all in
-      let same : a ≡ parts.front = one_decoding s _ _ h parts.front_read in
+      let same = one_decoding s _ _ h parts.front_read in
       differs (long ∙ ap length same ∙ parts.front_length))
 
   pub rest_refused : is_base64 t ≡ false → is_base64 text ≡ false
   rest_refused none = false_from_ne_true _ (λ all.
       let parts = cut_text all in
-      let no = sym none ∙ is_read t parts.back parts.back_read in
+      let no = sym none ∙ is_read t _ parts.back_read in
       cc no)
 
 pub rejoined : (text s t : List ℕ) (n : ℕ) → s ≡ take n text → t ≡ drop n text → text ≡ s ++ t
@@ -232,5 +228,5 @@ pub judged : (t room : List ℕ) (r : Option ℕ)
     → MatchOption r (is_base64 t ≡ false) (λ n. (bytes : List ℕ) × IsBase64Of t bytes × (n ≡ length bytes)
     × (n ≤ length room) × (take n room ≡ bytes))
     → is_some r ≡ is_base64 t
-judged t room None none = sym none
-judged t room (Some n) h = sym (is_read t h.0 h.1)
+judged t _ None none = sym none
+judged t _ (Some n) h = sym (is_read t _ h.1)

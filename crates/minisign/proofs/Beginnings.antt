@@ -1,6 +1,6 @@
 -- What follows after a rejection, and after one draw and then another.
 use Rattle.std.proofs.Common.{◌≡◌, ℕ, List, ◌++◌, Option, None, Some, Result, Ok, Err, IsErrAnd, IfOk, IfErr}
-use Rattle.std.proofs.Common.{OnErr, append_assoc, ap, sym, subst, ◌∙◌}
+use Rattle.std.proofs.Common.{OnErr, append_assoc, ap, sym, ◌∙◌}
 use Rattle.minisign.proofs.Common.{Consumes, ⊤, HasGiven, without_value}
 
 -- what holds anyway holds after a rejection
@@ -8,36 +8,41 @@ pub on_err_of : {T E : Type 0} (r : Result T E) (P : Type 0) → P → OnErr r P
 on_err_of (Ok x) P h = tt
 on_err_of (Err e) P h = h
 
+-- an error that is passed up
+pub err_is : {T E : Type 0} (r : Result T E) (e : E) → IsErrAnd r (λ y. y ≡ e) → r ≡ Err e
+err_is (Ok x) e is = absurd is
+err_is (Err y) e is = ap Err is
+
 -- what holds of an error holds of the answer that passes it up
 pub passed_up : {T E : Type 0} (r : Result T E) (e : E) (P : E → Type 0) → IsErrAnd r (λ y. y ≡ e) → P e
     → IfErr r P
-passed_up (Ok x) e P is h = tt
-passed_up (Err y) e P is h = subst P (sym is) h
+passed_up (Ok x) e P _ h = tt
+passed_up (Err y) e P is h = rw (sym is) at h
 
 -- what is told of how a call ended, where it gave a value and where it did not
 pub told_value : {T E : Type 0} (r : Result T E) (P : T → Type 0) (Ends : Result ⊤ E → Type 0)
     (Q : T → Type 0) → IfOk r P → Ends (without_value r)
     → ((v : T) → P v → Ends (Ok tt) → Q v) → IfOk r Q
 told_value (Ok v) P Ends Q h ended f = f v h ended
-told_value (Err e) P Ends Q h ended f = tt
+told_value (Err e) P Ends Q h _ f = tt
 
 pub told_fault : {T E : Type 0} (r : Result T E) (Ends : Result ⊤ E → Type 0) (Q : E → Type 0)
     → Ends (without_value r)
     → ((e : E) → Ends (Err e) → Q e) → IfErr r Q
-told_fault (Ok v) Ends Q ended f = tt
+told_fault (Ok v) Ends Q _ f = tt
 told_fault (Err e) Ends Q ended f = f e ended
 
 -- what was given of the front, and then more of it
 pub given_behind : (old mid new : Option (List ℕ)) (a : List ℕ) → Consumes old mid a → HasGiven mid new
     → HasGiven old new
-given_behind old mid None a all given = tt
-given_behind None mid (Some ys) a all given = tt
-given_behind (Some xs) None (Some ys) a all given = absurd all
-given_behind (Some xs) (Some ms) (Some ys) a all (front, more) =
-    (a ++ front, all ∙ ap (λ (l : List ℕ). a ++ l) more ∙ sym (append_assoc a front ys))
+given_behind _ _ None a _ _ = tt
+given_behind None _ (Some _) a _ _ = tt
+given_behind (Some _) None (Some _) a all _ = absurd all
+given_behind (Some _) (Some _) (Some ys) a all (front, more) =
+    (a ++ front, all ∙ ap (λ l. a ++ l) more ∙ sym (append_assoc a front ys))
 
 -- what was given was at the front
 pub consumed : (old now : Option (List ℕ)) (a : List ℕ) → Consumes old now a → HasGiven old now
-consumed old None a all = tt
-consumed None (Some ys) a all = tt
-consumed (Some xs) (Some ys) a all = (a, all)
+consumed _ None a _ = tt
+consumed None (Some _) a _ = tt
+consumed (Some _) (Some _) a all = (a, all)

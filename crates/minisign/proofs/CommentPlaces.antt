@@ -2,13 +2,12 @@
 use Rattle.std.proofs.Common.{◌≡◌, ◌∙◌, ℕ, ◌+◌, ◌-◌, ◌<◌, ◌≤◌, ◌==◌, Bool, true, false, List, [], ◌∷◌, ◌++◌}
 use Rattle.std.proofs.Common.{length, take, drop, slice_index, All, ap, sym, subst, arith, eqb, cond, ⊎_elim}
 use Rattle.std.proofs.Common.{take-take, length-take-le, take_all, length-drop, drop-drop}
-use Rattle.minisign.proofs.Common.{drop-append_seam, trim_end}
+use Rattle.minisign.proofs.Common.{drop-append_seam, trim_end, cases_lt, lines, lines_of_parts, slice_split}
+use Rattle.minisign.proofs.Common.{strip_carriage_return, trim, trim_start}
 use Rattle.std.proofs.lemmas.List.{drop-take, drop_all}
 use Rattle.std.proofs.lemmas.List.Sums.{fails_before_first}
 use Rattle.std.proofs.lemmas.List.Splits.{length-slice_split, slice_split_first, slice_split_none}
 use Rattle.std.specs.List.{position_or_len, before_first}
-use Rattle.minisign.proofs.Common.{cases_lt, lines, lines_of_parts, slice_split, strip_carriage_return, trim}
-use Rattle.minisign.proofs.Common.{trim_start}
 use Rattle.minisign.proofs.WrittenLines.{lines_of_parts-cons}
 use Rattle.minisign.specs.CommentPlace.{StandsAt, behind_line, comment_offset, comment_start, first_of}
 use Rattle.minisign.specs.SignatureText.{SignatureText, SignatureTextRecord, trusted_comment_label}
@@ -35,19 +34,17 @@ strip_front l = of (slice_index l (length l - 1) == 13)
 only : (w x : List ℕ) (more : List (List ℕ)) (b : Bool) → cond b [] (w ∷ []) ≡ x ∷ more
     → (w ≡ x) × (lines [] ≡ more)
 only w x more true h = cc h
-only w x more false h = let same : w ≡ x = cc h in let none : ◌≡◌ {A = List (List ℕ)} [] more = cc h in
-    (same, none)
+only w x more false h = let none : ◌≡◌ {A = List (List ℕ)} [] more = cc h in (cc h, none)
 
 -- the first line is a front of the text, and the other lines are those of what stands behind its line feed
 pub front_line : (w x : List ℕ) (more : List (List ℕ)) → lines w ≡ x ∷ more → (take (length x) w ≡ x)
     × (lines (behind_line w) ≡ more)
-front_line w x more cut = ⊎_elim (λ l. some l) (λ l. none l) (cases_lt (position_or_len is_feed w) (length w))
+front_line w x more cut = ⊎_elim some none (cases_lt (position_or_len is_feed w) (length w))
   where
     some : position_or_len is_feed w < length w → (take (length x) w ≡ x) × (lines (behind_line w) ≡ more)
     some l =
-        let before : List ℕ = before_first is_feed w in
-        let parts : slice_split is_feed w ≡ before ∷ slice_split is_feed (behind_line w) = slice_split_first
-        is_feed w 0 l in
+        let before = before_first is_feed w in
+        let parts = slice_split_first is_feed w 0 l in
         let these : strip_carriage_return before ∷ lines (behind_line w) ≡ x ∷ more =
         sym (ap lines_of_parts parts ∙ lines_of_parts-cons before (slice_split is_feed (behind_line w))
         (omega (arith, length-slice_split is_feed (behind_line w)))) ∙ cut in
@@ -56,18 +53,14 @@ front_line w x more cut = ⊎_elim (λ l. some l) (λ l. none l) (cases_lt (posi
         let front = strip_front before in
         let n : length before ≡ position_or_len is_feed w = length-take-le (position_or_len is_feed w) w
         (omega (arith, l)) in
-        let at : take (length (strip_carriage_return before)) w ≡ strip_carriage_return before =
-        sym (take-take (length (strip_carriage_return before)) (position_or_len is_feed w) w
-        (omega (arith, n, front.1))) ∙ front.0 in
+        let at = sym (take-take _ (position_or_len is_feed w) w (omega (arith, n, front.1))) ∙ front.0 in
         (subst (λ (y : List ℕ). take (length y) w ≡ y) same at, rest)
 
     none : length w ≤ position_or_len is_feed w → (take (length x) w ≡ x) × (lines (behind_line w) ≡ more)
     none l =
-        let lacks : All (λ b. is_feed b ≡ false) w = λ k d m. fails_before_first is_feed w k d
-        (omega (arith, l, m)) in
-        let one : lines w ≡ cond (eqb (length w) 0) [] (w ∷ []) = ap lines_of_parts
-        (slice_split_none is_feed w lacks) in
-        let behind : behind_line w ≡ [] = drop_all (position_or_len is_feed w + 1) w (omega (arith, l)) in
+        let one = ap lines_of_parts (slice_split_none is_feed w
+        (λ k d m. fails_before_first is_feed w k d (omega (arith, l, m)))) in
+        let behind = drop_all (position_or_len is_feed w + 1) w (omega (arith, l)) in
         let these = only w x more (eqb (length w) 0) (sym one ∙ cut) in (
           subst (λ (y : List ℕ). take (length y) w ≡ y) these.0 (take_all (length w) w (omega arith)),
           ap lines behind ∙ these.1,
@@ -79,32 +72,31 @@ front_line w x more cut = ⊎_elim (λ l. some l) (λ l. none l) (cases_lt (posi
 pub behind_front : (n : ℕ) (xs s : List ℕ) → s ≡ drop n xs → drop (length xs - length s) xs ≡ s
 behind_front n xs s is = ⊎_elim
     (λ l. ap (λ k. drop k xs) (omega (arith, l, ap length is, length-drop n xs)) ∙ sym is)
-    (λ l. let empty : s ≡ [] = is ∙ drop_all n xs l in drop_all (length xs - length s) xs
-    (omega (arith, ap length empty)) ∙ sym empty)
-    (cases_lt n (length xs))
+    (λ l. let empty = is ∙ drop_all n xs l in drop_all (length xs - length s) xs
+    (omega (arith, ap length empty)) ∙ sym empty) (cases_lt n (length xs))
 
 -- what stands in the first line of a part of the text stands in the text
 pub placed : (bytes line part text : List ℕ) (at n : ℕ) → StandsAt bytes line at → take (length line) part
     ≡ line → length line ≤ length part → part ≡ drop n text
     → StandsAt bytes text (length text - length part + at)
 placed bytes line part text at n h front fits is =
-    let many : at + length bytes ≤ length line = h.within in
+    let many = h.within in
     let l = ap length is ∙ length-drop n text in
     record {
       within = omega (arith, many, fits, l);
       same =
           ap (take (length bytes)) (drop-behind text part at n is)
-          ∙ sym (drop-take at (length bytes) part)
-          ∙ ap (drop at) (sym (take-take (at + length bytes) (length line) part many)
+          ∙ sym (drop-take at _ _)
+          ∙ ap (drop at) (sym (take-take _ _ _ many)
           ∙ ap (take (at + length bytes)) front)
-          ∙ drop-take at (length bytes) line
+          ∙ drop-take at _ _
           ∙ h.same;
     }
   where
     drop-behind : (text part : List ℕ) (at n : ℕ) → part ≡ drop n text
         → drop (length text - length part + at) text ≡ drop at part
-    drop-behind text part at n is = sym (drop-drop at (length text - length part) text)
-        ∙ ap (drop at) (behind_front n text part is)
+    drop-behind text part at n is = sym (drop-drop at _ _)
+        ∙ ap (drop at) (behind_front n _ _ is)
 
 -- == The trusted comment ==
 
@@ -116,19 +108,19 @@ pub in_line : (line comment own rest trimmed : List ℕ) (n : ℕ) → line ≡ 
     → (length line - length rest ≡ comment_start line) × (length trimmed ≡ length (trim comment))
     × StandsAt (trim comment) line (length line - length rest)
 in_line line comment own rest trimmed n labelled also begun at ended front fits =
-    let label : ℕ = length trusted_comment_label in
-    let own_is : drop label line ≡ own = ap (drop label) also ∙ drop-append_seam trusted_comment_label own in
-    let comment_is : drop label line ≡ comment = ap (drop label) labelled
-    ∙ drop-append_seam trusted_comment_label comment in
-    let same : trimmed ≡ trim comment = ended ∙ ap trim_end begun ∙ ap trim (sym own_is ∙ comment_is) in
-    let behind : rest ≡ drop (label + n) line = at ∙ ap (drop n) (sym own_is) ∙ drop-drop n label line in
+    let label = length trusted_comment_label in
+    let own_is = ap (drop label) also ∙ drop-append_seam trusted_comment_label _ in
+    let comment_is = ap (drop label) labelled
+    ∙ drop-append_seam trusted_comment_label _ in
+    let same = ended ∙ ap trim_end begun ∙ ap trim (sym own_is ∙ comment_is) in
+    let behind = at ∙ ap (drop n) (sym own_is) ∙ drop-drop n label line in
     let stands : StandsAt trimmed line (length line - length rest) = record {
       within = omega (arith, fits, ap length behind, length-drop (label + n) line);
-      same = ap (take (length trimmed)) (behind_front (label + n) line rest behind) ∙ sym front;
+      same = ap (take (length trimmed)) (behind_front _ _ _ behind) ∙ sym front;
     } in (
-      ap (λ (l : List ℕ). length line - length l) (begun ∙ ap trim_start (sym own_is)),
+      ap (λ l. length line - length l) (begun ∙ ap trim_start (sym own_is)),
       ap length same,
-      subst (λ (b : List ℕ). StandsAt b line (length line - length rest)) same stands,
+      rw same at stands,
     )
 
 -- the comment of a text that reads as a signature
@@ -140,23 +132,22 @@ pub in_text : (text third line : List ℕ) (t : SignatureTextRecord) (start len 
     → (length text - length third + start ≡ comment_offset text) × (len ≡ length t.comments.trusted)
     × StandsAt t.comments.trusted text (length text - length third + start)
 unfolding comment_offset
-in_text text third line t start len h third_is line_is fits place =
-    let second_on = (front_line text h.first (h.second ∷ h.third ∷ h.fourth ∷ h.later) h.cut).1 in
-    let third_on = (front_line (behind_line text) h.second (h.third ∷ h.fourth ∷ h.later) second_on).1 in
-    let cut : lines third ≡ h.third ∷ h.fourth ∷ h.later = ap lines third_is ∙ third_on in
-    let same : line ≡ h.third = line_is ∙ ap first_of cut in
-    let front : take (length line) third ≡ line =
+in_text text third line t start _ h third_is line_is fits place =
+    let second_on = (front_line text _ _ h.cut).1 in
+    let third_on = (front_line (behind_line text) _ _ second_on).1 in
+    let cut = ap lines third_is ∙ third_on in
+    let same = line_is ∙ ap first_of cut in
+    let front =
     subst (λ (l : List ℕ). take (length l) third ≡ l) (sym same)
     (front_line third h.third (h.fourth ∷ h.later) cut).0 in
     let (comment, labelled, trimmed) = h.trusted_comment in
     let p = place comment (same ∙ labelled) in
-    let one : ℕ = position_or_len is_feed text + 1 in
-    let two : ℕ = position_or_len is_feed (behind_line text) + 1 in
-    let at : third ≡ drop (one + two) text = third_is ∙ drop-drop two one text in (
-      ap (λ (n : ℕ). length text - length third + n) p.0
-          ∙ ap (λ (l : List ℕ). length text - length third + comment_start l) line_is
-          ∙ ap (λ (w : List ℕ). length text - length w + comment_start (first_of (lines w))) third_is,
+    let one = position_or_len is_feed text + 1 in
+    let two = position_or_len is_feed (behind_line text) + 1 in
+    let at = third_is ∙ drop-drop two one text in (
+      ap (λ n. length text - length third + n) p.0
+          ∙ ap (λ l. length text - length third + comment_start l) line_is
+          ∙ ap (λ w. length text - length w + comment_start (first_of (lines w))) third_is,
       p.1 ∙ ap length trimmed,
-      subst (λ (b : List ℕ). StandsAt b text (length text - length third + start)) trimmed
-          (placed (trim comment) line third text start (one + two) p.2 front fits at),
+      rw trimmed at (placed (trim comment) line third text start (one + two) p.2 front fits at),
     )

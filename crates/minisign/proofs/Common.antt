@@ -1,4 +1,5 @@
 -- The names of std and of the crates below that the proofs of this crate use.
+use Rattle.minisign_base.specs.declared.faults.NamedFault.TheVariants as named
 pub use Rattle.base64.proofs.EngineFacts.{decode_of-encode_of, decode_of_strict, encode_of-append}
 pub use Rattle.base64.proofs.EngineFacts.{front_bytes}
 pub use Rattle.base64.proofs.RoundTrip.{length-encode_symbols}
@@ -9,9 +10,9 @@ pub use Rattle.base64.specs.Rfc4648.{padding_len, unpadded_len}
 unfoldable pub use Rattle.base64.specs.Rfc4648.{encode_symbols}
 pub use Rattle.minisign_base.proofs.Laws.{AppendsFront-after, AppendsFront-keeps, AppendsFront-more}
 pub use Rattle.minisign_base.proofs.Laws.{first_stopped, second_ended, second_ends, stopped_first, typed_is}
-pub use Rattle.minisign_base.specs.DeviceCalls.{IsFlushed, IsSteady, IsUnflushed, IsWritingFault, Marks}
-pub use Rattle.minisign_base.specs.DeviceCalls.{PromptCall, Puts, RandomCall, RereaderCall, SinkCall}
-pub use Rattle.minisign_base.specs.DeviceCalls.{SinkFails, SinkHasNoNewFault, SourceCall, SourceFails}
+pub use Rattle.minisign_base.specs.DeviceCalls.{IsSteady, IsUnflushed, IsWritingFault, Marks, PromptCall}
+pub use Rattle.minisign_base.specs.DeviceCalls.{RandomCall, RereaderCall, SinkCall, SinkFails}
+pub use Rattle.minisign_base.specs.DeviceCalls.{SinkHasNoNewFault, SourceCall, SourceFails}
 pub use Rattle.minisign_base.specs.DeviceCalls.{SourceHasNoNewFault, Takes, TakesFront, prompt_call}
 pub use Rattle.minisign_base.specs.DeviceCalls.{random_call, rereader_call, sink_call, unused}
 pub use Rattle.minisign_base.specs.Devices.{AppendsFront, HasGiven, Rose, SameWhereKnown}
@@ -24,27 +25,12 @@ unfoldable pub use Rattle.minisign_base.specs.Passwords.{accepted_line, first_li
 pub use Rattle.minisign_base.specs.Prompts.{ConversationEnds, Say, StepEnds, Test, asking_steps, written}
 pub use Rattle.minisign_base.specs.Steps.{StepsEnd, without_value}
 pub use Rattle.minisign_base.specs.declared.faults.NamedFault.{NamedFault}
-pub use Rattle.minisign_base.specs.declared.faults.NamedFault.TheVariants.{BarePublicKeyLength}
-pub use Rattle.minisign_base.specs.declared.faults.NamedFault.TheVariants.{BarePublicKeyNotBase64}
-pub use Rattle.minisign_base.specs.declared.faults.NamedFault.TheVariants.{CorruptedKey, GoingBackFailed}
-pub use Rattle.minisign_base.specs.declared.faults.NamedFault.TheVariants.{KeyMightBeEncrypted}
-pub use Rattle.minisign_base.specs.declared.faults.NamedFault.TheVariants.{KeyNotEncrypted, OutOfMemory}
-pub use Rattle.minisign_base.specs.declared.faults.NamedFault.TheVariants.{PasswordsDiffer}
-pub use Rattle.minisign_base.specs.declared.faults.NamedFault.TheVariants.{PublicKeyLineLength}
-pub use Rattle.minisign_base.specs.declared.faults.NamedFault.TheVariants.{PublicKeyLineNotBase64}
-pub use Rattle.minisign_base.specs.declared.faults.NamedFault.TheVariants.{RecordTooShort, RefusedByGivenKey}
-pub use Rattle.minisign_base.specs.declared.faults.NamedFault.TheVariants.{SecretKeyNotBase64}
-pub use Rattle.minisign_base.specs.declared.faults.NamedFault.TheVariants.{SignatureBoxIncomplete}
-pub use Rattle.minisign_base.specs.declared.faults.NamedFault.TheVariants.{SignatureNotBase64}
-pub use Rattle.minisign_base.specs.declared.faults.NamedFault.TheVariants.{SignatureRefused}
-pub use Rattle.minisign_base.specs.declared.faults.NamedFault.TheVariants.{TrustedCommentAbsent}
-pub use Rattle.minisign_base.specs.declared.faults.NamedFault.TheVariants.{TrustedCommentPrefix}
-pub use Rattle.minisign_base.specs.declared.faults.NamedFault.TheVariants.{UnsupportedEncryptionAlgorithm}
-pub use Rattle.minisign_base.specs.declared.faults.NamedFault.TheVariants.{UnsupportedSignatureAlgorithm}
-pub use Rattle.minisign_base.specs.declared.faults.NamedFault.TheVariants.{UntrustedCommentPrefix}
-pub use Rattle.minisign_base.specs.declared.faults.NamedFault.TheVariants.{WorkTooHigh, WrongPassword}
-unfoldable pub use Rattle.minisign_hash.specs.Blake2b.{blake2b_digest, compress, iv, mix, padded_block, round}
-unfoldable pub use Rattle.minisign_hash.specs.Blake2b.{rounds, sigma, state_after, work_vector}
+pub use named.{BarePublicKeyLength, BarePublicKeyNotBase64, GoingBackFailed, OutOfMemory, PasswordsDiffer}
+pub use named.{RecordTooShort, RefusedByGivenKey, SecretKeyNotBase64, SignatureBoxIncomplete}
+pub use named.{SignatureNotBase64, SignatureRefused, TrustedCommentPrefix, UnsupportedSignatureAlgorithm}
+pub use named.{UntrustedCommentPrefix, WorkTooHigh}
+unfoldable pub use Rattle.minisign_hash.specs.Blake2b.{blake2b_digest, compress, iv, mix, padded_block}
+unfoldable pub use Rattle.minisign_hash.specs.Blake2b.{round, rounds, sigma, state_after, work_vector}
 pub use Rattle.minisign_hash.specs.Fed.{IsFed, has_finalized, output_length}
 pub use Rattle.minisign_kdf.specs.Params.{Numbers}
 pub use Rattle.std.proofs.KnownBytes.{Appends-trans, Consumes-trans}
@@ -53,13 +39,12 @@ pub use Rattle.std.proofs.lemmas.Bool.{and_parts, cases_lt, false_from_ne_true, 
 pub use Rattle.std.proofs.lemmas.Bool.{or_right}
 pub use Rattle.std.proofs.lemmas.Bool.Decides.{Decides-eqb, nat_tests}
 pub use Rattle.std.proofs.lemmas.Grind.{common_steps, flat_map-append}
-pub use Rattle.std.proofs.lemmas.List.{get_or_append_left, get_or_default, length-replicate, nil_from_length}
-pub use Rattle.std.proofs.lemmas.List.{take_more, take_more_set}
-pub use Rattle.std.proofs.lemmas.Result.{IfErr-weaker, IfOk-weaker, MatchResult-weaker, err_from_is_err_and}
+pub use Rattle.std.proofs.lemmas.List.{get_or_default, length-replicate, nil_from_length, take_more}
+pub use Rattle.std.proofs.lemmas.List.{take_more_set}
+pub use Rattle.std.proofs.lemmas.Result.{IfErr-weaker, IfOk-weaker, MatchResult-weaker}
 pub use Rattle.std.proofs.lemmas.Simd.{get_or-zip2, length-zip2}
 pub use Rattle.std.proofs.lemmas.Slice.Eq.{bytes_eq-Decides, starts_is}
-pub use Rattle.std.specs.Fmt.{HasWritten, IsPlainFormatter, before_digits, digit_glyph, digits_onto}
-pub use Rattle.std.specs.Fmt.{format_spec, number_padding}
+pub use Rattle.std.specs.Fmt.{HasWritten, IsPlainFormatter, digit_glyph, digits_onto, format_spec}
 unfoldable pub use Rattle.std.specs.Fmt.{digits, padded_integral}
 pub use Rattle.std.specs.Int.{IsInRange, from_le_bytes, to_le_bytes}
 pub use Rattle.std.specs.Io.KnownBytes.{Appends, Consumes, IsAtEnd, Keeps, append_known}

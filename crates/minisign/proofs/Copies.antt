@@ -8,45 +8,44 @@ use Rattle.minisign.specs.Reading.{IsAhead}
 -- all of a text is a prefix of it
 pub front_of_all : (a b c : Option (List ℕ)) (bs : List ℕ) → Appends a b bs → Keeps b c → AppendsFront a c bs
 front_of_all a b c bs all kept =
-    subst (AppendsFront a c) (append-nil bs)
-    (AppendsFront-after a b c bs [] all (AppendsFront-keeps b c [] kept))
+    rw (append-nil bs) at (AppendsFront-after a b c bs [] all (AppendsFront-keeps b c [] kept))
 
 -- a prefix of what was read so far is one of all that was ahead
 pub front_of_ahead : (ahead now old new : Option (List ℕ)) (bs : List ℕ) → Consumes ahead now bs
     → AppendsFront old new bs
     → (message : List ℕ) × IsAhead ahead message × AppendsFront old new message
-front_of_ahead None now old new bs read front = (bs, tt, front)
-front_of_ahead (Some xs) None old new bs read front = absurd read
+front_of_ahead None _ _ _ bs _ front = (bs, tt, front)
+front_of_ahead (Some _) None _ _ _ read _ = absurd read
 front_of_ahead (Some xs) (Some ys) old new bs read front =
-    (xs, refl, subst (AppendsFront old new) (sym read) (AppendsFront-more old new bs ys front))
+    (xs, refl, rw (sym read) at (AppendsFront-more old new bs ys front))
 
 -- before anything was read, nothing taken is a prefix of all that is ahead
 pub front_of_nothing : (ahead old new : Option (List ℕ)) → Keeps old new
     → (message : List ℕ) × IsAhead ahead message × AppendsFront old new message
-front_of_nothing None old new kept = ([], tt, AppendsFront-keeps old new [] kept)
-front_of_nothing (Some xs) old new kept = (xs, refl, AppendsFront-keeps old new xs kept)
+front_of_nothing None _ _ kept = ([], tt, AppendsFront-keeps _ _ [] kept)
+front_of_nothing (Some xs) _ _ kept = (xs, refl, AppendsFront-keeps _ _ xs kept)
 
 -- what a sink that was not written to keeps
 pub keeps_same : (known : Option (List ℕ)) → Keeps known known
 keeps_same None = tt
-keeps_same (Some xs) = refl
+keeps_same (Some _) = refl
 
 -- all of a text stays taken
 pub all_kept : (a b c : Option (List ℕ)) (bs : List ℕ) → Appends a b bs → Keeps b c → Appends a c bs
-all_kept None b c bs all kept = tt
-all_kept (Some x) None c bs all kept = absurd all
-all_kept (Some x) (Some y) None bs all kept = absurd kept
-all_kept (Some x) (Some y) (Some z) bs all kept = kept ∙ all
+all_kept None b c _ _ _ = tt
+all_kept (Some x) None c _ all _ = absurd all
+all_kept (Some x) (Some y) None _ _ kept = absurd kept
+all_kept (Some x) (Some y) (Some z) _ all kept = kept ∙ all
 
 -- what was given so far, and then more
 pub given_more : (old new : Option (List ℕ)) (a b : List ℕ) → IsAhead old a → new ≡ append_known old b
     → IsAhead new (a ++ b)
-given_more None new a b given more = subst (λ known. IsAhead known (a ++ b)) (sym more) tt
-given_more (Some xs) new a b given more = subst (λ known. IsAhead known (a ++ b)) (sym more)
+given_more None _ a b _ more = subst (λ known. IsAhead known (a ++ b)) (sym more) tt
+given_more (Some _) _ a b given more = subst (λ known. IsAhead known (a ++ b)) (sym more)
     (ap (λ (l : List ℕ). l ++ b) given)
 
 -- what was given so far, and no more
 pub given_still : (old new : Option (List ℕ)) (a : List ℕ) → IsAhead old a → SameWhereKnown old new
     → IsAhead new a
-given_still old None a given kept = tt
-given_still old (Some ys) a given kept = subst (λ known. IsAhead known a) kept given
+given_still _ None a _ _ = tt
+given_still _ (Some _) a given kept = rw kept at given

@@ -1,15 +1,15 @@
 -- Values of the definitions that are known from outside: examples of RFC 4648, the key and the signature that
 -- were published, and a damaged text for each error. A wrong letter or byte does not check. The digest, and
 -- what the texts decode to, were given by other programs.
-use Rattle.std.proofs.Common.{◌≡◌, refl, ℕ, true, false, ◌&&◌, ◌||◌, Result, Ok, Err}
-use Rattle.std.proofs.Common.{List, [], ◌∷◌, ◌++◌, codes, drop, take, replicate, bytes_eq}
+use Rattle.std.proofs.Common.{◌≡◌, refl, ℕ, true, false, ◌&&◌, ◌||◌, Result, Ok, Err, List, [], ◌∷◌, ◌++◌}
+use Rattle.std.proofs.Common.{codes, drop, take, replicate, bytes_eq}
 use Rattle.std.specs.Str.{trim_start, trim_end, chars}
 use Rattle.std.specs.Int.{to_le_bytes, w64}
 use lib.Utf8.{encode}
 use Rattle.base64.specs.Rfc4648.{encode_symbols}
 use Rattle.base64.specs.Decode.{groups_bytes, scan_steps}
-use Rattle.minisign_hash.specs.Blake2b.{blake2b_digest, padded_block, compress, iv, mix, round, rounds, sigma}
-use Rattle.minisign_hash.specs.Blake2b.{state_after, work_vector}
+use Rattle.minisign_hash.specs.Blake2b.{blake2b_digest, padded_block, compress, iv, mix, round, rounds}
+use Rattle.minisign_hash.specs.Blake2b.{sigma, state_after, work_vector}
 use Rattle.minisign_hash.specs.Words.{bytes_of_words64, words64_of}
 use Rattle.minisign_base.specs.Fault.{Fault, Named}
 use Rattle.minisign_base.specs.declared.faults.NamedFault.TheVariants as named

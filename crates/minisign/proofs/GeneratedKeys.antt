@@ -1,54 +1,197 @@
--- What the keys that are generated are good for.
-use Rattle.std.proofs.Common.{◌≡◌, ◌^◌, ◌<◌, ℕ, List, length, None, Ok, unwrap_or, refl, sym, ap, subst, ◌∙◌}
-use Rattle.std.proofs.Common.{arith}
+-- Keys that are made of their parts, and their texts; and what the keys that are generated are good for.
+use Rattle.std.proofs.Common.{◌≡◌, ◌^◌, ◌<◌, ℕ, List, length, None, Ok, unwrap_or, refl, sym, ap, ◌∙◌, arith}
+use Rattle.std.proofs.Common.{false, ◌⊎◌, ◌+◌, Option, Some, Result, Err, IsOk, IfOk, true, not, inl, inr}
+use Rattle.std.proofs.Common.{subst, w64, true≢false, bytes_eq}
 use Rattle.minisign.proofs.Common.{Named, RandomCall, OutOfMemory, result_err, cost_log2, limits, numbers}
-use Rattle.minisign.proofs.Common.{sealing_limits}
+use Rattle.minisign.proofs.Common.{sealing_limits, bytes_eq-Decides, to_le_bytes, LacksByte, Fault}
+use Rattle.minisign.proofs.Common.{WorkTooHigh, Numbers}
 use Rattle.minisign_base.specs.Scheme.{IsBytes}
-use Rattle.minisign.specs.Records.{PublicKeyRecord, SecretKeyRecord}
-use Rattle.minisign.specs.Sealing.{xored_key}
-use Rattle.minisign.specs.Generation.{AreSeedAndKeynum, IsGenuinePair, IsSealedOf, IsSealedPair, OpensToPair}
-use Rattle.minisign.specs.Generation.{public_key_of, secret_of, unsealed_key}
-use Rattle.minisign.specs.Making.{IsOfParts}
-use Rattle.minisign.proofs.MadeKeys.{sealed_opens, sealed_parts, text_opens, unsealed_parts}
+use Rattle.minisign.specs.Records.{PublicKeyRecord, SecretKeyRecord, own_public_key}
+use Rattle.minisign.specs.Sealing.{is_encrypted, xored_key, allowed_work, checksum_of, is_within, key_limits}
+use Rattle.minisign.specs.Sealing.{key_xor, open_sealed, scrypt_kdf, sealed_by_scrypt, unencrypted_key}
+use Rattle.minisign.specs.Generation.{AreSeedAndKeynum, IsGenuinePair, IsSealedPair, OpensToPair}
+use Rattle.minisign.specs.Generation.{key_to_seal, public_key_of, secret_of, unsealed_key, IsMadePublicText}
+use Rattle.minisign.specs.Generation.{IsMadeText}
+use Rattle.std.proofs.lemmas.Nat.{from_le_bytes-to_le_bytes_8}
+use Rattle.minisign.specs.PublicKeyText.{commented_public_key_text, read_public_key}
+use Rattle.minisign.specs.SecretKeyText.{read_secret_key, secret_key_text}
+use Rattle.minisign.specs.Opening.{OpensTo, open_key}
+use Rattle.minisign.specs.declared.making.Sealing.{Sealing}
+use Rattle.minisign.proofs.SealingLimits.{sealing_numbers}
+use Rattle.minisign.specs.Texts.{and_then, require}
+use Rattle.minisign.proofs.Openings.{opened_within, sealed_taken, unencrypted_taken, unencrypted_text}
+
+-- the limits of a key that is sealed with these
+pub limits_named : (k : SecretKeyRecord) (operations memory : ℕ) → operations < 2 ^ 64 → memory < 2 ^ 64
+    → k.operations_limit ≡ to_le_bytes w64 operations → k.memory_limit ≡ to_le_bytes w64 memory
+    → key_limits k ≡ sealing_limits memory operations
+unfolding key_limits
+limits_named k operations memory some more same_operations same_memory =
+    rw (
+      same_operations,
+      same_memory,
+      from_le_bytes-to_le_bytes_8 operations some,
+      from_le_bytes-to_le_bytes_8 memory more,
+    ) refl
+
+-- what a test with no bound says of the limits
+unbounded : (r : Result Numbers Fault) → and_then r (λ v. Ok v) ≡ r
+unbounded (Ok v) = refl
+unbounded (Err e) = refl
+
+pub work_allowed : (k : SecretKeyRecord) (l : Result Numbers Fault) → key_limits k ≡ l
+    → IsOk (allowed_work k None) → IsOk l
+work_allowed k l same h = rw (unbounded (key_limits k) ∙ same) at h
+
+-- where the limits are allowed, it is another error
+pub other_fault : (l : Result Numbers Fault) (e f : Fault) → IsOk l → e ≡ f → e ≡ unwrap_or (result_err l) f
+other_fault (Ok v) e f _ is = is
+other_fault (Err g) e f ok _ = absurd (true≢false (sym ok))
+
+-- why no stream was applied
+pub stream_fault : (k : SecretKeyRecord) (l : Result Numbers Fault) (e : Fault) → key_limits k ≡ l
+    → ((e ≡ Named OutOfMemory) × IsOk (allowed_work k None)) ⊎ (allowed_work k None ≡ Err e)
+    → e ≡ unwrap_or (result_err l) (Named OutOfMemory)
+stream_fault k l e same (inl (memory, allowed)) = other_fault l e _ (work_allowed k l same allowed) memory
+stream_fault k l e same (inr refused) = rw (← same, ← unbounded (key_limits k), refused) refl
+
+allowed_limits : (memory operations : ℕ) (r : Result Numbers Fault) → sealing_limits memory operations ≡ r
+    → IsOk r → r ≡ Ok (numbers memory operations)
+allowed_limits _ _ (Ok v) same _ =
+    ap Ok (sym (sealing_numbers _ _ v same))
+allowed_limits _ _ (Err e) _ ok = absurd (true≢false (sym ok))
+
+-- the key that is not to be sealed is none that has to be opened
+pub unsealed_is_unencrypted : (keynum secret : List ℕ) → unencrypted_key (unsealed_key keynum secret)
+    ≡ Ok (unsealed_key keynum secret)
+unfolding unsealed_key
+unsealed_is_unencrypted _ _ = unencrypted_taken _ refl refl
+
+no_mismatch : (xs : List ℕ) → not (bytes_eq xs xs) ≡ false
+no_mismatch xs = let same : bytes_eq xs xs ≡ true = (bytes_eq-Decides xs xs).1 refl in rw same refl
+
+-- a key that is to be sealed counts as opened
+pub opened_before : (keynum secret salt : List ℕ) (operations memory : ℕ)
+    → is_encrypted (key_to_seal keynum secret salt operations memory) ≡ false
+unfolding key_to_seal unsealed_key
+opened_before keynum secret _ _ _ = no_mismatch (checksum_of (unsealed_key keynum secret))
+
+-- the text of a key that is not sealed
+pub made_unsealed : (keynum secret comment text : List ℕ) (s : Sealing) (sk : SecretKeyRecord)
+    → sk ≡ unsealed_key keynum secret
+    → text ≡ secret_key_text (Some comment) sk → (LacksByte 10 comment → read_secret_key text ≡ Ok sk)
+    → length text ≡ length comment + 233
+    → IsMadeText keynum secret None s comment text
+made_unsealed _ _ comment _ s _ same written reads size = record {
+  written = written ∙ ap (λ k. secret_key_text (Some comment) k) same;
+  gives = λ lacks. unencrypted_text _ _ _ (reads lacks ∙ ap Ok same) (unsealed_is_unencrypted _ _);
+  size = size;
+}
+
+-- the sealed key opens under its password, and so does each text that reads as it
+module _ (keynum secret salt password : List ℕ) (operations memory : ℕ) (some : operations < 2 ^ 64)
+    (more : memory < 2 ^ 64) (sk : SecretKeyRecord)
+    (sealed : sk ≡ xored_key (key_to_seal keynum secret salt operations memory) password)
+    (opened : xored_key sk password ≡ key_to_seal keynum secret salt operations memory)
+    (v : Numbers) (allowed : sealing_limits memory operations ≡ Ok v) where
+  kdf : sk.kdf ≡ scrypt_kdf
+  unfolding key_xor key_to_seal
+  kdf = ap (λ k. k.kdf) sealed
+
+  named : key_limits sk ≡ Ok v
+  unfolding key_xor key_to_seal
+  named = limits_named sk _ _ some more (ap (λ k. k.operations_limit) sealed)
+      (ap (λ k. k.memory_limit) sealed) ∙ allowed
+
+  restored : (xored_key sk password).checksum ≡ checksum_of (xored_key sk password)
+  unfolding key_to_seal unsealed_key
+  restored = subst (λ (k : SecretKeyRecord). k.checksum ≡ checksum_of k) (sym opened) refl
+
+  pub sealed_opens : (bound : Option ℕ)
+      → and_then (sealed_by_scrypt sk) (λ k. open_sealed k password bound)
+      ≡ require (is_within bound v.p) WorkTooHigh (Ok (xored_key sk password))
+  sealed_opens bound = ap (λ r. and_then r (λ k. open_sealed k password bound)) (sealed_taken sk kdf)
+      ∙ opened_within sk _ _ v named restored
+
+  pub text_opens : (text : List ℕ) → read_secret_key text ≡ Ok sk
+      → OpensTo text password v.p (xored_key sk password)
+  unfolding open_key
+  text_opens _ read = λ bound. ap
+      (λ r. and_then (and_then r sealed_by_scrypt) (λ k. open_sealed k password bound)) read
+      ∙ sealed_opens _
+
+-- the text of a sealed key
+pub made_sealed : (keynum secret password comment text : List ℕ) (s : Sealing) (sk : SecretKeyRecord)
+    → s.operations_limit < 2 ^ 64 → s.memory_limit < 2 ^ 64
+    → sk ≡ xored_key (key_to_seal keynum secret s.salt s.operations_limit s.memory_limit) password
+    → xored_key sk password ≡ key_to_seal keynum secret s.salt s.operations_limit s.memory_limit
+    → IsOk (sealing_limits s.memory_limit s.operations_limit)
+    → text ≡ secret_key_text (Some comment) sk → (LacksByte 10 comment → read_secret_key text ≡ Ok sk)
+    → length text ≡ length comment + 233
+    → IsMadeText keynum secret (Some password) s comment text
+made_sealed keynum secret password comment text s sk some more sealed opened allowed written reads size =
+    record {
+      written = written ∙ ap (λ k. secret_key_text (Some comment) k) sealed;
+      gives = λ lacks. (rw opened at (text_opens _ _ _ _ _ _ some more _ sealed opened _
+          (allowed_limits _ _ _ refl allowed) _ (reads lacks)));
+      size = size;
+    }
+
+pub made_public : (keynum secret comment text : List ℕ) (pk : PublicKeyRecord) (sk : SecretKeyRecord)
+    → sk ≡ unsealed_key keynum secret → pk ≡ own_public_key sk
+    → text ≡ commented_public_key_text comment pk → (LacksByte 10 comment → read_public_key text ≡ Ok pk)
+    → length text ≡ length comment + 77
+    → IsMadePublicText keynum secret comment text
+made_public _ _ comment _ _ _ same own written reads size =
+    let is = own ∙ ap own_public_key same in
+    record {
+      written = written ∙ ap (commented_public_key_text comment) is;
+      reads = λ lacks. reads lacks ∙ ap Ok is;
+      size = size;
+    }
+
+-- what three clauses say of the text that was returned
+pub of_text : {T E A : Type 0} (r : Result T E) (P Q S V : T → Type 0) → IfOk r P → (A → IfOk r Q) → IfOk r S
+    → ((t : T) → P t → (A → Q t) → S t → V t) → IfOk r V
+of_text (Ok t) P Q S V p q s f = f t p q s
+of_text (Err e) P Q S V p q s f = tt
 
 -- 32 random bytes, and then 8
 pub seed_and_keynum : (seed keynum : List ℕ) → IsBytes seed × (length seed ≡ 32)
     → IsBytes keynum × (length keynum ≡ 8) → AreSeedAndKeynum seed keynum
-seed_and_keynum seed keynum (seed_bytes, seed_length) (keynum_bytes, keynum_length) =
+seed_and_keynum _ _ (seed_bytes, seed_length) (keynum_bytes, keynum_length) =
     record {
       seed_length = seed_length;
       seed_bytes = seed_bytes;
       keynum_length = keynum_length;
-      keynum_bytes =
-          keynum_bytes;
+      keynum_bytes = keynum_bytes;
     }
 
--- a public key, and the secret key of its parts, belong together
+-- a public key, and an opened secret key of its parts, belong together
 pair_of_parts : (public_of : List ℕ → List ℕ) (seed keynum : List ℕ) (pk : PublicKeyRecord)
-    (sk : SecretKeyRecord) → AreSeedAndKeynum seed keynum
-    → pk ≡ public_key_of public_of seed keynum → IsOfParts keynum (secret_of public_of seed) sk
+    (sk : SecretKeyRecord) → AreSeedAndKeynum seed keynum → pk ≡ public_key_of public_of seed keynum
+    → sk.keynum ≡ keynum → sk.secret ≡ secret_of public_of seed → is_encrypted sk ≡ false
     → IsGenuinePair public_of pk sk
-pair_of_parts public_of seed keynum pk sk lengths public parts = record {
+pair_of_parts _ seed keynum _ _ lengths public same_keynum same_secret opened = record {
   seed = seed;
   genuine = record {
     seed_length = lengths.seed_length;
     seed_bytes = lengths.seed_bytes;
-    secret =
-        parts.secret_is;
-    opened = parts.opened;
+    secret = same_secret;
+    opened = opened;
   };
   key = ap (λ k. k.key) public;
-  keynum = ap (λ k. k.keynum) public ∙ sym parts.keynum_is;
+  keynum = ap (λ k. k.keynum) public ∙ sym same_keynum;
 }
 
 pub unsealed_pair : (public_of : List ℕ → List ℕ) (seed keynum : List ℕ) (pk : PublicKeyRecord)
     (sk : SecretKeyRecord) → AreSeedAndKeynum seed keynum
     → pk ≡ public_key_of public_of seed keynum → sk ≡ unsealed_key keynum (secret_of public_of seed)
     → IsGenuinePair public_of pk sk
-unsealed_pair public_of seed keynum pk sk lengths public secret =
-    pair_of_parts public_of seed keynum pk sk lengths public
-    (subst (IsOfParts keynum (secret_of public_of seed)) (sym secret)
-    (unsealed_parts keynum (secret_of public_of seed)))
+unfolding unsealed_key
+unsealed_pair _ _ keynum pk sk lengths public secret =
+    pair_of_parts _ _ _ pk sk lengths public (ap (λ k. k.keynum) secret)
+    (ap (λ k. k.secret) secret) (ap (λ k. is_encrypted k) secret)
 
 -- the default limits are allowed, and lead to N of 2 ^ 15, r of 8 and p of 1
 default_limits : sealing_limits 33554432 1048576 ≡ Ok (record { n_log2 = 15; r = 8; p = 1 })
@@ -64,18 +207,17 @@ only_memory = ap (λ l. unwrap_or (result_err l) (Named OutOfMemory)) default_li
 pub sealed_pair : {Z : Type 0} (public_of : List ℕ → List ℕ) (password : List ℕ) (z : RandomCall Z)
     (pk : PublicKeyRecord) (sk : SecretKeyRecord)
     → IsSealedPair public_of password z pk sk → OpensToPair public_of password pk sk
+unfolding key_to_seal unsealed_key
 sealed_pair public_of password z pk sk pair =
-    let sealed : IsSealedOf public_of pair.seed pair.keynum pair.salt password pk sk = pair.sealed in
-    let secret : List ℕ = secret_of public_of pair.seed in
-    let some : 1048576 < 2 ^ 64 = omega arith in
-    let more : 33554432 < 2 ^ 64 = omega arith in
-    let parts = subst (IsOfParts pair.keynum secret) (sym sealed.opened)
-    (sealed_parts pair.keynum secret pair.salt 1048576 33554432) in
+    let sealed = pair.sealed in
+    let secret = secret_of public_of pair.seed in
     record {
-      opens = sealed_opens pair.keynum secret pair.salt password 1048576 33554432 some more sk sealed.secret
-          sealed.opened _ default_limits None;
-      pair = pair_of_parts public_of pair.seed pair.keynum pk (xored_key sk password) pair.lengths
-          sealed.public parts;
-      texts = text_opens pair.keynum secret pair.salt password 1048576 33554432 some more sk sealed.secret
-          sealed.opened _ default_limits;
+      opens = sealed_opens pair.keynum secret pair.salt password 1048576 33554432 (omega arith) (omega arith)
+          sk sealed.secret sealed.opened _ default_limits None;
+      pair = pair_of_parts _ _ _ pk _ pair.lengths
+          sealed.public (ap (λ k. k.keynum) sealed.opened) (ap (λ k. k.secret) sealed.opened)
+          (ap (λ k. is_encrypted k) sealed.opened
+          ∙ opened_before pair.keynum secret pair.salt 1048576 33554432);
+      texts = text_opens pair.keynum secret pair.salt password 1048576 33554432 (omega arith) (omega arith)
+          sk sealed.secret sealed.opened _ default_limits;
     }

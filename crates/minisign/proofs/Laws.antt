@@ -16,7 +16,7 @@ module _ (accepts : Verifier) (pk_text sig_text message : List ℕ) (legacy : Bo
   pub only_memory : (e : Fault) → TextsVouchFor accepts pk_text sig_text message legacy
       → IsGivenOrNoMemory {V = List ℕ} (Err e) (verdict accepts pk_text sig_text message legacy)
       → e ≡ Named OutOfMemory
-  only_memory e v (inl is) = let differ = is ∙ vouching_verdict accepts pk_text sig_text message legacy v in
+  only_memory e v (inl is) = let differ = is ∙ vouching_verdict _ _ _ _ _ v in
       cc differ
   only_memory e v (inr memory) = cc memory
 
@@ -24,11 +24,10 @@ module _ (accepts : Verifier) (pk_text sig_text message : List ℕ) (legacy : Bo
   pub accepted_vouches : (comment : List ℕ)
       → IsGivenOrNoMemory (Ok comment) (verdict accepts pk_text sig_text message legacy)
       → TextsVouchFor accepts pk_text sig_text message legacy
-  accepted_vouches comment given =
-      (vouched accepts pk_text sig_text message legacy comment (read_value comment _ given)).vouched
+  accepted_vouches _ given =
+      (vouched _ _ _ _ _ _ (read_value _ _ given)).vouched
 
   -- texts that are rejected do not vouch for the message
   pub refused_unvouched : (e : Fault) → verdict accepts pk_text sig_text message legacy ≡ Err e
       → ¬ (TextsVouchFor accepts pk_text sig_text message legacy)
-  refused_unvouched e is v = let differ = sym is ∙ vouching_verdict accepts pk_text sig_text message legacy
-      v in cc differ
+  refused_unvouched e is v = let differ = sym is ∙ vouching_verdict _ _ _ _ _ v in cc differ

@@ -1,5 +1,4 @@
 pub mod Common
-pub mod Xor
 pub mod SealedParts
 pub mod SealingLimits
 pub mod RecordFields
@@ -13,21 +12,13 @@ pub mod WrittenLines
 pub mod Facts
 pub mod ToyFacts
 pub mod SecretKeyTexts
-pub mod SecretKeyFronts
 pub mod Openings
-pub mod GivenKeys
-pub mod Asking
-pub mod Choosing
 pub mod Conversations
 pub mod WrittenKeys
 pub mod SignatureTexts
 pub mod CommentPlaces
-pub mod SignedTexts
-pub mod DefaultComments
 pub mod Passes
 pub mod Verdicts
 pub mod Laws
 pub mod VouchedTexts
-pub mod MadeKeys
 pub mod GeneratedKeys
-pub mod RowBounds

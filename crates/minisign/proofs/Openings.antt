@@ -1,31 +1,35 @@
--- What a secret key opens to, and when a text gives a key: the functions and the relations agree.
-use Rattle.std.proofs.Common.{◌≡◌, ℕ, Bool, true, false, not, ◌&&◌, bytes_eq, List, Option, None, refl, sym}
-use Rattle.std.proofs.Common.{ap, subst, ◌∙◌, is_ok, true≢false, Result, Ok, Err, IsOk}
+-- What a secret key opens to, and when a text gives a key: the functions and the relations agree; how opening
+-- ends, whether a password is asked for or passed in; and which key a text gives for signing.
+use Rattle.std.proofs.Common.{◌≡◌, ℕ, Bool, true, false, not, bytes_eq, List, Option, None, refl, sym, ap}
+use Rattle.std.proofs.Common.{◌∙◌, is_ok, true≢false, Result, Ok, Err, IsOk, ◌⊎◌, Some, IfOk, IfErr, inl}
+use Rattle.std.proofs.Common.{inr, [], IfSome, option_map}
 use Rattle.minisign.proofs.Common.{result_err, bytes_eq-Decides, Fault, without_value, NamedFault}
-use Rattle.minisign.proofs.Common.{CorruptedKey, KeyMightBeEncrypted, KeyNotEncrypted}
-use Rattle.minisign.proofs.Common.{UnsupportedEncryptionAlgorithm, WorkTooHigh, WrongPassword, Numbers}
+use Rattle.minisign.proofs.Common.{WorkTooHigh, Numbers, PromptCall, Named, ConversationEnds, password_of}
+use Rattle.minisign.proofs.Common.{OutOfMemory, option_map_or, result_ok}
 use Rattle.minisign.specs.Records.{SecretKeyRecord}
 use Rattle.minisign.specs.SecretKeyText.{read_secret_key}
-use Rattle.minisign.specs.Sealing.{allowed_work, checksum_of, is_encrypted, is_within, key_limits, no_kdf}
-use Rattle.minisign.specs.Sealing.{open_sealed, restored_key, scrypt_kdf, sealed_by_scrypt, unencrypted_key}
-use Rattle.minisign.specs.Sealing.{xored_key}
-use Rattle.minisign.specs.Opening.{IsOpened, IsUnencryptedText, open_key, read_unencrypted_key}
+use Rattle.minisign.specs.Sealing.{allowed_work, checksum_of, is_within, key_limits, no_kdf, open_sealed}
+use Rattle.minisign.specs.Sealing.{restored_key, scrypt_kdf, sealed_by_scrypt, unencrypted_key, xored_key}
+use Rattle.minisign.specs.Sealing.{wants_password}
+use Rattle.minisign.specs.Opening.{IsOpened, IsUnencryptedText, open_key, read_unencrypted_key, IsOpening}
+use Rattle.minisign.specs.Opening.{opening_steps, IsOpenedOrNoMemory, is_sealed_text, key_with_password}
 use Rattle.minisign.specs.Texts.{IsReading, and_then, require}
 use Rattle.minisign.proofs.ReadTexts.{is_reading, passed, read_before, same_end, same_value}
 use Rattle.minisign.proofs.SecretKeyTexts.{read_as}
+use Rattle.minisign.specs.Headline.{OpeningHeadline}
+use Rattle.minisign.specs.SigningTexts.{GivesKey, IsKeyOf}
 
 -- what is a value is no error
 pub no_fault : {V : Type 0} (r : Result V Fault) → IsOk r → result_err r ≡ None
-no_fault (Ok v) ok = refl
+no_fault (Ok v) _ = refl
 no_fault (Err e) ok = absurd (true≢false (sym ok))
 
 -- a key is taken as sealed by scrypt exactly where it names scrypt
 sealed_held : (k l : SecretKeyRecord) → sealed_by_scrypt k ≡ Ok l → (k ≡ l) × (k.kdf ≡ scrypt_kdf)
 sealed_held k l h =
-    let first = passed (not (bytes_eq k.kdf no_kdf)) KeyNotEncrypted
-    (require (bytes_eq k.kdf scrypt_kdf) UnsupportedEncryptionAlgorithm (Ok k)) l h in
-    let second = passed (bytes_eq k.kdf scrypt_kdf) UnsupportedEncryptionAlgorithm (Ok k) l first.1 in
-    (same_value k l second.1, (bytes_eq-Decides k.kdf scrypt_kdf).0 second.0)
+    let first = passed _ _ _ l h in
+    let second = passed _ _ _ l first.1 in
+    (same_value k l second.1, (bytes_eq-Decides _ _).0 second.0)
 
 pub sealed_taken : (k : SecretKeyRecord) → k.kdf ≡ scrypt_kdf → sealed_by_scrypt k ≡ Ok k
 sealed_taken k h = rw h refl
@@ -39,29 +43,26 @@ both_passed false b e f v h = cc h
 
 pub sealed_passed : (k : SecretKeyRecord) → Ok tt ≡ without_value (sealed_by_scrypt k)
     → sealed_by_scrypt k ≡ Ok k
-sealed_passed k h = both_passed (not (bytes_eq k.kdf no_kdf)) (bytes_eq k.kdf scrypt_kdf) KeyNotEncrypted
-    UnsupportedEncryptionAlgorithm k h
+sealed_passed k h = both_passed _ _ _ _ k h
 
 pub unencrypted_passed : (k : SecretKeyRecord) → Ok tt ≡ without_value (unencrypted_key k)
     → unencrypted_key k ≡ Ok k
-unencrypted_passed k h = both_passed (bytes_eq k.kdf no_kdf) (bytes_eq k.checksum (checksum_of k))
-    KeyMightBeEncrypted CorruptedKey k h
+unencrypted_passed k h = both_passed _ _ _ _ k h
 
 -- a checksum that is restored
 restored_held : (k v : SecretKeyRecord) → restored_key k ≡ Ok v → (k ≡ v) × (k.checksum ≡ checksum_of k)
 restored_held k v h =
-    let (same, is) = passed (bytes_eq k.checksum (checksum_of k)) WrongPassword (Ok k) v h in
-    (same_value k v is, (bytes_eq-Decides k.checksum (checksum_of k)).0 same)
+    let (same, is) = passed _ _ _ v h in
+    (same_value k v is, (bytes_eq-Decides _ _).0 same)
 
 -- a sealed key opens exactly where the conditions hold
 opening_held : (k v : SecretKeyRecord) (password : List ℕ) (bound : Option ℕ) → open_sealed k password bound
     ≡ Ok v
     → IsOk (allowed_work k bound) × (xored_key k password ≡ v) × (v.checksum ≡ checksum_of v)
-opening_held k v password bound h =
-    let (w, work, restored) = read_before (allowed_work k bound) (λ _. restored_key (xored_key k password)) v
-    h in
-    let (is, checksum) = restored_held (xored_key k password) v restored in
-    (ap is_ok work, is, subst (λ (l : SecretKeyRecord). l.checksum ≡ checksum_of l) is checksum)
+opening_held k v _ _ h =
+    let (w, work, restored) = read_before _ _ v h in
+    let (is, checksum) = restored_held _ v restored in
+    (ap is_ok work, is, rw is at checksum)
 
 -- and it opens within each bound that its parallelization is within
 pub opened_within : (k : SecretKeyRecord) (password : List ℕ) (bound : Option ℕ) (v : Numbers)
@@ -69,8 +70,7 @@ pub opened_within : (k : SecretKeyRecord) (password : List ℕ) (bound : Option 
     → (xored_key k password).checksum ≡ checksum_of (xored_key k password)
     → open_sealed k password bound ≡ require (is_within bound v.p) WorkTooHigh (Ok (xored_key k password))
 opened_within k password bound v allowed h =
-    let checksum : bytes_eq (xored_key k password).checksum (checksum_of (xored_key k password)) ≡ true =
-    (bytes_eq-Decides (xored_key k password).checksum (checksum_of (xored_key k password))).1 h in
+    let checksum = (bytes_eq-Decides (xored_key k password).checksum _).1 h in
     rw (allowed, checksum) (of (is_within bound v.p))
   where
     of : (b : Bool) → and_then (require b WorkTooHigh (Ok v)) (λ _. Ok (xored_key k password))
@@ -81,54 +81,42 @@ opened_within k password bound v allowed h =
 pub opened_so : (k v : SecretKeyRecord) (password : List ℕ) (bound : Option ℕ) (w : Numbers)
     → v ≡ xored_key k password
     → allowed_work k bound ≡ Ok w → restored_key v ≡ Ok v → open_sealed k password bound ≡ Ok v
-opened_so k v password bound w is work restored = ap
+opened_so k v password _ w is work restored = ap
     (λ r. and_then r (λ _. restored_key (xored_key k password))) work ∙ ap restored_key (sym is) ∙ restored
-
--- a key that opened is not encrypted any more
-neither : (a b : Bool) → b ≡ true → a && not b ≡ false
-neither true b h = ap not h
-neither false b h = refl
-
-pub opened_key_is_open : (k v : SecretKeyRecord) (password : List ℕ) (bound : Option ℕ)
-    → open_sealed k password bound ≡ Ok v → is_encrypted v ≡ false
-opened_key_is_open k v password bound h =
-    let (allowed, is, restored) = opening_held k v password bound h in
-    neither _ _ ((bytes_eq-Decides v.checksum (checksum_of v)).1 restored)
 
 -- the key of a text
 pub sealed_text : (text : List ℕ) (k : SecretKeyRecord) (r : Result SecretKeyRecord Fault)
     → read_secret_key text ≡ Ok k → sealed_by_scrypt k ≡ r → and_then (read_secret_key text) sealed_by_scrypt
     ≡ r
-sealed_text text k r read of_key = ap (λ x. and_then x sealed_by_scrypt) read ∙ of_key
+sealed_text _ k r read of_key = ap (λ x. and_then x sealed_by_scrypt) read ∙ of_key
 
 pub unread_text : (text : List ℕ) (e : Fault) → read_secret_key text ≡ Err e
     → and_then (read_secret_key text) sealed_by_scrypt ≡ Err e
-unread_text text e read = ap (λ x. and_then x sealed_by_scrypt) read
+unread_text _ e read = ap (λ x. and_then x sealed_by_scrypt) read
 
 pub open_text : (text password : List ℕ) (bound : Option ℕ) (k : SecretKeyRecord)
     → and_then (read_secret_key text) sealed_by_scrypt ≡ Ok k → open_key text password bound
     ≡ open_sealed k password bound
 unfolding open_key
-open_text text password bound k read = ap (λ x. and_then x (λ l. open_sealed l password bound)) read
+open_text _ password bound k read = ap (λ x. and_then x (λ l. open_sealed l password bound)) read
 
 pub unopened_text : (text password : List ℕ) (bound : Option ℕ) (e : Fault)
     → and_then (read_secret_key text) sealed_by_scrypt ≡ Err e → open_key text password bound ≡ Err e
 unfolding open_key
-unopened_text text password bound e read = ap (λ x. and_then x (λ l. open_sealed l password bound)) read
+unopened_text _ password bound e read = ap (λ x. and_then x (λ l. open_sealed l password bound)) read
 
 text_opens : (text password : List ℕ) (bound : Option ℕ) (v : SecretKeyRecord) → open_key text password bound
     ≡ Ok v → IsOpened text password bound v
 unfolding open_key
-text_opens text password bound v h =
-    let (k, sealed, opened) = read_before (and_then (read_secret_key text) sealed_by_scrypt)
-    (λ l. open_sealed l password bound) v h in
-    let (l, read, taken) = read_before (read_secret_key text) sealed_by_scrypt k sealed in
+text_opens _ password bound v h =
+    let (k, sealed, opened) = read_before _ _ v h in
+    let (l, read, taken) = read_before _ _ k sealed in
     let (same, kdf) = sealed_held l k taken in
-    let (allowed, is, restored) = opening_held l v password bound
+    let (allowed, is, restored) = opening_held l v _ _
     (ap (λ m. open_sealed m password bound) same ∙ opened) in
     record {
       sealed = l;
-      read = ((read_as text).value l).0 read;
+      read = ((read_as _).value l).0 read;
       kdf = kdf;
       allowed = allowed;
       key =
@@ -137,77 +125,168 @@ text_opens text password bound v h =
     }
 
 some_work : (r : Result Numbers Fault) → IsOk r → (w : Numbers) × (r ≡ Ok w)
-some_work (Ok w) ok = (w, refl)
+some_work (Ok w) _ = (w, refl)
 some_work (Err e) ok = absurd (true≢false (sym ok))
 
 opens_text : (text password : List ℕ) (bound : Option ℕ) (v : SecretKeyRecord)
     → IsOpened text password bound v → open_key text password bound ≡ Ok v
-opens_text text password bound v h =
-    let read : read_secret_key text ≡ Ok h.sealed = ((read_as text).value h.sealed).1 h.read in
-    let (w, work) = some_work (allowed_work h.sealed bound) h.allowed in
-    open_text text password bound h.sealed (sealed_text text h.sealed _ read (sealed_taken h.sealed h.kdf))
-    ∙ opened_so h.sealed v password bound w h.key work
-    (rw ((bytes_eq-Decides v.checksum (checksum_of v)).1 h.restored) refl)
+opens_text text _ _ v h =
+    let read = ((read_as text).value h.sealed).1 h.read in
+    let (w, work) = some_work _ h.allowed in
+    open_text _ _ _ _ (sealed_text _ _ _ read (sealed_taken _ h.kdf))
+    ∙ opened_so _ v _ _ w h.key work (rw ((bytes_eq-Decides _ _).1 h.restored) refl)
 
 pub opened_as : (text password : List ℕ) (bound : Option ℕ)
     → IsReading (IsOpened text password bound) (open_key text password bound)
-opened_as text password bound =
-    is_reading (IsOpened text password bound) (open_key text password bound)
-    (λ v. (text_opens text password bound v, opens_text text password bound v))
+opened_as _ _ _ =
+    is_reading _ _ (λ v. (text_opens _ _ _ v, opens_text _ _ _ v))
 
 -- a key is taken as one that was never sealed exactly where it is one
 pub unencrypted_taken : (k : SecretKeyRecord) → k.kdf ≡ no_kdf → k.checksum ≡ checksum_of k
     → unencrypted_key k ≡ Ok k
 unencrypted_taken k none same =
-    let kdf : bytes_eq k.kdf no_kdf ≡ true = (bytes_eq-Decides k.kdf no_kdf).1 none in
-    let checksum : bytes_eq k.checksum (checksum_of k)
-    ≡ true = (bytes_eq-Decides k.checksum (checksum_of k)).1 same in
-    rw (kdf, checksum) refl
+    rw ((bytes_eq-Decides k.kdf _).1 none, (bytes_eq-Decides k.checksum _).1 same) refl
 
 unencrypted_held : (k l : SecretKeyRecord) → unencrypted_key k ≡ Ok l → (k ≡ l) × (k.kdf ≡ no_kdf)
     × (k.checksum ≡ checksum_of k)
 unencrypted_held k l h =
-    let kdf = passed (bytes_eq k.kdf no_kdf) KeyMightBeEncrypted
-    (require (bytes_eq k.checksum (checksum_of k)) CorruptedKey (Ok k)) l h in
-    let checksum = passed (bytes_eq k.checksum (checksum_of k)) CorruptedKey (Ok k) l kdf.1 in (
+    let kdf = passed _ _ _ l h in
+    let checksum = passed _ _ _ l kdf.1 in (
       same_value k l checksum.1,
-      (bytes_eq-Decides k.kdf no_kdf).0 kdf.0,
-      (bytes_eq-Decides k.checksum (checksum_of k)).0 checksum.0,
+      (bytes_eq-Decides _ _).0 kdf.0,
+      (bytes_eq-Decides _ _).0 checksum.0,
     )
 
 pub unencrypted_text : (text : List ℕ) (k : SecretKeyRecord) (r : Result SecretKeyRecord Fault)
     → read_secret_key text ≡ Ok k → unencrypted_key k ≡ r → read_unencrypted_key text ≡ r
 unfolding read_unencrypted_key
-unencrypted_text text k r read of_key = ap (λ x. and_then x unencrypted_key) read ∙ of_key
+unencrypted_text _ k r read of_key = ap (λ x. and_then x unencrypted_key) read ∙ of_key
 
 pub unread_unencrypted : (text : List ℕ) (e : Fault) → read_secret_key text ≡ Err e
     → read_unencrypted_key text ≡ Err e
 unfolding read_unencrypted_key
-unread_unencrypted text e read = ap (λ x. and_then x unencrypted_key) read
+unread_unencrypted _ e read = ap (λ x. and_then x unencrypted_key) read
 
 text_is_unencrypted : (text : List ℕ) (v : SecretKeyRecord) → read_unencrypted_key text ≡ Ok v
     → IsUnencryptedText text v
 unfolding read_unencrypted_key
-text_is_unencrypted text v h =
-    let (k, read, taken) = read_before (read_secret_key text) unencrypted_key v h in
+text_is_unencrypted _ v h =
+    let (k, read, taken) = read_before _ _ v h in
     let (same, kdf, checksum) = unencrypted_held k v taken in
     record {
-      read = ((read_as text).value v).0 (read ∙ ap (λ x. Ok x) same);
-      kdf = ap (λ (l : SecretKeyRecord). l.kdf) (sym same) ∙ kdf;
-      checksum = subst (λ (l : SecretKeyRecord). l.checksum ≡ checksum_of l) same checksum;
+      read = ((read_as _).value v).0 (read ∙ ap Ok same);
+      kdf = ap (λ l. l.kdf) (sym same) ∙ kdf;
+      checksum = rw same at checksum;
     }
 
 pub unencrypted_as : (text : List ℕ) → IsReading (IsUnencryptedText text) (read_unencrypted_key text)
-unencrypted_as text = is_reading (IsUnencryptedText text) (read_unencrypted_key text) (λ v. (
-  text_is_unencrypted text v,
-  λ h. unencrypted_text text v _ (((read_as text).value v).1 h.read) (unencrypted_taken v h.kdf h.checksum),
+unencrypted_as _ = is_reading _ _ (λ v. (
+  text_is_unencrypted _ v,
+  λ h. unencrypted_text _ v _ (((read_as _).value v).1 h.read) (unencrypted_taken v h.kdf h.checksum),
 ))
 
 -- how taking a key ends that was never sealed
 module _ (text : List ℕ) (k : SecretKeyRecord) (read : Ok k ≡ read_secret_key text) where
   pub unencrypted_refused : (e : Fault) → Err e ≡ without_value (unencrypted_key k)
       → Err e ≡ read_unencrypted_key text
-  unencrypted_refused e h = sym (unencrypted_text text k _ (sym read) (same_end _ e h))
+  unencrypted_refused e h = sym (unencrypted_text _ k _ (sym read) (same_end _ e h))
 
   pub unencrypted_value : Ok tt ≡ without_value (unencrypted_key k) → Ok k ≡ read_unencrypted_key text
-  unencrypted_value h = sym (unencrypted_text text k _ (sym read) (unencrypted_passed k h))
+  unencrypted_value h = sym (unencrypted_text _ k _ (sym read) (unencrypted_passed k h))
+
+-- a text that no password opens is rejected with the prompt as it was, whether a password is handed in or not
+pub closed_opening : {R W : Type 0} (p : PromptCall R W) (given : Option (List ℕ)) (text : List ℕ)
+    (bound : Option ℕ) (e : Fault)
+    → p.new ≡ p.old → and_then (read_secret_key text) sealed_by_scrypt ≡ Err e
+    → IsOpening p given text bound (Err e)
+closed_opening p (Some _) _ _ e same refused =
+    (same, inl (sym (unopened_text _ _ _ e refused)))
+closed_opening p None _ _ e same refused = inl (refused, same)
+
+-- a key that is read, opened with a password that was asked for
+pub asked_opening : {R W : Type 0} (p : PromptCall R W) (text : List ℕ) (bound : Option ℕ)
+    (k : SecretKeyRecord) (r : Result SecretKeyRecord Fault)
+    → and_then (read_secret_key text) sealed_by_scrypt ≡ Ok k
+    → IfOk r (λ v. (bytes : List ℕ) × (password : List ℕ) × (password_of bytes ≡ Ok password)
+    × (open_sealed k password bound ≡ Ok v)
+    × ConversationEnds p (opening_steps k bound bytes) (Ok tt))
+    → IfErr r (λ e. (bytes : List ℕ) × ConversationEnds p (opening_steps k bound bytes) (Err e))
+    → IsOpening p None text bound r
+asked_opening p _ _ k (Ok v) read (bytes, password, typed, opens, ended) _ =
+    (k, bytes, password, read, typed, open_text _ _ _ k read ∙ opens, ended)
+asked_opening p _ _ k (Err e) read _ (bytes, stopped) = inr (k, bytes, read, stopped)
+
+-- and with one that was handed in
+pub given_opening : {R W : Type 0} (p : PromptCall R W) (password text : List ℕ) (bound : Option ℕ)
+    (k : SecretKeyRecord) (r : Result SecretKeyRecord Fault)
+    → p.new ≡ p.old → and_then (read_secret_key text) sealed_by_scrypt ≡ Ok k
+    → (r ≡ open_sealed k password bound) ⊎ ((r ≡ Err (Named OutOfMemory)) × IsOk (allowed_work k bound))
+    → IsOpening p (Some password) text bound r
+given_opening p _ _ _ k r same read (inl is) =
+    (same, inl (is ∙ sym (open_text _ _ _ k read)))
+given_opening p _ _ _ k r same read (inr memory) = (same, inr (memory.0, rw read memory.1))
+
+-- the headline of an opening
+pub headline_of : {R W : Type 0} (p : PromptCall R W) (given : Option (List ℕ)) (text : List ℕ)
+    (bound : Option ℕ) (r : Result SecretKeyRecord Fault)
+    → IsOpening p given text bound r → OpeningHeadline given text bound r
+headline_of p None _ _ r h = tt
+headline_of p (Some _) _ _ r h = h.1
+
+-- whether a text is that of a sealed key
+is_sealed : (text : List ℕ) (r : Result SecretKeyRecord Fault) → read_secret_key text ≡ r
+    → is_sealed_text text ≡ option_map_or wants_password (result_ok r) false
+unfolding is_sealed_text
+is_sealed _ r read = ap (λ x. option_map_or wants_password (result_ok x) false) read
+
+module _ {R W : Type 0} (p : PromptCall R W) (given : Option (List ℕ)) (text : List ℕ)
+    (r : Result SecretKeyRecord Fault) where
+  -- one that is sealed: it is opened
+  pub sealed_key : (k : SecretKeyRecord) → read_secret_key text ≡ Ok k → bytes_eq k.kdf no_kdf ≡ false
+      → IsOpening p given text None r → GivesKey p given text r
+  sealed_key k read other h = inl (is_sealed _ _ read ∙ ap not other, h)
+
+  -- one that never was
+  pub unsealed_key : (k : SecretKeyRecord) → read_secret_key text ≡ Ok k → bytes_eq k.kdf no_kdf ≡ true
+      → p.new ≡ p.old
+      → r ≡ read_unencrypted_key text → GivesKey p given text r
+  unsealed_key k read none same h = inr (is_sealed _ _ read ∙ ap not none, same, h)
+
+-- a password that is handed in leaves the prompt as it was
+pub untouched : {P R W : Type 0} (p : PromptCall R W) (bytes : P → List ℕ) (given : Option P) (text : List ℕ)
+    (r : Result SecretKeyRecord Fault)
+    → GivesKey p (option_map bytes given) text r → IfSome given (λ _. p.new ≡ p.old)
+untouched p _ None _ r h = tt
+untouched p _ (Some _) _ r (inl (_, (same, h))) = same
+untouched p _ (Some _) _ r (inr (_, same, h)) = same
+
+-- a text that reads as no key
+pub unread_key : {R W : Type 0} (p : PromptCall R W) (given : Option (List ℕ)) (text : List ℕ) (e : Fault)
+    → p.new ≡ p.old
+    → read_secret_key text ≡ Err e → GivesKey p given text (Err e)
+unread_key p _ _ e same read = inr (is_sealed _ _ read, same, sym (unread_unencrypted _ e read))
+
+-- with a password it is what the text gives under it
+pub with_password : {Same : Type 0} (password text : List ℕ) (r : Result SecretKeyRecord Fault)
+    → ((is_sealed_text text ≡ true) × (Same × IsOpenedOrNoMemory text None r (open_key text password None)))
+    ⊎ ((is_sealed_text text ≡ false) × Same × (r ≡ read_unencrypted_key text))
+    → IsOpenedOrNoMemory text None r (key_with_password text password)
+with_password _ _ r (inl (sealed, (_, inl h))) = rw sealed (inl h)
+with_password _ _ r (inl (sealed, (_, inr memory))) = rw sealed (inr memory)
+with_password _ _ r (inr (plain, _, h)) = rw plain (inl h)
+
+-- a key that was given is what the text gives
+given_value : (text : List ℕ) (key : SecretKeyRecord) (given : Result SecretKeyRecord Fault)
+    → IsOpenedOrNoMemory text None (Ok key) given → given ≡ Ok key
+given_value _ _ _ (inl is) = sym is
+given_value text key given (inr memory) = absurd (cc memory.0)
+
+-- a key that was given with a prompt or a password is one of the text
+pub key_of_given : {R W : Type 0} (p : PromptCall R W) (given : Option (List ℕ)) (text : List ℕ)
+    (key : SecretKeyRecord)
+    → GivesKey p given text (Ok key) → IsKeyOf text key
+key_of_given p (Some password) _ _ h =
+    (password, given_value _ _ _ (with_password _ _ _ h))
+key_of_given p None _ _ (inl (sealed, (k, _, password, _, _, opens, _))) =
+    (password, rw sealed opens)
+key_of_given p None _ _ (inr (plain, _, h)) = ([], rw plain (sym h))

@@ -1,22 +1,21 @@
 -- Texts of public keys: the function that reads them and the relation agree, and a written text reads as its
 -- key.
 use Rattle.std.proofs.Common.{◌≡◌, ◌≢◌, ℕ, ◌≤◌, true, List, [], ◌∷◌, ◌++◌, length, take, drop, codes, refl}
-use Rattle.std.proofs.Common.{sym, ap, subst, ◌∙◌, arith, ◌==◌, Ok, Err, leb, eq-eqb, eqb-true, append_assoc}
+use Rattle.std.proofs.Common.{sym, ap, subst, ◌∙◌, arith, Ok, Err, leb, eq-eqb, eqb-true, append_assoc}
 use Rattle.std.proofs.Common.{ne_eqb, le-leb, leb-true, length-append, length-take-le, length-drop}
 use Rattle.std.proofs.Common.{take-append-drop}
-use Rattle.minisign.proofs.Common.{trim, lines, IsBytes, front_bytes, Named, key_id_text, NamedFault}
-use Rattle.minisign.proofs.Common.{PublicKeyLineLength, PublicKeyLineNotBase64, BarePublicKeyLength}
-use Rattle.minisign.proofs.Common.{BarePublicKeyNotBase64, RecordTooShort}
+use Rattle.minisign.proofs.Common.{trim, lines, front_bytes, Named, key_id_text, NamedFault}
+use Rattle.minisign.proofs.Common.{BarePublicKeyLength, BarePublicKeyNotBase64}
 use Rattle.minisign.specs.Records.{PublicKeyRecord, ReadsPublicKey, public_key_bytes}
-use Rattle.minisign.specs.Texts.{IsBase64Of, IsReading, base64_of, base64_bytes, is_base64}
+use Rattle.minisign.specs.Texts.{IsBase64Of, IsReading, base64_of, base64_bytes, is_base64, Encodes}
 use Rattle.minisign.specs.Texts.{untrusted_comment_label}
-use Rattle.minisign.specs.PublicKeyText.{EncodesPublicKey, PublicKeyText, BarePublicKey, decoded_key}
-use Rattle.minisign.specs.PublicKeyText.{key_in_lines, public_key_label, public_key_text}
-use Rattle.minisign.specs.PublicKeyText.{read_bare_public_key, read_public_key}
-use Rattle.minisign.proofs.Base64Texts.{bytes_read, is_read, reads}
+use Rattle.minisign.specs.PublicKeyText.{PublicKeyText, BarePublicKey, decoded_key, key_in_lines}
+use Rattle.minisign.specs.PublicKeyText.{public_key_label, public_key_text, read_bare_public_key}
+use Rattle.minisign.specs.PublicKeyText.{read_public_key}
+use Rattle.minisign.proofs.Base64Texts.{bytes_read, is_read, length_base64, reads}
 use Rattle.minisign.proofs.WrittenLines.{AllGraphic, graphic_base64, graphic_key_id, trim_graphic, IsOneLine}
-use Rattle.minisign.proofs.WrittenLines.{AllShown, lines_line, lines_last, shown_append, shown_codes}
-use Rattle.minisign.proofs.WrittenLines.{shown_graphic, shown_one_line, length_base64_key}
+use Rattle.minisign.proofs.WrittenLines.{AllShown, lines_line, lines_last, each_append, shown_codes}
+use Rattle.minisign.proofs.WrittenLines.{shown_graphic, shown_one_line}
 use Rattle.minisign.proofs.ReadTexts.{is_reading, passed}
 use Rattle.minisign.proofs.RecordFields.{joined_fields, one_public_key}
 
@@ -28,17 +27,15 @@ long_enough bytes k h =
       h.algorithm_length,
       h.keynum_length,
       h.key_length,
-      simp length-append at
-          (ap length h.front.1),
+      simp length-append at (ap length h.front.1),
     )
 
 -- a text that encodes a key passes the tests of base64 and of the length
-encodes_tests : (text : List ℕ) (k : PublicKeyRecord) → EncodesPublicKey text k
+encodes_tests : (text : List ℕ) (k : PublicKeyRecord) → Encodes ReadsPublicKey text k
     → (is_base64 text ≡ true) × (leb 42 (length (base64_bytes text)) ≡ true)
 encodes_tests text k h = (
-  is_read text h.bytes h.base64,
-  le-leb 42 _ (subst (λ (b : List ℕ). 42 ≤ length b) (sym (bytes_read text h.bytes h.base64))
-      (long_enough h.bytes k h.reads)),
+  is_read _ _ h.base64,
+  le-leb 42 _ (rw (sym (bytes_read text h.bytes h.base64)) at (long_enough h.bytes k h.reads)),
 )
 
 -- bytes that are many enough begin with a key
@@ -53,39 +50,36 @@ key_in bytes = record {
 key_in_front : (bytes : List ℕ) → 42 ≤ length bytes → ReadsPublicKey bytes (key_in bytes)
 unfolding key_in
 key_in_front bytes l = record {
-  algorithm_length = length-take-le 2 bytes (omega arith);
-  keynum_length = length-take-le 8 (drop 2 bytes) (omega (arith, length-drop 2 bytes));
-  key_length = length-take-le 32 (drop 8 (drop 2 bytes))
-      (omega (arith, length-drop 2 bytes, length-drop 8 (drop 2 bytes)));
+  algorithm_length = length-take-le 2 _ (omega arith);
+  keynum_length = length-take-le 8 _ (omega (arith, length-drop 2 bytes));
+  key_length = length-take-le 32 _ (omega (arith, length-drop 2 bytes, length-drop 8 (drop 2 bytes)));
   front = (
     drop 32 (drop 8 (drop 2 bytes)),
-    joined_fields bytes _ _ _ _ _ _ (sym (take-append-drop 2 bytes))
+    joined_fields _ _ _ _ _ _ _ (sym (take-append-drop 2 bytes))
         (sym (take-append-drop 8 (drop 2 bytes))) (sym (take-append-drop 32 (drop 8 (drop 2 bytes)))),
   );
 }
 
 -- a text that encodes a key decodes to it, and to nothing else
-pub encoded_is_decoded : (fault : NamedFault) (text : List ℕ) (k : PublicKeyRecord) → EncodesPublicKey text k
-    → decoded_key fault text ≡ Ok k
+pub encoded_is_decoded : (fault : NamedFault) (text : List ℕ) (k : PublicKeyRecord)
+    → Encodes ReadsPublicKey text k → decoded_key fault text ≡ Ok k
 unfolding key_in
-encoded_is_decoded fault text k h =
-    let tests = encodes_tests text k h in
-    let reads = subst (λ b. ReadsPublicKey b k) (sym (bytes_read text h.bytes h.base64)) h.reads in
-    let same : key_in (base64_bytes text) ≡ k = one_public_key _ (key_in (base64_bytes text)) k
-    (key_in_front _ (leb-true 42 _ tests.1)) reads in
+encoded_is_decoded _ text k h =
+    let tests = encodes_tests _ k h in
+    let reads = rw (sym (bytes_read text h.bytes h.base64)) at h.reads in
+    let same = one_public_key _ _ k (key_in_front _ (leb-true 42 _ tests.1)) reads in
     rw (tests.0, tests.1) (ap Ok same)
 
 decoded_is_encoded : (fault : NamedFault) (text : List ℕ) (k : PublicKeyRecord) → decoded_key fault text
-    ≡ Ok k → EncodesPublicKey text k
+    ≡ Ok k → Encodes ReadsPublicKey text k
 unfolding key_in
 decoded_is_encoded fault text k h =
-    let base64 = passed (is_base64 text) fault _ k h in
-    let long = passed (leb 42 (length (base64_bytes text))) RecordTooShort (Ok (key_in (base64_bytes text))) k
-    base64.1 in
+    let base64 = passed _ _ _ k h in
+    let long = passed _ _ _ k base64.1 in
     let same : key_in (base64_bytes text) ≡ k = cc long.1 in
     record {
       bytes = base64_bytes text;
-      base64 = reads text base64.0;
+      base64 = reads _ base64.0;
       reads =
           subst (ReadsPublicKey (base64_bytes text)) same (key_in_front _ (leb-true 42 _ long.0));
     }
@@ -93,68 +87,64 @@ decoded_is_encoded fault text k h =
 -- a text reads as a key where it is read as this key
 pub text_is_read : (text : List ℕ) (k : PublicKeyRecord) → PublicKeyText text k → read_public_key text ≡ Ok k
 unfolding read_public_key
-text_is_read text k h = rw (h.cut, eq-eqb _ 56 h.encoded_length)
-    (encoded_is_decoded PublicKeyLineNotBase64 (trim h.encoded) k h.key)
+text_is_read _ k h = rw (h.cut, eq-eqb _ 56 h.encoded_length) (encoded_is_decoded _ _ k h.key)
 
 read_lines : (text : List ℕ) (ls : List (List ℕ)) (k : PublicKeyRecord) → lines text ≡ ls
     → key_in_lines ls ≡ Ok k → PublicKeyText text k
 read_lines text [] k cut h = cc h
 read_lines text (a ∷ []) k cut h = cc h
-read_lines text (a ∷ b ∷ later) k cut h =
-    let long = passed (length b == 56) PublicKeyLineLength _ k h in
+read_lines _ (a ∷ b ∷ later) k cut h =
+    let long = passed _ _ _ k h in
     record {
       comment = a;
       encoded = b;
       later = later;
       cut = cut;
-      encoded_length = eqb-true (length b) 56 long.0;
-      key = decoded_is_encoded PublicKeyLineNotBase64 (trim b) k long.1;
+      encoded_length = eqb-true _ 56 long.0;
+      key = decoded_is_encoded _ _ k long.1;
     }
 
 read_text : (text : List ℕ) (k : PublicKeyRecord) → read_public_key text ≡ Ok k → PublicKeyText text k
 unfolding read_public_key
-read_text text k h = read_lines text (lines text) k refl h
+read_text _ k h = read_lines _ _ k refl h
 
 pub read_as : (text : List ℕ) → IsReading (PublicKeyText text) (read_public_key text)
-read_as text = is_reading (PublicKeyText text) (read_public_key text)
-    (λ k. (read_text text k, text_is_read text k))
+read_as _ = is_reading _ _ (λ k. (read_text _ k, text_is_read _ k))
 
 -- a text is read by its lines
 pub of_lines : (text : List ℕ) (ls : List (List ℕ)) → lines text ≡ ls → read_public_key text ≡ key_in_lines ls
 unfolding read_public_key
-of_lines text ls cut = ap key_in_lines cut
+of_lines _ _ cut = ap key_in_lines cut
 
 -- the same of bare base64
 pub bare_is_read : (text : List ℕ) (k : PublicKeyRecord) → BarePublicKey text k → read_bare_public_key text
     ≡ Ok k
 unfolding read_bare_public_key
-bare_is_read text k h = rw (eq-eqb _ 56 h.trimmed_length)
-    (encoded_is_decoded BarePublicKeyNotBase64 text k h.key)
+bare_is_read _ k h = rw (eq-eqb _ 56 h.trimmed_length) (encoded_is_decoded _ _ k h.key)
 
 pub read_bare : (text : List ℕ) (k : PublicKeyRecord) → read_bare_public_key text ≡ Ok k
     → BarePublicKey text k
 unfolding read_bare_public_key
-read_bare text k h =
-    let long = passed (length (trim text) == 56) BarePublicKeyLength _ k h in
+read_bare _ k h =
+    let long = passed _ _ _ k h in
     record {
-      trimmed_length = eqb-true (length (trim text)) 56 long.0;
+      trimmed_length = eqb-true _ 56 long.0;
       key =
-          decoded_is_encoded BarePublicKeyNotBase64 text k long.1;
+          decoded_is_encoded _ _ k long.1;
     }
 
 pub other_bare_length : (text : List ℕ) → length (trim text) ≢ 56 → read_bare_public_key text
     ≡ Err (Named BarePublicKeyLength)
 unfolding read_bare_public_key
-other_bare_length text differs = rw (ne_eqb _ 56 differs) refl
+other_bare_length _ differs = rw (ne_eqb _ 56 differs) refl
 
 pub bare_length : (text : List ℕ) → length (trim text) ≡ 56 → read_bare_public_key text
     ≡ decoded_key BarePublicKeyNotBase64 text
 unfolding read_bare_public_key
-bare_length text same = rw (eq-eqb _ 56 same) refl
+bare_length _ same = rw (eq-eqb _ 56 same) refl
 
 pub bare_read_as : (text : List ℕ) → IsReading (BarePublicKey text) (read_bare_public_key text)
-bare_read_as text = is_reading (BarePublicKey text) (read_bare_public_key text)
-    (λ k. (read_bare text k, bare_is_read text k))
+bare_read_as _ = is_reading _ _ (λ k. (read_bare _ k, bare_is_read _ k))
 
 shown_label : AllShown (untrusted_comment_label ++ public_key_label)
 unfolding untrusted_comment_label public_key_label
@@ -167,27 +157,27 @@ written_base64 k text bytes base64 same reads =
     let long : length bytes ≡ 42 = ap length same ∙ simp length-append
     (omega (arith, reads.algorithm_length, reads.keynum_length, reads.key_length)) in
     record {
-      trimmed_length = ap (λ (t : List ℕ). length (trim t)) base64.encoded
-          ∙ ap length (trim_graphic _ (graphic_base64 bytes base64.each)) ∙ length_base64_key bytes long;
+      trimmed_length = ap (λ t. length (trim t)) base64.encoded
+          ∙ ap length (trim_graphic _ (graphic_base64 _ base64.each)) ∙ omega
+          (arith, length_base64 bytes, long);
       key = record { bytes = bytes; base64 = base64; reads = reads };
     }
 
 -- the text that is written for a key reads as the key
 module _ (k : PublicKeyRecord) (bare : BarePublicKey (base64_of (public_key_bytes k)) k) where
   pub graphic : AllGraphic (base64_of (public_key_bytes k))
-  graphic = graphic_base64 (public_key_bytes k)
-      (front_bytes (public_key_bytes k) _ (subst IsBytes bare.key.reads.front.1 bare.key.base64.each))
+  graphic = graphic_base64 _
+      (front_bytes (public_key_bytes k) _ (rw bare.key.reads.front.1 at bare.key.base64.each))
 
   pub stays : trim (base64_of (public_key_bytes k)) ≡ base64_of (public_key_bytes k)
   stays = trim_graphic _ graphic
 
   first_line : IsOneLine (untrusted_comment_label ++ public_key_label ++ key_id_text k.keynum)
-  first_line = shown_one_line _
-      (shown_append (untrusted_comment_label ++ public_key_label) (key_id_text k.keynum) shown_label
-      (shown_graphic _ (graphic_key_id k.keynum)))
+  first_line = shown_one_line _ (each_append _ _ _ shown_label (shown_graphic _ (graphic_key_id _)))
 
   pub written_text : read_public_key (public_key_text k) ≡ Ok k
-  written_text = text_is_read (public_key_text k) k (record {
+  unfolding untrusted_comment_label
+  written_text = text_is_read _ k (record {
     comment = untrusted_comment_label ++ public_key_label ++ key_id_text k.keynum;
     encoded = base64_of (public_key_bytes k);
     later = [];
@@ -195,7 +185,7 @@ module _ (k : PublicKeyRecord) (bare : BarePublicKey (base64_of (public_key_byte
         ∙ ap (λ l. (untrusted_comment_label ++ public_key_label ++ key_id_text k.keynum) ∷ l)
         (lines_last _ (shown_one_line _ (shown_graphic _ graphic)));
     encoded_length = ap length (sym stays) ∙ bare.trimmed_length;
-    key = subst (λ (t : List ℕ). EncodesPublicKey t k) (sym stays) bare.key;
+    key = rw (sym stays) at bare.key;
   })
 
 -- the written text, letter by letter
@@ -203,6 +193,6 @@ pub spelled_text : (k : PublicKeyRecord) (id b : List ℕ) → id ≡ k.keynum �
     → codes "untrusted comment: minisign public key: " ++ (key_id_text id ++ (10 ∷ (b ++ 10 ∷ [])))
     ≡ public_key_text k
 unfolding untrusted_comment_label public_key_label
-spelled_text k id b same_id same_b =
-    rw (same_id, same_b) (ap (λ (t : List ℕ). codes "untrusted comment: minisign public key: " ++ t)
-    (sym (append_assoc (key_id_text k.keynum) (10 ∷ []) (base64_of (public_key_bytes k) ++ 10 ∷ []))))
+spelled_text k _ b same_id same_b =
+    rw (same_id, same_b) (ap (λ t. codes "untrusted comment: minisign public key: " ++ t)
+    (sym (append_assoc (key_id_text k.keynum) (10 ∷ []) _)))

@@ -12,20 +12,20 @@ pub is_reading : {V : Type 0} (reads : V → Type 0) (read : Result V Fault)
     → ((v : V) → (read ≡ Ok v) ↔ reads v) → IsReading reads read
 is_reading reads read value = record {
   value = value;
-  one_value = λ v w of_v of_w. one_value read v w ((value v).1 of_v) ((value w).1 of_w);
+  one_value = λ v w of_v of_w. one_value _ v w ((value v).1 of_v) ((value w).1 of_w);
   no_value = λ e is v of_v. let no = sym is ∙ (value v).1 of_v in cc no;
 }
 
 -- what is read after a test
 pub passed : {V : Type 0} (holds : Bool) (fault : NamedFault) (more : Result V Fault) (v : V)
     → require holds fault more ≡ Ok v → (holds ≡ true) × (more ≡ Ok v)
-passed true fault more v h = (refl, h)
+passed true _ _ v h = (refl, h)
 passed false fault more v h = cc h
 
 -- what is read on
 pub read_before : {V W : Type 0} (r : Result V Fault) (more : V → Result W Fault) (w : W)
     → and_then r more ≡ Ok w → (v : V) × (r ≡ Ok v) × (more v ≡ Ok w)
-read_before (Ok v) more w h = (v, refl, h)
+read_before (Ok v) _ w h = (v, refl, h)
 read_before (Err e) more w h = cc h
 
 -- a value, and how a call ended that gave it
@@ -36,10 +36,7 @@ pub same_end : {V : Type 0} (r : Result V Fault) (e : Fault) → Err e ≡ witho
 same_end (Ok v) e h = cc h
 same_end (Err f) e h = cc h
 
-pub same_fault : {V : Type 0} (e f : Fault) → ◌≡◌ {A = Result V Fault} (Err e) (Err f) → e ≡ f
-same_fault e f h = cc h
-
 -- a value was read
 pub read_value : {V : Type 0} (v : V) (read : Result V Fault) → IsGivenOrNoMemory (Ok v) read → read ≡ Ok v
-read_value v read (inl is) = sym is
+read_value v _ (inl is) = sym is
 read_value v read (inr memory) = cc memory

@@ -9,13 +9,13 @@ use Rattle.minisign.specs.Records.{prehashed_algorithm}
 -- fields that were taken off one by one, as their concatenation
 pub joined_fields : (bytes a b c r s t : List ℕ) → bytes ≡ a ++ r → r ≡ b ++ s → s ≡ c ++ t
     → bytes ≡ a ++ b ++ c ++ t
-joined_fields bytes a b c r s t cut_a cut_b cut_c = rw (append_assoc, append_assoc, ← cut_c, ← cut_b) cut_a
+joined_fields _ a b c r s t cut_a cut_b cut_c = rw (append_assoc, append_assoc, ← cut_c, ← cut_b) cut_a
 
 -- a stored signature begins with its algorithm
 pub stored_algorithm : (bytes : List ℕ) (s : SignatureRecord) → ReadsSignature bytes s
     → take 2 bytes ≡ s.algorithm
 stored_algorithm bytes s reads =
-    let rest : List ℕ = reads.front.0 in
+    let rest = reads.front.0 in
     let cut : bytes ≡ s.algorithm ++ (s.keynum ++ (s.signature ++ rest)) = reads.front.1
     ∙ simp append_assoc in
     let front : take (length s.algorithm) bytes ≡ s.algorithm = rw cut (take-append_seam s.algorithm _) in
@@ -29,8 +29,7 @@ stored_length bytes s reads =
       reads.algorithm_length,
       reads.keynum_length,
       reads.signature_length,
-      simp length-append at
-          (ap length reads.front.1),
+      simp length-append at (ap length reads.front.1),
     )
 
 -- an algorithm that is neither of the two
@@ -44,9 +43,9 @@ unknown_algorithm a legacy prehashed (inr e) = let same : bytes_eq a prehashed_a
 -- two cuts at one place are the same
 same_cut : (a b c d : List ℕ) → length a ≡ length b → a ++ c ≡ b ++ d → (a ≡ b) × (c ≡ d)
 same_cut a b c d len same =
-    let front : take (length a) (a ++ c) ≡ take (length b) (b ++ d) = ap (λ (n : ℕ). take n (a ++ c)) len
+    let front = ap (λ n. take n (a ++ c)) len
     ∙ ap (take (length b)) same in
-    let back : drop (length a) (a ++ c) ≡ drop (length b) (b ++ d) = ap (λ (n : ℕ). drop n (a ++ c)) len
+    let back = ap (λ n. drop n (a ++ c)) len
     ∙ ap (drop (length b)) same in (
       sym (take-append_seam a c) ∙ front ∙ take-append_seam b d,
       sym (drop-append_seam a c) ∙ back
@@ -57,87 +56,59 @@ same_cut a b c d len same =
 same_fields : (a b c x y z r s : List ℕ) → length a ≡ length x → length b ≡ length y → length c ≡ length z
     → a ++ b ++ c ++ r ≡ x ++ y ++ z ++ s → (a ≡ x) × (b ≡ y) × (c ≡ z) × (r ≡ s)
 same_fields a b c x y z r s la lb lc same =
-    let nested : a ++ (b ++ (c ++ r)) ≡ x ++ (y ++ (z ++ s)) = simp append_assoc at same in
-    let first = same_cut a x (b ++ (c ++ r)) (y ++ (z ++ s)) la nested in
-    let second = same_cut b y (c ++ r) (z ++ s) lb first.1 in
+    let nested = simp append_assoc at same in
+    let first = same_cut a x _ _ la nested in
+    let second = same_cut b y _ _ lb first.1 in
     let third = same_cut c z r s lc second.1 in
     (first.0, second.0, third.0, third.1)
 
 -- bytes are read as one public key
 pub one_public_key : (bytes : List ℕ) (k l : PublicKeyRecord) → ReadsPublicKey bytes k
     → ReadsPublicKey bytes l → k ≡ l
-one_public_key bytes k l read again =
-    let same = same_fields k.algorithm k.keynum k.key l.algorithm l.keynum l.key read.front.0 again.front.0
+one_public_key _ k l read again =
+    let same = same_fields _ _ _ _ _ _ _ _
     (read.algorithm_length ∙ sym again.algorithm_length) (read.keynum_length ∙ sym again.keynum_length)
-    (read.key_length ∙ sym again.key_length)
-    (sym read.front.1 ∙ again.front.1) in
+    (read.key_length ∙ sym again.key_length) (sym read.front.1 ∙ again.front.1) in
     λ i. record { algorithm = same.0 i; keynum = same.1 i; key = same.2 i }
 
 -- bytes are read as one signature
 pub one_signature : (bytes : List ℕ) (s t : SignatureRecord) → ReadsSignature bytes s → ReadsSignature bytes t
     → s ≡ t
-one_signature bytes s t read again =
-    let same = same_fields s.algorithm s.keynum s.signature t.algorithm t.keynum t.signature read.front.0
-    again.front.0
+one_signature _ s t read again =
+    let same = same_fields _ _ _ _ _ _ _ _
     (read.algorithm_length ∙ sym again.algorithm_length) (read.keynum_length ∙ sym again.keynum_length)
-    (read.signature_length ∙ sym again.signature_length)
-    (sym read.front.1 ∙ again.front.1) in
+    (read.signature_length ∙ sym again.signature_length) (sym read.front.1 ∙ again.front.1) in
     λ i. record { algorithm = same.0 i; keynum = same.1 i; signature = same.2 i }
+
+-- three fields of these lengths, and nothing after them
+same_three : (a b c x y z : List ℕ) → length a ≡ length x → length b ≡ length y → length c ≡ length z
+    → a ++ b ++ c ≡ x ++ y ++ z → (a ≡ x) × (b ≡ y) × (c ≡ z)
+same_three a b c x y z la lb lc same =
+    let all = same_fields a b c x y z [] [] la lb lc (append-nil _ ∙ same ∙ sym (append-nil _)) in
+    (all.0, all.1, all.2)
+
+same_lengths : (a b c x y z : List ℕ) → length a ≡ length x → length b ≡ length y → length c ≡ length z
+    → length (a ++ b ++ c) ≡ length (x ++ y ++ z)
+same_lengths a b c x y z la lb lc = simp length-append (omega (arith, la, lb, lc))
 
 -- bytes are read as one secret key
 pub one_secret_key : (bytes : List ℕ) (k l : SecretKeyRecord) → ReadsSecretKey bytes k
     → ReadsSecretKey bytes l → k ≡ l
-one_secret_key bytes k l read again =
-    let lengths_1 : length (k.algorithm ++ k.kdf ++ k.checksum_algorithm)
-    ≡ length (l.algorithm ++ l.kdf ++ l.checksum_algorithm) =
-    simp length-append (omega (
-      arith,
-      read.algorithm_length,
-      read.kdf_length,
-      read.checksum_algorithm_length,
-      again.algorithm_length,
-      again.kdf_length,
-      again.checksum_algorithm_length,
-    )) in
-    let lengths_2 : length (k.salt ++ k.operations_limit ++ k.memory_limit)
-    ≡ length (l.salt ++ l.operations_limit ++ l.memory_limit) =
-    simp length-append (omega (
-      arith,
-      read.salt_length,
-      read.operations_limit_length,
-      read.memory_limit_length,
-      again.salt_length,
-      again.operations_limit_length,
-      again.memory_limit_length,
-    )) in
-    let lengths_3 : length (k.keynum ++ k.secret ++ k.checksum)
-    ≡ length (l.keynum ++ l.secret ++ l.checksum) =
-    simp length-append (omega (
-      arith,
-      read.keynum_length,
-      read.secret_length,
-      read.checksum_length,
-      again.keynum_length,
-      again.secret_length,
-      again.checksum_length,
-    )) in
-    let groups = same_fields _ _ _ _ _ _ read.front.0 again.front.0 lengths_1 lengths_2 lengths_3
-    (sym read.front.1 ∙ again.front.1) in
-    let first = same_fields k.algorithm k.kdf k.checksum_algorithm l.algorithm l.kdf l.checksum_algorithm []
-    []
-    (read.algorithm_length ∙ sym again.algorithm_length) (read.kdf_length ∙ sym again.kdf_length)
-    (read.checksum_algorithm_length ∙ sym again.checksum_algorithm_length)
-    (append-nil _ ∙ groups.0 ∙ sym (append-nil _)) in
-    let second = same_fields k.salt k.operations_limit k.memory_limit l.salt l.operations_limit l.memory_limit
-    [] []
-    (read.salt_length ∙ sym again.salt_length)
-    (read.operations_limit_length ∙ sym again.operations_limit_length)
-    (read.memory_limit_length ∙ sym again.memory_limit_length)
-    (append-nil _ ∙ groups.1 ∙ sym (append-nil _)) in
-    let third = same_fields k.keynum k.secret k.checksum l.keynum l.secret l.checksum [] []
-    (read.keynum_length ∙ sym again.keynum_length) (read.secret_length ∙ sym again.secret_length)
-    (read.checksum_length ∙ sym again.checksum_length)
-    (append-nil _ ∙ groups.2 ∙ sym (append-nil _)) in
+one_secret_key _ k l read again =
+    let a = read.algorithm_length ∙ sym again.algorithm_length in
+    let b = read.kdf_length ∙ sym again.kdf_length in
+    let c = read.checksum_algorithm_length ∙ sym again.checksum_algorithm_length in
+    let d = read.salt_length ∙ sym again.salt_length in
+    let e = read.operations_limit_length ∙ sym again.operations_limit_length in
+    let f = read.memory_limit_length ∙ sym again.memory_limit_length in
+    let g = read.keynum_length ∙ sym again.keynum_length in
+    let h = read.secret_length ∙ sym again.secret_length in
+    let i = read.checksum_length ∙ sym again.checksum_length in
+    let groups = same_fields _ _ _ _ _ _ _ _ (same_lengths _ _ _ _ _ _ a b c)
+    (same_lengths _ _ _ _ _ _ d e f) (same_lengths _ _ _ _ _ _ g h i) (sym read.front.1 ∙ again.front.1) in
+    let first = same_three _ _ _ _ _ _ a b c groups.0 in
+    let second = same_three _ _ _ _ _ _ d e f groups.1 in
+    let third = same_three _ _ _ _ _ _ g h i groups.2 in
     λ i. record {
       algorithm = first.0 i;
       kdf = first.1 i;

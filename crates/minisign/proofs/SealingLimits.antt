@@ -24,7 +24,7 @@ limits_numbers n w v h = both_passed _ _ _ v _ _ h
 
 pub sealing_numbers : (memlimit opslimit : ℕ) (v : Numbers) → sealing_limits memlimit opslimit ≡ Ok v
     → numbers memlimit opslimit ≡ v
-sealing_numbers memlimit opslimit v h = limits_numbers 20 _ v (one_passed _ _ v _ h)
+sealing_numbers _ _ v h = limits_numbers 20 _ v (one_passed _ _ v _ h)
 
 -- the limits that are allowed are the numbers that they lead to
 pub allowed_numbers : (k : SecretKeyRecord) (v : Numbers) → key_limits k ≡ Ok v
@@ -40,9 +40,9 @@ pub read_limits : (k : SecretKeyRecord) (memory operations : ℕ) → length k.m
     → key_limits k ≡ sealing_limits memory operations
 unfolding key_limits
 read_limits k memory operations memory_length operations_length read_memory read_operations =
-    let same_memory : from_le_bytes w64 k.memory_limit ≡ memory = ap (from_le_bytes w64)
+    let same_memory = ap (from_le_bytes w64)
     (sym (take_all 8 k.memory_limit (omega (arith, memory_length)))) ∙ sym read_memory in
-    let same_operations : from_le_bytes w64 k.operations_limit ≡ operations = ap (from_le_bytes w64)
+    let same_operations = ap (from_le_bytes w64)
     (sym (take_all 8 k.operations_limit (omega (arith, operations_length)))) ∙ sym read_operations in
     λ i. sealing_limits (same_memory i) (same_operations i)
 
@@ -52,6 +52,6 @@ pub derived_stream : (k : SecretKeyRecord) (v : Numbers) (password salt out : Li
     → len ≡ 104
     → out ≡ scrypt password salt (2 ^ v.n_log2) v.r v.p len → out ≡ stream_of k password
 unfolding stream_of
-derived_stream k v password salt out len same_numbers same_salt whole derived =
+derived_stream k v password _ _ _ same_numbers same_salt whole derived =
     derived ∙ (λ i. let w = sym same_numbers i in scrypt password (same_salt i) (2 ^ w.n_log2) w.r w.p
     (whole i))

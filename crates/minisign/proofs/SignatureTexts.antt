@@ -8,61 +8,60 @@ use Rattle.minisign.proofs.Common.{starts_with, trim, lines, strip_carriage_retu
 use Rattle.minisign.proofs.Common.{lt-leb, or_cases, or_left, or_right, cases_lt, Decides-eqb}
 use Rattle.minisign.proofs.Common.{drop-append_seam, starts_is, bytes_eq-Decides, Named, Fault}
 use Rattle.minisign.proofs.Common.{UntrustedCommentPrefix, SignatureNotBase64, RecordTooShort}
-use Rattle.minisign.proofs.Common.{TrustedCommentPrefix, UnsupportedSignatureAlgorithm, IsBytes, front_bytes}
+use Rattle.minisign.proofs.Common.{TrustedCommentPrefix, UnsupportedSignatureAlgorithm, front_bytes}
 use Rattle.minisign.proofs.Common.{NamedFault}
 use Rattle.minisign.specs.Records.{CommentsRecord, SignatureRecord, ReadsSignature, IsKnownAlgorithm}
 use Rattle.minisign.specs.Records.{signature_bytes, legacy_algorithm, prehashed_algorithm, PublicKeyRecord}
-use Rattle.minisign.specs.Records.{ReadsPublicKey, public_key_bytes}
-use Rattle.minisign.specs.Texts.{IsBase64Of, IsReading, base64_of, base64_bytes, is_base64, map_ok}
+use Rattle.minisign.specs.Records.{ReadsPublicKey}
+use Rattle.minisign.specs.Texts.{IsBase64Of, IsReading, base64_of, base64_bytes, is_base64, map_ok, Encodes}
 use Rattle.minisign.specs.Texts.{untrusted_comment_label, line}
-use Rattle.minisign.specs.SignatureText.{AreOneLine, AreReadBack, EncodesSignature, SignatureText}
-use Rattle.minisign.specs.SignatureText.{SignatureTextRecord, box_of, comments_read_back, read_signature}
-use Rattle.minisign.specs.SignatureText.{read_signature_box, signature_in_lines, signature_text}
-use Rattle.minisign.specs.SignatureText.{trusted_comment_label, first_64}
+use Rattle.minisign.specs.SignatureText.{AreOneLine, AreReadBack, SignatureText, SignatureTextRecord, box_of}
+use Rattle.minisign.specs.SignatureText.{comments_read_back, read_signature, read_signature_box}
+use Rattle.minisign.specs.SignatureText.{signature_in_lines, signature_text, trusted_comment_label, first_64}
 use Rattle.minisign.proofs.Base64Texts.{bytes_read, is_read, reads, short_of, length_base64}
 use Rattle.minisign.proofs.WrittenLines.{AllGraphic, graphic_base64, trim_graphic, AllShown, labelled}
 use Rattle.minisign.proofs.WrittenLines.{labelled_one_line, lines_labelled, lines_line, lines_last}
 use Rattle.minisign.proofs.WrittenLines.{shown_codes, shown_graphic, shown_one_line, strip_none, trimmed_end}
 use Rattle.minisign.proofs.ReadTexts.{is_reading, passed}
 use Rattle.minisign.proofs.RecordFields.{joined_fields, one_signature, stored_algorithm, stored_length}
-use Rattle.minisign.specs.PublicKeyText.{EncodesPublicKey, decoded_key}
+use Rattle.minisign.specs.PublicKeyText.{decoded_key}
 use Rattle.minisign.proofs.PublicKeyTexts.{encoded_is_decoded}
 
 -- a line that begins with a label
 pub begins : (line label rest : List ℕ) → line ≡ label ++ rest → starts_with eqb line label ≡ true
-begins line label rest = (starts_is Decides-eqb line label (starts_with eqb line label) refl).1 rest
+begins _ _ rest = (starts_is Decides-eqb _ _ _ refl).1 rest
 
 begins_with : (line label : List ℕ) → starts_with eqb line label ≡ true
     → line ≡ label ++ drop (length label) line
-begins_with line label = (starts_is Decides-eqb line label (starts_with eqb line label) refl).0
+begins_with _ _ = (starts_is Decides-eqb _ _ _ refl).0
 
 pub begins_not : (line label : List ℕ) → ((rest : List ℕ) → line ≢ label ++ rest) → starts_with eqb line label
     ≡ false
-begins_not line label h = false_from_ne_true _ (λ t. h _ (begins_with line label t))
+begins_not _ _ h = false_from_ne_true _ (λ t. h _ (begins_with _ _ t))
 
 -- the algorithms that are known
 abbrev is_known_algorithm : List ℕ → Bool
 is_known_algorithm a = bytes_eq a legacy_algorithm || bytes_eq a prehashed_algorithm
 
 pub known : (a : List ℕ) → IsKnownAlgorithm a → is_known_algorithm a ≡ true
-known a (inl e) = or_left _ _ ((bytes_eq-Decides a legacy_algorithm).1 e)
-known a (inr e) = or_right _ _ ((bytes_eq-Decides a prehashed_algorithm).1 e)
+known a (inl e) = or_left _ _ ((bytes_eq-Decides a _).1 e)
+known a (inr e) = or_right _ _ ((bytes_eq-Decides a _).1 e)
 
 is_known : (a : List ℕ) → is_known_algorithm a ≡ true → IsKnownAlgorithm a
 is_known a h = elim (or_cases _ _ h) [
-  | inl e ↦ inl ((bytes_eq-Decides a legacy_algorithm).0 e)
-  | inr e ↦ inr ((bytes_eq-Decides a prehashed_algorithm).0 e)
+  | inl e ↦ inl ((bytes_eq-Decides a _).0 e)
+  | inr e ↦ inr ((bytes_eq-Decides a _).0 e)
 ]
 
 -- what a text that encodes a signature is tested for
-encodes_tests : (text : List ℕ) (s : SignatureRecord) → EncodesSignature text s
+encodes_tests : (text : List ℕ) (s : SignatureRecord) → Encodes ReadsSignature text s
     → (is_base64 text ≡ true) × (leb 74 (length (base64_bytes text)) ≡ true)
     × (take 2 (base64_bytes text) ≡ s.algorithm)
-encodes_tests text s h =
-    let same : base64_bytes text ≡ h.bytes = bytes_read text h.bytes h.base64 in (
-      is_read text h.bytes h.base64,
-      le-leb 74 _ (subst (λ (b : List ℕ). 74 ≤ length b) (sym same) (stored_length h.bytes s h.reads)),
-      ap (take 2) same ∙ stored_algorithm h.bytes s h.reads,
+encodes_tests _ s h =
+    let same = bytes_read _ _ h.base64 in (
+      is_read _ _ h.base64,
+      le-leb 74 _ (rw (sym same) at (stored_length h.bytes s h.reads)),
+      ap (take 2) same ∙ stored_algorithm _ s h.reads,
     )
 
 -- the signature in the first 74 bytes
@@ -77,74 +76,70 @@ signature_of_bytes bytes = record {
 -- bytes that are many enough begin with a signature
 signature_in_front : (bytes : List ℕ) → 74 ≤ length bytes → ReadsSignature bytes (signature_of_bytes bytes)
 signature_in_front bytes l = record {
-  algorithm_length = length-take-le 2 bytes (omega arith);
-  keynum_length = length-take-le 8 (drop 2 bytes) (omega (arith, length-drop 2 bytes));
-  signature_length = length-take-le 64 (drop 8 (drop 2 bytes))
-      (omega (arith, length-drop 2 bytes, length-drop 8 (drop 2 bytes)));
+  algorithm_length = length-take-le 2 _ (omega arith);
+  keynum_length = length-take-le 8 _ (omega (arith, length-drop 2 bytes));
+  signature_length = length-take-le 64 _ (omega (arith, length-drop 2 bytes, length-drop 8 (drop 2 bytes)));
   front = (
     drop 64 (drop 8 (drop 2 bytes)),
-    joined_fields bytes _ _ _ _ _ _ (sym (take-append-drop 2 bytes))
+    joined_fields _ _ _ _ _ _ _ (sym (take-append-drop 2 bytes))
         (sym (take-append-drop 8 (drop 2 bytes))) (sym (take-append-drop 64 (drop 8 (drop 2 bytes)))),
   );
 }
 
 -- a signature that is encoded is the one at the front of the decoded bytes
-decoded_signature : (text : List ℕ) (s : SignatureRecord) → EncodesSignature text s
+decoded_signature : (text : List ℕ) (s : SignatureRecord) → Encodes ReadsSignature text s
     → signature_of_bytes (base64_bytes text) ≡ s
 decoded_signature text s h =
-    let bytes = base64_bytes text in
-    let reads = subst (λ b. ReadsSignature b s) (sym (bytes_read text h.bytes h.base64)) h.reads in
-    one_signature bytes (signature_of_bytes bytes) s (signature_in_front bytes (stored_length bytes s reads))
-    reads
+    let reads = rw (sym (bytes_read text h.bytes h.base64)) at h.reads in
+    one_signature _ _ s (signature_in_front _ (stored_length _ s reads)) reads
 
 -- what is read of four lines
 module _ (a b c d : List ℕ) where
+  abbrev read : Result SignatureTextRecord Fault
+  read = signature_in_lines (a ∷ b ∷ c ∷ d ∷ [])
+
   pub other_label : starts_with eqb a untrusted_comment_label ≡ false
-      → signature_in_lines (a ∷ b ∷ c ∷ d ∷ []) ≡ Err (Named UntrustedCommentPrefix)
+      → read ≡ Err (Named UntrustedCommentPrefix)
   other_label label = rw label refl
 
   module _ (label : starts_with eqb a untrusted_comment_label ≡ true) where
-    pub no_base64 : is_base64 (trim b) ≡ false → signature_in_lines (a ∷ b ∷ c ∷ d ∷ [])
-        ≡ Err (Named SignatureNotBase64)
+    pub no_base64 : is_base64 (trim b) ≡ false → read ≡ Err (Named SignatureNotBase64)
     no_base64 other = rw (label, other) refl
 
     pub too_short : is_base64 (trim b) ≡ true → length (base64_bytes (trim b)) < 74
-        → signature_in_lines (a ∷ b ∷ c ∷ d ∷ []) ≡ Err (Named RecordTooShort)
+        → read ≡ Err (Named RecordTooShort)
     too_short base64 short = rw (label, base64, lt-leb 74 _ short) refl
 
-    module _ (s : SignatureRecord) (encodes : EncodesSignature (trim b) s) where
+    module _ (s : SignatureRecord) (encodes : Encodes ReadsSignature (trim b) s) where
       pub other_trusted_label : starts_with eqb c trusted_comment_label ≡ false
-          → signature_in_lines (a ∷ b ∷ c ∷ d ∷ []) ≡ Err (Named TrustedCommentPrefix)
+          → read ≡ Err (Named TrustedCommentPrefix)
       other_trusted_label trusted =
-          let signature = encodes_tests (trim b) s encodes in
+          let signature = encodes_tests _ s encodes in
           rw (label, signature.0, signature.1, trusted) refl
 
       module _ (trusted : starts_with eqb c trusted_comment_label ≡ true) where
-        pub unknown : is_known_algorithm s.algorithm ≡ false → signature_in_lines (a ∷ b ∷ c ∷ d ∷ [])
-            ≡ Err (Named UnsupportedSignatureAlgorithm)
+        pub unknown : is_known_algorithm s.algorithm ≡ false
+            → read ≡ Err (Named UnsupportedSignatureAlgorithm)
         unknown other =
-            let signature = encodes_tests (trim b) s encodes in
+            let signature = encodes_tests _ s encodes in
             rw (label, signature.0, signature.1, trusted, signature.2, other) refl
 
         module _ (algorithm : is_known_algorithm s.algorithm ≡ true) where
-          pub no_comment_base64 : is_base64 (trim d) ≡ false → signature_in_lines (a ∷ b ∷ c ∷ d ∷ [])
-              ≡ Err (Named SignatureNotBase64)
+          pub no_comment_base64 : is_base64 (trim d) ≡ false → read ≡ Err (Named SignatureNotBase64)
           no_comment_base64 other =
-              let signature = encodes_tests (trim b) s encodes in
+              let signature = encodes_tests _ s encodes in
               rw (label, signature.0, signature.1, trusted, signature.2, algorithm, other) refl
 
           pub all_passed : (u t g : List ℕ) → is_base64 (trim d) ≡ true
               → drop (length untrusted_comment_label) a ≡ u
               → trim (drop (length trusted_comment_label) c) ≡ t → base64_bytes (trim d) ≡ g
-              → signature_in_lines (a ∷ b ∷ c ∷ d ∷ []) ≡ Ok
+              → read ≡ Ok
               (record { signature = s; comments = record { untrusted = u; trusted = t; signature = g } })
           all_passed u t g signed is_untrusted is_trusted is_signed =
-              let signature = encodes_tests (trim b) s encodes in
-              let same = decoded_signature (trim b) s encodes in
-              let known : is_known_algorithm (take 2 (base64_bytes (trim b)))
-              ≡ true = ap is_known_algorithm signature.2 ∙ algorithm in
-              rw (label, signature.0, signature.1, trusted, known, signed)
-              (λ i. Ok (record {
+              let signature = encodes_tests _ s encodes in
+              let same = decoded_signature _ s encodes in
+              let known = ap is_known_algorithm signature.2 ∙ algorithm in
+              rw (label, signature.0, signature.1, trusted, known, signed) (λ i. Ok (record {
                 signature = same i;
                 comments =
                     record { untrusted = is_untrusted i; trusted = is_trusted i; signature = is_signed i };
@@ -154,16 +149,13 @@ module _ (a b c d : List ℕ) where
 pub text_is_read : (text : List ℕ) (t : SignatureTextRecord) → SignatureText text t
     → read_signature text ≡ Ok t
 unfolding read_signature
-text_is_read text t h =
-    rw h.cut (all_passed h.first h.second h.third h.fourth
-    (begins h.first untrusted_comment_label _ h.untrusted_comment) t.signature h.signature
+text_is_read _ t h =
+    rw h.cut (all_passed _ _ _ _ (begins h.first untrusted_comment_label _ h.untrusted_comment) _ h.signature
     (begins h.third trusted_comment_label _ h.trusted_comment.1) (known t.signature.algorithm h.algorithm) _ _
-    _
-    (is_read _ _ h.comment_signature)
-    (ap (drop (length untrusted_comment_label)) h.untrusted_comment
-    ∙ drop-append_seam untrusted_comment_label t.comments.untrusted)
-    (ap (λ (l : List ℕ). trim (drop (length trusted_comment_label) l)) h.trusted_comment.1
-    ∙ ap trim (drop-append_seam trusted_comment_label h.trusted_comment.0) ∙ h.trusted_comment.2)
+    _ (is_read _ _ h.comment_signature) (ap (drop (length untrusted_comment_label)) h.untrusted_comment
+    ∙ drop-append_seam untrusted_comment_label _)
+    (ap (λ l. trim (drop (length trusted_comment_label) l)) h.trusted_comment.1
+    ∙ ap trim (drop-append_seam trusted_comment_label _) ∙ h.trusted_comment.2)
     (bytes_read _ _ h.comment_signature))
 
 read_lines : (text : List ℕ) (ls : List (List ℕ)) (t : SignatureTextRecord) → lines text ≡ ls
@@ -173,13 +165,13 @@ read_lines text (a ∷ []) t cut h = cc h
 read_lines text (a ∷ b ∷ []) t cut h = cc h
 read_lines text (a ∷ b ∷ c ∷ []) t cut h = cc h
 read_lines text (a ∷ b ∷ c ∷ d ∷ later) t cut h =
-    let bytes : List ℕ = base64_bytes (trim b) in
-    let untrusted = passed (starts_with eqb a untrusted_comment_label) UntrustedCommentPrefix _ t h in
-    let base64 = passed (is_base64 (trim b)) SignatureNotBase64 _ t untrusted.1 in
-    let long = passed (leb 74 (length bytes)) RecordTooShort _ t base64.1 in
-    let trusted = passed (starts_with eqb c trusted_comment_label) TrustedCommentPrefix _ t long.1 in
-    let algorithm = passed (is_known_algorithm (take 2 bytes)) UnsupportedSignatureAlgorithm _ t trusted.1 in
-    let signed = passed (is_base64 (trim d)) SignatureNotBase64 _ t algorithm.1 in
+    let bytes = base64_bytes (trim b) in
+    let untrusted = passed _ _ _ t h in
+    let base64 = passed _ _ _ t untrusted.1 in
+    let long = passed _ _ _ t base64.1 in
+    let trusted = passed _ _ _ t long.1 in
+    let algorithm = passed _ _ _ t trusted.1 in
+    let signed = passed _ _ _ t algorithm.1 in
     let read : SignatureTextRecord = record {
       signature = signature_of_bytes bytes;
       comments = record {
@@ -210,17 +202,16 @@ read_lines text (a ∷ b ∷ c ∷ d ∷ later) t cut h =
 
 read_text : (text : List ℕ) (t : SignatureTextRecord) → read_signature text ≡ Ok t → SignatureText text t
 unfolding read_signature
-read_text text t h = read_lines text (lines text) t refl h
+read_text _ t h = read_lines _ _ t refl h
 
 pub read_as : (text : List ℕ) → IsReading (SignatureText text) (read_signature text)
-read_as text = is_reading (SignatureText text) (read_signature text)
-    (λ t. (read_text text t, text_is_read text t))
+read_as _ = is_reading _ _ (λ t. (read_text _ t, text_is_read _ t))
 
 -- a text is read by its lines
 pub of_lines : (text : List ℕ) (ls : List (List ℕ)) → lines text ≡ ls
     → read_signature text ≡ signature_in_lines ls
 unfolding read_signature
-of_lines text ls cut = ap signature_in_lines cut
+of_lines _ _ cut = ap signature_in_lines cut
 
 -- the text that is written, letter by letter
 pub spelled_text : (s : SignatureRecord) (c : CommentsRecord) (u b t g : List ℕ) → u ≡ c.untrusted
@@ -230,21 +221,21 @@ pub spelled_text : (s : SignatureRecord) (c : CommentsRecord) (u b t g : List �
     ≡ signature_text s c
 unfolding untrusted_comment_label trusted_comment_label
 spelled_text s c u b t g same_u same_b same_t same_g =
-    let encoded : List ℕ = base64_of (signature_bytes s) in
-    let last : List ℕ = line (base64_of c.signature) in
+    let encoded = base64_of (signature_bytes s) in
+    let last = line (base64_of c.signature) in
     rw (same_u, same_b, same_t, same_g) (sym (
     labelled (codes "untrusted comment: ") c.untrusted
     (line encoded ++ (line (codes "trusted comment: " ++ c.trusted) ++ last))
-    ∙ ap (λ (r : List ℕ). codes "untrusted comment: " ++ (c.untrusted ++ (10 ∷ r)))
-    (append_assoc encoded (10 ∷ []) (line (codes "trusted comment: " ++ c.trusted) ++ last)
-    ∙ ap (λ (r : List ℕ). encoded ++ (10 ∷ r)) (labelled (codes "trusted comment: ") c.trusted last))
+    ∙ ap (λ r. codes "untrusted comment: " ++ (c.untrusted ++ (10 ∷ r)))
+    (append_assoc encoded (10 ∷ []) _
+    ∙ ap (λ r. encoded ++ (10 ∷ r)) (labelled (codes "trusted comment: ") c.trusted last))
     ))
 
-shown_untrusted : AllShown untrusted_comment_label
+pub shown_untrusted : AllShown untrusted_comment_label
 unfolding untrusted_comment_label
 shown_untrusted = shown_codes (codes "untrusted comment: ") refl
 
-some_untrusted : 0 < length untrusted_comment_label
+pub some_untrusted : 0 < length untrusted_comment_label
 unfolding untrusted_comment_label
 some_untrusted = lit< tt
 
@@ -259,64 +250,60 @@ some_trusted = lit< tt
 -- a written text reads as its signature and comments, but for a carriage return at the end of the untrusted
 -- one
 module _ (s : SignatureRecord) (c : CommentsRecord)
-    (encodes : EncodesSignature (base64_of (signature_bytes s)) s)
+    (encodes : Encodes ReadsSignature (base64_of (signature_bytes s)) s)
     (signed : IsBase64Of (base64_of c.signature) c.signature)
     (one : AreOneLine c.untrusted c.trusted) (algorithm : IsKnownAlgorithm s.algorithm) where
   graphic : AllGraphic (base64_of (signature_bytes s))
-  graphic = graphic_base64 (signature_bytes s)
-      (front_bytes (signature_bytes s) _ (subst IsBytes encodes.reads.front.1 encodes.base64.each))
+  graphic = graphic_base64 _
+      (front_bytes (signature_bytes s) _ (rw encodes.reads.front.1 at encodes.base64.each))
 
   graphic_comment : AllGraphic (base64_of c.signature)
-  graphic_comment = graphic_base64 c.signature signed.each
+  graphic_comment = graphic_base64 _ signed.each
 
   written_lines : lines (signature_text s c)
       ≡ (untrusted_comment_label ++ strip_carriage_return c.untrusted) ∷ base64_of (signature_bytes s)
       ∷ (trusted_comment_label ++ c.trusted) ∷ base64_of c.signature ∷ []
   written_lines =
-      lines_labelled untrusted_comment_label c.untrusted _ shown_untrusted some_untrusted
-      one.untrusted_one_line
+      lines_labelled _ _ _ shown_untrusted some_untrusted one.untrusted_one_line
       ∙ ap (λ l. (untrusted_comment_label ++ strip_carriage_return c.untrusted) ∷ l)
       (lines_line _ _ (shown_one_line _ (shown_graphic _ graphic))
       ∙ ap (λ l. base64_of (signature_bytes s) ∷ l)
-      (lines_line _ _ (labelled_one_line trusted_comment_label c.trusted shown_trusted some_trusted
-      one.trusted_one_line (trimmed_end c.trusted one.trusted_trimmed))
+      (lines_line _ _ (labelled_one_line _ _ shown_trusted some_trusted
+      one.trusted_one_line (trimmed_end _ one.trusted_trimmed))
       ∙ ap (λ l. (trusted_comment_label ++ c.trusted) ∷ l)
       (lines_last _ (shown_one_line _ (shown_graphic _ graphic_comment)))))
 
   pub written_text : read_signature_box (signature_text s c)
       ≡ Ok (record { signature = s; comments = Some (comments_read_back c) })
-  written_text = ap (map_ok box_of)
-      (text_is_read (signature_text s c) (record { signature = s; comments = comments_read_back c }) (record {
-        first = untrusted_comment_label ++ strip_carriage_return c.untrusted;
-        second = base64_of (signature_bytes s);
-        third = trusted_comment_label ++ c.trusted;
-        fourth = base64_of c.signature;
-        later = [];
-        cut = written_lines;
-        untrusted_comment = refl;
-        signature = subst (λ (t : List ℕ). EncodesSignature t s) (sym (trim_graphic _ graphic)) encodes;
-        algorithm = algorithm;
-        trusted_comment = (c.trusted, refl, one.trusted_trimmed);
-        comment_signature = subst (λ (t : List ℕ). IsBase64Of t c.signature)
-            (sym (trim_graphic _ graphic_comment)) signed;
-      }))
+  written_text = ap (map_ok box_of) (text_is_read _ _ (record {
+    first = untrusted_comment_label ++ strip_carriage_return c.untrusted;
+    second = base64_of (signature_bytes s);
+    third = trusted_comment_label ++ c.trusted;
+    fourth = base64_of c.signature;
+    later = [];
+    cut = written_lines;
+    untrusted_comment = refl;
+    signature = rw (sym (trim_graphic _ graphic)) at encodes;
+    algorithm = algorithm;
+    trusted_comment = (c.trusted, refl, one.trusted_trimmed);
+    comment_signature = rw (sym (trim_graphic _ graphic_comment)) at signed;
+  }))
 
 -- nothing goes of comments that are read back as they were written
 pub same_comments : (c : CommentsRecord) → AreReadBack c.untrusted c.trusted → comments_read_back c ≡ c
-same_comments c keeps = ap (λ (u : List ℕ). record c { untrusted = u })
-    (strip_none c.untrusted keeps.untrusted_end)
+same_comments c keeps = ap (λ u. record c { untrusted = u }) (strip_none _ keeps.untrusted_end)
 
 -- a record that the front of bytes begins with, the bytes begin with
 longer : (bytes record_bytes rest : List ℕ) (n : ℕ) → take n bytes ≡ record_bytes ++ rest
     → bytes ≡ record_bytes ++ (rest ++ drop n bytes)
 longer bytes record_bytes rest n front =
-    sym (take-append-drop n bytes) ∙ ap (λ (x : List ℕ). x ++ drop n bytes) front
-    ∙ append_assoc record_bytes rest (drop n bytes)
+    sym (take-append-drop n bytes) ∙ ap (λ x. x ++ drop n bytes) front
+    ∙ append_assoc record_bytes rest _
 
 -- what the front of the decoded bytes is read as
 module _ (text room bytes : List ℕ) (n : ℕ) (base64 : IsBase64Of text bytes)
     (front : take n room ≡ take n bytes) where
-  encoded_key : (k : PublicKeyRecord) → ReadsPublicKey (take n room) k → EncodesPublicKey text k
+  encoded_key : (k : PublicKeyRecord) → ReadsPublicKey (take n room) k → Encodes ReadsPublicKey text k
   encoded_key k h = record {
     bytes = bytes;
     base64 = base64;
@@ -326,13 +313,13 @@ module _ (text room bytes : List ℕ) (n : ℕ) (base64 : IsBase64Of text bytes)
       key_length = h.key_length;
       front = (
         h.front.0 ++ drop n bytes,
-        longer bytes (public_key_bytes k) h.front.0 n
-            (sym front ∙ h.front.1),
+        longer _ _ _ n (sym front ∙ h.front.1),
       );
     };
   }
 
-  pub encoded_signature : (s : SignatureRecord) → ReadsSignature (take n room) s → EncodesSignature text s
+  pub encoded_signature : (s : SignatureRecord) → ReadsSignature (take n room) s
+      → Encodes ReadsSignature text s
   encoded_signature s h = record {
     bytes = bytes;
     base64 = base64;
@@ -342,8 +329,7 @@ module _ (text room bytes : List ℕ) (n : ℕ) (base64 : IsBase64Of text bytes)
       signature_length = h.signature_length;
       front = (
         h.front.0 ++ drop n bytes,
-        longer bytes (signature_bytes s) h.front.0 n
-            (sym front ∙ h.front.1),
+        longer _ _ _ n (sym front ∙ h.front.1),
       );
     };
   }
@@ -353,9 +339,9 @@ pub short_front : (text room bytes : List ℕ) (n cap m : ℕ) → IsBase64Of te
     → n ≡ min (length bytes) cap → n ≤ length room → m ≤ cap → length (take n room) < m
     → (is_base64 text ≡ true) × (length (base64_bytes text) < m)
 short_front text room bytes n cap m base64 count fits least short =
-    let same : length (take n room) ≡ n = length-take-le n room fits in
+    let same = length-take-le n _ fits in
     let few : length bytes < m = omega (arith, same, count, short) in
-    short_of text bytes bytes m base64 refl few
+    short_of _ _ _ m base64 refl few
 
 -- the front of the decoded bytes is read as all of them
 pub front_read : (fault : NamedFault) (text room bytes : List ℕ) (n : ℕ) (r : Result PublicKeyRecord Fault)
@@ -363,32 +349,30 @@ pub front_read : (fault : NamedFault) (text room bytes : List ℕ) (n : ℕ) (r 
     → n ≤ length room → take n room ≡ take n bytes → MatchResult r (ReadsPublicKey (take n room))
     (λ e. (e ≡ Named RecordTooShort) × (length (take n room) < 42))
     → r ≡ decoded_key fault text
-front_read fault text room bytes n (Ok k) base64 count fits front reads =
-    sym (encoded_is_decoded fault text k (encoded_key text room bytes n base64 front k reads))
+front_read _ _ _ bytes n (Ok k) base64 _ _ front reads =
+    sym (encoded_is_decoded _ _ k (encoded_key _ _ bytes n base64 front k reads))
 front_read fault text room bytes n (Err e) base64 count fits front refused =
-    let short = short_front text room bytes n 42 42 base64 count fits (omega arith) refused.1 in
+    let short = short_front _ _ _ n 42 42 base64 count fits (omega arith) refused.1 in
     rw (short.0, lt-leb 42 _ short.1) (ap Err refused.0)
 
 -- the first 64 bytes
 few_bytes : (bytes : List ℕ) → length bytes < 64 → first_64 bytes ≡ None
-few_bytes bytes few = ap (λ b. cond b (Some (take 64 bytes)) None) (lt-leb 64 (length bytes) few)
+few_bytes bytes few = ap (λ b. cond b (Some (take 64 bytes)) None) (lt-leb 64 _ few)
 
 enough_bytes : (bytes : List ℕ) → 64 ≤ length bytes → first_64 bytes ≡ Some (take 64 bytes)
-enough_bytes bytes enough = ap (λ b. cond b (Some (take 64 bytes)) None) (le-leb 64 (length bytes) enough)
+enough_bytes bytes enough = ap (λ b. cond b (Some (take 64 bytes)) None) (le-leb 64 _ enough)
 
 pub front_64 : (bytes room : List ℕ) (n : ℕ) → n ≡ min (length bytes) 66 → n ≤ length room
     → take n room ≡ take n bytes → first_64 (take n room) ≡ first_64 bytes
 front_64 bytes room n count fits front =
-    let same : length (take n room) ≡ n = length-take-le n room fits in
-    ⊎_elim
-    (λ few. few_bytes (take n room) (omega (arith, same, count)) ∙ sym (few_bytes bytes few))
-    (λ enough. enough_bytes (take n room) (omega (arith, same, count))
-    ∙ ap (λ (x : List ℕ). Some (take 64 x)) front
-    ∙ ap (λ (x : List ℕ). Some x) (take-take 64 n bytes (omega (arith, count)))
-    ∙ sym (enough_bytes bytes enough))
-    (cases_lt (length bytes) 64)
+    let same = length-take-le n _ fits in
+    ⊎_elim (λ few. few_bytes _ (omega (arith, same, count)) ∙ sym (few_bytes _ few))
+    (λ enough. enough_bytes _ (omega (arith, same, count))
+    ∙ ap (λ x. Some (take 64 x)) front
+    ∙ ap Some (take-take 64 n _ (omega (arith, count)))
+    ∙ sym (enough_bytes _ enough)) (cases_lt (length bytes) 64)
 
 -- the base64 of a signature is longer than the signature
-pub long_enough : (text : List ℕ) (s : SignatureRecord) → EncodesSignature text s → 64 ≤ length text
+pub long_enough : (text : List ℕ) (s : SignatureRecord) → Encodes ReadsSignature text s → 64 ≤ length text
 long_enough text s h = omega
     (arith, stored_length h.bytes s h.reads, ap length h.base64.encoded, length_base64 h.bytes)

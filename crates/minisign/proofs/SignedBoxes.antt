@@ -1,14 +1,19 @@
--- The box that signing makes, and why it is accepted.
+-- The box that signing makes, and why it is accepted; and its text, which is written, and read back as a box
+-- that vouches for the same.
 use Rattle.std.proofs.Common.{◌≡◌, ℕ, true, false, List, ◌++◌, length, Option, None, Some, inl, refl, sym}
-use Rattle.std.proofs.Common.{◌∙◌, arith, take_all, IsSomeAnd}
+use Rattle.std.proofs.Common.{◌∙◌, arith, take_all, IsSomeAnd, Result, Ok, Err, IfOk, IfSome, MatchOption}
+use Rattle.std.proofs.Common.{MatchResult, subst}
 use Rattle.minisign.proofs.Common.{blake2b_digest, RandomCall, SourceCall, Fault, Named, RefusedByGivenKey}
+use Rattle.minisign.proofs.Common.{OutOfMemory, SignatureBoxIncomplete}
 use Rattle.minisign_base.specs.Scheme.{AreRandomBytes, IsBytes}
 use Rattle.minisign.specs.Records.{PublicKeyRecord, SecretKeyRecord, SignatureBoxRecord, prehashed_algorithm}
-use Rattle.minisign.specs.Acceptance.{Verifier, VouchesUnderEachKey, accepts_comments}
+use Rattle.minisign.specs.Records.{CommentsRecord}
+use Rattle.minisign.specs.Acceptance.{Verifier, VouchesUnderEachKey, accepts_comments, judge}
 use Rattle.minisign.specs.Reading.{ReadsWhole}
 use Rattle.minisign.specs.Sealing.{is_encrypted}
 use Rattle.minisign.specs.Signing.{Signer, ChosenComments, IsGenuine, IsSigned, signed_box}
 use Rattle.minisign.proofs.Verdicts.{vouches_judged}
+use Rattle.minisign.specs.SignatureText.{AreOneLine, box_read_back, read_signature_box, signature_text}
 
 -- a box of these parts
 abbrev pub box_of : List ℕ → List ℕ → ChosenComments → List ℕ → SignatureBoxRecord
@@ -23,7 +28,7 @@ pub made_box : (sign : Signer) (sk : SecretKeyRecord) (message : List ℕ) (chos
     → keynum ≡ sk.keynum → signature ≡ sign (blake2b_digest 64 message) sk.secret (Some first)
     → global ≡ sign (signature ++ chosen.trusted) sk.secret (Some second)
     → box_of keynum signature chosen global ≡ signed_box sign sk message chosen first second
-made_box sign sk message chosen first second keynum signature global same_keynum same_signature same_global =
+made_box _ _ _ _ _ _ _ _ _ same_keynum same_signature same_global =
     rw (same_keynum, same_global, same_signature) refl
 
 -- the law of a scheme: what was signed with a seed's secret key is accepted under its public key
@@ -73,6 +78,44 @@ pub refused_by_given : {R Z : Type 0} (accepts : Verifier) (sign : Signer) (pk :
     × (is_encrypted sk ≡ false) × ReadsWhole r.source r.old r.new message
     × IsSigned sign sk message chosen z made
     × (accepts_comments accepts p made ≡ false))
-refused_by_given accepts sign None sk message chosen r z x e opened read signed refused = absurd refused
-refused_by_given accepts sign (Some p) sk message chosen r z x e opened read signed (fault, refused) =
+refused_by_given _ _ None _ _ _ r z x e _ _ _ refused = absurd refused
+refused_by_given _ _ (Some p) _ message _ r z x e opened read signed (fault, refused) =
     (message, x, fault, opened, read, signed, refused)
+
+-- the chosen comments and a comment signature
+abbrev pub with_signature : ChosenComments → List ℕ → CommentsRecord
+with_signature chosen global = record {
+  untrusted = chosen.untrusted;
+  trusted = chosen.trusted;
+  signature =
+      global;
+}
+
+-- what writing answers of a box with comments
+pub written_text : {T : Type 0} (bytes : T → List ℕ) (r : Result T Fault) (x : SignatureBoxRecord)
+    (chosen : ChosenComments) (global : List ℕ)
+    → x.comments ≡ Some (with_signature chosen global)
+    → MatchOption x.comments (r ≡ Err (Named SignatureBoxIncomplete))
+    (λ c. MatchResult r (λ t. bytes t ≡ signature_text x.signature c) (λ e. e ≡ Named OutOfMemory))
+    → (IfSome x.comments (λ c. AreOneLine c.untrusted c.trusted)
+    → IfOk r (λ t. read_signature_box (bytes t) ≡ Ok (box_read_back x)))
+    → IfOk r (λ t. (bytes t ≡ signature_text x.signature (with_signature chosen global))
+    × (AreOneLine chosen.untrusted chosen.trusted → read_signature_box (bytes t) ≡ Ok (box_read_back x)))
+written_text _ (Err e) x _ _ _ _ _ = tt
+written_text _ (Ok t) x _ _ both written back = (
+  rw both at written,
+  λ one. back (subst (λ (o : Option CommentsRecord). IfSome o (λ c. AreOneLine c.untrusted c.trusted))
+      (sym both) one),
+)
+
+-- the untrusted comment does not matter for what a box vouches for
+pub vouched_back : (accepts : Verifier) (key keynum message : List ℕ) (x : SignatureBoxRecord)
+    (chosen : ChosenComments) (global : List ℕ)
+    → x.comments ≡ Some (with_signature chosen global)
+    → VouchesUnderEachKey accepts key keynum message x
+    → VouchesUnderEachKey accepts key keynum message (box_read_back x)
+vouched_back accepts _ _ message x _ _ both h = λ pk legacy same_key same_keynum.
+    subst (λ (o : Option CommentsRecord). judge accepts pk (box_read_back (record x { comments = o })) message
+    legacy ≡ Ok tt) (sym both)
+    (subst (λ (o : Option CommentsRecord). judge accepts pk (record x { comments = o }) message legacy
+    ≡ Ok tt) both (h pk legacy same_key same_keynum))

@@ -1,15 +1,13 @@
 -- The judge and the verdict are functions, acceptance a record of conditions: they agree. And what a verdict
 -- does not depend on.
 use Rattle.std.proofs.Common.{◌≡◌, ◌↔◌, ◌||◌, ℕ, Bool, true, false, List, length, refl, sym, ap, subst, ◌∙◌}
-use Rattle.std.proofs.Common.{inl, inr, ⊎_elim, [], Option, None, Some, IfOk, IfSome, MatchOption}
-use Rattle.std.proofs.Common.{MatchResult, bytes_eq, take, min, nat_le, arith, Result, Ok, Err, length-take}
-use Rattle.std.proofs.Common.{option_map, le-leb, leb-true}
-use Rattle.minisign.proofs.Common.{⊤, option_map_or, and_parts, or_cases, or_left, or_right, bytes_eq-Decides}
-use Rattle.minisign.proofs.Common.{Fault, Named, NamedFault, OutOfMemory, TrustedCommentAbsent, nat_tests}
+use Rattle.std.proofs.Common.{inl, inr, ⊎_elim, [], Option, None, Some, IfSome, take, min, nat_le, arith}
+use Rattle.std.proofs.Common.{Result, Ok, Err, length-take, option_map, le-leb, leb-true}
+use Rattle.minisign.proofs.Common.{⊤, option_map_or, and_parts, or_cases, or_left, or_right}
+use Rattle.minisign.proofs.Common.{bytes_eq-Decides, Fault, NamedFault, nat_tests}
 use Rattle.minisign.specs.Acceptance.{CommentIsSigned, Verifier, Vouches, accepts_comments, judge}
 use Rattle.minisign.specs.Acceptance.{judge_answers, judge_key, signed_bytes, judged_parts}
-use Rattle.minisign.specs.Calls.{TextsVouchWith}
-use Rattle.minisign.specs.Headline.{TextsVouchFor, verdict}
+use Rattle.minisign.specs.Headline.{TextsVouchWith, TextsVouchFor, verdict}
 use Rattle.minisign.specs.PublicKeyText.{read_public_key}
 use Rattle.minisign.specs.Records.{CommentsRecord, PublicKeyRecord, SignatureBoxRecord, SignatureRecord}
 use Rattle.minisign.specs.Records.{is_prehashed, prehashed_algorithm}
@@ -34,17 +32,17 @@ unmapped f (Err d) e h = cc h
 comment_signed : (accepts : Verifier) (pk : PublicKeyRecord) (s : SignatureRecord) (c : Option CommentsRecord)
     → accepts_comments accepts pk (record { signature = s; comments = c }) ≡ true
     → IfSome c (CommentIsSigned accepts pk s)
-comment_signed accepts pk s None h = tt
-comment_signed accepts pk s (Some c) h =
+comment_signed _ _ s None h = tt
+comment_signed _ _ s (Some c) h =
     let (long, signed) = and_parts _ _ h in
-    record { long_enough = leb-true 64 (length c.signature) long; signed = signed }
+    record { long_enough = leb-true 64 _ long; signed = signed }
 
 comment_accepted : (accepts : Verifier) (pk : PublicKeyRecord) (s : SignatureRecord)
     (c : Option CommentsRecord)
     → IfSome c (CommentIsSigned accepts pk s)
     → accepts_comments accepts pk (record { signature = s; comments = c }) ≡ true
-comment_accepted accepts pk s None h = refl
-comment_accepted accepts pk s (Some c) h = rw (le-leb 64 (length c.signature) h.long_enough) h.signed
+comment_accepted _ _ s None h = refl
+comment_accepted _ _ s (Some c) h = rw (le-leb 64 _ h.long_enough) h.signed
 
 -- these bytes are those that the signature is over, where such a signature is allowed
 abbrev pub AreSigned : List ℕ → SignatureBoxRecord → Bool → List ℕ → Type 0
@@ -56,9 +54,9 @@ judged_alike : (same allowed : Bool) (other unallowed : NamedFault) (a b : Resul
     → (allowed ≡ true → a ≡ b)
     → and_then {V = ⊤} (require same other (require allowed unallowed (Ok tt))) (λ _. a)
     ≡ and_then {V = ⊤} (require same other (require allowed unallowed (Ok tt))) (λ _. b)
-judged_alike true true other unallowed a b equal = equal refl
-judged_alike true false other unallowed a b equal = refl
-judged_alike false allowed other unallowed a b equal = refl
+judged_alike true true _ _ a b equal = equal refl
+judged_alike true false _ _ a b _ = refl
+judged_alike false _ _ _ a b _ = refl
 
 module _ (accepts : Verifier) (pk : PublicKeyRecord) (x : SignatureBoxRecord) (message : List ℕ)
     (legacy : Bool) where
@@ -71,20 +69,17 @@ module _ (accepts : Verifier) (pk : PublicKeyRecord) (x : SignatureBoxRecord) (m
       let (signed, others) = passed _ _ _ _ answers in
       let (comments, end) = passed _ _ _ _ others in
       record {
-        same_key = (bytes_eq-Decides x.signature.keynum pk.keynum).0 same;
-        allowed = ⊎_elim (λ hashed. inl
-            ((bytes_eq-Decides x.signature.algorithm prehashed_algorithm).0 hashed)) inr
-            (or_cases _ _ allowed);
+        same_key = (bytes_eq-Decides _ _).0 same;
+        allowed = ⊎_elim (λ hashed. inl ((bytes_eq-Decides _ _).0 hashed)) inr (or_cases _ _ allowed);
         signed = signed;
-        comment_signed = comment_signed accepts pk x.signature x.comments comments;
+        comment_signed = comment_signed _ pk _ _ comments;
       }
 
   pub vouches_judged : Vouches accepts pk x message legacy → judge accepts pk x message legacy ≡ Ok tt
   vouches_judged v =
-      let same = (bytes_eq-Decides x.signature.keynum pk.keynum).1 v.same_key in
-      let allowed : (is_prehashed x.signature || legacy) ≡ true =
-      ⊎_elim (λ hashed. or_left _ legacy
-      ((bytes_eq-Decides x.signature.algorithm prehashed_algorithm).1 hashed))
+      let same = (bytes_eq-Decides _ _).1 v.same_key in
+      let allowed =
+      ⊎_elim (λ hashed. or_left _ _ ((bytes_eq-Decides _ prehashed_algorithm).1 hashed))
       (or_right (is_prehashed x.signature) legacy) v.allowed in
       let comments = comment_accepted accepts pk x.signature x.comments v.comment_signed in
       rw (same, allowed, v.signed, comments) refl
@@ -102,10 +97,9 @@ module _ (accepts : Verifier) (pk : PublicKeyRecord) (x : SignatureBoxRecord) (m
       → IsGivenOrNoMemory r (and_then (judge_key pk.keynum x.signature legacy)
       (λ _. judge_answers (accepts bytes pk.key x.signature.signature) (accepts_comments accepts pk x)))
       → IsGivenOrNoMemory r (judge accepts pk x message legacy)
-  judged_held bytes held r =
+  judged_held _ held r =
       subst (IsGivenOrNoMemory r)
-      (judged_alike (bytes_eq x.signature.keynum pk.keynum) (is_prehashed x.signature || legacy) _ _ _ _
-      (λ allowed. ap (λ (b : List ℕ). judge_answers (accepts b pk.key x.signature.signature)
+      (judged_alike _ _ _ _ _ _ (λ allowed. ap (λ b. judge_answers (accepts b pk.key x.signature.signature)
       (accepts_comments accepts pk x)) (held allowed)))
 
 -- a rejection, where less is told of the value
@@ -119,21 +113,19 @@ kept_refusal f e r (inr memory) = inr (cc memory)
 read_both : (pk_text sig_text : List ℕ) (key : PublicKeyRecord) (box : SignatureBoxRecord)
     → read_public_key pk_text ≡ Ok key → read_signature_box sig_text ≡ Ok box
     → read_texts pk_text sig_text ≡ Ok (key, box)
-read_both pk_text sig_text key box key_read box_read =
-    ap (λ (k : Result PublicKeyRecord Fault). and_then k
-    (λ key. map_ok (λ (x : SignatureBoxRecord). (key, x)) (read_signature_box sig_text))) key_read
-    ∙ ap (map_ok (λ (x : SignatureBoxRecord). (key, x))) box_read
+read_both _ sig_text key _ key_read box_read =
+    ap (λ k. and_then k (λ key. map_ok (λ x. (key, x)) (read_signature_box sig_text))) key_read
+    ∙ ap (map_ok (λ x. (key, x))) box_read
 
 pub both_read : (pk_text sig_text : List ℕ) (key : PublicKeyRecord) (box : SignatureBoxRecord)
     → read_texts pk_text sig_text ≡ Ok (key, box)
     → (read_public_key pk_text ≡ Ok key) × (read_signature_box sig_text ≡ Ok box)
-both_read pk_text sig_text key box read =
-    let (k, key_read, more) = read_before _ _ (key, box) read in
-    let (x, box_read, same) = mapped_of (λ (x : SignatureBoxRecord). (k, x)) (read_signature_box sig_text)
-    (key, box) more in (
-      key_read ∙ ap (λ (both : PublicKeyRecord × SignatureBoxRecord). Ok both.0) same,
+both_read _ _ _ _ read =
+    let (k, key_read, more) = read_before _ _ _ read in
+    let (x, box_read, same) = mapped_of _ _ _ more in (
+      key_read ∙ ap (λ both. Ok both.0) same,
       box_read
-          ∙ ap (λ (both : PublicKeyRecord × SignatureBoxRecord). Ok both.1) same,
+          ∙ ap (λ both. Ok both.1) same,
     )
 
 -- the trusted comment of a text, and of a box
@@ -143,43 +135,29 @@ trusted_of t = t.comments.trusted
 abbrev comment_of : SignatureBoxRecord → List ℕ
 comment_of x = option_map_or (λ c. c.trusted) x.comments []
 
--- the comment of the box that the texts read as
-pub told_comment : {T : Type 0} (bytes : T → List ℕ) (pk_text sig_text : List ℕ) (key : PublicKeyRecord)
-    (box : SignatureBoxRecord) → read_texts pk_text sig_text ≡ Ok (key, box)
-    → (r : Result T Fault)
-    → MatchOption box.comments (r ≡ Err (Named TrustedCommentAbsent))
-    (λ c. MatchResult r (λ t. bytes t ≡ c.trusted) (λ e. e ≡ Named OutOfMemory))
-    → IfOk r (λ t. map_ok trusted_of (read_signature sig_text) ≡ Ok (bytes t))
-told_comment bytes pk_text sig_text key box read (Ok t) told =
-    let (s, signature_read, same) = mapped_of box_of (read_signature sig_text) box
-    (both_read pk_text sig_text key box read).1 in
-    rw signature_read (ap Ok
-    (sym (subst (λ (x : SignatureBoxRecord). MatchOption x.comments
-    (Ok t ≡ Err (Named TrustedCommentAbsent)) (λ c. bytes t ≡ c.trusted)) (sym same) told)))
-told_comment bytes pk_text sig_text key box read (Err e) told = tt
-
 -- == The verdict ==
 
 module _ (accepts : Verifier) (pk_text sig_text message : List ℕ) (legacy : Bool) where
+  abbrev answer : Result (List ℕ) Fault
+  answer = verdict accepts pk_text sig_text message legacy
+
   -- the verdict where both texts are read
   pub read_verdict : (key : PublicKeyRecord) (t : SignatureTextRecord) → read_public_key pk_text ≡ Ok key
       → read_signature sig_text ≡ Ok t
       → (r : Result ⊤ Fault) → r ≡ judge accepts key (box_of t) message legacy
-      → verdict accepts pk_text sig_text message legacy ≡ and_then r (λ _. Ok t.comments.trusted)
+      → answer ≡ and_then r (λ _. Ok t.comments.trusted)
   unfolding verdict
-  read_verdict key t key_read signature_read r judged =
+  read_verdict _ t key_read signature_read r judged =
       rw (key_read, signature_read) (ap (λ r. and_then r (λ _. Ok t.comments.trusted)) (sym judged))
 
-  pub key_refused : (e : Fault) → read_public_key pk_text ≡ Err e
-      → verdict accepts pk_text sig_text message legacy ≡ Err e
+  pub key_refused : (e : Fault) → read_public_key pk_text ≡ Err e → answer ≡ Err e
   unfolding verdict
   key_refused e refused = rw refused refl
 
   pub signature_refused : (key : PublicKeyRecord) (e : Fault) → read_public_key pk_text ≡ Ok key
-      → read_signature sig_text ≡ Err e
-      → verdict accepts pk_text sig_text message legacy ≡ Err e
+      → read_signature sig_text ≡ Err e → answer ≡ Err e
   unfolding verdict
-  signature_refused key e read refused = rw (read, refused) refl
+  signature_refused _ e read refused = rw (read, refused) refl
 
   -- what is left of it where both are read, as a key and a box
   abbrev left : PublicKeyRecord × SignatureBoxRecord → Result (List ℕ) Fault
@@ -189,76 +167,74 @@ module _ (accepts : Verifier) (pk_text sig_text message : List ℕ) (legacy : Bo
       → and_then k (λ key. and_then s
       (λ t. and_then (judge accepts key (box_of t) message legacy) (λ _. Ok t.comments.trusted)))
       ≡ and_then (and_then k (λ key. map_ok (λ box. (key, box)) (map_ok box_of s))) left
-  in_parts (Ok key) (Ok t) = refl
-  in_parts (Ok key) (Err e) = refl
+  in_parts (Ok _) (Ok t) = refl
+  in_parts (Ok _) (Err e) = refl
   in_parts (Err e) s = refl
 
   -- so it is a function of what both read as
   of_texts : (r : Result (PublicKeyRecord × SignatureBoxRecord) Fault) → read_texts pk_text sig_text ≡ r
-      → verdict accepts pk_text sig_text message legacy ≡ and_then r left
+      → answer ≡ and_then r left
   unfolding verdict
   of_texts r read = in_parts (read_public_key pk_text) (read_signature sig_text)
       ∙ ap (λ r. and_then r left) read
 
   -- a text is rejected, or an allocation failed for one
   pub text_refused : (e : Fault) → IsGivenOrNoMemory (Err e) (read_texts pk_text sig_text)
-      → IsGivenOrNoMemory (Err e) (verdict accepts pk_text sig_text message legacy)
-  text_refused e (inl refused) = inl (sym (of_texts (Err e) (sym refused)))
+      → IsGivenOrNoMemory (Err e) answer
+  text_refused e (inl refused) = inl (sym (of_texts _ (sym refused)))
   text_refused e (inr memory) = inr (cc memory)
 
   module _ (key : PublicKeyRecord) (box : SignatureBoxRecord)
       (read : read_texts pk_text sig_text ≡ Ok (key, box)) where
     -- the box that the texts read as is judged
     pub judged_verdict : (r : Result ⊤ Fault) → judge accepts key box message legacy ≡ r
-        → verdict accepts pk_text sig_text message legacy ≡ and_then r (λ _. Ok (comment_of box))
-    judged_verdict r judged = of_texts (Ok (key, box)) read ∙ ap (λ r. and_then r (λ _. Ok (comment_of box)))
-        judged
+        → answer ≡ and_then r (λ _. Ok (comment_of box))
+    judged_verdict r judged = of_texts _ read ∙ ap (λ r. and_then r (λ _. Ok (comment_of box))) judged
 
     untold : (r : Result ⊤ Fault) → map_ok (λ _. tt) (and_then r (λ _. Ok (comment_of box))) ≡ r
     untold (Ok u) = refl
     untold (Err e) = refl
 
     pub told_nothing : (r : Result ⊤ Fault) → IsGivenOrNoMemory r (judge accepts key box message legacy)
-        → IsGivenOrNoMemory r (map_ok (λ _. tt) (verdict accepts pk_text sig_text message legacy))
+        → IsGivenOrNoMemory r (map_ok (λ _. tt) answer)
     told_nothing r (inl judged) = inl (sym (ap (map_ok (λ _. tt)) (judged_verdict r (sym judged)) ∙ untold r))
     told_nothing r (inr memory) = inr memory
 
     pub told_success : (comment : List ℕ) → map_ok trusted_of (read_signature sig_text) ≡ Ok comment → (u : ⊤)
         → IsGivenOrNoMemory (Ok u) (judge accepts key box message legacy)
-        → IsGivenOrNoMemory (Ok comment) (verdict accepts pk_text sig_text message legacy)
+        → IsGivenOrNoMemory (Ok comment) answer
     told_success comment said u judged =
-        let (t, signature_read, same) = mapped_of box_of (read_signature sig_text) box
-        (both_read pk_text sig_text key box read).1 in
+        let (t, signature_read, same) = mapped_of _ _ _ (both_read _ _ _ box read).1 in
         let told : t.comments.trusted ≡ comment = let is = sym (ap (map_ok trusted_of) signature_read)
         ∙ said in cc is in
         inl (sym (judged_verdict (Ok u) (read_value u _ judged) ∙ ap Ok (ap comment_of (sym same) ∙ told)))
 
     pub told_refusal : (e : Fault) → IsGivenOrNoMemory {V = ⊤} (Err e) (judge accepts key box message legacy)
-        → IsGivenOrNoMemory (Err e) (verdict accepts pk_text sig_text message legacy)
-    told_refusal e (inl judged) = inl (sym (judged_verdict (Err e) (sym judged)))
+        → IsGivenOrNoMemory (Err e) answer
+    told_refusal e (inl judged) = inl (sym (judged_verdict _ (sym judged)))
     told_refusal e (inr memory) = inr (cc memory)
 
   -- the comment that is vouched for
   pub vouching_verdict : (v : TextsVouchFor accepts pk_text sig_text message legacy)
-      → verdict accepts pk_text sig_text message legacy ≡ Ok (comment_of v.box)
+      → answer ≡ Ok (comment_of v.box)
   vouching_verdict v =
-      judged_verdict v.key v.box (read_both pk_text sig_text v.key v.box v.key_read v.box_read) (Ok tt)
-      (vouches_judged accepts v.key v.box message legacy v.vouches)
+      judged_verdict v.key v.box (read_both pk_text sig_text v.key v.box v.key_read v.box_read) _
+      (vouches_judged _ _ _ _ _ v.vouches)
 
-  pub vouched : (comment : List ℕ) → verdict accepts pk_text sig_text message legacy ≡ Ok comment
+  pub vouched : (comment : List ℕ) → answer ≡ Ok comment
       → TextsVouchWith accepts pk_text sig_text message legacy comment
   unfolding verdict
   vouched comment h =
-      let (key, key_read, more) = read_before _ _ comment h in
-      let (signed, signed_read, rest) = read_before _ _ comment more in
-      let (u, judged, said) = read_before _ _ comment rest in
+      let (key, key_read, more) = read_before _ _ _ h in
+      let (signed, signed_read, rest) = read_before _ _ _ more in
+      let (u, judged, said) = read_before _ _ _ rest in
       record {
         vouched = record {
           key = key;
           box = box_of signed;
           key_read = key_read;
           box_read = ap (map_ok box_of) signed_read;
-          vouches = judged_vouches accepts key (box_of signed) message legacy u judged;
+          vouches = judged_vouches _ _ _ _ _ u judged;
         };
         comments = signed.comments;
         both = refl;
@@ -266,23 +242,19 @@ module _ (accepts : Verifier) (pk_text sig_text message : List ℕ) (legacy : Bo
       }
 
   pub vouched_verdict : (comment : List ℕ) → TextsVouchWith accepts pk_text sig_text message legacy comment
-      → verdict accepts pk_text sig_text message legacy ≡ Ok comment
-  vouched_verdict comment v = vouching_verdict v.vouched
-      ∙ ap Ok (ap (λ (c : Option CommentsRecord). option_map_or (λ c. c.trusted) c []) v.both ∙ v.trusted)
+      → answer ≡ Ok comment
+  vouched_verdict _ v = vouching_verdict v.vouched
+      ∙ ap Ok (ap (λ c. option_map_or (λ c. c.trusted) c []) v.both ∙ v.trusted)
 
-  pub verdict_decided : IsReading (TextsVouchWith accepts pk_text sig_text message legacy)
-      (verdict accepts pk_text sig_text message legacy)
-  verdict_decided =
-      is_reading (TextsVouchWith accepts pk_text sig_text message legacy)
-      (verdict accepts pk_text sig_text message legacy)
-      (λ comment. (vouched comment, vouched_verdict comment))
+  pub verdict_decided : IsReading (TextsVouchWith accepts pk_text sig_text message legacy) answer
+  verdict_decided = is_reading _ _ (λ comment. (vouched _, vouched_verdict _))
 
   -- the comment of the text is the one that was signed, where the texts vouch for the message
   pub signed_comment : (comment : List ℕ) → TextsVouchFor accepts pk_text sig_text message legacy
       → map_ok trusted_of (read_signature sig_text) ≡ Ok comment
       → TextsVouchWith accepts pk_text sig_text message legacy comment
   signed_comment comment v said =
-      let (t, signature_read, same) = mapped_of box_of (read_signature sig_text) v.box v.box_read in
+      let (t, signature_read, same) = mapped_of _ _ _ v.box_read in
       record {
         vouched = v;
         comments = t.comments;
@@ -296,8 +268,8 @@ at_least m n same = grind (arith, nat_tests)
 
 -- whether there are 64 bytes shows in the first 64
 long_enough : (a b : List ℕ) → take 64 b ≡ take 64 a → nat_le 64 (length b) ≡ nat_le 64 (length a)
-long_enough a b same = let lengths : min 64 (length b) ≡ min 64 (length a) = sym (length-take 64 b)
-    ∙ ap length same ∙ length-take 64 a in at_least (length a) (length b) lengths
+long_enough a b same = let lengths = sym (length-take 64 b)
+    ∙ ap length same ∙ length-take 64 a in at_least _ _ lengths
 
 -- what is judged of comments
 abbrev judged_comment : CommentsRecord → List ℕ × List ℕ
@@ -308,13 +280,13 @@ same_comments : (accepts : Verifier) (pk other : PublicKeyRecord) (s t : Signatu
     → other.key ≡ pk.key → t ≡ s → option_map judged_comment d ≡ option_map judged_comment c
     → accepts_comments accepts other (record { signature = t; comments = d }) ≡ accepts_comments accepts pk
     (record { signature = s; comments = c })
-same_comments accepts pk other s t None None key signature same = refl
+same_comments _ _ _ s t None None _ _ _ = refl
 same_comments accepts pk other s t None (Some d) key signature same = cc same
 same_comments accepts pk other s t (Some c) None key signature same = cc same
 same_comments accepts pk other s t (Some c) (Some d) key signature same =
     let both : judged_comment d ≡ judged_comment c = cc same in
-    let trusted : d.trusted ≡ c.trusted = ap (λ (p : List ℕ × List ℕ). p.0) both in
-    let front : take 64 d.signature ≡ take 64 c.signature = ap (λ (p : List ℕ × List ℕ). p.1) both in
+    let trusted = ap (λ p. p.0) both in
+    let front = ap (λ (p : List ℕ × List ℕ). p.1) both in
     rw (signature, key, long_enough c.signature d.signature front, trusted, front) refl
 
 abbrev Parts : Type 0
@@ -324,10 +296,10 @@ pub unvouched_same : (accepts : Verifier) (pk other : PublicKeyRecord) (x y : Si
     (message : List ℕ) (legacy : Bool)
     → judged_parts other y ≡ judged_parts pk x → judge accepts other y message legacy
     ≡ judge accepts pk x message legacy
-unvouched_same accepts pk other x y message legacy same =
-    let keynum : other.keynum ≡ pk.keynum = ap (λ (p : Parts). p.0) same in
-    let key : other.key ≡ pk.key = ap (λ (p : Parts). p.1) same in
-    let signature : y.signature ≡ x.signature = ap (λ (p : Parts). p.2) same in
+unvouched_same accepts pk other x y _ _ same =
+    let keynum = ap (λ p. p.0) same in
+    let key = ap (λ p. p.1) same in
+    let signature = ap (λ p. p.2) same in
     rw (
       same_comments accepts pk other x.signature y.signature x.comments y.comments key signature
           (ap (λ (p : Parts). p.3) same),

@@ -1,24 +1,21 @@
 -- Lines as they are written and read back: first lines, letters that are shown, and lines with labels.
 use Rattle.std.proofs.Common.{◌≡◌, ◌≢◌, ◌==◌, subst, ℕ, zero, suc, ◌+◌, ◌-◌, ◌<◌, ◌≤◌, Bool, true, false}
-use Rattle.std.proofs.Common.{◌&&◌, List, [], ◌∷◌, ◌++◌, length, take, slice_index, refl, sym, ap, ◌∙◌, arith}
-use Rattle.std.proofs.Common.{eqb, leb, ⊎_elim, ◌^◌, ◌*◌, ◌/◌, ◌%◌, replicate, nat_lt, drop, get_or, inl, inr}
-use Rattle.std.proofs.Common.{lit<, cond, ne_eqb, leb-true, length-append, get_or-append-add, take_all}
-use Rattle.std.proofs.Common.{take-append-drop, length-drop, encode_utf8, encode_utf8_all, IsAscii, All, w64}
-use Rattle.std.proofs.Common.{eq-eqb, eqb-true, append-nil, append_assoc}
-use Rattle.minisign.proofs.Common.{and_parts, cases_lt, get_or-append_right, take-append-add}
-use Rattle.minisign.proofs.Common.{length-replicate, get_or_default, nil_from_length, chars}
-use Rattle.minisign.proofs.Common.{drop_trailing_whitespace, trim, trim_end, trim_start, chars_after}
-use Rattle.minisign.proofs.Common.{skip_leading_whitespace, NoCharPasses, LacksByte, AllByRecursion}
-use Rattle.minisign.proofs.Common.{slice_split, lines, strip_carriage_return, lines_of_parts}
-use Rattle.minisign.proofs.Common.{StripsCarriageReturn, IsFirstLine, standard, unpadded_len, padding_len}
-use Rattle.minisign.proofs.Common.{encode_symbols, length-encode_symbols, IsInRange, from_le_bytes}
-use Rattle.minisign.proofs.Common.{before_digits, digit_glyph, digits, digits_onto, format_spec}
-use Rattle.minisign.proofs.Common.{number_padding, padded_integral, common_steps, IsBytes, key_id_text}
+use Rattle.std.proofs.Common.{◌&&◌, List, [], ◌∷◌, ◌++◌, length, take, slice_index, refl, sym, ap, ◌∙◌}
+use Rattle.std.proofs.Common.{arith, eqb, leb, ⊎_elim, ◌^◌, ◌*◌, ◌/◌, ◌%◌, replicate, nat_lt, drop, get_or}
+use Rattle.std.proofs.Common.{inl, inr, lit<, cond, ne_eqb, leb-true, length-append, get_or-append-add}
+use Rattle.std.proofs.Common.{take_all, take-append-drop, length-drop, encode_utf8, encode_utf8_all, IsAscii}
+use Rattle.std.proofs.Common.{All, w64, eq-eqb, eqb-true, append-nil, append_assoc}
+use Rattle.minisign.proofs.Common.{and_parts, cases_lt, get_or-append_right, take-append-add, get_or_default}
+use Rattle.minisign.proofs.Common.{nil_from_length, chars, drop_trailing_whitespace, trim, trim_end}
+use Rattle.minisign.proofs.Common.{trim_start, chars_after, skip_leading_whitespace, NoCharPasses, LacksByte}
+use Rattle.minisign.proofs.Common.{AllByRecursion, slice_split, lines, strip_carriage_return, lines_of_parts}
+use Rattle.minisign.proofs.Common.{StripsCarriageReturn, IsFirstLine, standard, encode_symbols, IsInRange}
+use Rattle.minisign.proofs.Common.{from_le_bytes, digit_glyph, digits, digits_onto, format_spec}
+use Rattle.minisign.proofs.Common.{padded_integral, common_steps, IsBytes, key_id_text}
 use Rattle.std.proofs.Math.ListN.{get_or-append}
 use Rattle.std.proofs.lemmas.Str.{inside_one, len_utf8_bounds, length-encode, length-le-encodes}
 use Rattle.std.proofs.lemmas.Str.{encodes-IsAscii, encode_ascii}
 use Rattle.std.specs.Char.{is_whitespace, is_newline}
-use Rattle.base64.specs.Tables.{all_below}
 use Rattle.base64.proofs.Tables.{all_below_at}
 use Rattle.std.proofs.lemmas.List.Splits.{slice_split_at, length-slice_split, slice_split_none}
 use Rattle.std.proofs.lemmas.Str.Pattern.{NoCharPasses-char}
@@ -42,17 +39,17 @@ stripped l x (inr e) =
 pub lines_of_parts-cons : (x : List ℕ) (parts : List (List ℕ)) → 0 < length parts → lines_of_parts (x ∷ parts)
     ≡ strip_carriage_return x ∷ lines_of_parts parts
 lines_of_parts-cons x [] l = absurd (omega arith)
-lines_of_parts-cons x (y ∷ more) l = refl
+lines_of_parts-cons x (y ∷ _) l = refl
 
 -- the first line of a text, and the lines of what follows it
 pub lines_first : (w x rest : List ℕ) → 0 < length w → IsFirstLine w x rest → lines w ≡ x ∷ lines rest
 lines_first w x rest some h =
-    let n : ℕ = h.0 in
+    let n = h.0 in
     let p = λ (b : ℕ). eqb b 10 in
-    let front : All (λ b. eqb b 10 ≡ false) (take n w) = no_newline (take n w) h.1 in
+    let front = no_newline (take n w) h.1 in
     ⊎_elim
     (λ l. let o = h.2 (omega (arith, length-drop n w)) in
-    let after : drop n w ≡ 10 ∷ rest = o.2 ∙ ap (λ d. encode_utf8 d ++ rest) (eqb-true o.0 10 o.1)
+    let after = o.2 ∙ ap (λ d. encode_utf8 d ++ rest) (eqb-true o.0 10 o.1)
     ∙ ap (λ v. v ++ rest) (encode_ascii 10 (lit< tt)) in
     ap lines (sym (take-append-drop n w) ∙ ap (λ v. take n w ++ v) after)
     ∙ ap lines_of_parts (slice_split_at p (take n w) 10 rest front refl)
@@ -69,7 +66,7 @@ pub lines-cut : (x rest : List ℕ) → All (λ b. eqb b 10 ≡ false) x → lin
     ≡ strip_carriage_return x ∷ lines rest
 lines-cut x rest front =
     ap lines_of_parts (slice_split_at (λ b. eqb b 10) x 10 rest front refl) ∙ lines_of_parts-cons x
-    (slice_split (λ b. eqb b 10) rest) (omega (arith, length-slice_split (λ b. eqb b 10) rest))
+    _ (omega (arith, length-slice_split (λ b. eqb b 10) rest))
 
 -- a graphic letter of ASCII: neither a line feed nor white space
 abbrev pub IsGraphic : ℕ → Type 0
@@ -78,25 +75,40 @@ IsGraphic c = IsInRange 33 126 c
 abbrev pub AllGraphic : List ℕ → Type 0
 AllGraphic xs = AllByRecursion IsGraphic xs
 
-pub all_append : (xs ys : List ℕ) → AllGraphic xs → AllGraphic ys → AllGraphic (xs ++ ys)
-all_append [] ys h k = k
-all_append (x ∷ xs) ys h k = (h.0, all_append xs ys h.1 k)
+-- what holds of each letter of two texts
+pub each_append : (P : ℕ → Type 0) (xs ys : List ℕ) → AllByRecursion P xs → AllByRecursion P ys
+    → AllByRecursion P (xs ++ ys)
+each_append P [] _ h k = k
+each_append P (x ∷ xs) ys h k = (h.0, each_append P xs ys h.1 k)
+
+-- and of each letter of one for which a test holds
+abbrev pub all_pass : (ℕ → Bool) → List ℕ → Bool
+all_pass _ [] = true
+all_pass test (c ∷ cs) = test c && all_pass test cs
+
+pub each_passes : (test : ℕ → Bool) (P : ℕ → Type 0) → ((c : ℕ) → test c ≡ true → P c) → (xs : List ℕ)
+    → all_pass test xs ≡ true → AllByRecursion P xs
+each_passes _ P _ [] h = tt
+each_passes _ P holds (x ∷ xs) h =
+    let (first, others) = and_parts _ _ h in
+    (holds x first, each_passes _ P holds xs others)
 
 -- the 64 letters
 abbrev letters : List ℕ
 letters = standard.encode_table
 
-abbrev is_graphic_letter : ℕ → Bool
-is_graphic_letter i = leb 33 (slice_index letters i) && leb (slice_index letters i) 126
+abbrev is_graphic : ℕ → Bool
+is_graphic c = leb 33 c && leb c 126
 
-graphic_table : all_below is_graphic_letter 64 ≡ true
-graphic_table = refl
-
-graphic_from : (c : ℕ) → leb 33 c && leb c 126 ≡ true → IsGraphic c
+graphic_from : (c : ℕ) → is_graphic c ≡ true → IsGraphic c
 graphic_from c h = grind (arith, common_steps)
 
+-- letters that are written out
+pub graphic_codes : (xs : List ℕ) → all_pass is_graphic xs ≡ true → AllGraphic xs
+graphic_codes = each_passes _ _ graphic_from
+
 letter : (i : ℕ) → i < 64 → IsGraphic (slice_index letters i)
-letter i l = graphic_from _ (all_below_at is_graphic_letter 64 i graphic_table l)
+letter i l = graphic_from _ (all_below_at (λ i. is_graphic (slice_index letters i)) 64 i refl l)
 
 graphic_symbols : (m : List ℕ) → IsBytes m → AllGraphic (encode_symbols letters m)
 unfolding encode_symbols
@@ -127,33 +139,29 @@ graphic_symbols (a ∷ b ∷ c ∷ rest) h =
       ),
     )
 
-graphic_padding : (n : ℕ) → AllGraphic (replicate n 61)
-graphic_padding zero = tt
-graphic_padding (suc n) = ((omega arith, omega arith), graphic_padding n)
+graphic_replicate : (n c : ℕ) → IsGraphic c → AllGraphic (replicate n c)
+graphic_replicate zero c h = tt
+graphic_replicate (suc n) c h = (h, graphic_replicate n c h)
 
 -- no letter of base64 is a line feed or white space
 pub graphic_base64 : (m : List ℕ) → IsBytes m → AllGraphic (base64_of m)
 unfolding base64_of
-graphic_base64 m h = all_append _ _ (graphic_symbols m h) (graphic_padding _)
+graphic_base64 m h = each_append _ _ _ (graphic_symbols m h)
+    (graphic_replicate _ 61 (omega arith, omega arith))
 
 -- so are the digits of a key ID
 graphic_digit : (d : ℕ) → d < 16 → IsGraphic (digit_glyph true d)
 graphic_digit d l = grind (arith, common_steps)
 
 graphic_digits : (k n : ℕ) (acc : List ℕ) → AllGraphic acc → AllGraphic (digits_onto k 16 true n acc)
-graphic_digits zero n acc h = h
+graphic_digits zero n _ h = h
 graphic_digits (suc k) n acc h =
-    let digit : IsGraphic (digit_glyph true (n % 16)) = graphic_digit (n % 16) (omega arith) in
-    elim (n / 16 == 0) as (λ b. AllGraphic
-    (cond b (digit_glyph true (n % 16) ∷ acc)
+    let digit = graphic_digit _ (omega arith) in
+    elim (n / 16 == 0) as (λ b. AllGraphic (cond b (digit_glyph true (n % 16) ∷ acc)
     (digits_onto k 16 true (n / 16) (digit_glyph true (n % 16) ∷ acc)))) [
       | true ↦ (digit, h)
-      | false ↦ graphic_digits k (n / 16) _ (digit, h)
+      | false ↦ graphic_digits k _ _ (digit, h)
     ]
-
-graphic_zeros : (n : ℕ) → AllGraphic (replicate n 48)
-graphic_zeros zero = tt
-graphic_zeros (suc n) = ((omega arith, omega arith), graphic_zeros n)
 
 -- as 16 digits are written, with zeros in front
 graphic_padded : (numeral : List ℕ) → AllGraphic numeral
@@ -161,14 +169,11 @@ graphic_padded : (numeral : List ℕ) → AllGraphic numeral
 unfolding padded_integral
 graphic_padded numeral h =
     let sixteen = format_spec 32 0 4 16 (2 ^ 64 - 1) in
-    all_append (before_digits sixteen false [] (length numeral)) (numeral ++ [])
-    (graphic_zeros (number_padding sixteen false [] (length numeral)))
-    (all_append numeral [] h tt)
+    each_append _ _ _ (graphic_replicate _ 48 (omega arith, omega arith)) (each_append _ _ [] h tt)
 
 pub graphic_key_id : (id : List ℕ) → AllGraphic (key_id_text id)
 unfolding key_id_text digits
-graphic_key_id id = graphic_padded (digits 16 true (from_le_bytes w64 id))
-    (graphic_digits 64 (from_le_bytes w64 id) [] tt)
+graphic_key_id id = graphic_padded _ (graphic_digits 64 (from_le_bytes w64 id) [] tt)
 
 -- trimming leaves graphic letters as they are
 dark : (c : ℕ) → IsGraphic c → is_whitespace c ≡ false
@@ -183,7 +188,7 @@ spelled_after : (c : ℕ) (xs : List ℕ) → AllGraphic xs → chars_after 0 c 
 spelled_after c [] h = refl
 spelled_after c (x ∷ xs) h =
     let low : nat_lt x 128 ≡ true = grind (arith, common_steps, tests) in
-    ap (λ (l : List ℕ). c ∷ l) (rw low (spelled_after x xs h.1))
+    ap (λ l. c ∷ l) (rw low (spelled_after x xs h.1))
 
 spelled : (xs : List ℕ) → AllGraphic xs → chars xs ≡ xs
 unfolding chars
@@ -194,16 +199,16 @@ spelled (x ∷ xs) h =
 
 front_stays : (xs : List ℕ) → AllGraphic xs → skip_leading_whitespace xs ≡ xs
 front_stays [] h = refl
-front_stays (x ∷ xs) h = rw (dark x h.0) refl
+front_stays (x ∷ _) h = rw (dark x h.0) refl
 
 back_stays : (xs : List ℕ) → AllGraphic xs → drop_trailing_whitespace xs ≡ xs
 back_stays [] h = refl
-back_stays (x ∷ xs) h = rw (dark x h.0) (ap (λ (l : List ℕ). x ∷ l) (back_stays xs h.1))
+back_stays (x ∷ xs) h = rw (dark x h.0) (ap (λ l. x ∷ l) (back_stays xs h.1))
 
 pub trim_graphic : (xs : List ℕ) → AllGraphic xs → trim xs ≡ xs
 unfolding trim_start trim_end
 trim_graphic xs h =
-    let written : encode_utf8_all xs ≡ xs = encodes-IsAscii xs (all_ascii xs h) in
+    let written = encodes-IsAscii xs (all_ascii xs h) in
     rw (spelled xs h, front_stays xs h, written, spelled xs h, back_stays xs h, written) refl
 
 -- a line that is one: no line feed in it, and no carriage return at its end
@@ -216,9 +221,8 @@ no_feeds x h k d l = ne_eqb _ 10 (λ z. h k l (get_or_default x k 0 d l ∙ z))
 
 -- a line, and the lines after it
 pub lines_line : (x rest : List ℕ) → IsOneLine x → lines (line x ++ rest) ≡ x ∷ lines rest
-lines_line x rest h = ap lines (append_assoc x (10 ∷ []) rest) ∙ lines-cut x rest (no_feeds x h.no_feed)
-    ∙ ap (λ (b : List ℕ). b ∷ lines rest)
-    (ap (λ t. cond t (take (length x - 1) x) x) (ne_eqb _ 13 h.no_return))
+lines_line x rest h = ap lines (append_assoc x (10 ∷ []) rest) ∙ lines-cut x _ (no_feeds x h.no_feed)
+    ∙ ap (λ b. b ∷ lines rest) (ap (λ t. cond t (take (length x - 1) x) x) (ne_eqb _ 13 h.no_return))
 
 -- the last line
 pub lines_last : (x : List ℕ) → IsOneLine x → lines (line x) ≡ x ∷ []
@@ -228,17 +232,13 @@ lines_last x h = ap lines (sym (append-nil (line x))) ∙ lines_line x [] h
 abbrev pub AllShown : List ℕ → Type 0
 AllShown xs = AllByRecursion (λ c. 32 ≤ c) xs
 
-pub shown_append : (xs ys : List ℕ) → AllShown xs → AllShown ys → AllShown (xs ++ ys)
-shown_append [] ys h k = k
-shown_append (x ∷ xs) ys h k = (h.0, shown_append xs ys h.1 k)
-
 pub shown_graphic : (xs : List ℕ) → AllGraphic xs → AllShown xs
 shown_graphic [] h = tt
 shown_graphic (x ∷ xs) h = (omega (arith, h.0.0), shown_graphic xs h.1)
 
 shown_at : (xs : List ℕ) (k : ℕ) → AllShown xs → k < length xs → 32 ≤ slice_index xs k
 shown_at [] k h l = absurd (omega arith)
-shown_at (x ∷ xs) zero h l = h.0
+shown_at (x ∷ _) zero h l = h.0
 shown_at (x ∷ xs) (suc k) h l = shown_at xs k h.1 (omega arith)
 
 pub shown_one_line : (x : List ℕ) → AllShown x → IsOneLine x
@@ -248,30 +248,9 @@ shown_one_line (x ∷ xs) h = record {
   no_return = λ e. absurd (omega (arith, e, shown_at (x ∷ xs) (length (x ∷ xs) - 1) h (omega arith)));
 }
 
--- the length of bytes in base64
-length_base64 : (m : List ℕ) (n : ℕ) → length m ≡ n → length (base64_of m) ≡ unpadded_len n + padding_len n
-unfolding base64_of
-length_base64 m n h =
-    length-append _ _ ∙ (λ i. length-encode_symbols standard.encode_table m i + length-replicate {A = ℕ}
-    (padding_len (length m)) 61 i) ∙ ap (λ (k : ℕ). unpadded_len k + padding_len k) h
-
--- the length of 42 bytes in base64, and of 158
-pub length_base64_key : (m : List ℕ) → length m ≡ 42 → length (base64_of m) ≡ 56
-length_base64_key m h = length_base64 m 42 h
-
-pub length_base64_secret : (m : List ℕ) → length m ≡ 158 → length (base64_of m) ≡ 212
-length_base64_secret m h = length_base64 m 158 h
-
 -- letters that are written out
-abbrev pub all_shown : List ℕ → Bool
-all_shown [] = true
-all_shown (c ∷ cs) = leb 32 c && all_shown cs
-
-pub shown_codes : (xs : List ℕ) → all_shown xs ≡ true → AllShown xs
-shown_codes [] h = tt
-shown_codes (x ∷ xs) h =
-    let (first, others) = and_parts (leb 32 x) (all_shown xs) h in
-    (leb-true 32 x first, shown_codes xs others)
+pub shown_codes : (xs : List ℕ) → all_pass (leb 32) xs ≡ true → AllShown xs
+shown_codes = each_passes _ _ (leb-true 32)
 
 -- a line that begins with a label, and what stands after it
 pub labelled : (label x rest : List ℕ) → line (label ++ x) ++ rest ≡ label ++ (x ++ (10 ∷ rest))
@@ -281,7 +260,7 @@ last_append : (xs ys : List ℕ) → 0 < length ys → slice_index (xs ++ ys) (l
     ≡ slice_index ys (length ys - 1)
 last_append xs ys some =
     let at : length (xs ++ ys) - 1 ≡ length xs + (length ys - 1) = omega (arith, length-append xs ys) in
-    ap (λ (n : ℕ). slice_index (xs ++ ys) n) at ∙ get_or-append-add xs ys (length ys - 1) 0
+    ap (λ n. slice_index (xs ++ ys) n) at ∙ get_or-append-add xs _ _ _
 
 -- no line feed stands in a line with a label before it
 labelled_no_feed : (label x : List ℕ) → AllShown label → LacksByte 10 x → (k : ℕ) → k < length (label ++ x)
@@ -289,8 +268,7 @@ labelled_no_feed : (label x : List ℕ) → AllShown label → LacksByte 10 x �
 labelled_no_feed label x shown lacks k l e = ⊎_elim
     (λ before. absurd (omega (arith, shown_at label k shown before, get_or-append label x 0 k before, e)))
     (λ behind. lacks (k - length label) (omega (arith, l, length-append label x))
-    (sym (get_or-append_right label x k 0 behind) ∙ e))
-    (cases_lt k (length label))
+    (sym (get_or-append_right _ x k 0 behind) ∙ e)) (cases_lt k (length label))
 
 -- a line is one with a label before it
 pub labelled_one_line : (label x : List ℕ) → AllShown label → 0 < length label → LacksByte 10 x
@@ -303,26 +281,24 @@ labelled_one_line label x shown some lacks end = record {
     last_of : (x : List ℕ) → LacksByte 10 x → slice_index x (length x - 1) ≢ 13
         → slice_index (label ++ x) (length (label ++ x) - 1) ≢ 13
     last_of [] lacks end e =
-        let same : label ++ [] ≡ label = append-nil label in
-        let at : slice_index label (length label - 1)
-        ≡ 13 = subst (λ (t : List ℕ). slice_index t (length t - 1) ≡ 13) same e in
+        let at = subst (λ (t : List ℕ). slice_index t (length t - 1) ≡ 13) (append-nil label) e in
         absurd (omega (arith, at, shown_at label (length label - 1) shown (omega arith)))
     last_of (y ∷ ys) lacks end e = end (sym (last_append label (y ∷ ys) (omega arith)) ∙ e)
 
 -- a line that begins with a label: the carriage return at its end is that of what stands after the label
 label_ends : (label : List ℕ) → AllShown label → 0 < length label
     → slice_index (label ++ []) (length (label ++ []) - 1) ≢ 13
-label_ends label shown some = (labelled_one_line label [] shown some (λ k l. absurd (omega arith))
+label_ends label shown some = (labelled_one_line _ [] shown some (λ k l. absurd (omega arith))
     (λ e. absurd (omega arith))).no_return
 
 pub strip_labelled : (label x : List ℕ) → AllShown label → 0 < length label
     → strip_carriage_return (label ++ x) ≡ label ++ strip_carriage_return x
 strip_labelled label [] shown some =
     ap (λ t. cond t (take (length (label ++ []) - 1) (label ++ [])) (label ++ []))
-    (ne_eqb _ 13 (label_ends label shown some))
+    (ne_eqb _ 13 (label_ends _ shown some))
 strip_labelled label (y ∷ ys) shown some =
-    ap (λ (n : ℕ). cond (eqb n 13) (take (length (label ++ y ∷ ys) - 1) (label ++ y ∷ ys)) (label ++ y ∷ ys))
-    (last_append label (y ∷ ys) (omega arith))
+    ap (λ n. cond (eqb n 13) (take (length (label ++ y ∷ ys) - 1) (label ++ y ∷ ys)) (label ++ y ∷ ys))
+    (last_append label _ (omega arith))
     ∙ step (eqb (slice_index (y ∷ ys) (length (y ∷ ys) - 1)) 13)
   where
     shorter : length (label ++ y ∷ ys) - 1 ≡ length label + (length (y ∷ ys) - 1)
@@ -330,7 +306,7 @@ strip_labelled label (y ∷ ys) shown some =
 
     step : (b : Bool) → cond b (take (length (label ++ y ∷ ys) - 1) (label ++ y ∷ ys)) (label ++ y ∷ ys)
         ≡ label ++ cond b (take (length (y ∷ ys) - 1) (y ∷ ys)) (y ∷ ys)
-    step true = ap (λ (n : ℕ). take n (label ++ y ∷ ys)) shorter ∙ take-append-add label (y ∷ ys)
+    step true = ap (λ n. take n (label ++ y ∷ ys)) shorter ∙ take-append-add label (y ∷ ys)
         (length (y ∷ ys) - 1)
     step false = refl
 
@@ -338,9 +314,9 @@ strip_labelled label (y ∷ ys) shown some =
 pub lines_labelled : (label x rest : List ℕ) → AllShown label → 0 < length label → LacksByte 10 x
     → lines (line (label ++ x) ++ rest) ≡ (label ++ strip_carriage_return x) ∷ lines rest
 lines_labelled label x rest shown some lacks =
-    ap lines (append_assoc (label ++ x) (10 ∷ []) rest) ∙ lines-cut (label ++ x) rest
-    (no_feeds (label ++ x) (labelled_no_feed label x shown lacks))
-    ∙ ap (λ (b : List ℕ). b ∷ lines rest) (strip_labelled label x shown some)
+    ap lines (append_assoc (label ++ x) (10 ∷ []) rest) ∙ lines-cut _ _
+    (no_feeds _ (labelled_no_feed _ x shown lacks))
+    ∙ ap (λ b. b ∷ lines rest) (strip_labelled _ x shown some)
 
 -- nothing goes of a text that does not end in one
 pub strip_none : (x : List ℕ) → slice_index x (length x - 1) ≢ 13 → strip_carriage_return x ≡ x
@@ -353,8 +329,7 @@ last_of_letter c dark e =
     let some : 0 < length (encode_utf8 c) = omega (arith, length-encode c, (len_utf8_bounds c).0) in
     let same : c ≡ slice_index (encode_utf8 c) (length (encode_utf8 c) - 1) = inside_one c []
     (encode_utf8 c) _ (sym (append-nil _)) (omega arith) (omega (arith, e)) in
-    let white : is_whitespace c ≡ true = ap is_whitespace (same ∙ e) in
-    let no = sym dark ∙ white in
+    let no = sym dark ∙ ap is_whitespace (same ∙ e) in
     cc no
 
 last_dark : (cs : List ℕ) → slice_index (encode_utf8_all (drop_trailing_whitespace cs))
@@ -367,18 +342,14 @@ last_dark (c ∷ cs) = step (drop_trailing_whitespace cs) (is_whitespace c) refl
         → slice_index (encode_utf8_all (cond (white && length ds == 0) [] (c ∷ ds)))
         (length (encode_utf8_all (cond (white && length ds == 0) [] (c ∷ ds))) - 1) ≢ 13
     step [] true is others = λ e. absurd (omega arith)
-    step [] false is others = subst (λ (t : List ℕ). slice_index t (length t - 1) ≢ 13)
-        (sym (append-nil (encode_utf8 c))) (last_of_letter c is)
+    step [] false is others = (rw (sym (append-nil (encode_utf8 c))) at (last_of_letter c is))
     step (d ∷ ds) true is others =
         let more : length (d ∷ ds) == 0 ≡ false = ne_eqb _ 0 (λ z. absurd (omega arith)) in
-        rw more (λ e. others (sym
-        (last_append (encode_utf8 c) (encode_utf8_all (d ∷ ds))
+        rw more (λ e. others (sym (last_append (encode_utf8 c) (encode_utf8_all (d ∷ ds))
         (omega (arith, length-le-encodes (d ∷ ds)))) ∙ e))
-    step (d ∷ ds) false is others = λ e. others
-        (sym (last_append (encode_utf8 c) (encode_utf8_all (d ∷ ds))
+    step (d ∷ ds) false is others = λ e. others (sym (last_append (encode_utf8 c) (encode_utf8_all (d ∷ ds))
         (omega (arith, length-le-encodes (d ∷ ds)))) ∙ e)
 
 pub trimmed_end : (t : List ℕ) → trim t ≡ t → slice_index t (length t - 1) ≢ 13
 unfolding trim_end
-trimmed_end t same = subst (λ (x : List ℕ). slice_index x (length x - 1) ≢ 13) same
-    (last_dark (chars (trim_start t)))
+trimmed_end t same = rw same at (last_dark (chars (trim_start t)))

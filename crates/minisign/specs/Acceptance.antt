@@ -6,19 +6,17 @@ use Rattle.std.specs.Prelude.{option_map}
 use Rattle.std.specs.Option.{option_map_or}
 use Rattle.minisign_hash.specs.Blake2b.{blake2b_digest}
 use Rattle.minisign_base.specs.Fault.{Fault}
-use Rattle.minisign_base.specs.declared.faults.NamedFault.TheVariants.{DifferentKeyIds, LegacyNotAccepted}
-use Rattle.minisign_base.specs.declared.faults.NamedFault.TheVariants.{SignatureRefused}
-use Rattle.minisign_base.specs.declared.faults.NamedFault.TheVariants.{CommentSignatureRefused}
 use Rattle.minisign.specs.Texts.{line, and_then, require}
 use Rattle.minisign.specs.declared.options.VerifyOptions.{VerifyOptions}
 use Rattle.minisign.specs.Records.{PublicKeyRecord, SignatureRecord, CommentsRecord, SignatureBoxRecord}
 use Rattle.minisign.specs.Records.{is_prehashed, prehashed_algorithm}
+use Rattle.minisign_base.specs.declared.faults.NamedFault.TheVariants as named
 
 -- what a scheme accepts: a message, a public key and a signature
 abbrev pub Verifier : Type 0
 Verifier = List ℕ → List ℕ → List ℕ → Bool
 
--- options of these three flags: say nothing, copy the data, accept signatures over the data itself
+-- options of these three flags
 abbrev pub options_of : Bool → Bool → Bool → VerifyOptions
 options_of quiet output legacy = record { quiet = quiet; output = output; allow_legacy = legacy }
 
@@ -26,8 +24,7 @@ options_of quiet output legacy = record { quiet = quiet; output = output; allow_
 abbrev pub signed_bytes : SignatureBoxRecord → List ℕ → List ℕ
 signed_bytes x message = if is_prehashed x.signature then blake2b_digest 64 message else message
 
--- the comment signature has at least 64 bytes, and the first 64 are accepted for the signature
--- followed by the trusted comment
+-- the first 64 bytes of the comment signature are accepted for the signature followed by the trusted comment
 pub record CommentIsSigned (accepts : Verifier) (pk : PublicKeyRecord) (s : SignatureRecord)
     (c : CommentsRecord) : Type 0 where
   pub long_enough : 64 ≤ length c.signature
@@ -42,25 +39,24 @@ pub record Vouches (accepts : Verifier) (pk : PublicKeyRecord) (x : SignatureBox
   pub signed : IsTrue (accepts (signed_bytes x message) pk.key x.signature.signature)
   pub comment_signed : IfSome x.comments (CommentIsSigned accepts pk x.signature)
 
--- the test of the comments of a box: the comment signature has 64 bytes, and the first 64 are accepted; a
--- bare signature has none to test
+-- whether the comment of a box is signed so; a bare signature has none
 abbrev pub accepts_comments : Verifier → PublicKeyRecord → SignatureBoxRecord → Bool
 accepts_comments accepts pk x = option_map_or (λ c. nat_le 64 (length c.signature)
     && accepts (x.signature.signature ++ c.trusted) pk.key (take 64 c.signature)) x.comments true
 
--- what the key ID of a key and a signature alone decide, in this order: the signature is made by the key of
--- this key ID, and it is over the digest of the data, where one over the data itself will not do
+-- what a key ID and a signature alone decide, in this order: the signature is by this key ID, and it is over
+-- the digest of the data, where one over the data itself will not do
 abbrev pub judge_key : List ℕ → SignatureRecord → Bool → Result ⊤ Fault
 judge_key key_id s legacy =
-    require (bytes_eq s.keynum key_id) (DifferentKeyIds s.keynum key_id)
-    (require (is_prehashed s || legacy) LegacyNotAccepted
+    require (bytes_eq s.keynum key_id) (named.DifferentKeyIds s.keynum key_id)
+    (require (is_prehashed s || legacy) named.LegacyNotAccepted
     (Ok tt))
 
--- what two answers of the scheme decide, in this order: it accepts the signature, and the comment signature
+-- what two answers of the scheme decide, in this order: on the signature, and on the comment signature
 abbrev pub judge_answers : Bool → Bool → Result ⊤ Fault
 judge_answers signature comments =
-    require signature SignatureRefused
-    (require comments CommentSignatureRefused
+    require signature named.SignatureRefused
+    (require comments named.CommentSignatureRefused
     (Ok tt))
 
 -- whether the box vouches for the message under the key, or the first condition that fails
@@ -76,7 +72,7 @@ VouchesUnderEachKey accepts key keynum message x =
     (pk : PublicKeyRecord) (legacy : Bool) → pk.key ≡ key → pk.keynum ≡ keynum
     → judge accepts pk x message legacy ≡ Ok tt
 
--- all but the algorithm of a key, the untrusted comment, and the bytes past the 64th of the comment signature
+-- all but the key's algorithm, the untrusted comment, and what follows 64 bytes of the comment signature
 abbrev pub judged_parts : PublicKeyRecord → SignatureBoxRecord
     → List ℕ × List ℕ × SignatureRecord × Option (List ℕ × List ℕ)
 judged_parts pk x =
@@ -88,7 +84,7 @@ verified_text = codes "Signature and comment signature verified"
 unfoldable pub trusted_comment_text : List ℕ
 trusted_comment_text = codes "Trusted comment: "
 
--- what is said of a box that was accepted: that it was, and the trusted comment where there is one
+-- what is said of a box that was accepted
 abbrev pub status_lines : SignatureBoxRecord → List ℕ
 status_lines x = line verified_text
     ++ option_map_or (λ c. line (trusted_comment_text ++ c.trusted)) x.comments []

@@ -1,34 +1,70 @@
--- The pairs of keys that generation makes, from which random bytes, and what the sinks of a pair take.
-use Rattle.std.specs.Prelude.{◌≡◌, ℕ, ◌⊎◌, List, ◌++◌, length, replicate, Option, None, Ok, Err, codes}
+-- Keys that are made: which password a key is sealed under, and what a prompt writes and reads for it; keys
+-- that are made of their parts, 64 secret bytes, of a seed and of its public key, under a key ID, and their
+-- texts; and the pairs that generation makes, from which random bytes, and what the sinks of a pair take.
+use Rattle.std.specs.Prelude.{◌≡◌, ℕ, List, [], ◌∷◌, ◌++◌, Option, None, Some, Result, Ok, IfOk, MatchResult}
+use Rattle.std.specs.Prelude.{bytes_eq, if◌then◌else◌, ◌⊎◌, length, replicate, Err, codes, ◌<◌, ◌≤◌, ◌+◌}
+use Rattle.std.specs.Prelude.{unwrap_or}
+use Rattle.minisign_base.specs.Fault.{Fault, Named}
+use Rattle.minisign_base.specs.DeviceCalls.{PromptCall, FailsAtPart, RandomCall, SinkCall, TakesPart}
+use Rattle.minisign_base.specs.Prompts.{Allocate, ConversationEnds, Say, Step, Test, asking_steps}
+use Rattle.minisign_base.specs.Passwords.{password_of, typed_password}
+use Rattle.minisign_base.specs.Steps.{without_value}
 use Rattle.std.specs.Int.{w64, to_le_bytes}
 use Rattle.minisign_hash.specs.Blake2b.{blake2b_digest}
-use Rattle.minisign_base.specs.DeviceCalls.{FailsAtPart, PromptCall, RandomCall, SinkCall, TakesPart}
-use Rattle.minisign_base.specs.Fault.{Fault, Named}
-use Rattle.minisign_base.specs.declared.faults.NamedFault.TheVariants.{OutOfMemory, RandomSourceFailed}
-use Rattle.minisign_base.specs.declared.faults.NamedFault.TheVariants.{WritingFailed}
 use Rattle.minisign_base.specs.Scheme.{IsBytes}
-use Rattle.minisign.specs.NewPassword.{IsSealing}
-use Rattle.minisign.specs.PublicKeyText.{public_key_text}
+use Rattle.minisign.specs.PublicKeyText.{public_key_text, read_public_key, commented_public_key_text}
 use Rattle.minisign.specs.Records.{PublicKeyRecord, SecretKeyRecord, legacy_algorithm, public_key_bytes}
-use Rattle.minisign.specs.Records.{secret_key_bytes}
+use Rattle.minisign.specs.Records.{secret_key_bytes, own_public_key}
 use Rattle.minisign.specs.Sealing.{no_kdf, open_sealed, scrypt_kdf, sealed_by_scrypt, xored_key}
 use Rattle.minisign.specs.SecretKeyText.{read_secret_key, secret_key_text}
-use Rattle.minisign.specs.Reading.{HasFailed}
 use Rattle.minisign.specs.Signing.{HasDrawn, IsGenuine, RandomHasNoNewFault}
-use Rattle.minisign.specs.Opening.{OpensTo}
-use Rattle.minisign.specs.Texts.{and_then}
+use Rattle.minisign.specs.Reading.{HasFailed}
+use Rattle.minisign.specs.Texts.{and_then, line}
+use Rattle.minisign.specs.Opening.{OpensTo, asking_text, done_text, read_unencrypted_key}
+use Rattle.minisign_base.specs.declared.faults.NamedFault.TheVariants as named
+use Rattle.std.specs.Str.Iter.{LacksByte}
+use Rattle.minisign_base.specs.Limits.{numbers, sealing_limits}
+use Rattle.std.specs.Result.{result_err}
+use Rattle.minisign.specs.declared.making.Sealing.{Sealing}
 
--- the public key of a seed under a key ID
-abbrev pub public_key_of : (List ℕ → List ℕ) → List ℕ → List ℕ → PublicKeyRecord
-public_key_of public_of seed keynum =
-    record { algorithm = legacy_algorithm; keynum = keynum; key = public_of seed }
+-- == Passwords ==
 
--- the 64 secret bytes of a seed
-abbrev pub secret_of : (List ℕ → List ℕ) → List ℕ → List ℕ
-secret_of public_of seed = seed ++ public_of seed
+-- before a new password is asked for, the text that asks again, and the text before the derivation of sealing
+unfoldable pub purpose_line : List ℕ
+purpose_line = line (codes "Please enter a password to protect the secret key.")
 
--- the secret key of a key ID and 64 secret bytes that is not to be sealed, with the checksum that these call
--- for
+unfoldable pub second_question : List ℕ
+second_question = codes "Password (one more time): "
+
+unfoldable pub sealing_text : List ℕ
+sealing_text = codes "Deriving a key from the password in order to encrypt the secret key... "
+
+-- two passwords that differ
+abbrev pub difference : List ℕ → List ℕ → Option Fault
+difference password again = if bytes_eq password again then None else Some (Named named.PasswordsDiffer)
+
+-- a password is chosen: it is said what for, and asked for twice
+abbrev pub choosing_steps : List ℕ → List ℕ → List Step
+choosing_steps first second = Say purpose_line
+    ∷ (asking_steps asking_text first ++ (asking_steps second_question second
+    ++ Test (difference (typed_password first) (typed_password second)) ∷ []))
+
+-- the derivation is told of
+abbrev pub sealing_steps : List Step
+sealing_steps = Say sealing_text ∷ Allocate ∷ Say done_text ∷ []
+
+-- under which password a key is sealed, or why under none: one that is passed in, with nothing asked; or one
+-- that is typed twice, in these bytes, and then the derivation is told of
+abbrev pub IsSealing : {R W : Type 0} → PromptCall R W → Option (List ℕ) → Result (List ℕ) Fault → Type 0
+IsSealing p (Some given) answer =
+    MatchResult answer (λ password. password ≡ given) (λ e. e ≡ Named named.OutOfMemory) × (p.new ≡ p.old)
+IsSealing p None answer = (first : List ℕ) × (second : List ℕ)
+    × IfOk answer (λ password. (password_of first ≡ Ok password) × (password_of second ≡ Ok password))
+    × ConversationEnds p (choosing_steps first second ++ sealing_steps) (without_value answer)
+
+-- == Keys of their parts ==
+
+-- the secret key of a key ID and 64 secret bytes that is not to be sealed
 unfoldable pub unsealed_key : List ℕ → List ℕ → SecretKeyRecord
 unsealed_key keynum secret = record {
   algorithm = legacy_algorithm;
@@ -42,8 +78,7 @@ unsealed_key keynum secret = record {
   checksum = blake2b_digest 32 (legacy_algorithm ++ keynum ++ secret);
 }
 
--- the one that is to be sealed with a salt of 32 bytes and these limits, as it is before, and again once it
--- is opened
+-- the one that is to be sealed with a salt of 32 bytes and these limits, before, and once it is opened again
 unfoldable pub key_to_seal : List ℕ → List ℕ → List ℕ → ℕ → ℕ → SecretKeyRecord
 key_to_seal keynum secret salt operations memory = record (unsealed_key keynum secret) {
   kdf = scrypt_kdf;
@@ -56,14 +91,40 @@ key_to_seal keynum secret salt operations memory = record (unsealed_key keynum s
 abbrev pub opened_key : List ℕ → List ℕ → List ℕ → SecretKeyRecord
 opened_key keynum secret salt = key_to_seal keynum secret salt 1048576 33554432
 
--- the keys belong together: the secret key is a genuine one, and the public key is that of its seed and key
--- ID
-pub record IsGenuinePair (public_of : List ℕ → List ℕ) (pk : PublicKeyRecord) (sk : SecretKeyRecord)
-    : Type 0 where
-  pub seed : List ℕ
-  pub genuine : IsGenuine public_of sk seed
-  pub key : pk.key ≡ public_of seed
-  pub keynum : pk.keynum ≡ sk.keynum
+-- the record that is written: with a password the key sealed under it, and without one the key as it stands
+abbrev pub made_key : List ℕ → List ℕ → Option (List ℕ) → Sealing → SecretKeyRecord
+made_key keynum secret None s = unsealed_key keynum secret
+made_key keynum secret (Some password) s =
+    xored_key (key_to_seal keynum secret s.salt s.operations_limit s.memory_limit) password
+
+-- the text gives back the key of these parts: without a password it reads as this key, which was never
+-- sealed; under the password it opens to the key as it was before, and to no other
+abbrev pub GivesParts : List ℕ → Option (List ℕ) → List ℕ → List ℕ → Sealing → Type 0
+GivesParts text None keynum secret s = read_unencrypted_key text ≡ Ok (unsealed_key keynum secret)
+GivesParts text (Some password) keynum secret s =
+    OpensTo text password (numbers s.memory_limit s.operations_limit).p
+    (key_to_seal keynum secret s.salt s.operations_limit s.memory_limit)
+
+-- the text of the secret key that is made of these parts: a line of comment, and a line of base64
+pub record IsMadeText (keynum secret : List ℕ) (password : Option (List ℕ)) (s : Sealing)
+    (comment text : List ℕ) : Type 0 where
+  pub written : text ≡ secret_key_text (Some comment) (made_key keynum secret password s)
+  pub gives : LacksByte 10 comment → GivesParts text password keynum secret s
+  pub size : length text ≡ length comment + 233
+
+-- why no secret key is made: with a password the limits are rejected, or else an allocation failed
+abbrev pub making_fault : Option (List ℕ) → Sealing → Fault
+making_fault None s = Named named.OutOfMemory
+making_fault (Some password) s =
+    unwrap_or (result_err (sealing_limits s.memory_limit s.operations_limit)) (Named named.OutOfMemory)
+
+-- the text of the public key of these parts, which it reads as
+pub record IsMadePublicText (keynum secret comment text : List ℕ) : Type 0 where
+  pub written : text ≡ commented_public_key_text comment (own_public_key (unsealed_key keynum secret))
+  pub reads : LacksByte 10 comment → read_public_key text ≡ Ok (own_public_key (unsealed_key keynum secret))
+  pub size : length text ≡ length comment + 77
+
+-- == Pairs ==
 
 -- 32 random bytes of a seed, and then 8 of a key ID
 pub record AreSeedAndKeynum (seed keynum : List ℕ) : Type 0 where
@@ -72,68 +133,6 @@ pub record AreSeedAndKeynum (seed keynum : List ℕ) : Type 0 where
   pub keynum_length : length keynum ≡ 8
   pub keynum_bytes : IsBytes keynum
 
--- the pair that is not sealed, of random bytes that were drawn
-pub record IsUnsealedPair {Z : Type 0} (public_of : List ℕ → List ℕ) (z : RandomCall Z)
-    (pk : PublicKeyRecord) (sk : SecretKeyRecord) : Type 0 where
-  pub seed : List ℕ
-  pub keynum : List ℕ
-  pub lengths : AreSeedAndKeynum seed keynum
-  pub drawn : HasDrawn z (seed ++ keynum)
-  pub public : pk ≡ public_key_of public_of seed keynum
-  pub secret : sk ≡ unsealed_key keynum (secret_of public_of seed)
-
--- the sealed pair of a seed under a key ID, with a salt, under a password
-pub record IsSealedOf (public_of : List ℕ → List ℕ) (seed keynum salt password : List ℕ)
-    (pk : PublicKeyRecord) (sk : SecretKeyRecord) : Type 0 where
-  pub public : pk ≡ public_key_of public_of seed keynum
-  pub secret : sk ≡ xored_key (opened_key keynum (secret_of public_of seed) salt) password
-  pub opened : xored_key sk password ≡ opened_key keynum (secret_of public_of seed) salt
-
--- the sealed pair of random bytes that were drawn: as those of the other pair, and then 32 of a salt
-pub record IsSealedPair {Z : Type 0} (public_of : List ℕ → List ℕ) (password : List ℕ) (z : RandomCall Z)
-    (pk : PublicKeyRecord) (sk : SecretKeyRecord) : Type 0 where
-  pub seed : List ℕ
-  pub keynum : List ℕ
-  pub salt : List ℕ
-  pub lengths : AreSeedAndKeynum seed keynum
-  pub salt_length : length salt ≡ 32
-  pub drawn : HasDrawn z (seed ++ keynum ++ salt)
-  pub sealed : IsSealedOf public_of seed keynum salt password pk sk
-
--- the secret key opens under the password, and then belongs to the public key; so does each text that reads
--- as it, with a parallelization of 1, and opens to no other key
-pub record OpensToPair (public_of : List ℕ → List ℕ) (password : List ℕ)
-    (pk : PublicKeyRecord) (sk : SecretKeyRecord) : Type 0 where
-  pub opens : and_then (sealed_by_scrypt sk) (λ k. open_sealed k password None) ≡ Ok (xored_key sk password)
-  pub pair : IsGenuinePair public_of pk (xored_key sk password)
-  pub texts : (text : List ℕ) → read_secret_key text ≡ Ok sk → OpensTo text password 1 (xored_key sk password)
-
--- both sinks are as they were
-abbrev pub AreUnwritten : {P K : Type 0} → SinkCall P → SinkCall K → Type 0
-AreUnwritten pk_sink sk_sink = (pk_sink.new ≡ pk_sink.old) × (sk_sink.new ≡ sk_sink.old)
-
--- the public sink failed, with the secret one as it was, or took and flushed its part, and the secret sink
--- failed
-abbrev pub SinksFail : {P K : Type 0} → SinkCall P → SinkCall K → List ℕ → List ℕ → Type 0
-SinksFail pk_sink sk_sink public secret = (FailsAtPart pk_sink public × (sk_sink.new ≡ sk_sink.old))
-    ⊎ (TakesPart pk_sink public × FailsAtPart sk_sink secret)
-
--- a pair's parts are not written: an allocation failed, with both sinks as they were; or a sink failed
-abbrev pub PartsFail : {P K : Type 0} → SinkCall P → SinkCall K → List ℕ → List ℕ → Fault → Type 0
-PartsFail pk_sink sk_sink public secret e = ((e ≡ Named OutOfMemory) × AreUnwritten pk_sink sk_sink)
-    ⊎ ((e ≡ Named WritingFailed) × SinksFail pk_sink sk_sink public secret)
-
--- a pair that is not sealed is not written as raw bytes: the random source failed, with both sinks as they
--- were, or a pair was made whose parts were not written
-abbrev pub RawPairFails : {Z P K : Type 0} → (List ℕ → List ℕ) → RandomCall Z → SinkCall P → SinkCall K
-    → Fault → Type 0
-RawPairFails public_of z pk_sink sk_sink e =
-    (HasFailed RandomSourceFailed (z.random.random_faults z.old) (z.random.random_faults z.new) e
-    × AreUnwritten pk_sink sk_sink)
-    ⊎ ((pk : PublicKeyRecord) × (sk : SecretKeyRecord) × IsUnsealedPair public_of z pk sk
-    × RandomHasNoNewFault z
-    × PartsFail pk_sink sk_sink (public_key_bytes pk) (secret_key_bytes sk) e)
-
 -- the 72 random bytes of a sealed pair were drawn
 pub record AllDrawn {Z : Type 0} (z : RandomCall Z) : Type 0 where
   pub bytes : List ℕ
@@ -141,29 +140,110 @@ pub record AllDrawn {Z : Type 0} (z : RandomCall Z) : Type 0 where
   pub drawn : HasDrawn z bytes
   pub no_new_fault : RandomHasNoNewFault z
 
--- a sealed pair is not made: the random source failed, before anything was asked, or else no key was sealed
+-- no pair is made under a password that is passed in: it has more than 1024 bytes, with nothing drawn; or the
+-- random source failed, or an allocation did once all was drawn
+abbrev pub PasswordPairFails : {Z : Type 0} → List ℕ → RandomCall Z → Fault → Type 0
+PasswordPairFails password z e =
+    ((e ≡ Named named.PasswordTooLong) × (1024 < length password) × (z.new ≡ z.old))
+    ⊎ ((length password ≤ 1024)
+    × (HasFailed named.RandomSourceFailed z.random.random_faults z.old z.new e
+    ⊎ (AllDrawn z × (e ≡ Named named.OutOfMemory))))
+
+-- a sealed pair is not made: the random source failed, with nothing asked, or no key was sealed
 abbrev pub SealedPairFails : {Z R W : Type 0} → RandomCall Z → PromptCall R W → Option (List ℕ) → Fault
     → Type 0
 SealedPairFails z p password e =
-    (HasFailed RandomSourceFailed (z.random.random_faults z.old) (z.random.random_faults z.new) e
-    × (p.new ≡ p.old))
+    (HasFailed named.RandomSourceFailed z.random.random_faults z.old z.new e × (p.new ≡ p.old))
     ⊎ (AllDrawn z × IsSealing p password (Err e))
 
--- a sealed pair was made, under the password that was passed in or typed
-pub record HasSealed {Z R W : Type 0} (public_of : List ℕ → List ℕ) (z : RandomCall Z) (p : PromptCall R W)
-    (given : Option (List ℕ)) (pk : PublicKeyRecord) (sk : SecretKeyRecord) : Type 0 where
-  pub password : List ℕ
-  pub prompted : IsSealing p given (Ok password)
-  pub pair : IsSealedPair public_of password z pk sk
-  pub opens : OpensToPair public_of password pk sk
+module _ {P K : Type 0} (pk_sink : SinkCall P) (sk_sink : SinkCall K) where
+  -- both sinks are as they were
+  abbrev pub AreUnwritten : Type 0
+  AreUnwritten = (pk_sink.new ≡ pk_sink.old) × (sk_sink.new ≡ sk_sink.old)
 
--- a sealed pair is not written as texts: it was not made, with both sinks as they were, or its parts were not
--- written
-abbrev pub SealedTextsFail : {Z R W P K : Type 0} → (List ℕ → List ℕ) → RandomCall Z → PromptCall R W
-    → Option (List ℕ)
-    → SinkCall P → SinkCall K → Option (List ℕ) → Fault → Type 0
-SealedTextsFail public_of z p password pk_sink sk_sink comment e =
-    (SealedPairFails z p password e × AreUnwritten pk_sink sk_sink)
-    ⊎ ((pk : PublicKeyRecord) × (sk : SecretKeyRecord) × HasSealed public_of z p password pk sk
-    × RandomHasNoNewFault z
-    × PartsFail pk_sink sk_sink (public_key_text pk) (secret_key_text comment sk) e)
+  -- the public sink failed, or it took and flushed its part, and the secret sink failed
+  abbrev pub SinksFail : List ℕ → List ℕ → Type 0
+  SinksFail public secret = (FailsAtPart pk_sink public × (sk_sink.new ≡ sk_sink.old))
+      ⊎ (TakesPart pk_sink public × FailsAtPart sk_sink secret)
+
+  -- the parts of a pair are not written: an allocation failed, with both sinks as they were, or a sink failed
+  abbrev pub PartsFail : List ℕ → List ℕ → Fault → Type 0
+  PartsFail public secret e = ((e ≡ Named named.OutOfMemory) × AreUnwritten)
+      ⊎ ((e ≡ Named named.WritingFailed) × SinksFail public secret)
+
+module _ (public_of : List ℕ → List ℕ) where
+  -- the public key of a seed under a key ID
+  abbrev pub public_key_of : List ℕ → List ℕ → PublicKeyRecord
+  public_key_of seed keynum =
+      record { algorithm = legacy_algorithm; keynum = keynum; key = public_of seed }
+
+  -- the 64 secret bytes of a seed
+  abbrev pub secret_of : List ℕ → List ℕ
+  secret_of seed = seed ++ public_of seed
+
+  -- the secret key is a genuine one, and the public key is that of its seed and key ID
+  pub record IsGenuinePair (pk : PublicKeyRecord) (sk : SecretKeyRecord) : Type 0 where
+    pub seed : List ℕ
+    pub genuine : IsGenuine public_of sk seed
+    pub key : pk.key ≡ public_of seed
+    pub keynum : pk.keynum ≡ sk.keynum
+
+  -- the pair that is not sealed, of random bytes that were drawn
+  pub record IsUnsealedPair {Z : Type 0} (z : RandomCall Z) (pk : PublicKeyRecord) (sk : SecretKeyRecord)
+      : Type 0 where
+    pub seed : List ℕ
+    pub keynum : List ℕ
+    pub lengths : AreSeedAndKeynum seed keynum
+    pub drawn : HasDrawn z (seed ++ keynum)
+    pub public : pk ≡ public_key_of seed keynum
+    pub secret : sk ≡ unsealed_key keynum (secret_of seed)
+
+  -- the sealed pair of a seed under a key ID, with a salt, under a password
+  pub record IsSealedOf (seed keynum salt password : List ℕ) (pk : PublicKeyRecord) (sk : SecretKeyRecord)
+      : Type 0 where
+    pub public : pk ≡ public_key_of seed keynum
+    pub secret : sk ≡ xored_key (opened_key keynum (secret_of seed) salt) password
+    pub opened : xored_key sk password ≡ opened_key keynum (secret_of seed) salt
+
+  -- the sealed pair of random bytes that were drawn: as those of the other pair, and then 32 of a salt
+  pub record IsSealedPair {Z : Type 0} (password : List ℕ) (z : RandomCall Z) (pk : PublicKeyRecord)
+      (sk : SecretKeyRecord) : Type 0 where
+    pub seed : List ℕ
+    pub keynum : List ℕ
+    pub salt : List ℕ
+    pub lengths : AreSeedAndKeynum seed keynum
+    pub salt_length : length salt ≡ 32
+    pub drawn : HasDrawn z (seed ++ keynum ++ salt)
+    pub sealed : IsSealedOf seed keynum salt password pk sk
+
+  -- the secret key opens under the password, and then belongs to the public key; each text that reads as it
+  -- opens to that key alone, with a parallelization of 1
+  pub record OpensToPair (password : List ℕ) (pk : PublicKeyRecord) (sk : SecretKeyRecord) : Type 0 where
+    pub opens : and_then (sealed_by_scrypt sk) (λ k. open_sealed k password None) ≡ Ok (xored_key sk password)
+    pub pair : IsGenuinePair pk (xored_key sk password)
+    pub texts : (text : List ℕ) → read_secret_key text ≡ Ok sk
+        → OpensTo text password 1 (xored_key sk password)
+
+  -- a sealed pair was made, under the password that was passed in or typed
+  pub record HasSealed {Z R W : Type 0} (z : RandomCall Z) (p : PromptCall R W) (given : Option (List ℕ))
+      (pk : PublicKeyRecord) (sk : SecretKeyRecord) : Type 0 where
+    pub password : List ℕ
+    pub prompted : IsSealing p given (Ok password)
+    pub pair : IsSealedPair password z pk sk
+    pub opens : OpensToPair password pk sk
+
+  -- a pair that is not sealed is not written as raw bytes: it was not made, with both sinks as they were, or
+  -- its parts were not written
+  abbrev pub RawPairFails : {Z P K : Type 0} → RandomCall Z → SinkCall P → SinkCall K → Fault → Type 0
+  RawPairFails z pk_sink sk_sink e =
+      (HasFailed named.RandomSourceFailed z.random.random_faults z.old z.new e × AreUnwritten pk_sink sk_sink)
+      ⊎ ((pk : PublicKeyRecord) × (sk : SecretKeyRecord) × IsUnsealedPair z pk sk × RandomHasNoNewFault z
+      × PartsFail pk_sink sk_sink (public_key_bytes pk) (secret_key_bytes sk) e)
+
+  -- nor is a sealed pair as texts
+  abbrev pub SealedTextsFail : {Z R W P K : Type 0} → RandomCall Z → PromptCall R W → Option (List ℕ)
+      → SinkCall P → SinkCall K → Option (List ℕ) → Fault → Type 0
+  SealedTextsFail z p password pk_sink sk_sink comment e =
+      (SealedPairFails z p password e × AreUnwritten pk_sink sk_sink)
+      ⊎ ((pk : PublicKeyRecord) × (sk : SecretKeyRecord) × HasSealed z p password pk sk
+      × RandomHasNoNewFault z × PartsFail pk_sink sk_sink (public_key_text pk) (secret_key_text comment sk) e)

@@ -1,13 +1,11 @@
--- What a caller may rely on, in the order of the headline's sentence. Verifying: when two texts vouch for a
--- message, and which case fails first where they do not. Opening: when a sealed key opens under a password.
--- Signing: what the text of a signature is worth. The sentence is in docs/PROMISES.md; docs/TRUSTED.md
--- explains the notation, such as x.now, and that a key or a box of the code stands here for its record or its
--- text.
-use Rattle.std.specs.Prelude.{◌≡◌, ℕ, Bool, true, List, Option, Some, Ok, IfSome, Result}
+-- What a caller may rely on, in the order of the headline's sentence, which is in docs/PROMISES.md.
+-- docs/TRUSTED.md explains the notation, such as x.now, and that a key or a box of the code stands here for
+-- its record or its text.
+use Rattle.std.specs.Prelude.{◌≡◌, ℕ, Bool, true, List, Option, Some, Ok, IfSome, Result, false}
 use Rattle.minisign_base.specs.Fault.{Fault}
 use Rattle.minisign_base.specs.DeviceCalls.{IsFlushed, IsSteady, RereaderCall, SinkFails, SinkCall}
 use Rattle.minisign_base.specs.DeviceCalls.{SourceFails, Takes}
-use Rattle.minisign.specs.Records.{PublicKeyRecord, SecretKeyRecord, SignatureBoxRecord}
+use Rattle.minisign.specs.Records.{PublicKeyRecord, SecretKeyRecord, SignatureBoxRecord, CommentsRecord}
 use Rattle.minisign.specs.Acceptance.{Verifier, Vouches, VouchesUnderEachKey, judge}
 use Rattle.minisign.specs.Opening.{IsOpenedOrNoMemory, open_key}
 use Rattle.minisign.specs.Signing.{ChosenComments, IsGenuine}
@@ -15,6 +13,7 @@ use Rattle.minisign.specs.PublicKeyText.{read_public_key}
 use Rattle.minisign.specs.SignatureText.{AreOneLine, box_of, read_signature, read_signature_box}
 use Rattle.minisign.specs.Texts.{IsGivenOrNoMemory, and_then}
 use Rattle.minisign.specs.declared.options.VerifyOptions.{VerifyOptions}
+use Rattle.minisign.specs.Verifying.{ReadsTwice}
 
 -- == Verifying ==
 
@@ -28,8 +27,8 @@ verdict accepts pk_text sig_text message legacy =
     and_then (judge accepts key (box_of signed) message legacy) (λ _.
     Ok signed.comments.trusted)))
 
--- the texts vouch for the message: one reads as a public key, the other as a signature box, and the box
--- vouches for the message under the key; legacy says whether a signature over the message itself will do
+-- the texts vouch for the message: one reads as a public key, the other as a box that vouches for it under
+-- the key
 pub record TextsVouchFor (accepts : Verifier) (pk_text sig_text message : List ℕ) (legacy : Bool)
     : Type 0 where
   pub key : PublicKeyRecord
@@ -38,8 +37,16 @@ pub record TextsVouchFor (accepts : Verifier) (pk_text sig_text message : List �
   pub box_read : read_signature_box sig_text ≡ Ok box
   pub vouches : Vouches accepts key box message legacy
 
--- over data that is known, where no device fails, and over a steady source where the data is copied, the
--- answer is what a function gives of the data, or out of memory
+-- the texts vouch for the message, and this is the comment that was signed with it
+pub record TextsVouchWith (accepts : Verifier) (pk_text sig_text message : List ℕ) (legacy : Bool)
+    (comment : List ℕ) : Type 0 where
+  pub vouched : TextsVouchFor accepts pk_text sig_text message legacy
+  pub comments : CommentsRecord
+  pub both : vouched.box.comments ≡ Some comments
+  pub trusted : comments.trusted ≡ comment
+
+-- over known data, where no device fails, and over a steady source where the data is copied, the answer is
+-- what a function gives of the data, or out of memory
 abbrev pub WhereNothingFails : {R W O V : Type 0} → Bool → RereaderCall R → SinkCall W → SinkCall O
     → Result V Fault → (List ℕ → Result V Fault) → Type 0
 WhereNothingFails output reader status out answer of_data =
@@ -54,7 +61,7 @@ IsVerdictWhereNothingFails accepts pk_text sig_text options reader status out an
     WhereNothingFails options.output reader status out answer
     (λ message. verdict accepts pk_text sig_text message options.allow_legacy)
 
--- what the output took, where this is known, is itself vouched for by the texts, and was flushed
+-- what the output took and flushed, where this is known, is itself vouched for by the texts
 pub record CopyIsVouchedFor {O : Type 0} (accepts : Verifier) (pk_text sig_text : List ℕ) (legacy : Bool)
     (out : SinkCall O) : Type 0 where
   pub copy : List ℕ
@@ -62,14 +69,27 @@ pub record CopyIsVouchedFor {O : Type 0} (accepts : Verifier) (pk_text sig_text 
   pub flushed : IsFlushed out
   pub vouched : TextsVouchFor accepts pk_text sig_text copy legacy
 
--- opening: with a password that is passed in, the answer is what the text opens to, or out of memory where
--- that derives; the bound is on the parallelization, where there is one
+-- so it is, with this comment; a second reading gave it, with the digest of the first; and it is what was
+-- ahead of a steady source, where that is known
+pub record CopyIsVouchedWith {R O : Type 0} (accepts : Verifier) (pk_text sig_text : List ℕ)
+    (reader : RereaderCall R)
+    (out : SinkCall O) (comment : List ℕ) : Type 0 where
+  pub copy : List ℕ
+  pub taken : Takes out copy
+  pub flushed : IsFlushed out
+  pub vouched : TextsVouchWith accepts pk_text sig_text copy false comment
+  pub message : List ℕ
+  pub read_twice : ReadsTwice reader out message copy
+  pub same : IsSteady reader → IfSome (reader.source.ahead reader.old) (λ xs. copy ≡ xs)
+
+-- opening with a password that is passed in: the answer is what the text opens to, or out of memory where
+-- that derives
 abbrev pub OpeningHeadline : Option (List ℕ) → List ℕ → Option ℕ → Result SecretKeyRecord Fault → Type 0
 OpeningHeadline password text bound answer = IfSome password
     (λ p. IsOpenedOrNoMemory text bound answer (open_key text p bound))
 
--- signing: where the key is a genuine one, and neither comment has a line feed and the trusted one is
--- trimmed, the text reads as a box that every public key of its seed and key ID vouches for the message with
+-- signing with a genuine key: where neither comment has a line feed and the trusted one is trimmed, the text
+-- reads as a box that every public key of its seed and key ID vouches for the message with
 abbrev pub SigningHeadline : Verifier → (List ℕ → List ℕ) → SecretKeyRecord → List ℕ → ChosenComments → List ℕ
     → Type 0
 SigningHeadline accepts public_of sk message chosen text =

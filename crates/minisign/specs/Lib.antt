@@ -7,29 +7,22 @@ pub mod SignatureText
 pub mod CommentPlace
 pub mod Sealing
 pub mod Signing
-pub mod Stages
 pub mod Verifying
 pub mod Headline
 pub mod SecretKeyText
 pub mod Generation
-pub mod NewPassword
 pub mod Opening
 pub mod SigningTexts
-pub mod Making
-pub mod Calls
 -- the definitions of minisign_base, so that a crate that lists this one alone can cite them
 pub use Rattle.minisign_base.specs.DeviceCalls
 pub use Rattle.minisign_base.specs.Devices
 pub use Rattle.minisign_base.specs.Fault
 pub use Rattle.minisign_base.specs.Faults
-pub use Rattle.minisign_base.specs.KeyIds
 pub use Rattle.minisign_base.specs.Limits
 pub use Rattle.minisign_base.specs.Members
 pub use Rattle.minisign_base.specs.Passwords
 pub use Rattle.minisign_base.specs.Prompts
 pub use Rattle.minisign_base.specs.Scheme
-pub use Rattle.minisign_base.specs.Steps
-pub use Rattle.minisign_base.specs.Toy
 pub use Rattle.minisign_base.specs.declared.errors.ErrorKind.TheVariants as ErrorKinds
 pub use Rattle.minisign_base.specs.declared.faults.NamedFault.TheVariants as NamedFaults
 pub use Rattle.minisign_base.specs.declared.prompt.Prompt as Prompt

@@ -9,11 +9,10 @@ use Rattle.minisign_base.specs.Prompts.{Allocate, ConversationEnds, Say, Step, T
 use Rattle.minisign_base.specs.Passwords.{password_of, typed_password}
 use Rattle.std.specs.Option.{option_map_or}
 use Rattle.minisign.specs.Records.{SecretKeyRecord}
-use Rattle.minisign.specs.Sealing.{allowed_work, restored_key, sealed_by_scrypt, xored_key, checksum_of}
-use Rattle.minisign.specs.Sealing.{is_within, no_kdf, open_sealed, scrypt_kdf, unencrypted_key}
-use Rattle.minisign.specs.Sealing.{wants_password}
+use Rattle.minisign.specs.Sealing.{allowed_work, sealed_by_scrypt, xored_key, unencrypted_key, wants_password}
+use Rattle.minisign.specs.Sealing.{restored_key, checksum_of, is_within, no_kdf, open_sealed, scrypt_kdf}
 use Rattle.minisign.specs.SecretKeyText.{read_secret_key, SecretKeyText}
-use Rattle.minisign.specs.Texts.{and_then, require, line}
+use Rattle.minisign.specs.Texts.{and_then, require}
 
 -- the text that asks, the text before the derivation, and the line after it
 unfoldable pub asking_text : List ℕ
@@ -25,20 +24,13 @@ deriving_text = codes "Deriving a key from the password and decrypting the secre
 unfoldable pub done_text : List ℕ
 done_text = codes "done" ++ 10 ∷ []
 
--- before a new password is asked for, the text that asks again, and the text before the derivation of sealing
-unfoldable pub purpose_line : List ℕ
-purpose_line = line (codes "Please enter a password to protect the secret key.")
-
-unfoldable pub second_question : List ℕ
-second_question = codes "Password (one more time): "
-
-unfoldable pub sealing_text : List ℕ
-sealing_text = codes "Deriving a key from the password in order to encrypt the secret key... "
+-- the key that is sealed by scrypt, and that a text reads as
+abbrev pub read_sealed_key : List ℕ → Result SecretKeyRecord Fault
+read_sealed_key text = and_then (read_secret_key text) sealed_by_scrypt
 
 -- what a text opens to under a password, within a bound on the parallelization, where there is one
 unfoldable pub open_key : List ℕ → List ℕ → Option ℕ → Result SecretKeyRecord Fault
-open_key text password bound =
-    and_then (and_then (read_secret_key text) sealed_by_scrypt) (λ k. open_sealed k password bound)
+open_key text password bound = and_then (read_sealed_key text) (λ k. open_sealed k password bound)
 
 -- the key that was never sealed, and that a text reads as
 unfoldable pub read_unencrypted_key : List ℕ → Result SecretKeyRecord Fault
@@ -48,8 +40,8 @@ read_unencrypted_key text = and_then (read_secret_key text) unencrypted_key
 unfoldable pub is_sealed_text : List ℕ → Bool
 is_sealed_text text = option_map_or wants_password (result_ok (read_secret_key text)) false
 
--- what a text gives to who has its password: a key that was never sealed as it stands, whatever the password,
--- and any other one opened
+-- what a text gives to who has its password: a key that was never sealed as it stands, and any other one
+-- opened
 abbrev pub key_with_password : List ℕ → List ℕ → Result SecretKeyRecord Fault
 key_with_password text password = if is_sealed_text text then open_key text password None else
     read_unencrypted_key text
@@ -60,8 +52,8 @@ abbrev pub OpensTo : List ℕ → List ℕ → ℕ → SecretKeyRecord → Type 
 OpensTo text password p key =
     (bound : Option ℕ) → open_key text password bound ≡ require (is_within bound p) WorkTooHigh (Ok key)
 
--- the text reads as a key that is sealed, whose limits are allowed and whose parallelization is within the
--- bound; the stream under the password restores its checksum; and this is the key opened
+-- the text reads as a sealed key, whose limits are allowed, within the bound; the stream under the password
+-- restores its checksum; and this is the key opened
 pub record IsOpened (text password : List ℕ) (bound : Option ℕ) (opened : SecretKeyRecord) : Type 0 where
   pub sealed : SecretKeyRecord
   pub read : SecretKeyText text sealed
@@ -76,8 +68,8 @@ pub record IsUnencryptedText (text : List ℕ) (k : SecretKeyRecord) : Type 0 wh
   pub kdf : k.kdf ≡ no_kdf
   pub checksum : k.checksum ≡ checksum_of k
 
--- the derivation is told of, which the limits and the bound are to allow, and for which memory is to be
--- found; it is told to be done, and then the checksum is to be restored
+-- the derivation is told of, which the limits and the bound are to allow; it is told to be done, and the
+-- checksum is to be restored
 abbrev pub telling_steps : SecretKeyRecord → List ℕ → Option ℕ → List Step
 telling_steps k password bound = Say deriving_text ∷ Test (result_err (allowed_work k bound)) ∷ Allocate
     ∷ Say done_text ∷ Test (result_err (restored_key (xored_key k password))) ∷ []
@@ -86,31 +78,25 @@ telling_steps k password bound = Say deriving_text ∷ Test (result_err (allowed
 abbrev pub opening_steps : SecretKeyRecord → Option ℕ → List ℕ → List Step
 opening_steps k bound bytes = asking_steps asking_text bytes ++ telling_steps k (typed_password bytes) bound
 
--- opening the key of the text derives: it is sealed by scrypt, with limits that are allowed and within the
--- bound
-abbrev pub TakesDerivation : List ℕ → Option ℕ → Type 0
-TakesDerivation text bound = IsOk
-    (and_then (and_then (read_secret_key text) sealed_by_scrypt) (λ k. allowed_work k bound))
-
--- the answer is what the text gives; or out of memory, where opening its key derives
+-- the answer is what the text gives; or out of memory, where opening its key derives: it is sealed by scrypt,
+-- with limits that are allowed and within the bound
 abbrev pub IsOpenedOrNoMemory : List ℕ → Option ℕ → Result SecretKeyRecord Fault
     → Result SecretKeyRecord Fault → Type 0
-IsOpenedOrNoMemory text bound answer given =
-    (answer ≡ given) ⊎ ((answer ≡ Err (Named OutOfMemory)) × TakesDerivation text bound)
+IsOpenedOrNoMemory text bound answer given = (answer ≡ given)
+    ⊎ ((answer ≡ Err (Named OutOfMemory))
+    × IsOk (and_then (read_sealed_key text) (λ k. allowed_work k bound)))
 
--- how opening the key of a text ends, within a bound on the parallelization, where there is one. With a
--- password that is passed in the prompt is as it was, and the answer is what the text opens to, or out of
--- memory where that derives. Otherwise it is asked for one: the answer is what the text opens to with what
--- was typed; or the conversation of opening stopped; or the text reads as no sealed key, with the prompt as
--- it was
+-- how opening the key of a text ends, within a bound: with a password that is passed in, nothing is asked.
+-- Otherwise one is asked for where the text reads as a sealed key: the answer is what it opens to with what
+-- was typed, or the conversation of opening stopped
 abbrev pub IsOpening : {R W : Type 0} → PromptCall R W → Option (List ℕ) → List ℕ → Option ℕ
     → Result SecretKeyRecord Fault → Type 0
 IsOpening p (Some password) text bound answer = (p.new ≡ p.old)
     × IsOpenedOrNoMemory text bound answer (open_key text password bound)
 IsOpening p None text bound (Ok opened) = (k : SecretKeyRecord) × (bytes : List ℕ) × (password : List ℕ)
-    × (and_then (read_secret_key text) sealed_by_scrypt ≡ Ok k) × (password_of bytes ≡ Ok password)
+    × (read_sealed_key text ≡ Ok k) × (password_of bytes ≡ Ok password)
     × (open_key text password bound ≡ Ok opened) × ConversationEnds p (opening_steps k bound bytes) (Ok tt)
 IsOpening p None text bound (Err e) =
-    ((and_then (read_secret_key text) sealed_by_scrypt ≡ Err e) × (p.new ≡ p.old))
-    ⊎ ((k : SecretKeyRecord) × (bytes : List ℕ) × (and_then (read_secret_key text) sealed_by_scrypt ≡ Ok k)
+    ((read_sealed_key text ≡ Err e) × (p.new ≡ p.old))
+    ⊎ ((k : SecretKeyRecord) × (bytes : List ℕ) × (read_sealed_key text ≡ Ok k)
     × ConversationEnds p (opening_steps k bound bytes) (Err e))

@@ -7,7 +7,7 @@ use Rattle.std.specs.Str.Lines.{lines}
 use Rattle.minisign_base.specs.Fault.{Fault, Named}
 use Rattle.minisign_base.specs.declared.faults.NamedFault.{NamedFault}
 use Rattle.minisign_base.specs.KeyIds.{key_id_text}
-use Rattle.minisign.specs.Texts.{line, IsBase64Of, base64_of, base64_bytes, is_base64, require}
+use Rattle.minisign.specs.Texts.{line, Encodes, base64_of, base64_bytes, is_base64, require}
 use Rattle.minisign.specs.Texts.{untrusted_comment_label}
 use Rattle.minisign.specs.Records.{PublicKeyRecord, ReadsPublicKey, public_key_bytes}
 use Rattle.minisign_base.specs.declared.faults.NamedFault.TheVariants as named
@@ -47,38 +47,30 @@ read_bare_public_key text =
 
 -- == The grammar as a relation ==
 
--- the text is the base64 of bytes that begin with the record of the key, which has 42
-pub record EncodesPublicKey (text : List ℕ) (k : PublicKeyRecord) : Type 0 where
-  pub bytes : List ℕ
-  pub base64 : IsBase64Of text bytes
-  pub reads : ReadsPublicKey bytes k
-
--- the text reads as the public key: the first line may be anything, and the second, of 56 bytes,
--- trimmed, encodes the key; later lines do not matter
+-- the text reads as the public key, which its second line of 56 bytes encodes, trimmed
 pub record PublicKeyText (text : List ℕ) (k : PublicKeyRecord) : Type 0 where
   pub comment : List ℕ
   pub encoded : List ℕ
   pub later : List (List ℕ)
   pub cut : lines text ≡ comment ∷ encoded ∷ later
   pub encoded_length : length encoded ≡ 56
-  pub key : EncodesPublicKey (trim encoded) k
+  pub key : Encodes ReadsPublicKey (trim encoded) k
 
 -- the bare base64 reads as the public key: it encodes the key, and trimmed it has 56 bytes
 pub record BarePublicKey (text : List ℕ) (k : PublicKeyRecord) : Type 0 where
   pub trimmed_length : length (trim text) ≡ 56
-  pub key : EncodesPublicKey text k
+  pub key : Encodes ReadsPublicKey text k
 
 -- == Writing ==
 
 unfoldable pub public_key_label : List ℕ
 public_key_label = codes "minisign public key: "
 
--- the text that is written for a key: its key ID, and its record in base64
-abbrev pub public_key_text : PublicKeyRecord → List ℕ
-public_key_text k = line (untrusted_comment_label ++ public_key_label ++ key_id_text k.keynum)
-    ++ line (base64_of (public_key_bytes k))
-
--- the text that is written with a comment of the caller's
+-- the text that is written for a key with a comment of the caller's: the comment, and the record in base64
 abbrev pub commented_public_key_text : List ℕ → PublicKeyRecord → List ℕ
 commented_public_key_text comment k = line (untrusted_comment_label ++ comment)
     ++ line (base64_of (public_key_bytes k))
+
+-- the text that is written for a key: the comment says its key ID
+abbrev pub public_key_text : PublicKeyRecord → List ℕ
+public_key_text k = commented_public_key_text (public_key_label ++ key_id_text k.keynum) k

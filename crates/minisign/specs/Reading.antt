@@ -10,7 +10,7 @@ use Rattle.minisign_base.specs.declared.faults.NamedFault.{NamedFault}
 use Rattle.minisign_base.specs.declared.faults.NamedFault.TheVariants.{OutOfMemory, ReadingFailed, NotUtf8}
 use Rattle.minisign_base.specs.Members.{SourceOf}
 
--- these were the bytes ahead, or those that were given; where these are not known, nothing is said of them
+-- these were the bytes ahead, or those that were given, where they are known
 abbrev pub IsAhead : Option (List ℕ) → List ℕ → Type 0
 IsAhead ahead bytes = IfSome ahead (λ xs. xs ≡ bytes)
 
@@ -22,19 +22,20 @@ pub record ReadsWhole {R : Type 0} (source : SourceOf R) (old new : R) (message 
   pub no_new_fault : source.faults new ≡ source.faults old
 
 -- a device failed, for which there is this error: its count of errors rose
-pub record HasFailed (error : NamedFault) (old new : ℕ) (e : Fault) : Type 0 where
+pub record HasFailed {D : Type 0} (error : NamedFault) (faults : D → ℕ) (old new : D) (e : Fault)
+    : Type 0 where
   pub fault : e ≡ Named error
-  pub rose : Rose old new
+  pub rose : Rose (faults old) (faults new)
 
 -- an allocation failed, with no new error of the source, or the source failed
 abbrev pub IsReadFault : {R : Type 0} → SourceOf R → R → R → Fault → Type 0
 IsReadFault source old new e =
     ((e ≡ Named OutOfMemory) × (source.faults new ≡ source.faults old))
-    ⊎ HasFailed ReadingFailed (source.faults old) (source.faults new) e
+    ⊎ HasFailed ReadingFailed source.faults old new e
 
 -- all that is ahead is read, and put to the output, which flushes nothing; or an allocation fails before
--- anything is read, or one of the two fails, and the output holds a prefix of what was ahead, and of what the
--- source gave; a mark stays
+-- anything is read, or a device fails, and the output holds a prefix of what was ahead, and of what the
+-- source gave
 pub record Copies {R O : Type 0} (reader : RereaderCall R) (out : SinkCall O) (second : List ℕ)
     (answer : Result ⊤ Fault) : Type 0 where
   pub read : OnOk answer (ReadsWhole reader.source reader.old reader.new second)
@@ -43,7 +44,7 @@ pub record Copies {R O : Type 0} (reader : RereaderCall R) (out : SinkCall O) (s
   pub no_new_fault : OnOk answer (SinkHasNoNewFault out)
   pub failed : IfErr answer (λ e.
       ((e ≡ Named OutOfMemory) × (reader.new ≡ reader.old) × (out.new ≡ out.old))
-      ⊎ HasFailed ReadingFailed (reader.source.faults reader.old) (reader.source.faults reader.new) e
+      ⊎ HasFailed ReadingFailed reader.source.faults reader.old reader.new e
       ⊎ IsWritingFault out e)
   pub ahead : OnErr answer (IsAhead (reader.source.ahead reader.old) second)
   pub left : OnErr answer (SourceGives reader)
@@ -53,14 +54,12 @@ pub record Copies {R O : Type 0} (reader : RereaderCall R) (out : SinkCall O) (s
   pub marked : reader.source.is_marked reader.new ≡ reader.source.is_marked reader.old
   pub unflushed : IsUnflushed out
 
--- why a source gave no text: an allocation failed, or it failed, or it was read to its end, and what it gave
--- is not UTF-8
+-- why a source gave no text: it was not read to its end, or what it gave is not UTF-8
 abbrev pub IsTextFault : {R : Type 0} → SourceOf R → R → R → Fault → Type 0
 IsTextFault source old new e = IsReadFault source old new e
     ⊎ ((bytes : List ℕ) × ReadsWhole source old new bytes × ¬ (IsUtf8 bytes) × (e ≡ Named NotUtf8))
 
--- the errors of a file that gives no text: out of memory, reading failed, not UTF-8; when each comes is not
--- said
+-- the errors of a file that gives no text; when each comes is not said
 abbrev pub IsTextFileFault : Fault → Type 0
 IsTextFileFault e = (e ≡ Named OutOfMemory) ⊎ (e ≡ Named ReadingFailed) ⊎ (e ≡ Named NotUtf8)
 

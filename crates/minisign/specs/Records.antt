@@ -30,7 +30,7 @@ pub record SignatureRecord : Type 0 where
 abbrev pub signature_bytes : SignatureRecord → List ℕ
 signature_bytes s = s.algorithm ++ s.keynum ++ s.signature
 
--- the bytes begin with the record of the signature; what follows it does not matter
+-- the bytes begin with the record of the signature
 pub record ReadsSignature (bytes : List ℕ) (s : SignatureRecord) : Type 0 where
   pub algorithm_length : length s.algorithm ≡ 2
   pub keynum_length : length s.keynum ≡ 8
@@ -49,8 +49,6 @@ prehashed_algorithm = codes "ED"
 abbrev pub prehashed_signature : List ℕ → List ℕ → SignatureRecord
 prehashed_signature keynum signature =
     record { algorithm = prehashed_algorithm; keynum = keynum; signature = signature }
-
--- an algorithm of signatures
 
 abbrev pub IsKnownAlgorithm : List ℕ → Type 0
 IsKnownAlgorithm a = (a ≡ legacy_algorithm) ⊎ (a ≡ prehashed_algorithm)
@@ -90,7 +88,7 @@ secret_key_bytes k = (k.algorithm ++ k.kdf ++ k.checksum_algorithm)
     ++ (k.salt ++ k.operations_limit ++ k.memory_limit)
     ++ (k.keynum ++ k.secret ++ k.checksum)
 
--- the bytes begin with the record of the key; what follows it does not matter
+-- the bytes begin with the record of the key
 pub record ReadsSecretKey (bytes : List ℕ) (k : SecretKeyRecord) : Type 0 where
   pub algorithm_length : length k.algorithm ≡ 2
   pub kdf_length : length k.kdf ≡ 2

@@ -35,8 +35,7 @@ wants_password k = not (bytes_eq k.kdf no_kdf)
 abbrev pub is_encrypted : SecretKeyRecord → Bool
 is_encrypted k = wants_password k && not (bytes_eq k.checksum (checksum_of k))
 
--- the key with the bytes that are sealed, 8 of key ID, 64 of secret and 32 of checksum, xored with a stream
--- of as many
+-- the key with the 104 bytes that are sealed, of key ID, secret and checksum, xored with a stream of as many
 unfoldable pub key_xor : SecretKeyRecord → List ℕ → SecretKeyRecord
 key_xor k stream =
     let part = zip2 bit_xor (k.keynum ++ k.secret ++ k.checksum) stream in
@@ -79,13 +78,9 @@ sealed_by_scrypt k =
     require (not (bytes_eq k.kdf no_kdf)) fault.KeyNotEncrypted
     (require (bytes_eq k.kdf scrypt_kdf) fault.UnsupportedEncryptionAlgorithm (Ok k))
 
--- such a key opened under a password, within a bound on the parallelization, where there is one
+-- such a key opened under a password, within the bound
 abbrev pub open_sealed : SecretKeyRecord → List ℕ → Option ℕ → Result SecretKeyRecord Fault
 open_sealed k password bound = and_then (allowed_work k bound) (λ _. restored_key (xored_key k password))
-
--- the same, where at most so many rows are made
-abbrev pub open_within_rows : SecretKeyRecord → List ℕ → ℕ → Result SecretKeyRecord Fault
-open_within_rows k password most = and_then (allowed_rows k most) (λ _. restored_key (xored_key k password))
 
 -- the key, where it was never sealed and its checksum matches
 abbrev pub unencrypted_key : SecretKeyRecord → Result SecretKeyRecord Fault
@@ -99,8 +94,8 @@ abbrev pub opening_work : SecretKeyRecord → ℕ × ℕ
 opening_work k =
     option_map_or (λ v. (v.n_log2, v.p)) (if wants_password k then result_ok (key_limits k) else None) (0, 0)
 
--- the memory that opening in place takes where every k-th row is kept, in words of 32 bits and in bytes:
--- zeros where the key wants no password, or its limits are rejected
+-- the memory that opening in place takes where every k-th row is kept, in words of 32 bits and in bytes, or
+-- zeros
 abbrev pub opening_memory : SecretKeyRecord → ℕ → ℕ × ℕ
 opening_memory key k =
     option_map_or (λ v. (wanted_words v k, wanted_bytes v))

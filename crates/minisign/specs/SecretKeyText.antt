@@ -4,7 +4,7 @@ use Rattle.std.specs.Prelude.{◌≡◌, ℕ, List, [], ◌∷◌, ◌++◌, len
 use Rattle.std.specs.Prelude.{Err, codes, unwrap_or}
 use Rattle.std.specs.Str.Lines.{lines}
 use Rattle.minisign_base.specs.Fault.{Fault, Named}
-use Rattle.minisign.specs.Texts.{line, IsBase64Of, base64_of, base64_bytes, is_base64, require}
+use Rattle.minisign.specs.Texts.{line, Encodes, base64_of, base64_bytes, is_base64, require}
 use Rattle.minisign.specs.Texts.{untrusted_comment_label}
 use Rattle.minisign.specs.Records.{SecretKeyRecord, ReadsSecretKey, secret_key_bytes}
 use Rattle.minisign_base.specs.declared.faults.NamedFault.TheVariants as fault
@@ -44,16 +44,13 @@ read_secret_key text = secret_key_in_lines (lines text)
 
 -- == The grammar as a relation ==
 
--- the text reads as the key: the first line may be anything, and the second is the base64 of bytes that begin
--- with the record of the key, which has 158; later lines do not matter
+-- the text reads as the key, which its second line encodes
 pub record SecretKeyText (text : List ℕ) (k : SecretKeyRecord) : Type 0 where
   pub comment : List ℕ
   pub encoded : List ℕ
   pub later : List (List ℕ)
   pub cut : lines text ≡ comment ∷ encoded ∷ later
-  pub bytes : List ℕ
-  pub base64 : IsBase64Of encoded bytes
-  pub reads : ReadsSecretKey bytes k
+  pub key : Encodes ReadsSecretKey encoded k
 
 -- == Writing ==
 

@@ -8,8 +8,8 @@ use Rattle.std.specs.Str.Iter.{LacksByte}
 use Rattle.std.specs.Str.Lines.{lines, strip_carriage_return}
 use Rattle.minisign_base.specs.Fault.{Fault, Named}
 use Rattle.std.specs.List.{starts_with}
-use Rattle.minisign.specs.Texts.{line, IsBase64Of, base64_of, base64_bytes, is_base64, map_ok, require}
-use Rattle.minisign.specs.Texts.{untrusted_comment_label}
+use Rattle.minisign.specs.Texts.{line, Encodes, IsBase64Of, base64_of, base64_bytes, is_base64, map_ok}
+use Rattle.minisign.specs.Texts.{require, untrusted_comment_label}
 use Rattle.minisign.specs.Records.{CommentsRecord, SignatureRecord, SignatureBoxRecord, ReadsSignature}
 use Rattle.minisign.specs.Records.{IsKnownAlgorithm, signature_bytes, legacy_algorithm, prehashed_algorithm}
 use Rattle.minisign_base.specs.declared.faults.NamedFault.TheVariants as named
@@ -82,15 +82,8 @@ with_comments s untrusted trusted signature =
 
 -- == The grammar as a relation ==
 
--- the text is the base64 of bytes that begin with the record of the signature, which has 74
-pub record EncodesSignature (text : List ℕ) (s : SignatureRecord) : Type 0 where
-  pub bytes : List ℕ
-  pub base64 : IsBase64Of text bytes
-  pub reads : ReadsSignature bytes s
-
--- the text reads as the signature with its comments: four lines, of which the first and the third are a label
--- and a comment, the trusted one trimmed, and the second and the fourth, trimmed, are base64; later lines do
--- not matter
+-- the text reads as the signature with its comments: the first and the third line are a label and a comment,
+-- the trusted one trimmed, and the second and the fourth, trimmed, are base64
 pub record SignatureText (text : List ℕ) (t : SignatureTextRecord) : Type 0 where
   pub first : List ℕ
   pub second : List ℕ
@@ -99,7 +92,7 @@ pub record SignatureText (text : List ℕ) (t : SignatureTextRecord) : Type 0 wh
   pub later : List (List ℕ)
   pub cut : lines text ≡ first ∷ second ∷ third ∷ fourth ∷ later
   pub untrusted_comment : first ≡ untrusted_comment_label ++ t.comments.untrusted
-  pub signature : EncodesSignature (trim second) t.signature
+  pub signature : Encodes ReadsSignature (trim second) t.signature
   pub algorithm : IsKnownAlgorithm t.signature.algorithm
   pub trusted_comment : (comment : List ℕ)
       × (third ≡ trusted_comment_label ++ comment) × (trim comment ≡ t.comments.trusted)
@@ -134,7 +127,7 @@ pub record AreReadBack (untrusted trusted : List ℕ) : Type 0 where
 abbrev pub first_64 : List ℕ → Option (List ℕ)
 first_64 bytes = if nat_le 64 (length bytes) then Some (take 64 bytes) else None
 
--- the signature, both comments, and of the comment signature the first 64 bytes, where it has so many
+-- a signature, both comments, and the first 64 bytes of the comment signature, where it has so many
 pub record SignatureViewRecord : Type 0 where
   pub signature : SignatureRecord
   pub untrusted : List ℕ

@@ -41,8 +41,8 @@ given_comments trusted untrusted moment = comments_of
     (unwrap_or (option_copied trusted) (default_trusted_comment moment))
     (unwrap_or (option_copied untrusted) default_untrusted_comment)
 
--- the box that signing makes of the message: a signature of its digest, which has 64 bytes, with the first
--- random bytes, and a signature of that signature and the trusted comment with the second
+-- the box that signing makes of the message: a signature of its digest with the first random bytes, and a
+-- signature of that signature and the trusted comment with the second
 abbrev pub signed_box : Signer → SecretKeyRecord → List ℕ → ChosenComments → List ℕ → List ℕ
     → SignatureBoxRecord
 signed_box sign sk message chosen z1 z2 =
@@ -50,9 +50,14 @@ signed_box sign sk message chosen z1 z2 =
     box_of (with_comments (prehashed_signature sk.keynum signature) chosen.untrusted chosen.trusted
     (sign (signature ++ chosen.trusted) sk.secret (Some z2)))
 
--- these bytes were drawn, where they are known
-abbrev pub HasDrawn : {Z : Type 0} → RandomCall Z → List ℕ → Type 0
-HasDrawn z bytes = Consumes (z.random.random_ahead z.old) (z.random.random_ahead z.new) bytes
+module _ {Z : Type 0} (z : RandomCall Z) where
+  -- these bytes were drawn, where they are known
+  abbrev pub HasDrawn : List ℕ → Type 0
+  HasDrawn bytes = Consumes (z.random.random_ahead z.old) (z.random.random_ahead z.new) bytes
+
+  -- the random source did not fail
+  abbrev pub RandomHasNoNewFault : Type 0
+  RandomHasNoNewFault = z.random.random_faults z.new ≡ z.random.random_faults z.old
 
 -- the box is the one that signing makes of the message with random bytes that were drawn: 64 for each
 -- signature
@@ -73,41 +78,35 @@ pub record IsGenuine (public_of : List ℕ → List ℕ) (sk : SecretKeyRecord) 
   pub secret : sk.secret ≡ seed ++ public_of seed
   pub opened : is_encrypted sk ≡ false
 
--- the box is signed with the key, and where that is genuine it is accepted under its own public key
-abbrev pub HasSignedBox : {S Z : Type 0} → SchemeOf S → S → SecretKeyRecord → List ℕ → ChosenComments
-    → RandomCall Z
-    → SignatureBoxRecord → Type 0
-HasSignedBox s scheme sk message chosen z x = IsSigned (s.signature_of scheme) sk message chosen z x
-    × ((seed : List ℕ) → IsGenuine (s.public_of scheme) sk seed
-    → VouchesUnderEachKey (s.accepts scheme) (s.public_of scheme seed) sk.keynum message x)
+module _ {S Z : Type 0} (s : SchemeOf S) (scheme : S) (sk : SecretKeyRecord) where
+  -- the box is signed with the key, and where that is genuine it is accepted under its own public key
+  abbrev pub HasSignedBox : List ℕ → ChosenComments → RandomCall Z → SignatureBoxRecord → Type 0
+  HasSignedBox message chosen z x = IsSigned (s.signature_of scheme) sk message chosen z x
+      × ((seed : List ℕ) → IsGenuine (s.public_of scheme) sk seed
+      → VouchesUnderEachKey (s.accepts scheme) (s.public_of scheme seed) sk.keynum message x)
 
--- all the data was read, and the box is signed so over it
-abbrev pub HasSignedData : {S R Z : Type 0} → SchemeOf S → S → SecretKeyRecord → SourceCall R → ChosenComments
-    → RandomCall Z → SignatureBoxRecord → Type 0
-HasSignedData s scheme sk r chosen z x = (message : List ℕ) × ReadsWhole r.source r.old r.new message
-    × HasSignedBox s scheme sk message chosen z x
+  -- all the data was read, and the box is signed so over it
+  abbrev pub HasSignedData : {R : Type 0} → SourceCall R → ChosenComments → RandomCall Z → SignatureBoxRecord
+      → Type 0
+  HasSignedData r chosen z x = (message : List ℕ) × ReadsWhole r.source r.old r.new message
+      × HasSignedBox message chosen z x
 
 -- the chosen comments are read back as they were written
 abbrev pub AreChosenReadBack : ChosenComments → Type 0
 AreChosenReadBack chosen = AreReadBack chosen.untrusted chosen.trusted
 
--- the random source did not fail
-abbrev pub RandomHasNoNewFault : {Z : Type 0} → RandomCall Z → Type 0
-RandomHasNoNewFault z = z.random.random_faults z.new ≡ z.random.random_faults z.old
-
--- signing with an opened key fails: an allocation fails, with no new error of either; the data fails, with
--- nothing drawn; or all of it was read, and the random source fails
+-- signing with an opened key fails: an allocation fails; the data fails, with nothing drawn; or all of it was
+-- read, and the random source fails
 abbrev pub OpenedSigningFails : {R Z : Type 0} → SourceCall R → RandomCall Z → Fault → Type 0
 OpenedSigningFails r z e =
     (((e ≡ Named named.OutOfMemory) × RandomHasNoNewFault z)
     × (r.source.faults r.new ≡ r.source.faults r.old))
-    ⊎ (HasFailed named.ReadingFailed (r.source.faults r.old) (r.source.faults r.new) e × (z.new ≡ z.old))
+    ⊎ (HasFailed named.ReadingFailed r.source.faults r.old r.new e × (z.new ≡ z.old))
     ⊎ ((message : List ℕ) × ReadsWhole r.source r.old r.new message
-    × HasFailed named.RandomSourceFailed (z.random.random_faults z.old) (z.random.random_faults z.new) e)
+    × HasFailed named.RandomSourceFailed z.random.random_faults z.old z.new e)
 
--- signing fails: the key is sealed, with nothing read or drawn; or it is opened, and signing with it fails;
--- or all the data was read, and the public key that was given does not accept the comment signature of the
--- box that the opened key made of it
+-- signing fails: the key is sealed, with nothing read or drawn; signing with the opened one fails; or the
+-- public key that was given does not accept the comment signature of the box that was made
 abbrev pub SigningFails : {S R Z : Type 0} → SchemeOf S → S → Option PublicKeyRecord → SecretKeyRecord
     → ChosenComments → SourceCall R → RandomCall Z → Fault → Type 0
 SigningFails s scheme pk sk chosen r z e =
@@ -117,3 +116,17 @@ SigningFails s scheme pk sk chosen r z e =
     × (e ≡ Named (named.RefusedByGivenKey p.keynum)) × (is_encrypted sk ≡ false)
     × ReadsWhole r.source r.old r.new message × IsSigned (s.signature_of scheme) sk message chosen z made
     × (accepts_comments (s.accepts scheme) p made ≡ false))
+
+-- signing bytes fails: the key is sealed, with nothing drawn; or an allocation or the random source fails
+abbrev pub BytesSigningFails : {Z : Type 0} → SecretKeyRecord → RandomCall Z → Fault → Type 0
+BytesSigningFails sk z e =
+    ((e ≡ Named named.EncryptedKeyRefused) × (is_encrypted sk ≡ true) × (z.new ≡ z.old))
+    ⊎ ((is_encrypted sk ≡ false)
+    × (((e ≡ Named named.OutOfMemory) × RandomHasNoNewFault z)
+    ⊎ HasFailed named.RandomSourceFailed z.random.random_faults z.old z.new e))
+
+-- signing the data of a file fails: as that of bytes, or the file could not be opened or read, with nothing
+-- drawn
+abbrev pub PathSigningFails : {Z : Type 0} → SecretKeyRecord → RandomCall Z → Fault → Type 0
+PathSigningFails sk z e =
+    BytesSigningFails sk z e ⊎ ((is_encrypted sk ≡ false) × (e ≡ Named named.ReadingFailed) × (z.new ≡ z.old))

@@ -21,6 +21,12 @@ pub record IsBase64Of (text bytes : List ℕ) : Type 0 where
   pub each : IsBytes bytes
   pub encoded : text ≡ base64_of bytes
 
+-- the text is the base64 of bytes that begin with a record
+pub record Encodes {V : Type 0} (Reads : List ℕ → V → Type 0) (text : List ℕ) (v : V) : Type 0 where
+  pub bytes : List ℕ
+  pub base64 : IsBase64Of text bytes
+  pub reads : Reads bytes v
+
 -- what a text decodes to, as bytes
 unfoldable pub base64_bytes : List ℕ → List ℕ
 base64_bytes text = map (λ b. b % 256) (decoded_bytes_of standard text)
@@ -47,8 +53,8 @@ map_ok f (Err e) = Err e
 abbrev pub IsGivenOrNoMemory : {V : Type 0} → Result V Fault → Result V Fault → Type 0
 IsGivenOrNoMemory answer given = (answer ≡ given) ⊎ (answer ≡ Err (Named OutOfMemory))
 
--- what is read is a value exactly where the text reads as this value, by the relation; it reads as one at
--- most, and as none where what is read is an error
+-- what is read is a value exactly where the text reads as this value, by the relation, and it reads as one at
+-- most
 pub record IsReading {V E : Type 0} (reads : V → Type 0) (read : Result V E) : Type 0 where
   pub value : (v : V) → (read ≡ Ok v) ↔ reads v
   pub one_value : (v w : V) → reads v → reads w → v ≡ w

@@ -1,34 +1,158 @@
--- How verifying ends, with a key and a box or with two texts: what holds on success, and that otherwise it
--- failed at one of its stages.
-use Rattle.std.specs.Prelude.{◌≡◌, ℕ, Bool, true, false, if◌then◌else◌, List, [], ◌++◌, IsSome, ◌⊎◌, Result}
-use Rattle.std.specs.Prelude.{Ok, Err}
-use Rattle.std.specs.Io.KnownBytes.{IsAtEnd}
+-- How verifying ends, with a key and a box or with two texts: what it does stage by stage, and how each stage
+-- ends; what holds on success, and that otherwise it failed at one of its stages. The devices are the source
+-- of the data, the status, and the output.
+use Rattle.std.specs.Prelude.{◌≡◌, ◌≢◌, ◌⊎◌, ⊤, ℕ, Bool, true, false, ◌&&◌, List, [], ◌∷◌, ◌++◌, Result, Ok}
+use Rattle.std.specs.Prelude.{Err, MatchResult, IsErrAnd, if◌then◌else◌, IsSome}
 use Rattle.minisign_hash.specs.Blake2b.{blake2b_digest}
-use Rattle.minisign_base.specs.Fault.{Fault}
-use Rattle.minisign_base.specs.DeviceCalls.{IsFlushed, IsSteady, IsUnflushed, RereaderCall, SinkCall}
-use Rattle.minisign_base.specs.DeviceCalls.{SinkHasNoNewFault, SourceHasNoNewFault, Takes, unused}
+use Rattle.minisign_base.specs.Fault.{Fault, Named}
+use Rattle.minisign_base.specs.DeviceCalls.{Flushes, GoesBack, Marks, Puts, RereaderCall, SinkCall}
+use Rattle.minisign_base.specs.DeviceCalls.{SourceGives, IsFlushed, IsSteady, IsUnflushed, SinkHasNoNewFault}
+use Rattle.minisign_base.specs.DeviceCalls.{SourceHasNoNewFault, Takes, unused}
+use Rattle.minisign_base.specs.Steps.{EndsWith, StepsEnd}
+use Rattle.minisign.specs.Acceptance.{Verifier, judge, status_lines, Vouches, signed_bytes}
+use Rattle.minisign.specs.Reading.{Copies, IsReadFault, ReadsWhole, IsAhead}
 use Rattle.minisign.specs.Records.{PublicKeyRecord, SignatureBoxRecord, is_prehashed}
-use Rattle.minisign.specs.Acceptance.{Verifier, Vouches, signed_bytes, status_lines}
+use Rattle.minisign.specs.Texts.{IsGivenOrNoMemory, and_then, map_ok}
 use Rattle.minisign.specs.declared.options.VerifyOptions.{VerifyOptions}
-use Rattle.minisign.specs.Reading.{IsAhead}
-use Rattle.minisign.specs.Stages.{StagesEnd, second_copy_stages, is_reread, reading_stages, verifying_stages}
+use Rattle.minisign.specs.declared.signed_data.SignedData.{SignedData}
+use Rattle.minisign.specs.declared.signed_data.SignedData.TheVariants.{Digest, Kept, Unkept}
+use Rattle.std.specs.Io.KnownBytes.{IsAtEnd}
 use Rattle.minisign.specs.PublicKeyText.{read_public_key}
 use Rattle.minisign.specs.SignatureText.{read_signature_box}
-use Rattle.minisign.specs.Texts.{IsGivenOrNoMemory, and_then, map_ok}
+use Rattle.minisign_base.specs.declared.faults.NamedFault.TheVariants as named
+
+-- a stage: the place is marked; the data is read to its end, which gives these bytes; the box is judged for
+-- this message; the status gets a text; the mark is gone back to; the data is read again, and put to the
+-- output; the digest of what was copied is compared with this one; the output gets these bytes; it is flushed
+pub data Stage : Type 0 where
+  Mark : Stage
+  Read : List ℕ → Stage
+  Judge : Verifier → PublicKeyRecord → SignatureBoxRecord → Bool → List ℕ → Stage
+  Report : List ℕ → Stage
+  Return : Stage
+  Copy : List ℕ → Stage
+  Compare : List ℕ → List ℕ → Stage
+  Put : List ℕ → Stage
+  Flush : Stage
+
+-- the devices at one time
+pub record Devices (R W O : Type 0) : Type 0 where
+  pub reader : R
+  pub status : W
+  pub out : O
+
+module _ {R W O : Type 0} (reader : RereaderCall R) (status : SinkCall W) (out : SinkCall O) where
+  -- how a stage ends; the devices that it does not use stay as they were
+  abbrev pub StageEnds : Stage → Result ⊤ Fault → Type 0
+  StageEnds Mark answer = EndsWith (Marks reader (Ok tt)) named.GoingBackFailed (Marks reader (Err tt)) answer
+      × (status.new ≡ status.old) × (out.new ≡ out.old)
+  StageEnds (Read message) answer =
+      (MatchResult answer (λ _. ReadsWhole reader.source reader.old reader.new message)
+      (λ e. IsReadFault reader.source reader.old reader.new e × SourceGives reader)
+      × (reader.source.is_marked reader.new ≡ reader.source.is_marked reader.old))
+      × (status.new ≡ status.old) × (out.new ≡ out.old)
+  StageEnds (Judge accepts pk x legacy message) answer = IsGivenOrNoMemory answer
+      (judge accepts pk x message legacy)
+      × (reader.new ≡ reader.old) × (status.new ≡ status.old) × (out.new ≡ out.old)
+  StageEnds (Report text) answer =
+      ((IsErrAnd answer (λ e. e ≡ Named named.OutOfMemory) × (status.new ≡ status.old))
+      ⊎ Puts status text answer)
+      × (reader.new ≡ reader.old) × (out.new ≡ out.old)
+  StageEnds Return answer =
+      EndsWith (GoesBack reader (Ok tt)) named.GoingBackFailed (GoesBack reader (Err tt)) answer
+      × (status.new ≡ status.old) × (out.new ≡ out.old)
+  StageEnds (Copy second) answer = Copies reader out second answer × (status.new ≡ status.old)
+  StageEnds (Compare digest second) answer =
+      EndsWith (blake2b_digest 64 second ≡ digest) named.DataChanged (blake2b_digest 64 second ≢ digest)
+      answer
+      × (reader.new ≡ reader.old) × (status.new ≡ status.old) × (out.new ≡ out.old)
+  StageEnds (Put bytes) answer =
+      Puts out bytes answer × (reader.new ≡ reader.old) × (status.new ≡ status.old)
+  StageEnds Flush answer = EndsWith (Flushes out (Ok tt)) named.WritingFailed (Flushes out (Err tt)) answer
+      × (reader.new ≡ reader.old) × (status.new ≡ status.old)
+
+module _ {R W O : Type 0} (reader : RereaderCall R) (status : SinkCall W) (out : SinkCall O) where
+  -- how these stages end, one after another: all were passed; or verifying failed at one of them, and none
+  -- after it was begun
+  abbrev pub StagesEnd : List Stage → Result ⊤ Fault → Type 0
+  StagesEnd stages answer =
+      StepsEnd
+      (λ stage (old : Devices R W O) new. StageEnds (record reader { old = old.reader; new = new.reader })
+      (record status { old = old.status; new = new.status }) (record out { old = old.out; new = new.out })
+      stage)
+      stages (record { reader = reader.old; status = status.old; out = out.old })
+      (record { reader = reader.new; status = status.new; out = out.new }) answer
+
+-- the data is read, and its place is marked first where it is to be read again
+abbrev pub reading_stages : Bool → List ℕ → List Stage
+reading_stages true message = Mark ∷ Read message ∷ []
+reading_stages false message = Read message ∷ []
+
+-- the lines of a box that was accepted are reported
+abbrev pub reporting_stages : Bool → SignatureBoxRecord → List Stage
+reporting_stages true x = []
+reporting_stages false x = Report (status_lines x) ∷ []
+
+-- a second reading is copied, which has to have this digest
+abbrev pub second_copy_stages : List ℕ → List ℕ → List Stage
+second_copy_stages digest second = Return ∷ Copy second ∷ Compare digest second ∷ Flush ∷ []
+
+-- where the data is to be copied, it is read again where the signature is over its digest, and otherwise it
+-- was kept
+abbrev pub copying_stages : Bool → Bool → List ℕ → List ℕ → List Stage
+copying_stages false hashed message second = []
+copying_stages true true message second = second_copy_stages (blake2b_digest 64 message) second
+copying_stages true false message second = Put message ∷ Flush ∷ []
+
+-- the data is read again where it is copied and its digest is signed
+abbrev pub is_reread : Bool → SignatureBoxRecord → Bool
+is_reread output x = output && is_prehashed x.signature
+
+-- verifying: the data is read, the box is judged, and that is reported; then the data is copied
+abbrev pub verifying_stages : Verifier → PublicKeyRecord → SignatureBoxRecord → VerifyOptions → List ℕ
+    → List ℕ
+    → List Stage
+verifying_stages accepts pk x options message second = reading_stages (is_reread options.output x) message
+    ++ (Judge accepts pk x options.allow_legacy message
+    ∷
+    (reporting_stages options.quiet x
+    ++ copying_stages options.output (is_prehashed x.signature) message second))
+
+-- the bytes that are held
+abbrev pub held_bytes : SignedData → List ℕ
+held_bytes (Digest digest) = digest
+held_bytes (Kept bytes) = bytes.items
+held_bytes Unkept = []
+
+-- of a message its digest is held for a prehashed box, and for another the message itself, where that is
+-- allowed
+abbrev pub HoldsSigned : SignedData → SignatureBoxRecord → Bool → List ℕ → Type 0
+HoldsSigned (Digest digest) x legacy message = (is_prehashed x.signature ≡ true)
+    × (digest ≡ blake2b_digest 64 message)
+HoldsSigned (Kept bytes) x legacy message =
+    (is_prehashed x.signature ≡ false) × (bytes.items ≡ message) × (legacy ≡ true)
+HoldsSigned Unkept x legacy message = (is_prehashed x.signature ≡ false) × (legacy ≡ false)
+
+-- what is copied of data that was read
+abbrev pub held_copy_stages : Bool → SignedData → List ℕ → List Stage
+held_copy_stages false signed second = []
+held_copy_stages true (Digest digest) second = second_copy_stages digest second
+held_copy_stages true (Kept bytes) second = Put bytes.items ∷ Flush ∷ []
+held_copy_stages true Unkept second = []
 
 -- what is to be said of a box that was accepted
 abbrev pub wanted_status : Bool → SignatureBoxRecord → List ℕ
 wanted_status quiet x = if quiet then [] else status_lines x
 
 -- the data was read to its end, which gave the message, and from its mark to its end again, which gave the
--- copy, as long as both have one digest
+-- copy; both have one digest
 abbrev pub ReadsTwice : {R O : Type 0} → RereaderCall R → SinkCall O → List ℕ → List ℕ → Type 0
 ReadsTwice reader out message copy = StagesEnd reader unused out
     (reading_stages true message ++ second_copy_stages (blake2b_digest 64 message) copy) (Ok tt)
 
--- the output holds a copy that the box vouches for, as it does for the message: the two have one digest, or
--- are the same where the data itself is signed and over a steady source whose bytes are known; it was
--- flushed, and for a box over the digest it is what a second reading gave
+-- the output holds a copy, which it flushed, that the box vouches for as it does for the message: the two
+-- have one digest, or are the same where the data itself is signed, and over a steady source whose bytes are
+-- known
 pub record HasCopy {R O : Type 0} (accepts : Verifier) (pk : PublicKeyRecord) (x : SignatureBoxRecord)
     (legacy : Bool)
     (reader : RereaderCall R) (out : SinkCall O) (message : List ℕ) : Type 0 where
@@ -41,8 +165,8 @@ pub record HasCopy {R O : Type 0} (accepts : Verifier) (pk : PublicKeyRecord) (x
   pub legacy_same : is_prehashed x.signature ≡ false → copy ≡ message
   pub steady_same : IsSteady reader → IsSome (reader.source.ahead reader.old) → copy ≡ message
 
--- verifying succeeds: all the data was read to its end without an error, the box vouches for it, what is to
--- be said was said and not flushed, and the output holds a copy where one is wanted
+-- verifying succeeds: all the data was read, the box vouches for it, what is to be said was said and not
+-- flushed, and the output holds a copy where one is wanted
 pub record VerifyingSucceeds {R W O : Type 0} (accepts : Verifier) (pk : PublicKeyRecord)
     (x : SignatureBoxRecord)
     (options : VerifyOptions) (reader : RereaderCall R) (status : SinkCall W) (out : SinkCall O)
@@ -83,7 +207,7 @@ pub record VerifyingTextsSucceeds {R W O : Type 0} (accepts : Verifier) (pk_text
   pub verified : VerifyingSucceeds accepts key box options reader status out
 
 -- a text is rejected, or an allocation failed for one, before anything is read, said or copied; or verifying
--- fails with the key and the box that the texts read as
+-- fails with what the texts read as
 abbrev pub VerifyingTextsFails : {R W O : Type 0} → Verifier → List ℕ → List ℕ → VerifyOptions
     → RereaderCall R → SinkCall W → SinkCall O → Fault → Type 0
 VerifyingTextsFails accepts pk_text sig_text options reader status out e =

@@ -6,9 +6,9 @@ ghost use Rattle.minisign_base.specs.Fault.{Named};
 ghost use Rattle.minisign_base.specs.declared.faults.NamedFault.TheVariants.{OutOfMemory, ReadingFailed};
 ghost use Rattle.minisign_base.specs.DeviceCalls.{rereader_call, sink_call, unused};
 ghost use Rattle.minisign_base.specs.Devices.{HasGiven};
-ghost use Rattle.minisign.specs.Calls.{CopyIsVouchedWith, TextsVouchWith};
 ghost use Rattle.minisign.specs.Acceptance.{options_of};
-ghost use Rattle.minisign.specs.Headline.{verdict, IsVerdictWhereNothingFails};
+ghost use Rattle.minisign.specs.Headline.{CopyIsVouchedWith, TextsVouchWith, verdict};
+ghost use Rattle.minisign.specs.Headline.{IsVerdictWhereNothingFails};
 ghost use Rattle.minisign.specs.Reading.{HasFailed, IsAhead, IsReadFromFile, ReadsWhole};
 ghost use Rattle.minisign.specs.Texts.{IsGivenOrNoMemory, map_ok};
 ghost use Rattle.minisign.specs.Records.{PublicKeyRecord, SignatureBoxRecord};
@@ -241,8 +241,8 @@ pub fn verify_reader<S: Scheme, R: Rereader>(
 
     // Otherwise out of memory; or `reading failed`, only if the reader's count of errors rose; or the
     // verdict's rejection.
-    ensures refused { IfErr result (λ e. (e ≡ Named OutOfMemory) ⊎ HasFailed ReadingFailed (R.faults
-        data_reader.old) (R.faults data_reader.new) e ⊎ ((bytes : List ℕ) × IsAhead (R.ahead data_reader.old)
+    ensures refused { IfErr result (λ e. (e ≡ Named OutOfMemory) ⊎ HasFailed ReadingFailed R.faults
+        data_reader.old data_reader.new e ⊎ ((bytes : List ℕ) × IsAhead (R.ahead data_reader.old)
         bytes × (verdict (S.accepts scheme.now) pk_text.now sig_text.now bytes false ≡ Err e))) }
 
     // After a rejection a text was rejected, or an allocation for one failed, with the reader as it was; or

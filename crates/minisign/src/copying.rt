@@ -12,7 +12,7 @@ ghost use Rattle.minisign_base.specs.declared.faults.NamedFault.TheVariants.{Rea
 ghost use Rattle.minisign_base.specs.DeviceCalls.{Flushes, GoesBack, IsWritingFault, Puts, rereader_call};
 ghost use Rattle.minisign_base.specs.DeviceCalls.{sink_call, unused};
 ghost use Rattle.minisign.specs.Reading.{Copies, HasFailed};
-ghost use Rattle.minisign.specs.Stages.{StagesEnd, second_copy_stages, held_copy_stages};
+ghost use Rattle.minisign.specs.Verifying.{StagesEnd, second_copy_stages, held_copy_stages};
 
 use crate::reading::{finished, piece_buffer};
 use crate::signed_data::SignedData;
@@ -113,7 +113,7 @@ fn copy_pieces<R: Rereader, O: Sink>(
         × Copies (rereader_call R.Source R.steady data_reader.old data_reader.new)
         (sink_call O.Sink out.old out.new) message (Err e)) }
     ensures failed { IfErr result
-        (λ e. HasFailed ReadingFailed (R.faults data_reader.old) (R.faults data_reader.new) e
+        (λ e. HasFailed ReadingFailed R.faults data_reader.old data_reader.new e
         ⊎ IsWritingFault (sink_call O.Sink out.old out.new) e) }
     ensures length { output_length hasher.new ≡ output_length hasher.old }
 {

@@ -17,7 +17,7 @@ pub(crate) fn draw<const N: usize, Z: RandomSource>(random: &mut Z) -> Result<[u
         (λ z. HasDrawn (random_call Z.RandomSource random.old random.new) z) }
     ensures no_new_fault { OnOk result (Z.random_faults random.new ≡ Z.random_faults random.old) }
     ensures refused { IfErr result
-        (HasFailed RandomSourceFailed (Z.random_faults random.old) (Z.random_faults random.new)) }
+        (HasFailed RandomSourceFailed Z.random_faults random.old random.new) }
     ensures given { HasGiven (Z.random_ahead random.old) (Z.random_ahead random.new) }
 {
     let mut bytes = [0u8; N];
@@ -38,7 +38,7 @@ pub(crate) fn draw_two<const N: usize, const M: usize, Z: RandomSource>(
     ensures second { IfOk result (λ z. IsBytes z.1 × (length z.1 ≡ M)) }
     ensures no_new_fault { OnOk result (Z.random_faults random.new ≡ Z.random_faults random.old) }
     ensures refused { IfErr result
-        (HasFailed RandomSourceFailed (Z.random_faults random.old) (Z.random_faults random.new)) }
+        (HasFailed RandomSourceFailed Z.random_faults random.old random.new) }
     ensures given { HasGiven (Z.random_ahead random.old) (Z.random_ahead random.new) }
 {
     let first = draw(random)?;

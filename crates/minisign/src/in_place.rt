@@ -9,11 +9,11 @@ ghost use Rattle.minisign_base.specs.declared.faults.NamedFault.TheVariants.{Pub
 ghost use Rattle.minisign_base.specs.declared.faults.NamedFault.TheVariants.{PublicKeyLineNotBase64};
 ghost use Rattle.minisign_base.specs.declared.faults.NamedFault.TheVariants.{RecordTooShort};
 ghost use Rattle.minisign_base.specs.declared.faults.NamedFault.TheVariants.{SignatureNotBase64};
-ghost use Rattle.minisign.specs.SignatureText.{first_64, view_of, EncodesSignature, read_signature};
+ghost use Rattle.minisign.specs.SignatureText.{first_64, view_of, read_signature};
 ghost use Rattle.minisign.specs.SignatureText.{signature_in_lines, with_comments};
 ghost use Rattle.minisign.specs.PublicKeyText.{decoded_key, read_bare_public_key, read_public_key};
-ghost use Rattle.minisign.specs.Records.{IsKnownAlgorithm, is_prehashed};
-ghost use Rattle.minisign.specs.Texts.{base64_bytes, is_base64, map_ok, require};
+ghost use Rattle.minisign.specs.Records.{IsKnownAlgorithm, is_prehashed, ReadsSignature};
+ghost use Rattle.minisign.specs.Texts.{base64_bytes, is_base64, map_ok, require, Encodes};
 
 use crate::base64_front::{decode_front, is_base64};
 use crate::constants::SIGALG_PREHASHED;
@@ -232,7 +232,7 @@ fn read_lines<'a>(
 
 // The signature that a text is the base64 of.
 fn decode_signature(text: &str) -> Result<Signature>
-    ensures { MatchResult result (EncodesSignature text.now) (λ e. ((e ≡ Named SignatureNotBase64)
+    ensures { MatchResult result (Encodes ReadsSignature text.now) (λ e. ((e ≡ Named SignatureNotBase64)
         × (is_base64 text.now ≡ false)) ⊎ ((e ≡ Named RecordTooShort) × (is_base64 text.now ≡ true)
         × (length (base64_bytes text.now) < 74))) }
 {

@@ -5,11 +5,10 @@ ghost use Rattle.std.specs.Prelude.{◌≡◌, ◌≤◌, List, ℕ, false, None
 ghost use Rattle.std.specs.Prelude.{IfErr, OnOk};
 ghost use Rattle.minisign_base.specs.Devices.{HasGiven};
 ghost use Rattle.minisign_base.specs.DeviceCalls.{random_call, source_call};
-ghost use Rattle.minisign.specs.Calls.{BytesSigningFails, PasswordPairFails, PathSigningFails};
-ghost use Rattle.minisign.specs.Generation.{IsSealedPair, OpensToPair};
+ghost use Rattle.minisign.specs.Generation.{PasswordPairFails, IsSealedPair, OpensToPair};
 ghost use Rattle.minisign.specs.Headline.{SigningHeadline};
 ghost use Rattle.minisign.specs.Sealing.{is_encrypted};
-ghost use Rattle.minisign.specs.Signing.{SigningFails, given_comments};
+ghost use Rattle.minisign.specs.Signing.{BytesSigningFails, PathSigningFails, SigningFails, given_comments};
 ghost use Rattle.minisign.specs.SigningTexts.{HasSignedText, IsSignedText, HasSignedDataText};
 ghost use Rattle.minisign.specs.Opening.{IsOpenedOrNoMemory, key_with_password};
 

@@ -16,13 +16,13 @@ ghost use Rattle.minisign.specs.Reading.{HasFailed};
 ghost use Rattle.minisign.specs.Signing.{HasDrawn};
 ghost use Rattle.minisign_base.specs.Prompts.{ConversationEnds};
 ghost use Rattle.minisign_base.specs.Passwords.{password_of};
-ghost use Rattle.minisign.specs.NewPassword.{IsSealing, choosing_steps, sealing_steps};
 ghost use Rattle.minisign.specs.PublicKeyText.{public_key_text};
 ghost use Rattle.minisign.specs.SecretKeyText.{read_secret_key, secret_key_text};
-ghost use Rattle.minisign.specs.Generation.{AreSeedAndKeynum, HasSealed, IsGenuinePair, IsSealedOf};
-ghost use Rattle.minisign.specs.Generation.{IsUnsealedPair, OpensToPair, PartsFail, RawPairFails};
-ghost use Rattle.minisign.specs.Generation.{SealedPairFails, SealedTextsFail, public_key_of, secret_of};
-ghost use Rattle.minisign.specs.Generation.{unsealed_key, SinksFail};
+ghost use Rattle.minisign.specs.Generation.{IsSealing, choosing_steps, sealing_steps, AreSeedAndKeynum};
+ghost use Rattle.minisign.specs.Generation.{HasSealed, IsGenuinePair, IsSealedOf, IsUnsealedPair};
+ghost use Rattle.minisign.specs.Generation.{OpensToPair, PartsFail, RawPairFails, SealedPairFails};
+ghost use Rattle.minisign.specs.Generation.{SealedTextsFail, public_key_of, secret_of, unsealed_key};
+ghost use Rattle.minisign.specs.Generation.{SinksFail};
 ghost use Rattle.minisign.specs.Opening.{OpensTo, read_unencrypted_key};
 
 use crate::constants::{MEMLIMIT, OPSLIMIT, SIGALG};
@@ -90,7 +90,7 @@ impl KeyPair {
         // An unsealed pair, which does not allocate, fails only if the random source's count of
         // errors rose.
         ensures refused { IfErr result
-            (HasFailed RandomSourceFailed (Z.random_faults random.old) (Z.random_faults random.new)) }
+            (HasFailed RandomSourceFailed Z.random_faults random.old random.new) }
 
         // Whatever the result, the random source lost at most some bytes at its front.
         ensures given { HasGiven (Z.random_ahead random.old) (Z.random_ahead random.new) }
@@ -297,7 +297,7 @@ fn ask_and_seal<S: Scheme, R: Source, W: Sink>(
 }
 
 // Says what a password is for, and asks for it twice.
-#[tactic(auto, unfolding(crate::specs::Opening::purpose_line, crate::specs::Opening::asking_text, crate::specs::Opening::second_question))]
+#[tactic(auto, unfolding(crate::specs::Generation::purpose_line, crate::specs::Opening::asking_text, crate::specs::Generation::second_question))]
 fn choose_password<R: Source, W: Sink>(alloc: Global, prompt: &mut Prompt<R, W>) -> Result<String>
     ensures chosen { IfOk result (λ password. (first : List ℕ) × (second : List ℕ) × (password_of first
         ≡ Ok (string_bytes password)) × (password_of second ≡ Ok (string_bytes password)) × ConversationEnds
@@ -316,7 +316,7 @@ fn choose_password<R: Source, W: Sink>(alloc: Global, prompt: &mut Prompt<R, W>)
 }
 
 // Seals a pair under a password, and tells of it.
-#[tactic(auto, unfolding(crate::specs::Opening::sealing_text, crate::specs::Opening::done_text))]
+#[tactic(auto, unfolding(crate::specs::Generation::sealing_text, crate::specs::Opening::done_text))]
 fn seal_aloud<S: Scheme, R: Source, W: Sink>(
     alloc: Global,
     scheme: &S,
@@ -443,7 +443,7 @@ pub(crate) fn draw_with_salt<Z: RandomSource>(random: &mut Z) -> Result<Drawn>
     ensures salt { IfOk result (λ z. length z.salt ≡ 32) }
     ensures no_new_fault { OnOk result (Z.random_faults random.new ≡ Z.random_faults random.old) }
     ensures refused { IfErr result
-        (HasFailed RandomSourceFailed (Z.random_faults random.old) (Z.random_faults random.new)) }
+        (HasFailed RandomSourceFailed Z.random_faults random.old random.new) }
     ensures given { HasGiven (Z.random_ahead random.old) (Z.random_ahead random.new) }
 {
     let (seed, keynum) = draw_two(random)?;

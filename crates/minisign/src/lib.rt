@@ -1,7 +1,6 @@
 //! Minisign: keys, signatures, and whether a signature vouches for data under a public key.
 //!
-//! Whoever signs and verifies passes in a signature scheme, random bytes and the devices that bytes
-//! come from and go to.
+//! You pass in a signature scheme, random bytes, and the devices that bytes come from and go to.
 
 #![tactic(auto)]
 
@@ -21,7 +20,6 @@ pub mod keypair;
 pub mod making;
 mod memory;
 mod opening;
-pub mod opening_in_place;
 pub mod options;
 pub mod parts;
 pub mod public_key;
@@ -31,7 +29,6 @@ mod sealing;
 pub mod secret_key;
 pub mod secret_key_box;
 pub mod secret_key_in_place;
-mod secret_key_text;
 pub mod signature;
 pub mod signature_bones;
 pub mod signature_box;

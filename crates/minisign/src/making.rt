@@ -1,20 +1,14 @@
 //! The texts of keys that are made of their parts: so a password is changed, and a public key is
 //! written again.
 
-ghost use Rattle.std.specs.Prelude.{◌≡◌, ◌≤◌, List, ℕ, Some, IsOk, IfOk, IfErr, OnOk};
+ghost use Rattle.std.specs.Prelude.{◌≡◌, ◌≤◌, List, ℕ, Some, IfOk, IfErr};
 ghost use Rattle.std.specs.Option.{option_map};
 ghost use Rattle.minisign_base.specs.Fault.{Named};
 ghost use Rattle.minisign_base.specs.declared.faults.NamedFault.TheVariants.{OutOfMemory};
-ghost use Rattle.minisign_base.specs.Limits.{sealing_limits};
-ghost use Rattle.minisign.specs.Generation.{key_to_seal, unsealed_key};
-ghost use Rattle.minisign.specs.Making.{IsMadePublicText, IsMadeText, making_fault, made_key};
-ghost use Rattle.minisign.specs.Sealing.{xored_key};
+ghost use Rattle.minisign.specs.Generation.{unsealed_key, IsMadePublicText, IsMadeText, making_fault};
 
-use crate::constants::{CHK_ALG, KDF_NONE, SIGALG};
-use crate::keynum::KeynumSK;
 use crate::public_key::PublicKey;
 use crate::public_key_box::PublicKeyBox;
-use crate::sealing::Derivation;
 use crate::secret_key::SecretKey;
 use crate::secret_key_box::SecretKeyBox;
 use minisign_base::Result;
@@ -31,57 +25,6 @@ pub struct Sealing {
     pub operations_limit: u64,
     /// The memory limit in bytes.
     pub memory_limit: u64,
-}
-
-impl SecretKey {
-    /// The secret key of its parts, which is not sealed: a key ID of 8 bytes, and 64 secret
-    /// bytes, those of a seed and of its public key. Its salt and its limits are zeros. Does not
-    /// allocate.
-    #[tactic(auto, unfolding(crate::specs::Generation::unsealed_key))]
-    pub fn from_parts(key_id: [u8; 8], secret: [u8; 64]) -> SecretKey
-        // The key of its parts is the one by definition, not sealed.
-        ensures { result ≡ unsealed_key key_id secret }
-    {
-        let mut sk = SecretKey {
-            sig_alg: SIGALG,
-            kdf_alg: KDF_NONE,
-            chk_alg: CHK_ALG,
-            kdf_salt: [0; 32],
-            kdf_opslimit_le: [0; 8],
-            kdf_memlimit_le: [0; 8],
-            keynum_sk: KeynumSK {
-                keynum: key_id,
-                sk: secret,
-                chk: [0; 32],
-            },
-        };
-        sk.write_checksum();
-        sk
-    }
-
-    // Seals a key that is not sealed, with every k-th row of scrypt kept. Limits that are not
-    // allowed are rejected before anything is derived.
-    pub(crate) fn seal_by(
-        self,
-        alloc: Global,
-        password: &[u8],
-        sealing: Sealing,
-        k: u64,
-    ) -> Result<SecretKey>
-        requires { 1 ≤ k }
-        ensures sealed { (keynum secret : List ℕ) → self ≡ unsealed_key keynum secret
-            → IfOk result (λ sk. sk ≡ made_key keynum secret (Some password.now) sealing) }
-        ensures opened { (keynum secret : List ℕ) → self ≡ unsealed_key keynum secret
-            → IfOk result (λ sk. xored_key sk password.now ≡ key_to_seal keynum secret sealing.salt
-            sealing.operations_limit sealing.memory_limit) }
-        ensures allowed { OnOk result (IsOk (sealing_limits sealing.memory_limit sealing.operations_limit)) }
-        ensures refused { IfErr result (λ e. e ≡ making_fault (Some password.now) sealing) }
-    {
-        let mut sk = self.with_limits(sealing.salt, sealing.operations_limit, sealing.memory_limit);
-        let derivation = Derivation { bound: None, k };
-        sk.apply_stream(alloc, password, derivation)?;
-        Ok(sk)
-    }
 }
 
 /// Makes the text of a secret key of its parts: a key ID of 8 bytes, and 64 secret bytes,
@@ -163,8 +106,8 @@ pub fn make_public_key(
     comment: &str,
 ) -> Result<PublicKeyBox>
     // The text of a public key is the one by definition; if the comment has no line feed, it reads
-    // as the public key of every secret key of these parts, so of the one that the other text
-    // gives; it has 77 bytes more than the comment; the only rejection is out of memory.
+    // as the public key of these parts, so of the key that the other text gives; it has 77 bytes
+    // more than the comment; the only rejection is out of memory.
     ensures text { IfOk result (IsMadePublicText key_id secret comment.now) }
     ensures refused { IfErr result (λ e. e ≡ Named OutOfMemory) }
 {

@@ -1,33 +1,41 @@
-//! The key of a text: opened with a password where it is sealed.
+//! What a password does with a secret key: it seals one that was made, and opens that of a text, or one that
+//! was read.
 
 ghost use Rattle.std.specs.Prelude.{◌≡◌, ◌≤◌, ◌⊎◌, ◌∷◌, [], ℕ, List, None, Some, Ok, Err, false};
-ghost use Rattle.std.specs.Prelude.{string_bytes, IfOk, IfErr, IsOk, IsErrAnd, MatchResult, OnOk};
+ghost use Rattle.std.specs.Prelude.{string_bytes, IfOk, IfErr, IsOk, IsErrAnd, MatchResult, OnOk, ◌*◌, ◌^◌};
+ghost use Rattle.std.specs.Prelude.{length, nat_lt, replicate, OnErr};
 ghost use Rattle.std.specs.Option.{option_map};
 ghost use Rattle.std.specs.Result.{result_err};
-ghost use Rattle.minisign.specs.Headline.{OpeningHeadline};
-ghost use Rattle.minisign.specs.Sealing.{allowed_work, is_encrypted, open_sealed, restored_key};
-ghost use Rattle.minisign.specs.Sealing.{sealed_by_scrypt};
-ghost use Rattle.minisign.specs.Opening.{IsOpening, opening_steps, telling_steps, asking_text, deriving_text};
-ghost use Rattle.minisign.specs.Opening.{done_text, read_unencrypted_key};
 ghost use Rattle.minisign_base.specs.Fault.{Named};
 ghost use Rattle.minisign_base.specs.declared.faults.NamedFault.TheVariants.{OutOfMemory};
 ghost use Rattle.minisign_base.specs.DeviceCalls.{prompt_call};
 ghost use Rattle.minisign_base.specs.Prompts.{ConversationEnds, Say, StepEnds, Test, asking_steps};
 ghost use Rattle.minisign_base.specs.Passwords.{password_of};
 ghost use Rattle.minisign_base.specs.Steps.{without_value};
+ghost use Rattle.minisign_base.specs.Limits.{sealing_limits};
+ghost use Rattle.minisign.specs.Headline.{OpeningHeadline};
+ghost use Rattle.minisign.specs.Sealing.{allowed_work, is_encrypted, open_sealed, restored_key};
+ghost use Rattle.minisign.specs.Sealing.{sealed_by_scrypt, allowed_rows, opening_work, opening_memory};
+ghost use Rattle.minisign.specs.Sealing.{xored_key, key_xor};
+ghost use Rattle.minisign.specs.Opening.{IsOpening, opening_steps, telling_steps, asking_text, deriving_text};
+ghost use Rattle.minisign.specs.Opening.{done_text, read_unencrypted_key, open_key};
 ghost use Rattle.minisign.specs.SecretKeyText.{read_secret_key};
 ghost use Rattle.minisign.specs.Reading.{IsTextFileFault};
+ghost use Rattle.minisign.specs.Texts.{and_then};
+ghost use Rattle.minisign.specs.Generation.{key_to_seal, unsealed_key, making_fault, made_key};
 
 use crate::constants::{KDF_ALG, KDF_NONE};
+use crate::making::Sealing;
 use crate::reading::read_text_file;
-use crate::sealing::Derivation;
+use crate::sealing::{Derivation, derive_stream, derive_stream_in_place, key_params, xor_bytes};
 use crate::secret_key::SecretKey;
 use crate::secret_key_box::SecretKeyBox;
 use minisign_base::devices::sinks::Sink;
 use minisign_base::devices::sources::Source;
 use minisign_base::helpers::get_password;
 use minisign_base::prompt::Prompt;
-use minisign_base::{NamedFault, Result};
+use minisign_base::{NamedFault, Params, Result};
+use minisign_kdf::clear_memory;
 use std::alloc::Global;
 use std::rt::Files;
 
@@ -219,6 +227,120 @@ impl SecretKey {
         Ok(sk)
     }
 
+    /// What opening the key takes: scrypt's N, as its logarithm to base 2, at most 20, and its p: N rows of 1
+    /// KiB are made p times. Zeros where the key wants no password, and where opening rejects its limits.
+    /// Does not allocate.
+    pub fn opening_work(&self) -> (u8, u32)
+        // The work of opening is that of the parameters that the limits of the key lead to.
+        ensures { result ≡ opening_work self.now }
+    {
+        if !self.wants_password() {
+            return (0, 0);
+        }
+        match key_params(self) {
+            Ok(params) => (params.n_log2(), params.p()),
+            Err(_) => (0, 0),
+        }
+    }
+
+    /// The greatest parallelization p with which opening the key makes at most so many rows, N for each of
+    /// the p parts; 0 where opening rejects the limits of the key. Does not allocate.
+    pub fn times_within(&self, most_rows: u64) -> u32
+        // Within that p opening allows what it allows where at most so many rows are made.
+        ensures { allowed_work self.now (Some result) ≡ allowed_rows self.now most_rows }
+    {
+        match key_params(self) {
+            Ok(params) => times(most_rows, &params),
+            Err(_) => 0,
+        }
+    }
+
+    /// Opens a sealed key that was read with a password, within a bound on the work and with every k-th of
+    /// scrypt's rows kept, for k from 1 on: as `from_box_keeping_within` does with its text. Nobody is asked
+    /// for a password.
+    ///
+    /// Rejected are, in this order: a key that was never sealed, `KeyNotEncrypted`; one that is not sealed by
+    /// scrypt, `UnsupportedEncryptionAlgorithm`; limits, with `ParametersTooHigh` or `InvalidParameters`; p
+    /// above `max_p`, `WorkTooHigh`; a checksum that opening does not restore, `WrongPassword`. An allocation
+    /// may fail for the rows, where all of these but the last let it derive.
+    pub fn open_keeping_within(
+        self,
+        alloc: Global,
+        password: &[u8],
+        k: u64,
+        max_p: u32,
+    ) -> Result<SecretKey>
+        requires kept { 1 ≤ k }
+
+        // A key that was read opens under the password as its text does, whatever number of rows is kept: it
+        // is the key opened, or the first error. Only a key that is sealed by scrypt, with limits that are
+        // allowed and p within the bound, may meet out of memory.
+        ensures { (result ≡ and_then (sealed_by_scrypt self) (λ sealed. open_sealed sealed password.now
+            (Some max_p))) ⊎ ((result ≡ Err (Named OutOfMemory)) × IsOk
+            (and_then (sealed_by_scrypt self) (λ sealed. allowed_work sealed (Some max_p)))) }
+    {
+        self.test_sealed()?;
+        let bound = Some(max_p);
+        self.open_with(alloc, password, Derivation { bound, k })
+    }
+
+    /// How much memory `open_in_place` takes with every k-th of scrypt's rows kept, for k from 1 on: so many
+    /// words of 32 bits and so many bytes, 1 KiB for each kept row, of which there are at most 2^20 / k, for
+    /// three more, and for each of p parts. Zeros where the key wants no password, and where opening rejects
+    /// its limits. Does not allocate.
+    pub fn opening_memory(&self, k: u64) -> (u64, u64)
+        requires { 1 ≤ k }
+
+        // The memory of opening in place is that of the parameters that the limits of the key lead to.
+        ensures { result ≡ opening_memory self.now k }
+    {
+        if !self.wants_password() {
+            return (0, 0);
+        }
+        match key_params(self) {
+            Ok(params) => (params.wanted_words(k), params.wanted_bytes()),
+            Err(_) => (0, 0),
+        }
+    }
+
+    /// Opens a sealed key that was read with a password, as `open_keeping_within` does, in memory that is
+    /// passed in: `words` and `bytes` have at least the lengths that `opening_memory` tells for the same k.
+    /// So an allocation never fails. What the memory held is not read, and all of it is left with zeros,
+    /// after an error too.
+    ///
+    /// What is rejected, and in which order, `open_keeping_within` says. Does not allocate.
+    pub fn open_in_place(
+        self,
+        password: &[u8],
+        k: u64,
+        max_p: u32,
+        words: &mut [u32],
+        bytes: &mut [u8],
+    ) -> Result<SecretKey>
+        requires kept { 1 ≤ k }
+        requires words { (opening_memory self k).0 ≤ length words.old }
+        requires bytes { (opening_memory self k).1 ≤ length bytes.old }
+
+        // In memory that is passed in, whatever it held, a key that was read opens under the password as its
+        // text does: it is the key opened, or the first error, and never out of memory.
+        ensures opens { (text : List ℕ) → read_secret_key text ≡ Ok self
+            → result ≡ open_key text password.now (Some max_p) }
+        ensures result { result ≡ and_then (sealed_by_scrypt self)
+            (λ sealed. open_sealed sealed password.now (Some max_p)) }
+
+        // That memory then holds zeros, all of it, whatever the result.
+        ensures words_cleared { words.new ≡ replicate (length words.old) 0 }
+        ensures bytes_cleared { bytes.new ≡ replicate (length bytes.old) 0 }
+    {
+        match self.test_sealed() {
+            Ok(()) => self.open_sealed_in_place(password, k, max_p, words, bytes),
+            Err(fault) => {
+                clear_memory(words, bytes);
+                Err(fault)
+            }
+        }
+    }
+
     // Reads a sealed key and opens it.
     fn open_box<R: Source, W: Sink>(
         alloc: Global,
@@ -348,6 +470,114 @@ impl SecretKey {
         }
         Ok(())
     }
+
+    // Seals a key that is not sealed, with every k-th row of scrypt kept. Limits that are not
+    // allowed are rejected before anything is derived.
+    pub(crate) fn seal_by(
+        self,
+        alloc: Global,
+        password: &[u8],
+        sealing: Sealing,
+        k: u64,
+    ) -> Result<SecretKey>
+        requires { 1 ≤ k }
+        ensures sealed { (keynum secret : List ℕ) → self ≡ unsealed_key keynum secret
+            → IfOk result (λ sk. sk ≡ made_key keynum secret (Some password.now) sealing) }
+        ensures opened { (keynum secret : List ℕ) → self ≡ unsealed_key keynum secret
+            → IfOk result (λ sk. xored_key sk password.now ≡ key_to_seal keynum secret sealing.salt
+            sealing.operations_limit sealing.memory_limit) }
+        ensures allowed { OnOk result (IsOk (sealing_limits sealing.memory_limit sealing.operations_limit)) }
+        ensures refused { IfErr result (λ e. e ≡ making_fault (Some password.now) sealing) }
+    {
+        let mut sk = self.with_limits(sealing.salt, sealing.operations_limit, sealing.memory_limit);
+        sk.apply_stream(alloc, password, Derivation { bound: None, k })?;
+        Ok(sk)
+    }
+
+    // Xors the last 104 bytes of the record with the stream under the password: opens a sealed key,
+    // and seals an opened one. Limits that are not allowed are rejected before anything is derived,
+    // and then a parallelization above the bound; neither takes memory.
+    #[tactic(auto, using(crate::proofs::SealedParts::restored_key))]
+    pub(crate) fn apply_stream(
+        &mut self,
+        alloc: Global,
+        password: &[u8],
+        derivation: Derivation,
+    ) -> Result<()>
+        requires { 1 ≤ derivation.k }
+        ensures xored { OnOk result (self.new ≡ xored_key self.old password.now) }
+        ensures restores { OnOk result (xored_key self.new password.now ≡ self.old) }
+        ensures allowed { OnOk result (IsOk (allowed_work self.old derivation.bound)) }
+        ensures refused { IfErr result (λ e.
+            ((e ≡ Named OutOfMemory) × IsOk (allowed_work self.old derivation.bound))
+            ⊎ (allowed_work self.old derivation.bound ≡ Err e)) }
+        ensures same { OnErr result (self.new ≡ self.old) }
+    {
+        let stream = derive_stream(alloc, self, password, derivation)?;
+        self.xor_keynum(&stream);
+        Ok(())
+    }
+
+    // Xors the last 104 bytes of the record, as one list. Once more with the same stream restores
+    // them.
+    pub(crate) fn xor_keynum(&mut self, stream: &[u8; 104])
+        ensures xored { self.new ≡ key_xor self.old stream.now }
+        ensures restores { key_xor self.new stream.now ≡ self.old }
+    {
+        let (keynum, rest) = stream.split_at(8);
+        let (secret, checksum) = rest.split_at(64);
+        xor_bytes(&mut self.keynum_sk.keynum, keynum);
+        xor_bytes(&mut self.keynum_sk.sk, secret);
+        xor_bytes(&mut self.keynum_sk.chk, checksum);
+    }
+
+    // Opens a key that is sealed by scrypt.
+    fn open_sealed_in_place(
+        self,
+        password: &[u8],
+        k: u64,
+        max_p: u32,
+        words: &mut [u32],
+        bytes: &mut [u8],
+    ) -> Result<SecretKey>
+        requires kept { 1 ≤ k }
+        requires sealed { sealed_by_scrypt self ≡ Ok self }
+        requires words { (opening_memory self k).0 ≤ length words.old }
+        requires bytes { (opening_memory self k).1 ≤ length bytes.old }
+        ensures result { result ≡ open_sealed self password.now (Some max_p) }
+        ensures words_cleared { words.new ≡ replicate (length words.old) 0 }
+        ensures bytes_cleared { bytes.new ≡ replicate (length bytes.old) 0 }
+    {
+        let mut sk = self;
+        sk.apply_stream_in_place(password, k, max_p, words, bytes)?;
+        sk.test_restored()?;
+        Ok(sk)
+    }
+
+    // Xors the last 104 bytes of the record with the stream under the password, as `apply_stream`
+    // does.
+    fn apply_stream_in_place(
+        &mut self,
+        password: &[u8],
+        k: u64,
+        max_p: u32,
+        words: &mut [u32],
+        bytes: &mut [u8],
+    ) -> Result<()>
+        requires kept { 1 ≤ k }
+        requires sealed { sealed_by_scrypt self.old ≡ Ok self.old }
+        requires words { (opening_memory self.old k).0 ≤ length words.old }
+        requires bytes { (opening_memory self.old k).1 ≤ length bytes.old }
+        ensures xored { OnOk result (self.new ≡ xored_key self.old password.now) }
+        ensures allowed { OnOk result (IsOk (allowed_work self.old (Some max_p))) }
+        ensures refused { IfErr result (λ e. allowed_work self.old (Some max_p) ≡ Err e) }
+        ensures words_cleared { words.new ≡ replicate (length words.old) 0 }
+        ensures bytes_cleared { bytes.new ≡ replicate (length bytes.old) 0 }
+    {
+        let stream = derive_stream_in_place(self, password, k, max_p, words, bytes)?;
+        self.xor_keynum(&stream);
+        Ok(())
+    }
 }
 
 // Asks for the password.
@@ -379,4 +609,12 @@ fn say_done<R: Source, W: Sink>(prompt: &mut Prompt<R, W>) -> Result<()>
         (Say done_text) result }
 {
     prompt.say("done\n")
+}
+
+// The greatest p with which at most so many rows are made, cut to 32 bits.
+fn times(most_rows: u64, params: &Params) -> u32
+    ensures { nat_lt result params.now.p ≡ nat_lt most_rows (2 ^ params.now.n_log2 * params.now.p) }
+{
+    let times = most_rows >> params.n_log2();
+    times.min(u64::from(u32::MAX)) as u32
 }

@@ -1,20 +1,19 @@
-//! Sealing and opening: the last 104 bytes of a secret key are xored with a stream of scrypt.
+//! The stream of scrypt that the last 104 bytes of a secret key are xored with, to seal and to open it.
 
-ghost use Rattle.std.specs.Prelude.{◌≡◌, ◌≤◌, ◌⊎◌, ℕ, List, None, Some, Ok, Err, length, bit_xor, IsOk};
-ghost use Rattle.std.specs.Prelude.{MatchResult, IfOk, IfErr, OnOk, OnErr};
-ghost use Rattle.std.specs.Int.{from_le_bytes, to_le_bytes, w64};
+ghost use Rattle.std.specs.Prelude.{◌≡◌, ◌≤◌, ◌⊎◌, Some, Ok, Err, length, bit_xor, IsOk, MatchResult, IfOk};
+ghost use Rattle.std.specs.Prelude.{IfErr, OnOk, replicate};
+ghost use Rattle.std.specs.Int.{from_le_bytes, w64};
 ghost use Rattle.std.specs.Simd.Lanes.{zip2};
 ghost use Rattle.minisign_base.specs.Fault.{Named};
 ghost use Rattle.minisign_base.specs.Limits.{numbers};
 ghost use Rattle.minisign_base.specs.declared.faults.NamedFault.TheVariants.{OutOfMemory};
-ghost use Rattle.minisign.specs.Generation.{key_to_seal, unsealed_key};
-ghost use Rattle.minisign.specs.Sealing.{allowed_work, key_limits, key_xor, stream_of, xored_key};
+ghost use Rattle.minisign.specs.Sealing.{allowed_work, key_limits, stream_of, opening_memory};
+ghost use Rattle.minisign.specs.Sealing.{sealed_by_scrypt};
 
-use crate::constants::KDF_ALG;
 use crate::secret_key::SecretKey;
-use minisign_base::helpers::{load_u64_le, raw_scrypt_params, store_u64_le};
+use minisign_base::helpers::{load_u64_le, raw_scrypt_params};
 use minisign_base::{NamedFault, Params, Result};
-use minisign_kdf::scrypt_keeping;
+use minisign_kdf::{clear_memory, scrypt_in, scrypt_keeping};
 use std::alloc::Global;
 
 // The greatest memory limit of a key that is sealed or opened, in bytes.
@@ -31,63 +30,8 @@ pub(crate) struct Derivation {
     pub(crate) k: u64,
 }
 
-impl SecretKey {
-    // Names the key derivation, its salt and its limits.
-    #[tactic(auto, unfolding(crate::specs::Generation::key_to_seal))]
-    pub(crate) fn with_limits(self, salt: [u8; 32], opslimit: u64, memlimit: u64) -> SecretKey
-        ensures named { (keynum secret : List ℕ) → self ≡ unsealed_key keynum secret
-            → result ≡ key_to_seal keynum secret salt opslimit memlimit }
-        ensures memory { result.memory_limit ≡ to_le_bytes w64 memlimit }
-        ensures operations { result.operations_limit ≡ to_le_bytes w64 opslimit }
-    {
-        let mut sk = self;
-        sk.kdf_alg = KDF_ALG;
-        sk.kdf_salt = salt;
-        sk.kdf_opslimit_le = store_u64_le(opslimit);
-        sk.kdf_memlimit_le = store_u64_le(memlimit);
-        sk
-    }
-
-    // Xors the last 104 bytes of the record with the stream under the password: opens a sealed key,
-    // and seals an opened one. Limits that are not allowed are rejected before anything is derived,
-    // and then a parallelization above the bound; neither takes memory.
-    #[tactic(auto, using(crate::proofs::SealedParts::restored_key))]
-    pub(crate) fn apply_stream(
-        &mut self,
-        alloc: Global,
-        password: &[u8],
-        derivation: Derivation,
-    ) -> Result<()>
-        requires { 1 ≤ derivation.k }
-        ensures xored { OnOk result (self.new ≡ xored_key self.old password.now) }
-        ensures restores { OnOk result (xored_key self.new password.now ≡ self.old) }
-        ensures allowed { OnOk result (IsOk (allowed_work self.old derivation.bound)) }
-        ensures refused { IfErr result (λ e.
-            ((e ≡ Named OutOfMemory) × IsOk (allowed_work self.old derivation.bound))
-            ⊎ (allowed_work self.old derivation.bound ≡ Err e)) }
-        ensures same { OnErr result (self.new ≡ self.old) }
-    {
-        let stream = derive_stream(alloc, self, password, derivation)?;
-        self.xor_keynum(&stream);
-        Ok(())
-    }
-
-    // Xors the last 104 bytes of the record, as one list. Once more with the same stream restores
-    // them.
-    pub(crate) fn xor_keynum(&mut self, stream: &[u8; 104])
-        ensures xored { self.new ≡ key_xor self.old stream.now }
-        ensures restores { key_xor self.new stream.now ≡ self.old }
-    {
-        let (keynum, rest) = stream.split_at(8);
-        let (secret, checksum) = rest.split_at(64);
-        xor_bytes(&mut self.keynum_sk.keynum, keynum);
-        xor_bytes(&mut self.keynum_sk.sk, secret);
-        xor_bytes(&mut self.keynum_sk.chk, checksum);
-    }
-}
-
 // Xors each byte with that of the stream.
-fn xor_bytes(bytes: &mut [u8], stream: &[u8])
+pub(crate) fn xor_bytes(bytes: &mut [u8], stream: &[u8])
     requires { length bytes.old ≡ length stream.now }
     ensures { bytes.new ≡ zip2 bit_xor bytes.old stream.now }
 {
@@ -98,7 +42,7 @@ fn xor_bytes(bytes: &mut [u8], stream: &[u8])
 
 // The stream under the password.
 #[tactic(auto, using(crate::proofs::SealingLimits::derived_stream))]
-fn derive_stream(
+pub(crate) fn derive_stream(
     alloc: Global,
     sk: &SecretKey,
     password: &[u8],
@@ -122,6 +66,47 @@ fn derive_stream(
         &mut stream,
     )?;
     Ok(stream)
+}
+
+// The stream under the password.
+#[tactic(auto, using(crate::proofs::SealingLimits::derived_stream))]
+pub(crate) fn derive_stream_in_place(
+    sk: &SecretKey,
+    password: &[u8],
+    k: u64,
+    max_p: u32,
+    words: &mut [u32],
+    bytes: &mut [u8],
+) -> Result<[u8; 104]>
+    requires kept { 1 ≤ k }
+    requires sealed { sealed_by_scrypt sk.now ≡ Ok sk.now }
+    requires words { (opening_memory sk.now k).0 ≤ length words.old }
+    requires bytes { (opening_memory sk.now k).1 ≤ length bytes.old }
+    ensures stream { IfOk result (λ s. s ≡ stream_of sk.now password.now) }
+    ensures allowed { OnOk result (IsOk (allowed_work sk.now (Some max_p))) }
+    ensures refused { IfErr result (λ e. allowed_work sk.now (Some max_p) ≡ Err e) }
+    ensures words_cleared { words.new ≡ replicate (length words.old) 0 }
+    ensures bytes_cleared { bytes.new ≡ replicate (length bytes.old) 0 }
+{
+    match bounded_params(sk, Some(max_p)) {
+        Ok(params) => {
+            let mut derived = [0u8; 104];
+            scrypt_in(
+                password,
+                &sk.kdf_salt,
+                &params,
+                k,
+                words,
+                bytes,
+                &mut derived,
+            );
+            Ok(derived)
+        }
+        Err(fault) => {
+            clear_memory(words, bytes);
+            Err(fault)
+        }
+    }
 }
 
 // The parameters that the key's limits lead to, where these are allowed and p is within the bound,

@@ -1,15 +1,28 @@
-//! A secret key, which signs.
+//! A secret key, which signs: its parts, its bytes and its text.
 
-ghost use Rattle.std.specs.Prelude.{◌≡◌, Some, Ok, IfOk, IfErr, bytes_eq};
+ghost use Rattle.std.specs.Prelude.{◌≡◌, Some, Ok, IfOk, IfErr, bytes_eq, ◌+◌, length, IfSome, List, ℕ};
 ghost use Rattle.std.specs.Cmp.{on_per, on_equiv, partial_equiv_from_equiv};
 ghost use Rattle.std.specs.Cmp.Lexicographic.{nat_list_eq_equiv};
+ghost use Rattle.std.specs.Str.Iter.{LacksByte};
+ghost use Rattle.std.specs.Option.{option_copied};
+ghost use Rattle.std.specs.Int.{to_le_bytes, w64};
 ghost use Rattle.minisign_base.specs.Fault.{Named};
 ghost use Rattle.minisign_base.specs.declared.faults.NamedFault.TheVariants.{OutOfMemory};
+ghost use Rattle.minisign_base.specs.Steps.{without_value};
+ghost use Rattle.minisign.specs.SecretKeyText.{read_secret_key, secret_key_text};
+ghost use Rattle.minisign.specs.Sealing.{unencrypted_key, wants_password};
+ghost use Rattle.minisign.specs.Generation.{key_to_seal, unsealed_key};
 
-use crate::constants::KDF_NONE;
+use crate::constants::{
+    CHK_ALG, COMMENT_PREFIX, KDF_ALG, KDF_NONE, SECRETKEY_DEFAULT_COMMENT, SIGALG,
+};
 use crate::fields::{push_three, split_three};
 use crate::keynum::KeynumSK;
-use minisign_base::Result;
+use crate::secret_key_box::SecretKeyBox;
+use crate::secret_key_in_place::read_secret_key;
+use crate::texts::{encode, push_line};
+use minisign_base::helpers::store_u64_le;
+use minisign_base::{NamedFault, Result};
 use minisign_hash::blake2b::Blake2b;
 use minisign_hash::util::fixed_time_eq;
 use std::alloc::Global;
@@ -81,6 +94,35 @@ impl SecretKey {
         &self.keynum_sk.keynum[..]
     }
 
+    /// The key ID, as an array, as it stands: of a sealed key the sealed one.
+    pub fn key_id(&self) -> &[u8; 8]
+        ensures { result.now ≡ self.now.keynum }
+    {
+        &self.keynum_sk.keynum
+    }
+
+    /// The 64 secret bytes, as they stand: of an opened key the 32 bytes of the seed and the 32 of
+    /// its public key, of a sealed key the sealed ones.
+    pub fn secret(&self) -> &[u8; 64]
+        ensures { result.now ≡ self.now.secret }
+    {
+        &self.keynum_sk.sk
+    }
+
+    /// The key derivation that the key names: two zeros where it was never sealed.
+    pub fn key_derivation(&self) -> &[u8; 2]
+        ensures { result.now ≡ self.now.kdf }
+    {
+        &self.kdf_alg
+    }
+
+    /// The 32 bytes of the checksum, as they stand: of a sealed key the sealed ones.
+    pub fn checksum(&self) -> &[u8; 32]
+        ensures { result.now ≡ self.now.checksum }
+    {
+        &self.keynum_sk.chk
+    }
+
     /// Whether the key is sealed and has to be opened before it signs: it names a key derivation,
     /// and its checksum does not match. Does not allocate.
     pub fn is_encrypted(&self) -> bool
@@ -89,6 +131,29 @@ impl SecretKey {
         ensures { result ≡ is_encrypted self.now }
     {
         self.kdf_alg != KDF_NONE && self.keynum_sk.chk != self.read_checksum()
+    }
+
+    /// Whether the key names a key derivation, and so does not open without a password. Does not allocate.
+    pub fn wants_password(&self) -> bool
+        ensures { result ≡ wants_password self.now }
+    {
+        self.kdf_alg != KDF_NONE
+    }
+
+    /// Tests that the key was never sealed (otherwise `KeyMightBeEncrypted`), and then that its
+    /// checksum matches (otherwise `CorruptedKey`). Does not allocate.
+    pub fn test_unencrypted(&self) -> Result<()>
+        // A key is taken exactly if it was never sealed and its checksum matches; otherwise it is
+        // the first reason.
+        ensures { result ≡ without_value (unencrypted_key self.now) }
+    {
+        if self.kdf_alg != KDF_NONE {
+            return Err(NamedFault::KeyMightBeEncrypted.into());
+        }
+        if self.keynum_sk.chk != self.read_checksum() {
+            return Err(NamedFault::CorruptedKey.into());
+        }
+        Ok(())
     }
 
     /// Reads the 158 bytes at the front. Fewer bytes are rejected, and later ones are ignored. The
@@ -131,6 +196,104 @@ impl SecretKey {
         let KeynumSK { keynum, sk, chk } = &self.keynum_sk;
         push_three(&mut bytes, keynum, sk, chk)?;
         Ok(bytes)
+    }
+
+    /// Reads the text of a secret key as it stands, of a sealed key the sealed bytes: the second
+    /// line, which nothing is trimmed off, is the base64 of the key's 158 bytes. The first line is
+    /// not looked at; later bytes and later lines are ignored.
+    ///
+    /// Rejected are, in this order: a text without a first line, without a second one, with a second
+    /// line that is not base64, or of fewer than 158 bytes. Does not allocate.
+    pub fn from_text(text: &str) -> Result<SecretKey>
+        // What the text reads as, by the function of its grammar: the key, sealed or not, or the
+        // first error.
+        ensures { result ≡ read_secret_key text.now }
+    {
+        let record = read_secret_key(text)?;
+        SecretKey::from_bytes(&record)
+    }
+
+    /// Writes the key as a text: `untrusted comment: ` and the comment, or
+    /// `rsign encrypted secret key` where none is given, on one line, and the base64 of the 158
+    /// bytes on another, each ended by a line feed. The bytes are written as they stand: of an
+    /// opened sealed key the opened ones, still under the name of its key derivation. Where no line
+    /// feed stands in the comment, the text reads as the key again. It has 233 bytes more than the
+    /// comment. The only error is `OutOfMemory`.
+    #[tactic(auto, unfolding(crate::specs::SecretKeyText::secret_key_text, crate::specs::SecretKeyText::default_secret_key_comment))]
+    pub fn to_box(&self, alloc: Global, comment: Option<&str>) -> Result<SecretKeyBox>
+        // The text of a secret key is the one by definition, and if the comment has no line feed it
+        // reads as this key; it has 233 bytes more than the comment; the only error is out of
+        // memory.
+        ensures text { IfOk result
+            (λ b. b ≡ secret_key_text (option_copied comment.entry) self.now) }
+        ensures reads_back { IfSome comment.entry (λ s. LacksByte 10 s.now)
+            → IfOk result (λ b. read_secret_key b ≡ Ok self.now) }
+        ensures size { IfSome comment.entry
+            (λ s. IfOk result (λ b. length b ≡ length s.now + 233)) }
+        ensures refused { IfErr result (λ e. e ≡ Named OutOfMemory) }
+    {
+        match comment {
+            Some(comment) => self.write_box(alloc, comment),
+            None => self.write_box(alloc, SECRETKEY_DEFAULT_COMMENT),
+        }
+    }
+
+    // Writes the key as a text with this comment.
+    #[tactic(auto, unfolding(crate::specs::SecretKeyText::secret_key_text, crate::specs::Texts::untrusted_comment_label))]
+    fn write_box(&self, alloc: Global, comment: &str) -> Result<SecretKeyBox>
+        ensures text { IfOk result (λ b. b ≡ secret_key_text (Some comment.now) self.now) }
+        ensures reads_back { LacksByte 10 comment.now
+            → IfOk result (λ b. read_secret_key b ≡ Ok self.now) }
+        ensures size { IfOk result (λ b. length b ≡ length comment.now + 233) }
+        ensures refused { IfErr result (λ e. e ≡ Named OutOfMemory) }
+    {
+        let bytes = self.to_bytes(alloc)?;
+        let encoded = encode(alloc, &bytes)?;
+        let mut text = String::new(alloc);
+        push_line(&mut text, COMMENT_PREFIX, comment)?;
+        push_line(&mut text, "", encoded.as_str())?;
+        Ok(SecretKeyBox::from(text))
+    }
+
+    /// The secret key of its parts, which is not sealed: a key ID of 8 bytes, and 64 secret
+    /// bytes, those of a seed and of its public key. Its salt and its limits are zeros. Does not
+    /// allocate.
+    #[tactic(auto, unfolding(crate::specs::Generation::unsealed_key))]
+    pub fn from_parts(key_id: [u8; 8], secret: [u8; 64]) -> SecretKey
+        // The key of its parts is the one by definition, not sealed.
+        ensures { result ≡ unsealed_key key_id secret }
+    {
+        let mut sk = SecretKey {
+            sig_alg: SIGALG,
+            kdf_alg: KDF_NONE,
+            chk_alg: CHK_ALG,
+            kdf_salt: [0; 32],
+            kdf_opslimit_le: [0; 8],
+            kdf_memlimit_le: [0; 8],
+            keynum_sk: KeynumSK {
+                keynum: key_id,
+                sk: secret,
+                chk: [0; 32],
+            },
+        };
+        sk.write_checksum();
+        sk
+    }
+
+    // Names the key derivation, its salt and its limits.
+    #[tactic(auto, unfolding(crate::specs::Generation::key_to_seal))]
+    pub(crate) fn with_limits(self, salt: [u8; 32], opslimit: u64, memlimit: u64) -> SecretKey
+        ensures named { (keynum secret : List ℕ) → self ≡ unsealed_key keynum secret
+            → result ≡ key_to_seal keynum secret salt opslimit memlimit }
+        ensures memory { result.memory_limit ≡ to_le_bytes w64 memlimit }
+        ensures operations { result.operations_limit ≡ to_le_bytes w64 opslimit }
+    {
+        let mut sk = self;
+        sk.kdf_alg = KDF_ALG;
+        sk.kdf_salt = salt;
+        sk.kdf_opslimit_le = store_u64_le(opslimit);
+        sk.kdf_memlimit_le = store_u64_le(memlimit);
+        sk
     }
 }
 

@@ -3,7 +3,7 @@
 ghost use Rattle.std.specs.Prelude.{◌≡◌, List, ℕ, MatchResult};
 ghost use Rattle.minisign_base.specs.Devices.{HasGiven};
 ghost use Rattle.minisign.specs.Reading.{IsReadFault, ReadsWhole};
-ghost use Rattle.minisign.specs.Stages.{HoldsSigned, held_bytes};
+ghost use Rattle.minisign.specs.Verifying.{HoldsSigned, held_bytes};
 
 use crate::reading::{prehash, read_to_end};
 use crate::signature_box::SignatureBox;

@@ -181,7 +181,7 @@ fn make_box<S: Scheme, Z: RandomSource>(
     ensures no_new_fault { OnOk result (Z.random_faults random.new ≡ Z.random_faults random.old) }
     ensures refused { IfErr result
         (λ e. ((e ≡ Named OutOfMemory) × (Z.random_faults random.new ≡ Z.random_faults random.old))
-        ⊎ HasFailed RandomSourceFailed (Z.random_faults random.old) (Z.random_faults random.new) e) }
+        ⊎ HasFailed RandomSourceFailed Z.random_faults random.old random.new e) }
     ensures given { HasGiven (Z.random_ahead random.old) (Z.random_ahead random.new) }
 {
     let secret = sk.keynum_sk.sk;

@@ -1,16 +1,13 @@
 //! Signing with the text of a secret key.
 
-ghost use Rattle.std.specs.Prelude.{◌≡◌, ℕ, false, List, None, Ok, string_bytes, IfOk, IfErr, OnOk, IfSome};
+ghost use Rattle.std.specs.Prelude.{◌≡◌, false, None, Ok, string_bytes, IfOk, IfErr, OnOk, IfSome};
 ghost use Rattle.std.specs.Option.{option_map};
 ghost use Rattle.minisign_base.specs.Devices.{HasGiven};
 ghost use Rattle.minisign_base.specs.DeviceCalls.{prompt_call, random_call, source_call};
-ghost use Rattle.minisign.specs.Records.{SecretKeyRecord};
-ghost use Rattle.minisign.specs.Reading.{IsAhead};
 ghost use Rattle.minisign.specs.Sealing.{is_encrypted};
 ghost use Rattle.minisign.specs.Signing.{OpenedSigningFails, given_comments};
-ghost use Rattle.minisign.specs.Headline.{SigningHeadline};
-ghost use Rattle.minisign.specs.SigningTexts.{GivesKey, HasSignedWithText, IsKeyOf, TextSigningFails};
-ghost use Rattle.minisign.specs.SigningTexts.{HasSignedDataText};
+ghost use Rattle.minisign.specs.SigningTexts.{GivesKey, HasSignedDataText, HasSignedWithText};
+ghost use Rattle.minisign.specs.SigningTexts.{TextSigningFails, TextSigningHeadline};
 
 use crate::constants::KDF_NONE;
 use crate::sealing::Derivation;
@@ -53,10 +50,9 @@ pub fn sign_texts<S: Scheme, P: Source, Q: Sink, R: Source, Z: RandomSource>(
     // The text is that of a key, which it gives under some password, and a genuine key's text is
     // read back as a box that every public key of its seed and key ID vouches with, if neither
     // comment has a line feed and the trusted one is trimmed.
-    ensures headline { IfOk result (λ t. (sk : SecretKeyRecord) × (message : List ℕ)
-        × IsAhead (R.ahead data_reader.old) message × IsKeyOf sk_text.now sk
-        × SigningHeadline (S.accepts scheme.now) (S.public_of scheme.now) sk message
-        (given_comments trusted_comment.entry untrusted_comment.entry moment) (string_bytes t)) }
+    ensures headline { IfOk result (λ t. TextSigningHeadline (S.accepts scheme.now)
+        (S.public_of scheme.now) sk_text.now (R.ahead data_reader.old) (given_comments
+        trusted_comment.entry untrusted_comment.entry moment) (string_bytes t)) }
 
     // On success the text gave a key: either one that was never sealed and whose checksum matches,
     // with the prompt untouched, or a sealed one that opened under the password that was passed in or

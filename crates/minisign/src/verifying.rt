@@ -10,11 +10,10 @@ ghost use Rattle.minisign_base.specs.DeviceCalls.{sink_call, unused};
 ghost use Rattle.minisign.specs.Records.{PublicKeyRecord, SignatureBoxRecord};
 ghost use Rattle.minisign.specs.Acceptance.{Verifier, Vouches, accepts_comments, options_of, judge};
 ghost use Rattle.minisign.specs.Acceptance.{judge_key, judged_parts, status_lines, judge_answers};
-ghost use Rattle.minisign.specs.Calls.{TextsVouchWith};
-ghost use Rattle.minisign.specs.Headline.{WhereNothingFails, verdict};
-ghost use Rattle.minisign.specs.Stages.{HoldsSigned, StagesEnd, is_reread, reading_stages};
+ghost use Rattle.minisign.specs.Headline.{TextsVouchWith, WhereNothingFails, verdict};
 ghost use Rattle.minisign.specs.Texts.{IsGivenOrNoMemory, IsReading, and_then};
-ghost use Rattle.minisign.specs.Verifying.{VerifyingFails, VerifyingSucceeds, wanted_status};
+ghost use Rattle.minisign.specs.Verifying.{HoldsSigned, StagesEnd, is_reread, reading_stages, VerifyingFails};
+ghost use Rattle.minisign.specs.Verifying.{VerifyingSucceeds, wanted_status};
 
 use crate::comment_signature::accepts_comments;
 use crate::copying::copy_out;

@@ -5,7 +5,7 @@ use Rattle.minisign.proofs.base64_front.decode_piece.Goals as goal
 
 pub returns-in-Ok : goal.returns-in-Ok
 returns-in-Ok c =
-    let (read, count) = piece_read c.args.text.now _ _ c.decode_slice.result c.requires
+    let (read, count) = piece_read _ _ _ _ c.requires
     (λ i. let f = c.type_inv.text i in omega arith) c.in-Ok.ensures.bytes c.decode_slice.ensures.value
     c.in-Ok.is in
     let written = c.in-Ok.ensures.written in (
@@ -19,10 +19,8 @@ returns-in-Ok c =
         length-append (decoded_bytes_of standard c.args.text.now)
             (drop (length (decoded_bytes_of standard c.args.text.now)) c.args.room.now),
       ),
-      ap (take c.in-Ok.count) written ∙ take_at (decoded_bytes_of standard c.args.text.now)
-          (drop (length (decoded_bytes_of standard c.args.text.now)) c.args.room.now) c.in-Ok.count count,
+      ap (take c.in-Ok.count) written ∙ take_at _ _ _ count,
     )
 
 pub returns-in-Err : goal.returns-in-Err
-returns-in-Err c = piece_unread c.args.text.now _ _ c.decode_slice.result c.requires
-    c.decode_slice.ensures.value c.in-Err.is
+returns-in-Err c = piece_unread _ _ _ _ c.requires c.decode_slice.ensures.value c.in-Err.is

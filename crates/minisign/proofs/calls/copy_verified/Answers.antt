@@ -1,4 +1,4 @@
-use Rattle.std.proofs.Common.{arith, string_bytes}
+use Rattle.std.proofs.Common.{arith}
 use Rattle.minisign.proofs.Common.{rereader_call, sink_call}
 use Rattle.minisign.proofs.VouchedTexts.{copied_with, copy_refused, silent}
 use Rattle.minisign.proofs.calls.copy_verified.Goals as goal
@@ -10,14 +10,11 @@ returns-clause-headline g c = λ message told no_new_fault status_no_new_fault o
 
 pub returns-clause-copied : goal.returns-clause-copied
 returns-clause-copied g c =
-    copied_with string_bytes (g.S.Scheme.accepts c.args.scheme.now) c.args.pk_text.now c.args.sig_text.now _ _
-    _ c.verify_with.result
-    c.verify_with.ensures.accepted c.verify_with.ensures.comment
+    copied_with _ _ _ _ _ _ _ _ c.verify_with.ensures.accepted c.verify_with.ensures.comment
 
 pub returns-clause-refused : goal.returns-clause-refused
 returns-clause-refused g c = copy_refused (g.S.Scheme.accepts c.args.scheme.now) c.args.pk_text.now
     c.args.sig_text.now
     (rereader_call g.R.Source g.R.Rereader.steady c.args.data_reader.now c.verify_with.new.data_reader)
-    (silent _ _)
-    (sink_call g.O.Sink c.args.out.now c.verify_with.new.out) c.verify_with.result
+    (silent _ _) (sink_call g.O.Sink c.args.out.now c.verify_with.new.out) c.verify_with.result
     c.verify_with.ensures.refused

@@ -7,5 +7,4 @@ pub returns : goal.returns
 returns g c = file_verdict string_bytes (g.S.Scheme.accepts c.args.scheme.now) c.args.pk_text.now
     c.args.sig_text.now
     (rereader_call g.R.Source g.R.Rereader.steady c.args.data_reader.now c.verify_reader.new.data_reader)
-    c.verify_reader.result
-    c.verify_reader.ensures.vouched c.verify_reader.ensures.refused
+    c.verify_reader.result c.verify_reader.ensures.vouched c.verify_reader.ensures.refused

@@ -10,20 +10,17 @@ returns-clause-headline g c = λ message told no_new_fault status_no_new_fault o
 
 pub returns-clause-vouched : goal.returns-clause-vouched
 returns-clause-vouched g c =
-    ahead_vouched string_bytes (g.S.Scheme.accepts c.args.scheme.now) c.args.pk_text.now c.args.sig_text.now _
-    _ _ c.verify_with.result
-    c.verify_with.ensures.accepted c.verify_with.ensures.comment
+    ahead_vouched (g.S.Scheme.accepts c.args.scheme.now) c.args.pk_text.now c.args.sig_text.now _
+    _ _ string_bytes c.verify_with.result c.verify_with.ensures.accepted c.verify_with.ensures.comment
 
 pub returns-clause-refused : goal.returns-clause-refused
 returns-clause-refused g c = ahead_refused (g.S.Scheme.accepts c.args.scheme.now) c.args.pk_text.now
     c.args.sig_text.now
     (rereader_call g.R.Source g.R.Rereader.steady c.args.data_reader.now c.verify_with.new.data_reader)
-    (silent _ _) (silent _ _) c.verify_with.result
-    c.verify_with.ensures.refused
+    (silent _ _) (silent _ _) c.verify_with.result c.verify_with.ensures.refused
 
 pub returns-clause-failed : goal.returns-clause-failed
 returns-clause-failed g c = reader_refused (g.S.Scheme.accepts c.args.scheme.now) c.args.pk_text.now
     c.args.sig_text.now
     (rereader_call g.R.Source g.R.Rereader.steady c.args.data_reader.now c.verify_with.new.data_reader)
-    (silent _ _) (silent _ _) c.verify_with.result
-    c.verify_with.ensures.refused
+    (silent _ _) (silent _ _) c.verify_with.result c.verify_with.ensures.refused

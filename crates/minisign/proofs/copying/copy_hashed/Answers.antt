@@ -6,8 +6,7 @@ use Rattle.minisign.proofs.copying.copy_hashed.Goals as goal
 
 pub returns-in_err-buf-clause-refused : goal.returns-in_err-buf-clause-refused
 returns-in_err-buf-clause-refused g c =
-    let (message, ahead, front) = front_of_nothing (g.R.Source.ahead c.args.data_reader.now)
-    (g.O.Sink.taken c.args.out.now) _ (keeps_same _) in
+    let (message, ahead, front) = front_of_nothing _ _ _ (keeps_same _) in
     passed_up _ _ _ c.from_residual.ensures.1 (
       message,
       record {

@@ -1,5 +1,5 @@
-use Rattle.std.proofs.Common.{◌∙◌, ℕ, append_assoc, inr, rules, subst}
-use Rattle.minisign.proofs.Common.{Appends-trans, Consumes-trans, Rose, AppendsFront-after}
+use Rattle.std.proofs.Common.{◌∙◌, append_assoc, inr, rules}
+use Rattle.minisign.proofs.Common.{Appends-trans, Consumes-trans, AppendsFront-after}
 use Rattle.minisign.proofs.Beginnings.{consumed, passed_up}
 use Rattle.minisign.proofs.Copies.{front_of_ahead, front_of_all, given_more, given_still, keeps_same}
 use Rattle.minisign.proofs.copying.copy_pieces.Goals as goal
@@ -51,7 +51,7 @@ returns-in_err-put_bytes-in-Ok-clause-refused g c =
     let more = Consumes-trans _ _ _ _ _ given c.in-Ok.ensures.bytes in
     let (((fault, rose), put_front), unflushed) = c.in_err-put_bytes-in-Ok.ensures in
     let put = AppendsFront-after _ _ _ _ _ taken put_front in
-    let (message, ahead, front) = front_of_ahead _ (g.R.Source.ahead c.read.new.self) _ _ _ more put in
+    let (message, ahead, front) = front_of_ahead _ _ _ _ _ more put in
     passed_up _ _ _ c.from_residual.ensures.1 (
       message,
       record {
@@ -61,8 +61,7 @@ returns-in_err-put_bytes-in-Ok-clause-refused g c =
         no_new_fault = tt;
         failed = inr (inr (
           fault,
-          subst (λ (n : ℕ). Rose n (g.O.Sink.sink_faults c.put_bytes.new.out))
-              c.pieces.invariant.out_no_new_fault rose,
+          rw c.pieces.invariant.out_no_new_fault at rose,
         ));
         ahead = ahead;
         left = consumed _ _ _ more;
@@ -76,9 +75,8 @@ returns-in_err-put_bytes-in-Ok-clause-refused g c =
 pub returns-in-Err-clause-refused : goal.returns-in-Err-clause-refused
 returns-in-Err-clause-refused g c =
     let (done, given, taken, fed, since) = c.pieces.invariant.given in
-    let put = front_of_all _ (g.O.Sink.taken c.pieces.out) _ done taken (keeps_same _) in
-    let (message, ahead, front) = front_of_ahead _ (g.R.Source.ahead c.pieces.data_reader) _ _ done given
-    put in (
+    let put = front_of_all _ _ _ _ taken (keeps_same _) in
+    let (message, ahead, front) = front_of_ahead _ _ _ _ _ given put in (
       message,
       record {
         read = tt;
@@ -89,7 +87,7 @@ returns-in-Err-clause-refused g c =
         ahead = ahead;
         left = search rules;
         front = front;
-        given_front = (done, given_still _ _ done since c.in-Err.ensures.since_kept, put);
+        given_front = (done, given_still _ _ _ since c.in-Err.ensures.since_kept, put);
         marked = c.in-Err.ensures.marked ∙ c.pieces.invariant.marked;
         unflushed = c.pieces.invariant.unflushed;
       },

@@ -1,7 +1,7 @@
 use Rattle.std.proofs.Common.{Result, Ok, Err, IfOk, OnOk, string_bytes}
 use Rattle.minisign.proofs.Common.{IfErr-weaker, prompt_call, second_ended, stopped_first}
 use Rattle.minisign.proofs.Beginnings.{passed_up}
-use Rattle.minisign.specs.NewPassword.{choosing_steps, sealing_steps}
+use Rattle.minisign.specs.Generation.{choosing_steps, sealing_steps}
 use Rattle.minisign.proofs.keypair.ask_and_seal.Goals as goal
 
 -- what holds of an answer, with a fact about the prompt
@@ -13,7 +13,7 @@ told_of (Err e) A P Q f a p = tt
 pub returns-in_err-password-clause-refused : goal.returns-in_err-password-clause-refused
 returns-in_err-password-clause-refused g c =
     let (first, second, stopped) = c.in_err-password.ensures.refused in
-    passed_up c.from_residual.result c.in_err-password.field-0.0 _ c.from_residual.ensures.1 (
+    passed_up _ _ _ c.from_residual.ensures.1 (
       first,
       second,
       tt,
@@ -41,12 +41,10 @@ pub returns-clause-refused : goal.returns-clause-refused
 returns-clause-refused g c =
     let (first, second, typed, again, chosen) = c.in_ok-password.ensures.chosen in
     let p = prompt_call g.R.Source g.W.Sink c.args.prompt.now c.seal_aloud.new.prompt in
-    IfErr-weaker c.seal_aloud.result _ _
-    (λ e stopped. (
+    IfErr-weaker c.seal_aloud.result _ _ (λ e stopped. (
       first,
       second,
       tt,
       second_ended p c.choose_password.new.prompt
           (choosing_steps first second) sealing_steps (Err e) chosen stopped,
-    ))
-    c.seal_aloud.ensures.refused
+    )) c.seal_aloud.ensures.refused

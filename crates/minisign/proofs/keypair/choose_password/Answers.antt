@@ -1,24 +1,38 @@
 use Rattle.std.proofs.Common.{Ok, Err, Bool, true, false, not, ◌≡◌, ◌∷◌, ◌++◌, [], string_bytes, sym, inl}
-use Rattle.std.proofs.Common.{inr, refl}
-use Rattle.minisign.proofs.Common.{bytes_eq-Decides, prompt_call, second_ended, stopped_first, typed_is, Test}
-use Rattle.minisign.proofs.Common.{asking_steps, typed_password}
+use Rattle.std.proofs.Common.{inr, refl, ℕ, List, None, Some, bytes_eq}
+use Rattle.minisign.proofs.Common.{bytes_eq-Decides, prompt_call, second_ended, stopped_first, typed_is}
+use Rattle.minisign.proofs.Common.{Test, asking_steps, typed_password, Fault, Named, PasswordsDiffer}
 use Rattle.minisign.proofs.Beginnings.{passed_up}
-use Rattle.minisign.specs.NewPassword.{difference}
-use Rattle.minisign.specs.Opening.{asking_text, purpose_line, second_question}
-use Rattle.minisign.proofs.Choosing.{two_agree, two_differ}
+use Rattle.minisign.specs.Generation.{difference, purpose_line, second_question}
+use Rattle.minisign.specs.Opening.{asking_text}
 use Rattle.minisign.proofs.keypair.choose_password.Goals as goal
 
-not_false : (b : Bool) → false ≡ not b → b ≡ true
-not_false true h = refl
-not_false false h = cc
+-- what a test that is turned round says
+unturned : (b c : Bool) → c ≡ not b → b ≡ not c
+unturned true true h = absurd (cc)
+unturned true false h = refl
+unturned false true h = refl
+unturned false false h = absurd (cc)
+
+two_differ : (first second password again : List ℕ) (e : Fault) → typed_password first ≡ password
+    → typed_password second ≡ again
+    → true ≡ not (bytes_eq password again) → e ≡ Named PasswordsDiffer
+    → difference (typed_password first) (typed_password second) ≡ Some e
+two_differ _ _ _ _ e one two differ is =
+    let test = unturned _ _ differ in rw (one, two, test, is) refl
+
+two_agree : (first second password again : List ℕ) → typed_password first ≡ password
+    → typed_password second ≡ again
+    → false ≡ not (bytes_eq password again) → difference (typed_password first) (typed_password second) ≡ None
+two_agree _ _ _ _ one two same =
+    let test = unturned _ _ same in rw (one, two, test) refl
 
 pub returns-in_err-password-clause-refused : goal.returns-in_err-password-clause-refused
 unfolding purpose_line asking_text
 returns-in_err-password-clause-refused g c =
     let (first, stopped) = c.in_err-password.ensures.refused in
     let p = prompt_call g.R.Source g.W.Sink c.say.new.self c.get_password.new.prompt in
-    passed_up c.from_residual-in_err-password.result c.in_err-password.field-0.0 _
-    c.from_residual-in_err-password.ensures.1 (
+    passed_up _ _ _ c.from_residual-in_err-password.ensures.1 (
       first,
       [],
       inr (
@@ -38,8 +52,7 @@ returns-in_err-again-clause-refused g c =
     let both = prompt_call g.R.Source g.W.Sink c.say.new.self c.get_password-2.new.prompt in
     let p = prompt_call g.R.Source g.W.Sink c.get_password.new.prompt c.get_password-2.new.prompt in
     let test = Test (difference (typed_password first) (typed_password second)) ∷ [] in
-    passed_up c.from_residual-in_err-again.result c.in_err-again.field-0.0 _
-    c.from_residual-in_err-again.ensures.1 (
+    passed_up _ _ _ c.from_residual-in_err-again.ensures.1 (
       first,
       second,
       inr (
@@ -67,8 +80,7 @@ returns-then-ne-clause-refused g c =
         c.in_ok-say.ensures.ended,
         second_ended both c.get_password.new.prompt (asking_steps asking_text first)
             (asking_steps second_question second ++ test) (Err _) asked
-            (second_ended p end (asking_steps second_question second) test (Err _) asked_again
-            (inl (
+            (second_ended p _ (asking_steps second_question second) test (Err _) asked_again (inl (
               two_differ first second _ _ _ (typed_is first _ answered) (typed_is second _ answered_again)
                   c.if-ne.ensures c.into.ensures,
               refl,
@@ -81,9 +93,8 @@ unfolding purpose_line asking_text second_question
 returns-clause-chosen g c =
     let (first, answered, asked) = c.in_ok-password.ensures.asked in
     let (second, answered_again, asked_again) = c.in_ok-again.ensures.asked in
-    let same : string_bytes c.in_ok-again.again ≡ string_bytes c.in_ok-password.password = sym
-    ((bytes_eq-Decides (string_bytes c.in_ok-password.password) (string_bytes c.in_ok-again.again)).0
-    (not_false _ c.if-ne.ensures)) in
+    let same = sym ((bytes_eq-Decides (string_bytes c.in_ok-password.password) _).0
+    (unturned _ false c.if-ne.ensures)) in
     let end = c.get_password-2.new.prompt in
     let both = prompt_call g.R.Source g.W.Sink c.say.new.self end in
     let p = prompt_call g.R.Source g.W.Sink c.get_password.new.prompt end in

@@ -5,5 +5,4 @@ use Rattle.minisign.proofs.keypair.make_sealed_pair.Goals as goal
 
 pub returns-in_err-sk-clause-refused : goal.returns-in_err-sk-clause-refused
 returns-in_err-sk-clause-refused g c =
-    passed_up c.from_residual.result c.in_err-sk.field-0.0 _ c.from_residual.ensures.1
-    (c.in_err-sk.ensures.refused ∙ only_memory)
+    passed_up _ _ _ c.from_residual.ensures.1 (c.in_err-sk.ensures.refused ∙ only_memory)

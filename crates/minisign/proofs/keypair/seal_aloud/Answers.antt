@@ -1,21 +1,20 @@
 use Rattle.std.proofs.Common.{inl, inr, refl}
 use Rattle.minisign.proofs.Beginnings.{passed_up}
-use Rattle.minisign.specs.Opening.{done_text, sealing_text}
+use Rattle.minisign.specs.Generation.{sealing_text}
+use Rattle.minisign.specs.Opening.{done_text}
 use Rattle.minisign.proofs.keypair.seal_aloud.Goals as goal
 
 pub returns-in_err-pair-clause-refused : goal.returns-in_err-pair-clause-refused
 unfolding sealing_text
 returns-in_err-pair-clause-refused g c =
-    passed_up c.from_residual-in_err-pair.result c.in_err-pair.field-0.0 _
-    c.from_residual-in_err-pair.ensures.1
+    passed_up _ _ _ c.from_residual-in_err-pair.ensures.1
     (inr (c.say.new.self, c.in_ok-say.ensures.ended, inl ((c.in_err-pair.ensures.refused, tt), refl)))
 
 pub returns-in_err-say-2-clause-refused : goal.returns-in_err-say-2-clause-refused
 unfolding sealing_text done_text
 returns-in_err-say-2-clause-refused g c =
     let said = c.say.new.self in
-    passed_up c.from_residual-in_err-say-2.result c.in_err-say-2.field-0.0 _
-    c.from_residual-in_err-say-2.ensures.1
+    passed_up _ _ _ c.from_residual-in_err-say-2.ensures.1
     (inr (said, c.in_ok-say.ensures.ended, inr (said, (tt, refl), inl c.in_err-say-2.ensures.ended)))
 
 pub returns-clause-told : goal.returns-clause-told

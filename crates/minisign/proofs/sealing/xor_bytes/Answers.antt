@@ -1,11 +1,11 @@
-use Rattle.std.proofs.Common.{◌≡◌, ◌≢◌, length, bit_xor, sym, ◌∙◌, arith, get_or-set_other, take_all}
-use Rattle.minisign.proofs.Common.{length-zip2, zip2}
-use Rattle.minisign.proofs.Xor.{xored_next}
+use Rattle.std.proofs.Common.{◌≢◌, bit_xor, sym, ◌∙◌, arith, get_or-set_other, take_all}
+use Rattle.minisign.proofs.Common.{length-zip2}
+use Rattle.minisign.proofs.SealedParts.{xored_next}
 use Rattle.minisign.proofs.sealing.xor_bytes.Goals as goal
 
 pub bytes-preserved : goal.bytes-preserved
 bytes-preserved c = record {
-  done = xored_next c.args.bytes.now c.args.stream.now c.bytes.bytes c.bytes.i c.bytes.invariant.done
+  done = xored_next _ _ _ _ c.bytes.invariant.done
       (c.bytes.invariant.rest c.bytes.i (omega arith)) (omega arith) (omega arith) (omega arith);
   rest = λ k above. let other : k ≢ c.bytes.i = omega arith in
       rw get_or-set_other (c.bytes.invariant.rest k (omega arith));
@@ -15,6 +15,6 @@ pub returns : goal.returns
 returns c =
     let x = c.args.bytes.now in
     let y = c.args.stream.now in
-    let len : length (zip2 bit_xor x y) ≡ length x = length-zip2 bit_xor x y c.requires in
-    sym (take_all c.bytes.i c.bytes.bytes (omega arith)) ∙ c.bytes.invariant.done
-    ∙ take_all c.bytes.i (zip2 bit_xor x y) (omega arith)
+    let len = length-zip2 bit_xor x y c.requires in
+    sym (take_all _ _ (omega arith)) ∙ c.bytes.invariant.done
+    ∙ take_all _ _ (omega arith)

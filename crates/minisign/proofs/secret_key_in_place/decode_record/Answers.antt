@@ -1,20 +1,17 @@
-use Rattle.std.proofs.Common.{List, ℕ, Ok, ap, subst, sym, ◌∙◌}
+use Rattle.std.proofs.Common.{Ok, ap, sym, ◌∙◌}
 use Rattle.minisign.specs.SecretKeyText.{secret_key_of_bytes}
-use Rattle.minisign.specs.Texts.{IsBase64Of}
-use Rattle.minisign.proofs.SecretKeyFronts.{front_read, front_refused}
+use Rattle.minisign.proofs.SecretKeyTexts.{front_read, front_refused}
 use Rattle.minisign.proofs.secret_key_in_place.decode_record.Goals as goal
 
 pub returns-then-count-lt158 : goal.returns-then-count-lt158
 returns-then-count-lt158 c =
     let (bytes, base64, count, fits, front) = c.in-Some.ensures in
-    let read = subst (λ (t : List ℕ). IsBase64Of t bytes) c.as_bytes.ensures.value base64 in
-    rw c.into-then-count-lt158.ensures
-    (front_refused c.args.encoded.now _ bytes _ read count fits c.if-count-lt158.true)
+    let read = rw c.as_bytes.ensures.value at base64 in
+    rw c.into-then-count-lt158.ensures (front_refused _ _ bytes _ read count fits c.if-count-lt158.true)
 
 pub returns : goal.returns
 returns c =
     let (bytes, base64, count, fits, front) = c.in-Some.ensures in
-    let read = subst (λ (t : List ℕ). IsBase64Of t bytes) c.as_bytes.ensures.value base64 in
+    let read = rw c.as_bytes.ensures.value at base64 in
     front_read c.args.encoded.now _ bytes _ read count fits front c.if-count-lt158.false
-    ∙ ap (λ (x : List ℕ). Ok (secret_key_of_bytes x))
-    (sym (c.copy_from_slice.ensures.after ∙ c.split_at.ensures.front))
+    ∙ ap (λ x. Ok (secret_key_of_bytes x)) (sym (c.copy_from_slice.ensures.after ∙ c.split_at.ensures.front))

@@ -7,5 +7,5 @@ pub returns-clause-each : goal.returns-clause-each
 returns-clause-each c =
     let items : c.extend_from_slice-2.new.self.items ≡ c.args.front.now ++ c.args.back.now = grind
     (arith, common_steps) in
-    rw items (both_bytes c.args.front.now c.args.back.now (λ i. omega (arith, c.type_inv.front i))
+    rw items (both_bytes _ c.args.back.now (λ i. omega (arith, c.type_inv.front i))
     (λ i. omega (arith, c.type_inv.back i)))

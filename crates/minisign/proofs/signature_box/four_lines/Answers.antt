@@ -6,22 +6,21 @@ use Rattle.minisign.proofs.signature_box.four_lines.Goals as goal
 pub returns-in_default : goal.returns-in_default
 returns-in_default c =
     let start = ap lines (sym c.lines-lines.ensures.rest) in
-    rw c.into.ensures (of_lines c.args.text.now _ (start ∙ c.in_default.ensures.none))
+    rw c.into.ensures (of_lines _ _ (start ∙ c.in_default.ensures.none))
 
 pub returns-in_default-next_line : goal.returns-in_default-next_line
 returns-in_default-next_line c =
     let start = ap lines (sym c.lines-lines.ensures.rest) in
     let a = c.in-Some.untrusted_comment.now in
     rw c.into-in_default-next_line.ensures
-    (of_lines c.args.text.now _
-    (start ∙ c.in-Some.ensures.some ∙ ap (λ l. a ∷ l) c.in_default-next_line.ensures.none))
+    (of_lines _ _ (start ∙ c.in-Some.ensures.some ∙ ap (λ l. a ∷ l) c.in_default-next_line.ensures.none))
 
 pub returns-in_default-next_line-2 : goal.returns-in_default-next_line-2
 returns-in_default-next_line-2 c =
     let start = ap lines (sym c.lines-lines.ensures.rest) in
     let a = c.in-Some.untrusted_comment.now in
     let b = c.in-Some-next_line.signature.now in
-    rw c.into-in_default-next_line-2.ensures (of_lines c.args.text.now _
+    rw c.into-in_default-next_line-2.ensures (of_lines _ _
     (start ∙ c.in-Some.ensures.some ∙ ap (λ l. a ∷ l) c.in-Some-next_line.ensures.some
     ∙ ap (λ l. a ∷ b ∷ l) c.in_default-next_line-2.ensures.none))
 
@@ -31,7 +30,7 @@ returns-in_default-next_line-3 c =
     let a = c.in-Some.untrusted_comment.now in
     let b = c.in-Some-next_line.signature.now in
     let d = c.in-Some-next_line-2.trusted_comment.now in
-    rw c.into-in_default-next_line-3.ensures (of_lines c.args.text.now _
+    rw c.into-in_default-next_line-3.ensures (of_lines _ _
     (start ∙ c.in-Some.ensures.some ∙ ap (λ l. a ∷ l) c.in-Some-next_line.ensures.some
     ∙ ap (λ l. a ∷ b ∷ l) c.in-Some-next_line-2.ensures.some
     ∙ ap (λ l. a ∷ b ∷ d ∷ l) c.in_default-next_line-3.ensures.none))
@@ -42,8 +41,7 @@ returns c =
     let a = c.in-Some.untrusted_comment.now in
     let b = c.in-Some-next_line.signature.now in
     let d = c.in-Some-next_line-2.trusted_comment.now in (
-      of_lines c.args.text.now _
-          (start ∙ c.in-Some.ensures.some ∙ ap (λ l. a ∷ l) c.in-Some-next_line.ensures.some
+      of_lines _ _ (start ∙ c.in-Some.ensures.some ∙ ap (λ l. a ∷ l) c.in-Some-next_line.ensures.some
           ∙ ap (λ l. a ∷ b ∷ l) c.in-Some-next_line-2.ensures.some
           ∙ ap (λ l. a ∷ b ∷ d ∷ l) c.in-Some-next_line-3.ensures.some),
       omega (

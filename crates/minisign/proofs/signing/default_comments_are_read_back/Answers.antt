@@ -1,6 +1,38 @@
-use Rattle.std.proofs.Common.{arith}
-use Rattle.minisign.proofs.DefaultComments.{defaults_kept}
+use Rattle.std.proofs.Common.{arith, ℕ, ◌^◌, ◌<◌, List, [], ◌∷◌, None, codes, refl}
+use Rattle.std.specs.Str.Parse.{AllDigits}
+use Rattle.std.proofs.lemmas.Fmt.{decimal_is_IsNumeral}
+use Rattle.std.proofs.lemmas.Str.Parse.{digit_from_value}
+use Rattle.minisign.specs.Signing.{AreChosenReadBack, given_comments, default_trusted_comment}
+use Rattle.minisign.specs.Signing.{default_untrusted_comment}
+use Rattle.minisign.proofs.WrittenLines.{AllGraphic, each_append, graphic_codes, trim_graphic, shown_codes}
+use Rattle.minisign.proofs.WrittenLines.{shown_graphic, shown_one_line}
 use Rattle.minisign.proofs.signing.default_comments_are_read_back.Goals as goal
 
+graphic_digits : (ds : List ℕ) → AllDigits 10 ds → AllGraphic ds
+graphic_digits [] d = tt
+graphic_digits (c ∷ cs) d =
+    ((omega (arith, digit_from_value c d.0), omega (arith, digit_from_value c d.0)), graphic_digits cs d.1)
+
+graphic_moment : (moment : ℕ) → moment < 2 ^ 64 → AllGraphic (default_trusted_comment moment)
+unfolding default_trusted_comment
+graphic_moment moment small =
+    each_append _ (codes "timestamp:") _ (graphic_codes (codes "timestamp:") refl)
+    (graphic_digits _ (decimal_is_IsNumeral moment small).0.1)
+
+defaults_kept : (moment : ℕ) → moment < 2 ^ 64 → AreChosenReadBack (given_comments None None moment)
+unfolding default_untrusted_comment
+defaults_kept _ small =
+    let graphic = graphic_moment _ small in
+    let trusted = shown_one_line _ (shown_graphic _ graphic) in
+    let untrusted = shown_one_line default_untrusted_comment (shown_codes default_untrusted_comment refl) in
+    record {
+      one_line = record {
+        untrusted_one_line = untrusted.no_feed;
+        trusted_one_line = trusted.no_feed;
+        trusted_trimmed = trim_graphic _ graphic;
+      };
+      untrusted_end = untrusted.no_return;
+    }
+
 pub returns : goal.returns
-returns c = defaults_kept c.args.moment (omega (arith, c.ranges.moment))
+returns c = defaults_kept _ (omega (arith, c.ranges.moment))

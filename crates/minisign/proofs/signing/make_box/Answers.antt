@@ -13,15 +13,11 @@ returns-clause-signed g c = λ message same_digest.
     { trusted = trusted; untrusted = string_bytes c.args.untrusted_comment } in
     let keynum = ap (λ k. k.keynum) c.sk.view_is in
     let secret : c.sk.inside.keynum_sk.sk ≡ c.args.sk.now.secret = ap (λ k. k.secret) c.sk.view_is in
-    let signature : c.signature-sig.result ≡ sign (blake2b_digest 64 message) c.args.sk.now.secret
-    (Some c.in_ok-first.first) =
-    c.signature-sig.ensures ∙ rw (same_digest, secret) refl in
+    let signature = rw (same_digest, secret) at c.signature-sig.ensures in
     let signed : c.deref.result.now ≡ c.signature-sig.result ++ trusted =
-    c.deref.ensures.value ∙ c.in_ok-signed.ensures.bytes ∙ ap (λ (t : List ℕ). c.signature-sig.result ++ t)
+    c.deref.ensures.value ∙ c.in_ok-signed.ensures.bytes ∙ ap (λ t. c.signature-sig.result ++ t)
     c.as_str.ensures.value in
-    let global : c.in_ok-from_slice.field-0.items
-    ≡ sign (c.signature-sig.result ++ trusted) c.args.sk.now.secret (Some c.in_ok-first.second) =
-    c.in_ok-from_slice.ensures.items ∙ c.signature-global_sig.ensures ∙ rw (signed, secret) refl in
+    let global = c.in_ok-from_slice.ensures.items ∙ rw (signed, secret) at c.signature-global_sig.ensures in
     let digest_bytes : IsBytes c.args.digest.now = search rules in
     let signed_bytes : IsBytes (c.signature-sig.result ++ trusted) = rw (← signed, c.deref.ensures.value)
     c.in_ok-signed.ensures.each in

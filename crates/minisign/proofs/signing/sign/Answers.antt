@@ -1,4 +1,4 @@
-use Rattle.std.proofs.Common.{◌≡◌, false, inl, inr, option_copied}
+use Rattle.std.proofs.Common.{◌≡◌, false, inl, inr}
 use Rattle.minisign.specs.Sealing.{is_encrypted}
 use Rattle.minisign.proofs.Beginnings.{passed_up}
 use Rattle.minisign.proofs.SignedBoxes.{refused_by_given}
@@ -8,12 +8,10 @@ pub returns-in_err-test_given_key-clause-refused : goal.returns-in_err-test_give
 returns-in_err-test_given_key-clause-refused g c =
     let (message, read, (signed, genuine)) = c.in_ok-signature_box.ensures.signed in
     let opened : is_encrypted c.args.sk.now ≡ false = cc in
-    passed_up c.from_residual-in_err-test_given_key.result c.in_err-test_given_key.field-0.0 _
-    c.from_residual-in_err-test_given_key.ensures.1
+    passed_up _ _ _ c.from_residual-in_err-test_given_key.ensures.1
     (elim c.in_err-test_given_key.ensures.refused [
       | inl out_of_memory ↦ inl
           (inr (opened, inl ((out_of_memory, c.in_ok-signature_box.ensures.no_new_fault), read.no_new_fault)))
-      | inr refused ↦ inr (refused_by_given (g.S.Scheme.accepts c.args.scheme.now)
-          (g.S.Scheme.signature_of c.args.scheme.now) (option_copied c.args.pk) _ message _ _ _ _ _ opened
+      | inr refused ↦ inr (refused_by_given (g.S.Scheme.accepts c.args.scheme.now) _ _ _ _ _ _ _ _ _ opened
           read signed refused)
     ])

@@ -1,6 +1,4 @@
-use Rattle.std.proofs.Common.{◌≡◌, List, ℕ, [], ◌∷◌, ◌++◌, None, Some, OnOk, OnErr, codes, ap, sym, subst}
-use Rattle.std.proofs.Common.{◌∙◌, refl}
-use Rattle.minisign.proofs.Common.{Appends, AppendsFront}
+use Rattle.std.proofs.Common.{◌≡◌, List, ℕ, [], ◌∷◌, ◌++◌, None, Some, codes, ap, sym, ◌∙◌, refl}
 use Rattle.minisign.specs.Records.{CommentsRecord, SignatureBoxRecord}
 use Rattle.minisign.specs.Acceptance.{verified_text, trusted_comment_text, status_lines}
 use Rattle.minisign.proofs.verifying.say_lines.Goals as goal
@@ -19,34 +17,26 @@ one_line x bare = rw bare refl
 
 pub returns-in-Some-clause-said : goal.returns-in-Some-clause-said
 returns-in-Some-clause-said g c =
-    let lines = both_lines c.args.signature_box.now _ c.as_bytes.result.now
+    let lines = both_lines c.args.signature_box.now _ _
     (sym (ap (λ b. b.comments) c.signature_box.view_is) ∙ c.in-Some.is)
     (c.as_bytes.ensures.value ∙ ap (λ x. x.trusted) c.comments.view_is) in
-    subst (λ (l : List ℕ). OnOk c.put_line.result
-    (Appends (g.W.Sink.taken c.args.status.now) (g.W.Sink.taken c.put_line.new.sink) l)) lines
-    c.put_line.ensures.bytes
+    rw lines at c.put_line.ensures.bytes
 
 pub returns-in-Some-clause-front : goal.returns-in-Some-clause-front
 returns-in-Some-clause-front g c =
-    let lines = both_lines c.args.signature_box.now _ c.as_bytes.result.now
+    let lines = both_lines c.args.signature_box.now _ _
     (sym (ap (λ b. b.comments) c.signature_box.view_is) ∙ c.in-Some.is)
     (c.as_bytes.ensures.value ∙ ap (λ x. x.trusted) c.comments.view_is) in
-    subst (λ (l : List ℕ). OnErr c.put_line.result
-    (AppendsFront (g.W.Sink.taken c.args.status.now) (g.W.Sink.taken c.put_line.new.sink) l)) lines
-    c.put_line.ensures.front
+    rw lines at c.put_line.ensures.front
 
 pub returns-in-None-clause-said : goal.returns-in-None-clause-said
 returns-in-None-clause-said g c =
     let lines = one_line c.args.signature_box.now
     (sym (ap (λ b. b.comments) c.signature_box.view_is) ∙ c.in-None.is) in
-    subst (λ (l : List ℕ). OnOk c.put_line-in-None.result
-    (Appends (g.W.Sink.taken c.args.status.now) (g.W.Sink.taken c.put_line-in-None.new.sink) l)) lines
-    c.put_line-in-None.ensures.bytes
+    rw lines at c.put_line-in-None.ensures.bytes
 
 pub returns-in-None-clause-front : goal.returns-in-None-clause-front
 returns-in-None-clause-front g c =
     let lines = one_line c.args.signature_box.now
     (sym (ap (λ b. b.comments) c.signature_box.view_is) ∙ c.in-None.is) in
-    subst (λ (l : List ℕ). OnErr c.put_line-in-None.result
-    (AppendsFront (g.W.Sink.taken c.args.status.now) (g.W.Sink.taken c.put_line-in-None.new.sink) l))
-    lines c.put_line-in-None.ensures.front
+    rw lines at c.put_line-in-None.ensures.front

@@ -11,19 +11,17 @@ one_more : (bytes : List ℕ) (i : ℕ) → i < length bytes → secret_text (ta
 one_more bytes i below =
     sym (ap (flat_map (digits 16 false)) (take_more bytes i 0 below) ∙ flat_map-append (digits 16 false)
     (take i bytes) (get_or bytes i 0 ∷ [])
-    ∙ ap (λ (l : List ℕ). secret_text (take i bytes) ++ l) (append-nil (digits 16 false (get_or bytes i 0))))
+    ∙ ap (λ l. secret_text (take i bytes) ++ l) (append-nil (digits 16 false (get_or bytes i 0))))
 
 pub bytes-init : goal.bytes-init
 bytes-init g c = λ plain. search rules
 
 pub bytes-preserved : goal.bytes-preserved
-bytes-preserved g c = λ plain.
-    has_written_of_eq _ _ _ _ _ (one_more c.args.self.now.sk c.bytes.byte-index (omega arith))
+bytes-preserved g c = λ plain. has_written_of_eq _ _ _ _ _ (one_more _ _ (omega arith))
     (has_written_append _ _ _ _ _ _ (c.bytes.invariant plain) (search rules))
 
 pub returns : goal.returns
 returns g c = record {
-  writes = λ plain _. has_written_of_eq _ _ _ _ _
-      (ap secret_text (take_all c.bytes.byte-index c.args.self.now.sk (omega arith)))
+  writes = λ plain _. has_written_of_eq _ _ _ _ _ (ap secret_text (take_all _ _ (omega arith)))
       (c.bytes.invariant plain);
 }

@@ -8,8 +8,8 @@ pub returns-clause-made : goal.returns-clause-made
 returns-clause-made g c =
     let public_of = g.S.Scheme.public_of c.args.scheme.now in
     let z = random_call g.Z.RandomSource c.args.random.now c.draw_with_salt.new.random in
-    let seed : List ℕ = c.in_ok-drawn.drawn.seed in
-    let keynum : List ℕ = c.in_ok-drawn.drawn.keynum in
+    let seed = c.in_ok-drawn.drawn.seed in
+    let keynum = c.in_ok-drawn.drawn.keynum in
     let salt : List ℕ = c.in_ok-drawn.drawn.salt in
     IfOk-weaker c.seal_pair.result _ _ (λ pair (typed, prompted, sealed).
     let made : IsSealedPair public_of typed z pair.pk pair.sk =
@@ -28,23 +28,21 @@ returns-clause-made g c =
       prompted = prompted;
       pair = made;
       opens =
-          sealed_pair public_of typed z pair.pk pair.sk made;
+          sealed_pair _ _ z _ _ made;
     }) c.seal_pair.ensures.sealed
 
 pub returns-clause-refused : goal.returns-clause-refused
 returns-clause-refused g c =
-    let seed : List ℕ = c.in_ok-drawn.drawn.seed in
-    let keynum : List ℕ = c.in_ok-drawn.drawn.keynum in
-    let salt : List ℕ = c.in_ok-drawn.drawn.salt in
-    let count : length (seed ++ keynum ++ salt) ≡ 72 = simp length-append
-    (omega (
+    let seed = c.in_ok-drawn.drawn.seed in
+    let keynum = c.in_ok-drawn.drawn.keynum in
+    let salt = c.in_ok-drawn.drawn.salt in
+    let count : length (seed ++ keynum ++ salt) ≡ 72 = simp length-append (omega (
       arith,
       c.in_ok-drawn.ensures.lengths.seed_length,
       c.in_ok-drawn.ensures.lengths.keynum_length,
       c.in_ok-drawn.ensures.salt,
     )) in
-    IfErr-weaker c.seal_pair.result _ _ (λ e failed.
-    inr (
+    IfErr-weaker _ _ _ (λ e failed. inr (
       record {
         bytes = seed ++ keynum ++ salt;
         count = count;

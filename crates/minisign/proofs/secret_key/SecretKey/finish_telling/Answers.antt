@@ -8,10 +8,10 @@ tested_last : {R W V : Type 0} (p : PromptCall R W) (text : List ℕ) (test : Re
     (r : Result ⊤ Fault) → StepEnds p (Say text) (Ok tt)
     → MatchResult r (λ _. test ≡ Ok v) (λ e. test ≡ Err e)
     → ConversationEnds p (Say text ∷ Test (result_err test) ∷ []) r
-tested_last p text test v (Ok _) said held = (p.new, said, (p.new, (ap result_err held, refl), refl))
-tested_last p text test v (Err e) said refused = inr (p.new, said, inl (ap result_err refused, refl))
+tested_last p _ _ v (Ok _) said held = (p.new, said, (p.new, (ap result_err held, refl), refl))
+tested_last p _ _ v (Err e) said refused = inr (p.new, said, inl (ap result_err refused, refl))
 
 pub returns-clause-ended : goal.returns-clause-ended
 returns-clause-ended g c =
     tested_last (prompt_call g.R.Source g.W.Sink c.args.prompt.now c.say_done.new.prompt) _ _ _
-    c.test_restored.result c.in_ok-say_done.ensures.ended c.test_restored.ensures
+    _ c.in_ok-say_done.ensures.ended c.test_restored.ensures

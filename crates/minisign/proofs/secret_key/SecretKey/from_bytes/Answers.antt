@@ -4,7 +4,7 @@ use Rattle.minisign.proofs.SecretKeyTexts.{bytes_are_read}
 use Rattle.minisign.proofs.secret_key.SecretKey.from_bytes.Goals as goal
 
 pub returns : goal.returns
-returns c = sym (bytes_are_read c.args.bytes.now _ (record {
+returns c = sym (bytes_are_read _ _ (record {
   algorithm_length = c.in_ok-sig_alg.ensures.first;
   kdf_length = c.in_ok-sig_alg.ensures.second;
   checksum_algorithm_length = c.in_ok-sig_alg.ensures.third;

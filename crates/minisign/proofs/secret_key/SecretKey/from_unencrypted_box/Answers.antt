@@ -1,21 +1,19 @@
 use Rattle.std.proofs.Common.{sym}
-use Rattle.minisign.proofs.Common.{err_from_is_err_and}
 use Rattle.minisign.proofs.Openings.{unencrypted_refused, unencrypted_value, unread_unencrypted}
+use Rattle.minisign.proofs.Beginnings.{err_is}
 use Rattle.minisign.proofs.secret_key.SecretKey.from_unencrypted_box.Goals as goal
 
 pub returns-in_err-sk : goal.returns-in_err-sk
 returns-in_err-sk c =
-    let p = err_from_is_err_and c.from_residual.result c.from_residual.ensures.1 in
-    rw (p.1, p.2) (sym (unread_unencrypted c.args.sk_box _
+    rw (err_is _ _ c.from_residual.ensures.1) (sym (unread_unencrypted _ _
     (sym (rw c.as_str.ensures at c.in_err-sk.ensures))))
 
 pub returns-in_err-test_unencrypted : goal.returns-in_err-test_unencrypted
 returns-in_err-test_unencrypted c =
-    let p = err_from_is_err_and c.from_residual-in_err-test_unencrypted.result
-    c.from_residual-in_err-test_unencrypted.ensures.1 in
-    rw (p.1, p.2) (unencrypted_refused c.args.sk_box c.in_ok-sk.sk (rw c.as_str.ensures at c.in_ok-sk.ensures)
+    rw (err_is _ _ c.from_residual-in_err-test_unencrypted.ensures.1)
+    (unencrypted_refused _ c.in_ok-sk.sk (rw c.as_str.ensures at c.in_ok-sk.ensures)
     _ c.in_err-test_unencrypted.ensures)
 
 pub returns : goal.returns
-returns c = unencrypted_value c.args.sk_box c.in_ok-sk.sk (rw c.as_str.ensures at c.in_ok-sk.ensures)
+returns c = unencrypted_value _ _ (rw c.as_str.ensures at c.in_ok-sk.ensures)
     c.in_ok-test_unencrypted.ensures

@@ -8,7 +8,7 @@ use Rattle.minisign.proofs.secret_key.SecretKey.open_asking.Goals as goal
 pub returns-in_err-password-clause-refused : goal.returns-in_err-password-clause-refused
 returns-in_err-password-clause-refused g c =
     let (bytes, stopped) = c.in_err-password.ensures.refused in
-    passed_up c.from_residual.result c.in_err-password.field-0.0 _ c.from_residual.ensures.1 (
+    passed_up _ _ _ c.from_residual.ensures.1 (
       bytes,
       stopped_first (prompt_call g.R.Source g.W.Sink c.args.prompt.now c.ask_password.new.prompt)
           (asking_steps asking_text bytes)
@@ -24,7 +24,7 @@ returns-clause-opened g c =
     let telling = telling_steps c.args.self (string_bytes c.in_ok-password.password)
     c.args.derivation.bound in
     told_value c.open_telling.result _
-    (λ a. ConversationEnds (record p { old = c.ask_password.new.prompt }) telling a) _ opened ended
+    (ConversationEnds (record p { old = c.ask_password.new.prompt }) telling) _ opened ended
     (λ v opens told. (
       bytes,
       string_bytes c.in_ok-password.password,
@@ -45,8 +45,7 @@ returns-clause-refused g c =
     let telling = telling_steps c.args.self (string_bytes c.in_ok-password.password)
     c.args.derivation.bound in
     told_fault c.open_telling.result
-    (λ a. ConversationEnds (record p { old = c.ask_password.new.prompt }) telling a) _ ended
-    (λ e stopped. (
+    (ConversationEnds (record p { old = c.ask_password.new.prompt }) telling) _ ended (λ e stopped. (
       bytes,
       second_ended p c.ask_password.new.prompt (asking_steps asking_text bytes)
           (telling_steps c.args.self (typed_password bytes) c.args.derivation.bound) (Err e) asked

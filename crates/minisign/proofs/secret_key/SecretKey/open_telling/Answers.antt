@@ -1,34 +1,27 @@
 use Rattle.std.proofs.Common.{ap, inl, inr, refl, ⊎_elim}
-use Rattle.minisign.proofs.Common.{result_err, err_from_is_err_and}
+use Rattle.minisign.proofs.Common.{result_err}
 use Rattle.minisign.proofs.Openings.{no_fault}
+use Rattle.minisign.proofs.Beginnings.{err_is}
 use Rattle.minisign.proofs.secret_key.SecretKey.open_telling.Goals as goal
 
 pub returns-in_err-apply_stream-clause-ended : goal.returns-in_err-apply_stream-clause-ended
 returns-in_err-apply_stream-clause-ended g c =
     let said = c.say_deriving.new.prompt in
-    let p = err_from_is_err_and c.from_residual-in_err-apply_stream.result
-    c.from_residual-in_err-apply_stream.ensures.1 in
-    rw (p.1, p.2) (⊎_elim
-    (λ (memory, work). inr (
+    rw (err_is _ _ c.from_residual-in_err-apply_stream.ensures.1) (⊎_elim (λ (memory, work). inr (
       said,
       c.in_ok-say_deriving.ensures.ended,
-      inr
-          (said, (no_fault _ work, refl), inl ((memory, tt), refl)),
-    ))
-    (λ work. inr (said, c.in_ok-say_deriving.ensures.ended, inl (ap result_err work, refl)))
+      inr (said, (no_fault _ work, refl), inl ((memory, tt), refl)),
+    )) (λ work. inr (said, c.in_ok-say_deriving.ensures.ended, inl (ap result_err work, refl)))
     c.in_err-apply_stream.ensures.refused)
 
 pub returns-in_err-finish_telling-clause-ended : goal.returns-in_err-finish_telling-clause-ended
 returns-in_err-finish_telling-clause-ended g c =
     let said = c.say_deriving.new.prompt in
     let refused = rw c.in_ok-apply_stream.ensures.xored at c.in_err-finish_telling.ensures.ended in
-    let p = err_from_is_err_and c.from_residual-in_err-finish_telling.result
-    c.from_residual-in_err-finish_telling.ensures.1 in
-    rw (p.1, p.2) (inr (
+    rw (err_is _ _ c.from_residual-in_err-finish_telling.ensures.1) (inr (
       said,
       c.in_ok-say_deriving.ensures.ended,
-      inr
-          (said, (no_fault _ c.in_ok-apply_stream.ensures.allowed, refl), inr (said, (tt, refl), refused)),
+      inr (said, (no_fault _ c.in_ok-apply_stream.ensures.allowed, refl), inr (said, (tt, refl), refused)),
     ))
 
 pub returns-clause-ended : goal.returns-clause-ended

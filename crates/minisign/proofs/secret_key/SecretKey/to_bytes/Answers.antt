@@ -4,7 +4,7 @@ use Rattle.minisign.proofs.SecretKeyTexts.{bytes_are_read}
 use Rattle.minisign.proofs.secret_key.SecretKey.to_bytes.Goals as goal
 
 pub returns-clause-reads_back : goal.returns-clause-reads_back
-returns-clause-reads_back c = bytes_are_read c.push_three-3.new.bytes.items c.args.self.now (record {
+returns-clause-reads_back c = bytes_are_read _ _ (record {
   algorithm_length = grind (arith, common_steps);
   kdf_length = grind (arith, common_steps);
   checksum_algorithm_length = grind (arith, common_steps);

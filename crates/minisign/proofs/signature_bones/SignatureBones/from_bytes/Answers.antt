@@ -1,11 +1,11 @@
-use Rattle.std.proofs.Common.{◌≡◌, ◌∙◌, ap, sym, inr, take}
+use Rattle.std.proofs.Common.{◌∙◌, ap, sym, inr}
 use Rattle.minisign.proofs.RecordFields.{stored_algorithm, stored_length, unknown_algorithm}
 use Rattle.minisign.proofs.signature_bones.SignatureBones.from_bytes.Goals as goal
 
 pub returns-then-ne-2-clause-refused : goal.returns-then-ne-2-clause-refused
 returns-then-ne-2-clause-refused c =
     let reads = c.in_ok-signature.ensures in
-    let algorithm : take 2 c.args.bytes.now ≡ c.signature.inside.sig_alg = stored_algorithm _ _ reads
+    let algorithm = stored_algorithm _ _ reads
     ∙ sym (ap (λ s. s.algorithm) c.signature.view_is) in
     inr (
       c.into.ensures,

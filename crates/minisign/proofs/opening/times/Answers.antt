@@ -1,17 +1,17 @@
--- A bound on the rows that are made is one on how often they are made.
-use Rattle.std.proofs.Common.{◌≡◌, ℕ, ◌-◌, ◌*◌, ◌/◌, ◌^◌, ◌<◌, ◌≤◌, min, nat_lt, arith}
+use Rattle.std.proofs.Common.{arith, ◌≡◌, ℕ, ◌-◌, ◌*◌, ◌/◌, ◌^◌, ◌<◌, ◌≤◌, min, nat_lt}
 use Rattle.std.proofs.Math.Nat.{div-lt_iff_lt-mul, mul-le-mul, mul_comm}
 use Rattle.std.proofs.lemmas.Bool.{lt-ltb, ltb-true, ltb_from_iff}
 use Rattle.std.proofs.lemmas.Nat.{pow_pos}
+use Rattle.minisign.proofs.opening.times.Goals as goal
 
 -- no more rows than so many are made exactly where they are made no more often than the quotient says, cut to
 -- 32 bits
-pub same_test : (most n p m : ℕ) → p < 2 ^ 30 → m ≡ min (most / 2 ^ n) (2 ^ 32 - 1)
+same_test : (most n p m : ℕ) → p < 2 ^ 30 → m ≡ min (most / 2 ^ n) (2 ^ 32 - 1)
     → nat_lt m p ≡ nat_lt most (2 ^ n * p)
 same_test most n p m small is =
-    let turned : 2 ^ n * p ≡ p * 2 ^ n = mul_comm (2 ^ n) p in
+    let turned = mul_comm (2 ^ n) p in
     ltb_from_iff (
-      λ h. let below : m < p = ltb-true m p h in
+      λ h. let below = ltb-true m p h in
           let within : most / 2 ^ n < p = omega (arith, is, below, small) in
           let all : most < p * 2 ^ n = (div-lt_iff_lt-mul {k = 2 ^ n} {x = most} {y = p} (pow_pos n)).0
           within in
@@ -23,7 +23,13 @@ same_test most n p m small is =
     )
 
 -- a parallelization that is accepted is below 2 ^ 30
-pub few_parts : (r p : ℕ) → 1 ≤ r → r * p < 2 ^ 30 → p < 2 ^ 30
+few_parts : (r p : ℕ) → 1 ≤ r → r * p < 2 ^ 30 → p < 2 ^ 30
 few_parts r p some small =
-    let one : 1 * p ≤ r * p = mul-le-mul {n₁ = 1} {m₁ = p} {n₂ = r} {m₂ = p} some (omega arith) in
+    let one = mul-le-mul {n₁ = 1} {m₁ = p} {n₂ = r} {m₂ = p} some (omega arith) in
     omega (arith, one, small)
+
+pub returns : goal.returns
+returns c =
+    let v = c.args.params.now in
+    same_test _ _ _ _ (few_parts _ _ c.n_log2.ensures.accepted.block_size c.n_log2.ensures.accepted.product)
+    (grind arith)
