@@ -5,7 +5,7 @@
 
   * no line has more than 110 columns but for what a text or an attribute takes;
   * a clause has at most three lines and 300 letters, with white space folded; CLAUSES names the others, each with its
-    reason, and none that has become short;
+    reason, and none that has become short; at most six have more letters;
   * no file of specs/ but Lib.antt passes on names alone, so that imports count once;
   * `minisign` has at most so many bytes of definitions and of proofs, with white space folded, since lines can be filled
     and empty ones left out;
@@ -29,19 +29,19 @@ import sources
 from checks import Checks
 
 COLUMNS, LINES, LETTERS = 110, 3, 300
+# How many clauses may have more letters, of those in CLAUSES.
+LONGEST = 6
 PARTS = ("src", "specs", "proofs")
-# What is measured. minisign_install and minisign_c are left out for now: they are being changed.
-CRATES = ("minisign_hash", "minisign_kdf", "minisign_base", "minisign", "minisign_external", "minisign_page", "minisign_tool",
-          "minisign_programs", "minisign_vectors")
+CRATES = ("minisign_hash", "minisign_kdf", "minisign_base", "minisign", "minisign_external", "minisign_install", "minisign_c",
+          "minisign_page", "minisign_tool", "minisign_programs", "minisign_examples", "minisign_vectors")
 # Bytes of `minisign` with white space folded, which are to fall to 84,000 and 330,000; and definitions of these crates that
 # relate something to an error, also where their signature goes on in another line.
-LIMITS = {"definitions": 95_769, "proofs": 388_436, "relations on errors": 51}
+LIMITS = {"definitions": 88_677, "proofs": 332_763, "relations on errors": 73}
 # Clauses that are longer: the function, the clause, and why.
 DEVICES = "it names each device of the call, as it was and as it is"
 LAW = "a law over all that its premises name, stated once"
 CLAUSES = {
     ("minisign", "KeyPair::generate_and_write_encrypted_keypair", "refused"): DEVICES,
-    ("minisign", "sign_texts", "headline"): DEVICES,
     ("minisign", "sign_texts", "signed"): DEVICES,
     ("minisign", "verify_texts", "headline"): DEVICES,
     ("minisign", "judge", ""): "it names both questions of the scheme",
@@ -50,7 +50,6 @@ CLAUSES = {
     ("minisign_external", "answers_decide", "given"): LAW,
     ("minisign_external", "answers_decide", "own"): LAW,
     ("minisign_external", "KeyText::open_read", ""): "what opens is said for both answers at once",
-    ("minisign_tool", "run_keygen", "refused"): DEVICES,
 }
 TEXT = re.compile(r'"(?:[^"\\]|\\.)*"')
 ATTRIBUTE = re.compile(r"\s*#!?\[.*\]$")
@@ -121,6 +120,8 @@ def main():
         checks.check(which in CLAUSES, *which, f"the clause has {lines} lines and {letters} letters")
     for which in CLAUSES:
         checks.check(which in found, *which, "CLAUSES names it, and it is no longer than the others")
+    longest = sum(letters > LETTERS for _, letters in found.values())
+    checks.check(longest <= LONGEST, "clauses of functions", f"{longest} have more than {LETTERS} letters, where {LONGEST} are the most")
     for what, number in numbers.items():
         checks.check(number <= LIMITS[what], what, f"{number}, where {LIMITS[what]} are the most")
     return checks.end()

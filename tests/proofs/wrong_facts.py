@@ -1,11 +1,11 @@
 #!/usr/bin/env python3
-"""Tries wrong facts: the prover has to reject each value of crates/*/proofs/Facts.antt with another letter, byte, number or
-named error in its place.
+"""Tries wrong facts: with another letter, byte, number or named error in it, the prover has to reject each value of
+crates/*/proofs/Facts.antt.
 
-A fact says what a definition gives: `LEFT ≡ RIGHT`. Here the last literal of RIGHT is changed, and where it has none, that of
-a value of the same file that the fact names, in a copy of this value. All facts of a crate share a check, in which each has to
-be rejected by its name because two values differ. Those that are joined of other facts are changed in a second check, in which
-these stand as they are. What has no value, as a law, is not tried.
+A fact says what a definition gives: `LEFT ≡ RIGHT`. This changes the last literal of RIGHT or, where it has none,
+that of a value of the same file that the fact names, in a copy of this value. All facts of a crate share a check,
+which has to reject each by its name because two values differ. Facts that join others are changed in a second check,
+in which the others stand as they are. What has no value, as a law, is not tried.
 
 Needs Python 3.9 or later and the kit.
 

@@ -1,5 +1,6 @@
 -- Why a secret key is not read or not opened, where a number other than 0 says so.
-use Rattle.std.proofs.Common.{◌≡◌, ◌⊎◌, ◌<◌, ℕ, true, List, Option, Some, None, Result, Ok, Err, inl, inr, ap, arith, refl}
+use Rattle.std.proofs.Common.{◌≡◌, ◌⊎◌, ◌<◌, ℕ, true, List, Option, Some, None, Result, Ok, Err, inl, inr, ap}
+use Rattle.std.proofs.Common.{arith, refl}
 use Rattle.minisign_base.specs.Fault.{Fault, Named}
 use Rattle.minisign_base.specs.declared.faults.NamedFault.TheVariants.{OutOfMemory}
 use Rattle.minisign.specs.Records.{SecretKeyRecord}
@@ -7,8 +8,9 @@ use Rattle.minisign.specs.SecretKeyText.{read_secret_key}
 use Rattle.minisign.specs.Texts.{and_then}
 use Rattle.minisign_external.specs.Numbers.{fault_number, refusal_number}
 use Rattle.minisign_external.specs.PublicKeys.{read_utf8}
-use Rattle.minisign_external.specs.SecretKeys.{DerivesWithin, IsOpeningRefusal, IsTextOpeningRefusal, is_read, open_record, opened_sealed, opened_unsealed}
-use Rattle.minisign_external.specs.SecretKeys.{reading_number, told_opened, unopened_record, with_refusal}
+use Rattle.minisign_external.specs.SecretKeys.{DerivesWithin, IsOpeningRefusal, IsTextOpeningRefusal, is_read}
+use Rattle.minisign_external.specs.SecretKeys.{open_record, opened_sealed, opened_unsealed, reading_number}
+use Rattle.minisign_external.specs.SecretKeys.{told_opened, unopened_record, with_refusal}
 use Rattle.minisign_external.specs.declared.secrets.SecretKeyValue.{SecretKeyValue}
 use Rattle.minisign_external.specs.declared.state.Refusal.{Refusal}
 use Rattle.minisign_external.specs.declared.state.Refusal.TheVariants.{Refused}
@@ -32,11 +34,13 @@ read_error (Err e) n told some = (e, told, refl)
 pub sealed_refusal : (v : UnopenedKeyValue) (password : List ℕ) (most_rows n : ℕ) (old new : SecretKeyValue)
     → is_read v ≡ true
     → (◌≡◌ {A = ℕ × SecretKeyValue} (n, new) (told_opened (opened_sealed v password most_rows) old)
-    ⊎ (◌≡◌ {A = ℕ × SecretKeyValue} (n, new) (told_opened (Err (Refused (Named OutOfMemory))) old) × DerivesWithin v password most_rows))
+    ⊎ (◌≡◌ {A = ℕ × SecretKeyValue} (n, new) (told_opened (Err (Refused (Named OutOfMemory))) old)
+    × DerivesWithin v password most_rows))
     → 0 < n → (r : Refusal Fault) × (n ≡ refusal_number fault_number r)
     × IsOpeningRefusal (unopened_record v) (Some password) most_rows r
 sealed_refusal v password most_rows n old new was_read (inl told) some =
-    let (e, number, failed) = told_error (open_record (unopened_record v) (Some password) most_rows) n old new (rw was_read at told) some in
+    let (e, number, failed) = told_error (open_record (unopened_record v) (Some password) most_rows) n old new
+    (rw was_read at told) some in
     (Refused e, number, inl failed)
 sealed_refusal v password most_rows n old new was_read (inr (told, derives)) some =
     let (_, utf8, allowed) = derives in
@@ -48,7 +52,8 @@ pub unsealed_refusal : (v : UnopenedKeyValue) (most_rows n : ℕ) (old new : Sec
     → 0 < n → (r : Refusal Fault) × (n ≡ refusal_number fault_number r)
     × IsOpeningRefusal (unopened_record v) None most_rows r
 unsealed_refusal v most_rows n old new was_read told some =
-    let (e, number, failed) = told_error (open_record (unopened_record v) None most_rows) n old new (rw was_read at told) some in
+    let (e, number, failed) = told_error (open_record (unopened_record v) None most_rows) n old new
+    (rw was_read at told) some in
     (Refused e, number, inl failed)
 
 pub reading_refusal : (text : List ℕ) (password : Option (List ℕ)) (most_rows n : ℕ)

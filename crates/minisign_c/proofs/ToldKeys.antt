@@ -8,7 +8,8 @@ use Rattle.minisign_external.specs.declared.secrets.SecretKeyValue.{SecretKeyVal
 use Rattle.minisign_external.specs.declared.state.Refusal.{Refusal}
 
 -- a rejection as a number, and the key that stays
-pub told_refusal : (given : Result SecretKeyRecord (Refusal Fault)) (r : Refusal Fault) (old new : SecretKeyValue) (n : ℕ) → n ≡ refusal_number fault_number r
+pub told_refusal : (given : Result SecretKeyRecord (Refusal Fault)) (r : Refusal Fault)
+    (old new : SecretKeyValue) (n : ℕ) → n ≡ refusal_number fault_number r
     → ◌≡◌ {A = Result Unit (Refusal Fault) × SecretKeyValue} (Err r, new) (opened_or_kept given old)
     → ◌≡◌ {A = ℕ × SecretKeyValue} (n, new) (told_opened given old)
 told_refusal (Ok key) r old new n same told = let first = ap (λ p. p.0) told in cc first

@@ -1,25 +1,29 @@
-//! What the calls of the header come to where a host makes them in its order, whatever the pieces of the data are. No
-//! program calls these functions: they are there for what their clauses say of the calls that they make.
+//! What the calls of the header come to where a host makes them in its order, whatever the pieces of the data
+//! are. No program calls these functions: they are there for what their clauses say of the calls that they
+//! make.
 
-ghost use Rattle.std.specs.Prelude.{◌≡◌, ◌==◌, ◌⊎◌, ◌<◌, ◌≤◌, ◌+◌, ◌++◌, ℕ, List, [], None, Ok, false, true, drop, length, take};
-ghost use Rattle.std.specs.List.{flat_map};
-ghost use Rattle.std.specs.Option.{option_map};
-ghost use Rattle.minisign_hash.specs.Blake2b.{blake2b_digest};
+ghost use Rattle.std.specs.Prelude.{option_copied, ◌≡◌, ◌==◌, ◌<◌, ◌≤◌, ◌+◌, ◌++◌, ℕ, List, [], None, Ok};
+ghost use Rattle.std.specs.Prelude.{false, true, drop, length, take};
 ghost use Rattle.minisign_base.specs.Fault.{Fault};
+ghost use Rattle.minisign_hash.specs.Blake2b.{blake2b_digest};
 ghost use Rattle.minisign.specs.PublicKeyText.{read_public_key};
 ghost use Rattle.minisign.specs.Records.{SecretKeyRecord};
 ghost use Rattle.minisign.specs.SignatureText.{SignatureTextRecord};
 ghost use Rattle.minisign.specs.Texts.{and_then};
+ghost use Rattle.minisign.specs.Signing.{comments_of};
 ghost use Rattle.minisign_external.specs.Numbers.{IsAnswer, answer_yes, fault_number, refusal_number};
 ghost use Rattle.minisign_external.specs.PublicKeys.{read_utf8, value_of};
 ghost use Rattle.minisign_external.specs.Questions.{read_under, verdict_under};
-ghost use Rattle.minisign_external.specs.SecretKeys.{IsOpeningRefusal, IsTextOpeningRefusal, is_opened, is_read, open_record, opened_text};
-ghost use Rattle.minisign_external.specs.SecretKeys.{public_value_of, taken_key, unopened_record};
+ghost use Rattle.minisign_external.specs.SecretKeys.{IsOpeningRefusal, IsTextOpeningRefusal, is_read};
+ghost use Rattle.minisign_external.specs.SecretKeys.{open_record, public_value_of, taken_key};
+ghost use Rattle.minisign_external.specs.SecretKeys.{unopened_record};
 ghost use Rattle.minisign_external.specs.Signatures.{IsReadFrom};
-ghost use Rattle.minisign_external.specs.Signing.{HoldsText, IsPairOf, IsWritingNumber, IsWritingRefusal, comments_of, first_signature, second_signature};
+ghost use Rattle.minisign_external.specs.Signing.{HoldsOwnText, IsOwnRefusal, IsPairOf, OwnTextVerifies};
+ghost use Rattle.minisign_external.specs.Signing.{joined};
 ghost use Rattle.minisign_external.specs.States.{AreAsked, HasAsked, IsFedState, KeepsAsked, verdict_number};
 ghost use Rattle.minisign_external.specs.declared.public_keys.PublicKeyValue.{PublicKeyValue};
 ghost use Rattle.minisign_external.specs.declared.state.Refusal.{Refusal};
+ghost use Rattle.minisign_c.specs.KeyTexts.{IsSigningNumber, opened_by};
 
 use crate::{
     minisign_ask, minisign_comment_message, minisign_digest, minisign_init,
@@ -37,8 +41,8 @@ use minisign_external::state::{Questions, State};
 use minisign_external::unopened_keys::{KeyText, UnopenedKeyValue};
 use std::alloc::Global;
 
-/// Verifies the joined pieces, with two texts: returns the first number that is not 0, or that of the verdict. `room` has
-/// as many bytes as the text of the signature at least.
+/// Verifies the joined pieces, with two texts: returns the first number that is not 0, or that of the
+/// verdict. `room` has as many bytes as the text of the signature at least.
 pub fn verify_in_a_row<S: Scheme>(
     scheme: &S,
     pk_text: &[u8],
@@ -48,10 +52,10 @@ pub fn verify_in_a_row<S: Scheme>(
 ) -> u32
     requires { length sig_text.now ≤ length room.old }
 
-    // **Of every scheme, texts and data, however it is cut: 0 exactly where the key that the one text reads as and the
-    // other text vouch for the joined pieces, otherwise the number of the first case that fails.**
+    // **Of every scheme, texts and data, however it is cut: 0 exactly where the key that the one text reads
+    // as and the other text vouch for the joined pieces, otherwise the number of the first case that fails.**
     ensures { result ≡ verdict_number (and_then (read_utf8 read_public_key pk_text.now) (λ k.
-        verdict_under (S.accepts scheme.now) (value_of k) sig_text.now (flat_map (λ piece. piece.now) pieces.now) false)) }
+        verdict_under (S.accepts scheme.now) (value_of k) sig_text.now (joined pieces.now) false)) }
 {
     let mut key = PublicKeyValue {
         key: [0; 32],
@@ -73,7 +77,8 @@ fn verify_under<S: Scheme>(
     room: &mut [u8],
 ) -> u32
     requires { length sig_text.now ≤ length room.old }
-    ensures { result ≡ verdict_number (verdict_under (S.accepts scheme.now) key.now sig_text.now (flat_map (λ piece. piece.now) pieces.now) false) }
+    ensures { result ≡ verdict_number
+        (verdict_under (S.accepts scheme.now) key.now sig_text.now (joined pieces.now) false) }
 {
     let mut signature = no_signature();
     let number = minisign_read_signature(sig_text, &mut signature);
@@ -111,7 +116,8 @@ fn verify_read<S: Scheme>(
 ) -> u32
     requires room { length sig_text.now ≤ length room.old }
     requires read { (t : SignatureTextRecord) × IsReadFrom signature.now sig_text.now t }
-    ensures { result ≡ verdict_number (verdict_under (S.accepts scheme.now) key.now sig_text.now (flat_map (λ piece. piece.now) pieces.now) false) }
+    ensures { result ≡ verdict_number
+        (verdict_under (S.accepts scheme.now) key.now sig_text.now (joined pieces.now) false) }
 {
     let mut state = State::new();
     minisign_init(&mut state);
@@ -138,7 +144,7 @@ fn verify_read<S: Scheme>(
 // Feeds one piece after another.
 fn feed(state: &mut State, pieces: &[&[u8]]) -> u32
     requires { IsFedState state.old [] }
-    ensures fed { (result ≡ 0) × IsFedState state.new (flat_map (λ piece. piece.now) pieces.now) }
+    ensures fed { (result ≡ 0) × IsFedState state.new (joined pieces.now) }
     ensures asked { KeepsAsked state.old state.new }
 {
     'pieces: for piece in pieces {
@@ -154,8 +160,8 @@ fn feed(state: &mut State, pieces: &[&[u8]]) -> u32
 fn answer<S: Scheme>(scheme: &S, state: &mut State, questions: &Questions, room: &[u8]) -> u32
     requires { questions.now.message_len ≤ length room.now }
     ensures { (v : PublicKeyValue) (text m : List ℕ) (t : SignatureTextRecord) → IsFedState state.old m
-        → HasAsked state.old v text false → read_under v false text ≡ Ok t → AreAsked questions.now room.now v t
-        → result ≡ verdict_number (verdict_under (S.accepts scheme.now) v text m false) }
+        → HasAsked state.old v text false → read_under v false text ≡ Ok t → AreAsked questions.now room.now v
+        t → result ≡ verdict_number (verdict_under (S.accepts scheme.now) v text m false) }
 {
     answers_decide();
     let mut digest = [0u8; 64];
@@ -180,9 +186,9 @@ fn answer_of(is_accepted: bool) -> u32
     if is_accepted { ANSWER_YES } else { ANSWER_NO }
 }
 
-/// Signs the joined pieces, with the text of a secret key, which is opened with its password where there is one, and
-/// writes the text of the signature: returns the first number that is not 0. `room` has 64 bytes more than the trusted
-/// comment at least.
+/// Signs the joined pieces, with the text of a secret key, which is opened with its password where there is
+/// one, and writes the text of the signature: returns the first number that is not 0. `room` has 64 bytes
+/// more than the trusted comment at least.
 pub fn sign_in_a_row<S: Scheme>(
     alloc: Global,
     scheme: &S,
@@ -196,35 +202,23 @@ pub fn sign_in_a_row<S: Scheme>(
 ) -> u32
     requires { 64 + length trusted.now ≤ length room.old }
 
-    // **Of every scheme, text of a key, data, however it is cut, and comments: where the number is 0 the text opens to a
-    // key, and if that is one of a seed, the text of the signature verifies: the verdict on it and the joined pieces,
-    // under the public half of the key, is the trusted comment.**
-    ensures verifies { result ≡ 0 → (k : SecretKeyRecord)
-        × (opened_text key_text.now.text.now (option_map (λ p. p.now) key_text.now.password) key_text.now.most_rows ≡ Ok k)
-        × ((seed : List ℕ) → IsPairOf (S.public_of scheme.now) seed (taken_key k.keynum k.secret)
-        → verdict_under (S.accepts scheme.now) (record { key = drop 32 k.secret; key_id = k.keynum }) (take text_len.new text.new)
-        (flat_map (λ piece. piece.now) pieces.now) false ≡ Ok trusted.now) }
+    // **Of every scheme, text of a key, data, however it is cut, and comments: where the number is 0 the text
+    // opens to a key, and if that is one of a seed, the text of the signature verifies: the verdict on it and
+    // the joined pieces, under the public half of the key, is the trusted comment.**
+    ensures verifies { result ≡ 0 → (k : SecretKeyRecord) × (opened_by key_text.now ≡ Ok k)
+        × OwnTextVerifies S.Scheme scheme.now k (joined pieces.now) trusted.now (take text_len.new text.new) }
 
-    // That text is the one of the two signatures that the scheme makes with the key: of the digest of the joined pieces,
-    // and of that signature followed by the trusted comment. What stands behind it stays.
-    ensures text { result ≡ 0 → (k : SecretKeyRecord)
-        × (opened_text key_text.now.text.now (option_map (λ p. p.now) key_text.now.password) key_text.now.most_rows ≡ Ok k)
-        × HoldsText k.keynum (comments_of trusted.now untrusted.now)
-        (first_signature (S.signature_of scheme.now) k.secret (flat_map (λ piece. piece.now) pieces.now))
-        (second_signature (S.signature_of scheme.now) k.secret (flat_map (λ piece. piece.now) pieces.now) trusted.now)
-        text.new text_len.new }
+    // That text is the one of the two signatures that the scheme makes with the key: of the digest of the
+    // joined pieces, and of that signature followed by the trusted comment. What stands behind it stays.
+    ensures text { result ≡ 0 → (k : SecretKeyRecord) × (opened_by key_text.now ≡ Ok k)
+        × HoldsOwnText S.Scheme scheme.now (taken_key k.keynum k.secret)
+        (comments_of trusted.now untrusted.now) (joined pieces.now) text.new text_len.new }
     ensures rest { result ≡ 0 → drop text_len.new text.new ≡ drop text_len.new text.old }
 
-    // Any other number says why the text of the key does not open, or else what `minisign_signed_text` rejects of that
-    // key, the comments, those signatures and the buffer. Nothing is then written.
-    ensures refused { 0 < result → (r : Refusal Fault) × (result ≡ refusal_number fault_number r)
-        × (IsTextOpeningRefusal key_text.now.text.now (option_map (λ p. p.now) key_text.now.password) key_text.now.most_rows r
-        ⊎ ((k : SecretKeyRecord)
-        × (opened_text key_text.now.text.now (option_map (λ p. p.now) key_text.now.password) key_text.now.most_rows ≡ Ok k)
-        × IsWritingRefusal (taken_key k.keynum k.secret) (comments_of trusted.now untrusted.now)
-        (first_signature (S.signature_of scheme.now) k.secret (flat_map (λ piece. piece.now) pieces.now))
-        (second_signature (S.signature_of scheme.now) k.secret (flat_map (λ piece. piece.now) pieces.now) trusted.now)
-        text.old r)) }
+    // Any other number says why the text of the key does not open, or else what `minisign_signed_text`
+    // rejects of that key, the comments, those signatures and the buffer. Nothing is then written.
+    ensures refused { 0 < result → IsSigningNumber S.Scheme scheme.now key_text.now
+        (comments_of trusted.now untrusted.now) (joined pieces.now) text.old result }
     ensures kept { 0 < result → (text.new ≡ text.old) × (text_len.new ≡ text_len.old) }
 {
     let mut key = no_secret_key();
@@ -260,11 +254,11 @@ fn no_unopened_key() -> UnopenedKeyValue {
 // Reads the text of the key and opens it.
 #[tactic(auto, using(crate::proofs::Refusals::reading_refusal))]
 fn open(alloc: Global, key_text: &KeyText<'_>, key: &mut SecretKeyValue) -> u32
-    ensures opened { result ≡ 0 → (k : SecretKeyRecord)
-        × (opened_text key_text.now.text.now (option_map (λ p. p.now) key_text.now.password) key_text.now.most_rows ≡ Ok k)
+    ensures opened { result ≡ 0 → (k : SecretKeyRecord) × (opened_by key_text.now ≡ Ok k)
         × (key.new ≡ taken_key k.keynum k.secret) }
     ensures refused { 0 < result → (r : Refusal Fault) × (result ≡ refusal_number fault_number r)
-        × IsTextOpeningRefusal key_text.now.text.now (option_map (λ p. p.now) key_text.now.password) key_text.now.most_rows r }
+        × IsTextOpeningRefusal key_text.now.text.now (option_copied key_text.now.password)
+        key_text.now.most_rows r }
 {
     let mut unopened = no_unopened_key();
     let number = minisign_read_secret_key(key_text.text, &mut unopened);
@@ -282,11 +276,12 @@ fn open_read(
     key: &mut SecretKeyValue,
 ) -> u32
     requires { is_read unopened.now ≡ true }
-    ensures opened { result ≡ 0 → (k : SecretKeyRecord)
-        × (open_record (unopened_record unopened.now) (option_map (λ p. p.now) key_text.now.password) key_text.now.most_rows ≡ Ok k)
+    ensures opened { result ≡ 0 → (k : SecretKeyRecord) × (open_record (unopened_record unopened.now)
+        (option_copied key_text.now.password) key_text.now.most_rows ≡ Ok k)
         × (key.new ≡ taken_key k.keynum k.secret) }
     ensures refused { 0 < result → (r : Refusal Fault) × (result ≡ refusal_number fault_number r)
-        × IsOpeningRefusal (unopened_record unopened.now) (option_map (λ p. p.now) key_text.now.password) key_text.now.most_rows r }
+        × IsOpeningRefusal (unopened_record unopened.now) (option_copied key_text.now.password)
+        key_text.now.most_rows r }
 {
     match key_text.password {
         Some(password) => minisign_open_sealed_key(
@@ -314,17 +309,15 @@ fn sign_with<S: Scheme>(
     text_len: &mut usize,
 ) -> u32
     requires { 64 + length trusted.now ≤ length room.old }
-    ensures verifies { result ≡ 0 → (seed : List ℕ) (w : PublicKeyValue) → IsPairOf (S.public_of scheme.now) seed key.now → public_value_of key.now ≡ Ok w
-        → verdict_under (S.accepts scheme.now) w (take text_len.new text.new) (flat_map (λ piece. piece.now) pieces.now) false ≡ Ok trusted.now }
-    ensures text { result ≡ 0 → (is_opened key.now ≡ true) × HoldsText key.now.key_id (comments_of trusted.now untrusted.now)
-        (first_signature (S.signature_of scheme.now) key.now.secret (flat_map (λ piece. piece.now) pieces.now))
-        (second_signature (S.signature_of scheme.now) key.now.secret (flat_map (λ piece. piece.now) pieces.now) trusted.now)
-        text.new text_len.new }
+    ensures verifies { result ≡ 0 → (seed : List ℕ) (w : PublicKeyValue)
+        → IsPairOf (S.public_of scheme.now) seed key.now → public_value_of key.now ≡ Ok w → verdict_under
+        (S.accepts scheme.now) w (take text_len.new text.new) (joined pieces.now) false ≡ Ok trusted.now }
+    ensures text { result ≡ 0 → HoldsOwnText S.Scheme scheme.now key.now
+        (comments_of trusted.now untrusted.now) (joined pieces.now) text.new text_len.new }
     ensures rest { result ≡ 0 → drop text_len.new text.new ≡ drop text_len.new text.old }
-    ensures refused { 0 < result → IsWritingNumber key.now (comments_of trusted.now untrusted.now)
-        (first_signature (S.signature_of scheme.now) key.now.secret (flat_map (λ piece. piece.now) pieces.now))
-        (second_signature (S.signature_of scheme.now) key.now.secret (flat_map (λ piece. piece.now) pieces.now) trusted.now)
-        text.old result }
+    ensures refused { 0 < result → (r : Refusal Fault) × (result ≡ refusal_number fault_number r)
+        × IsOwnRefusal S.Scheme scheme.now key.now (comments_of trusted.now untrusted.now)
+        (joined pieces.now) text.old r }
     ensures kept { 0 < result → (text.new ≡ text.old) × (text_len.new ≡ text_len.old) }
 {
     answers_decide();
@@ -346,7 +339,7 @@ fn sign_with<S: Scheme>(
 
 // The digest of the joined pieces.
 fn digest_of(pieces: &[&[u8]], digest: &mut [u8; 64]) -> u32
-    ensures { (result ≡ 0) × (digest.new ≡ blake2b_digest 64 (flat_map (λ piece. piece.now) pieces.now)) }
+    ensures { (result ≡ 0) × (digest.new ≡ blake2b_digest 64 (joined pieces.now)) }
 {
     let mut state = State::new();
     minisign_init(&mut state);
@@ -376,7 +369,8 @@ fn sign_second<S: Scheme>(
     second: &mut [u8; 64],
 ) -> u32
     requires { 64 + length trusted.now ≤ length room.old }
-    ensures made { (result ≡ 0) × (second.new ≡ S.signature_of scheme.now (first.now ++ trusted.now) key.now.secret None) }
+    ensures made { (result ≡ 0)
+        × (second.new ≡ S.signature_of scheme.now (first.now ++ trusted.now) key.now.secret None) }
     ensures accepted { (seed : List ℕ) → IsPairOf (S.public_of scheme.now) seed key.now
         → S.accepts scheme.now (first.now ++ trusted.now) (S.public_of scheme.now seed) second.new ≡ true }
 {

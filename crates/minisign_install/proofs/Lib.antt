@@ -1,4 +1,3 @@
-mod Common
 mod Fields
 mod Happenings
 mod Installs

@@ -1,20 +1,37 @@
 -- A run that installs, call by call: so what the laws ask of runs can be met.
-use Rattle.minisign_install.proofs.Common.{Answer, Bool, Calls, CallsOwning, Clear, ClearsAll, Copy, Create, CreateRecord, Done, Due, Err, Fault, Finds, HasLocked, HasRun, HasStepped, Host, InstallFault, Installed, IsApart, Judge, Leads, List, Lock, Makes, Moment, Name, None, Number, Ok, OnlyRejects, Outcome, Place, ReadBack, ReadRecord, Record, Rename, RenameRecord, Renames, Result, Run, Says, Sets, Setting, SignatureTextRecord, Some, Sync, SyncName, SyncRecord, SyncRecordName, SyncsDirectory, TakePermissions, Terms, TextsVouchWith, Timestamp, Verifier, WriteRecord, [], ap, append-nil, arith, blake2b_digest, box_of, bytes_eq, cases_Bool, codes, cond, eq-eqb, eqb-true, false, first_due, inl, inr, length, next, record_of, refl, subst, sym, true, ℕ, ⊎_elim, ◌++◌, ◌==◌, ◌∙◌, ◌∷◌, ◌≡◌, ◌≢◌}
+use Rattle.std.specs.Prelude.{bytes_eq, codes}
+use Rattle.std.proofs.Common.{Bool, Err, List, None, Ok, Result, Some, [], ap, append-nil, arith, cond, false}
+use Rattle.std.proofs.Common.{inl, inr, length, refl, subst, sym, true, ℕ, ⊎_elim, ◌++◌, ◌==◌, ◌∙◌, ◌∷◌, ◌≡◌}
+use Rattle.std.proofs.Common.{◌≢◌}
+use Rattle.std.proofs.lemmas.Bool.{cases_Bool, eq-eqb, eqb-true}
 use Rattle.std.specs.Bool.{Decides}
 use Rattle.std.proofs.lemmas.Slice.Eq.{bytes_eq-Decides}
 use Rattle.std.proofs.lemmas.Option.{none-some, same_Some}
+use Rattle.std.specs.Str.{chars, trim_end, trim_start}
+use Rattle.std.specs.Int.{to_le_bytes, w64}
 use Rattle.base64.specs.Decode.{groups_bytes, scan_steps}
 use Rattle.base64.specs.Rfc4648.{encode_symbols}
+use Rattle.minisign_hash.specs.Blake2b.{blake2b_digest}
+use Rattle.minisign.specs.SignatureText.{SignatureTextRecord, box_of, read_signature, trusted_comment_label}
 use Rattle.minisign.specs.Records.{PublicKeyRecord}
 use Rattle.minisign.specs.PublicKeyText.{read_public_key}
-use Rattle.minisign.specs.SignatureText.{read_signature, trusted_comment_label}
 use Rattle.minisign.specs.Texts.{base64_bytes, base64_of, is_base64, line, map_ok, untrusted_comment_label}
-use Rattle.std.specs.Str.{chars, trim_end, trim_start}
-use lib.Utf8.{encode}
 use Rattle.minisign_external.specs.PublicKeys.{value_of}
-use Rattle.std.specs.Int.{to_le_bytes, w64}
-use Rattle.minisign_install.specs.Directories.{Appends, Creates, GivesPermissions, Sees, Syncs}
+use Rattle.minisign_install.specs.Order.{Answer, Clear, Copy, Create, CreateRecord, Done, Due, Installed}
+use Rattle.minisign_install.specs.Order.{Judge, Leads, Lock, Number, Outcome, ReadBack, ReadRecord, Rename}
+use Rattle.minisign_install.specs.Order.{RenameRecord, Sync, SyncName, SyncRecord, SyncRecordName}
+use Rattle.minisign_install.specs.Order.{TakePermissions, WriteRecord, next}
+use Rattle.minisign_install.specs.Directories.{Calls, CallsOwning, ClearsAll, Finds, RunHasLocked}
+use Rattle.minisign_install.specs.Directories.{RunHasStepped, IsApart, Moment, Name, Target, Record, Renames}
+use Rattle.minisign_install.specs.Directories.{Run, Sets, SyncsDirectory, Appends, Creates, GivesPermissions}
+use Rattle.minisign_install.specs.Directories.{Sees, Syncs}
+use Rattle.minisign_install.specs.Faults.{Fault, InstallFault}
+use Rattle.minisign_install.specs.Hosts.{CallsLead, Host, HostMakesCall, OnlyFindingsReject, first_due}
 use Rattle.minisign_install.specs.Hosts.{IsAtRest}
+use Rattle.minisign_install.specs.Comments.{CommentSays, Timestamp}
+use Rattle.minisign_install.specs.Installing.{Setting, Terms, TextsVouchWith, Verifier}
+use Rattle.minisign_install.specs.RecordTexts.{record_of}
+use lib.Utf8.{encode}
 
 -- == What a moment has ==
 
@@ -22,37 +39,44 @@ use Rattle.minisign_install.specs.Hosts.{IsAtRest}
 abbrev put : {K A : Type 0} → (K → K → Bool) → K → A → (K → A) → K → A
 put eq key value old k = cond (eq k key) value (old k)
 
-put_sets : {K A : Type 0} (eq : K → K → Bool) (decides : (a b : K) → Decides (eq a b) (a ≡ b)) (key : K) (value : A) (old : K → A) → Sets key value old (put eq key value old)
+put_sets : {K A : Type 0} (eq : K → K → Bool) (decides : (a b : K)
+    → Decides (eq a b) (a ≡ b)) (key : K) (value : A) (old : K → A)
+    → Sets key value old (put eq key value old)
 put_sets eq decides key value old = record {
   set = ap (λ b. cond b value (old key)) ((decides key key).1 refl);
-  others = λ k other. ⊎_elim (λ same. absurd (other ((decides k key).0 same))) (λ differs. ap (λ b. cond b value (old k)) differs) (cases_Bool (eq k key));
+  others =
+      λ k other. ⊎_elim (λ same. absurd (other ((decides k key).0 same)))
+      (λ differs. ap (λ b. cond b value (old k)) differs) (cases_Bool (eq k key));
 }
 
 abbrev same_file : ℕ → ℕ → Bool
 same_file a b = a == b
 
-file_sets : {A : Type 0} (key : ℕ) (value : A) (old : ℕ → A) → Sets key value old (put same_file key value old)
+file_sets : {A : Type 0} (key : ℕ) (value : A) (old : ℕ → A)
+    → Sets key value old (put same_file key value old)
 file_sets = put_sets same_file (λ a b. (eqb-true a b, eq-eqb a b))
 
-name_sets : {A : Type 0} (key : List ℕ) (value : A) (old : List ℕ → A) → Sets key value old (put bytes_eq key value old)
+name_sets : {A : Type 0} (key : List ℕ) (value : A) (old : List ℕ → A)
+    → Sets key value old (put bytes_eq key value old)
 name_sets = put_sets bytes_eq bytes_eq-Decides
 
 abbrev same_name : Name → Name → Bool
-same_name Place Place = true
+same_name Target Target = true
 same_name Record Record = true
 same_name a b = false
 
 same_name-Decides : (a b : Name) → Decides (same_name a b) (a ≡ b)
-same_name-Decides Place Place = (λ e. refl, λ e. refl)
+same_name-Decides Target Target = (λ e. refl, λ e. refl)
 same_name-Decides Record Record = (λ e. refl, λ e. refl)
-same_name-Decides Place Record = (λ e. cc e, λ e. cc e)
-same_name-Decides Record Place = (λ e. cc e, λ e. cc e)
+same_name-Decides Target Record = (λ e. cc e, λ e. cc e)
+same_name-Decides Record Target = (λ e. cc e, λ e. cc e)
 
 -- == What a call leaves ==
 
 module _ (m : Moment) (file : ℕ) where
   abbrev created : List ℕ → Moment
-  created name = record m { stages = put bytes_eq name (Some file) m.stages; holds = put same_file file [] m.holds }
+  created name =
+      record m { stages = put bytes_eq name (Some file) m.stages; holds = put same_file file [] m.holds }
 
   abbrev grown : List ℕ → Moment
   grown bytes = record m { holds = put same_file file (m.holds file ++ bytes) m.holds }
@@ -63,9 +87,19 @@ module _ (m : Moment) (file : ℕ) where
   abbrev synced : Moment
   synced = record m { on_disk = put same_file file true m.on_disk }
 
-  creates : (name : List ℕ) → IsApart m file → ((q : List ℕ) → m.stages q ≢ Some file) → m.stages name ≡ None → Creates name file m (created name)
+  creates : (name : List ℕ) → IsApart m file → ((q : List ℕ) → m.stages q ≢ Some file) → m.stages name ≡ None
+      → Creates name file m (created name)
   creates name apart fresh free = record {
-    only = record { leads = λ n. refl; left = λ n f e. inr e; lost = λ n e. e; files = λ f other. record { holds = (file_sets file [] m.holds).others f other; on_disk = refl; permissions = refl } };
+    only = record {
+      leads = λ n. refl;
+      left = λ n f e. inr e;
+      lost = λ n e. e;
+      files = λ f other. record {
+        holds = (file_sets file [] m.holds).others f other;
+        on_disk = refl;
+        permissions = refl;
+      };
+    };
     apart = apart;
     fresh = fresh;
     free = free;
@@ -77,7 +111,12 @@ module _ (m : Moment) (file : ℕ) where
   appends bytes =
       let sets = file_sets file (m.holds file ++ bytes) m.holds in record {
         spoils = record {
-          only = record { leads = λ n. refl; left = λ n f e. inr e; lost = λ n e. e; files = λ f other. record { holds = sets.others f other; on_disk = refl; permissions = refl } };
+          only = record {
+            leads = λ n. refl;
+            left = λ n f e. inr e;
+            lost = λ n e. e;
+            files = λ f other. record { holds = sets.others f other; on_disk = refl; permissions = refl };
+          };
           stages = λ q. refl;
         };
         grown = sets.set;
@@ -86,7 +125,16 @@ module _ (m : Moment) (file : ℕ) where
   permits : GivesPermissions file m permitted
   permits = record {
     spoils = record {
-      only = record { leads = λ n. refl; left = λ n f e. inr e; lost = λ n e. e; files = λ f other. record { holds = refl; on_disk = refl; permissions = (file_sets file true m.permissions).others f other } };
+      only = record {
+        leads = λ n. refl;
+        left = λ n f e. inr e;
+        lost = λ n e. e;
+        files = λ f other. record {
+          holds = refl;
+          on_disk = refl;
+          permissions = (file_sets file true m.permissions).others f other;
+        };
+      };
       stages = λ q. refl;
     };
     same = refl;
@@ -96,7 +144,16 @@ module _ (m : Moment) (file : ℕ) where
   syncs : Syncs file m synced
   syncs = record {
     spoils = record {
-      only = record { leads = λ n. refl; left = λ n f e. inr e; lost = λ n e. e; files = λ f other. record { holds = refl; on_disk = (file_sets file true m.on_disk).others f other; permissions = refl } };
+      only = record {
+        leads = λ n. refl;
+        left = λ n f e. inr e;
+        lost = λ n e. e;
+        files = λ f other. record {
+          holds = refl;
+          on_disk = (file_sets file true m.on_disk).others f other;
+          permissions = refl;
+        };
+      };
       stages = λ q. refl;
     };
     same = refl;
@@ -106,7 +163,8 @@ module _ (m : Moment) (file : ℕ) where
 
 module _ (m : Moment) where
   abbrev renamed : List ℕ → Name → Moment
-  renamed name to = record m { leads = put same_name to (m.stages name) m.leads; stages = put bytes_eq name None m.stages }
+  renamed name to =
+      record m { leads = put same_name to (m.stages name) m.leads; stages = put bytes_eq name None m.stages }
 
   abbrev settled : Moment
   settled = record m { left = λ n f. false; lost = λ n. false }
@@ -123,7 +181,12 @@ module _ (m : Moment) where
   settles : SyncsDirectory m settled
   settles = record {
     same = record {
-      only = record { leads = λ n. refl; left = λ n f e. cc e; lost = λ n e. cc e; files = λ f other. record { holds = refl; on_disk = refl; permissions = refl } };
+      only = record {
+        leads = λ n. refl;
+        left = λ n f e. cc e;
+        lost = λ n e. cc e;
+        files = λ f other. record { holds = refl; on_disk = refl; permissions = refl };
+      };
       stages = λ q. refl;
     };
     synced = λ n f e. cc e;
@@ -136,14 +199,22 @@ module _ (r : Run) (m : Moment) where
   abbrev called : Run
   called = record r { now = m; steps = (record { before = r.now; after = m }) ∷ r.steps }
 
-  stepped : {C : Moment → Moment → Type 0} (owns : List ℕ → Bool) (locked : Bool) → C r.now m → (r.locked ≡ true → locked ≡ true) → HasStepped r (record called { owns = owns; locked = locked }) C
+  stepped : {C : Moment → Moment → Type 0} (owns : List ℕ → Bool) (locked : Bool) → C r.now m
+      → (r.locked ≡ true → locked ≡ true) → RunHasStepped r (record called { owns = owns; locked = locked }) C
   stepped owns locked this stays = record {
     before = r.now;
     others = record {
       stages = λ q mine. refl;
       files = λ q f mine leads. record { holds = refl; on_disk = refl; permissions = refl };
       apart = λ q f mine leads apart. apart;
-      record_left = λ held. record { leads = refl; left = λ f e. inr e; lost = λ e. e; holds = λ f lead. refl; on_disk = λ f lead e. e };
+      record_left =
+          λ held. record {
+            leads = refl;
+            left = λ f e. inr e;
+            lost = λ e. e;
+            holds = λ f lead. refl;
+            on_disk = λ f lead e. e;
+          };
     };
     this = this;
     noted = refl;
@@ -157,8 +228,13 @@ module _ (r : Run) (m : Moment) where
   abbrev owning : List ℕ → Bool → Run
   owning name is = record called { owns = put bytes_eq name is r.owns }
 
-  calls_owning : {C : Moment → Moment → Type 0} (name : List ℕ) (is : Bool) → C r.now m → CallsOwning name is C r (owning name is)
-  calls_owning name is this = record { stepped = stepped (put bytes_eq name is r.owns) r.locked this (λ held. held); own = name_sets name is r.owns }
+  calls_owning : {C : Moment → Moment → Type 0} (name : List ℕ) (is : Bool) → C r.now m
+      → CallsOwning name is C r (owning name is)
+  calls_owning name is this =
+      record {
+        stepped = stepped (put bytes_eq name is r.owns) r.locked this (λ held. held);
+        own = name_sets name is r.owns;
+      }
 
 -- == The run ==
 
@@ -166,24 +242,36 @@ module _ (s : Setting) where
   abbrev Reaches : Due InstallFault → Host → Type 0
   Reaches due h =
       (events : List (Outcome InstallFault × Host)) × (h' : Host)
-      × HasRun (λ due o k k'. Makes s due o k k' × OnlyRejects s due o k k') due h events Installed h'
+      × CallsLead (λ due o k k'. HostMakesCall s due o k k' × OnlyFindingsReject s due o k k') due h events
+      Installed h'
 
-  then_call : (due : Due InstallFault) (o : Outcome InstallFault) (h mid : Host) → Makes s due o h mid → OnlyRejects s due o h mid → Reaches (next due o) mid → Reaches due h
+  then_call : (due : Due InstallFault) (o : Outcome InstallFault) (h mid : Host) → HostMakesCall s due o h mid
+      → OnlyFindingsReject s due o h mid → Reaches (next due o) mid → Reaches due h
   then_call due o h mid made explained (events, h', run) = ((o, mid) ∷ events, h', ((made, explained), run))
 
   -- the record is there, and the stage gets the target's name
   installs_stage : (n : ℕ) (h : Host) → Reaches (Rename n) h
   installs_stage n h =
-      let r1 : Run = owning h.run (renamed h.run.now s.name Place) s.name false in
+      let r1 : Run = owning h.run (renamed h.run.now s.name Target) s.name false in
       let h1 : Host = record h { run = r1 } in
       let r2 : Run = called r1 (settled r1.now) in
       let h2 : Host = record h { run = r2 } in
-      then_call (Rename n) Done h h1 (calls_owning h.run (renamed h.run.now s.name Place) s.name false (renames h.run.now s.name Place), refl, refl) tt (
-      then_call (SyncName n) Done h1 h2 (calls r1 (settled r1.now) (settles r1.now), refl, refl) tt ([], h2, (refl, refl))
+      then_call (Rename n) Done h h1 (
+        calls_owning h.run (renamed h.run.now s.name Target) s.name false (renames h.run.now s.name Target),
+        refl,
+        refl,
+      ) tt (
+      then_call (SyncName n) Done h1 h2 (calls r1 (settled r1.now) (settles r1.now), refl, refl) tt (
+        [],
+        h2,
+        (refl, refl),
+      )
       )
 
   -- the record is written, and gets its name
-  records : (n : ℕ) (h : Host) → IsApart h.run.now s.record_file → ((q : List ℕ) → h.run.now.stages q ≢ Some s.record_file) → h.run.now.stages s.record_name ≡ None → Reaches (CreateRecord n) h
+  records : (n : ℕ) (h : Host) → IsApart h.run.now s.record_file
+      → ((q : List ℕ) → h.run.now.stages q ≢ Some s.record_file) → h.run.now.stages s.record_name ≡ None
+      → Reaches (CreateRecord n) h
   records n h apart fresh free =
       let m1 : Moment = created h.run.now s.record_file s.record_name in
       let r1 : Run = owning h.run m1 s.record_name true in
@@ -200,11 +288,22 @@ module _ (s : Setting) where
       let h4 : Host = record h { run = r4 } in
       let r5 : Run = called r4 (settled m4) in
       let h5 : Host = record h { run = r5 } in
-      then_call (CreateRecord n) Done h h1 (calls_owning h.run m1 s.record_name true (creates h.run.now s.record_file s.record_name apart fresh free), refl, refl) tt (
-      then_call (WriteRecord n) Done h1 h2 ((text ∷ [], (r2, calls r1 m2 (appends m1 s.record_file text), refl), append-nil text), refl, refl) tt (
+      then_call (CreateRecord n) Done h h1 (
+        calls_owning h.run m1 s.record_name true
+            (creates h.run.now s.record_file s.record_name apart fresh free),
+        refl,
+        refl,
+      ) tt (
+      then_call (WriteRecord n) Done h1 h2
+      ((text ∷ [], (r2, calls r1 m2 (appends m1 s.record_file text), refl), append-nil text), refl, refl) tt (
       then_call (SyncRecord n) Done h2 h3 (calls r2 m3 (syncs m2 s.record_file), refl, refl) tt (
-      then_call (RenameRecord n) Done h3 h4 (calls_owning r3 m4 s.record_name false (renames m3 s.record_name Record), refl, refl) tt (
-      then_call (SyncRecordName n) Done h4 h5 (calls r4 (settled m4) (settles m4), refl, refl) tt (installs_stage n h5)
+      then_call (RenameRecord n) Done h3 h4
+      (calls_owning r3 m4 s.record_name false (renames m3 s.record_name Record), refl, refl) tt (
+      then_call (SyncRecordName n) Done h4 h5 (
+        calls r4 (settled m4) (settles m4),
+        refl,
+        refl,
+      ) tt (installs_stage n h5)
       )
       )
       )
@@ -230,24 +329,50 @@ module _ (s : Setting) where
       let r5 : Run = called r4 m5 in
       let h5 : Host = record h3 { run = r5 } in
       let names = name_sets s.name (Some s.file) m0.stages in
-      let holds : m2.holds s.file ≡ x.bytes = (file_sets s.file (m1.holds s.file ++ x.bytes) m1.holds).set ∙ ap (λ b. b ++ x.bytes) (file_sets s.file [] m0.holds).set in
-      let free : m5.stages s.record_name ≡ None = names.others s.record_name x.names ∙ x.clear s.record_name in
-      let fresh : (q : List ℕ) → m5.stages q ≢ Some s.record_file = λ q e. elim (cases_Bool (bytes_eq q s.name)) [
-        | inl same ↦ x.files (sym (same_Some s.file s.record_file (sym (ap (λ b. cond b (Some s.file) (m0.stages q)) same) ∙ e)))
-        | inr other ↦ none-some s.record_file (sym (x.clear q) ∙ sym (ap (λ b. cond b (Some s.file) (m0.stages q)) other) ∙ e)
+      let holds : m2.holds s.file ≡ x.bytes =
+      (file_sets s.file (m1.holds s.file ++ x.bytes) m1.holds).set
+      ∙ ap (λ b. b ++ x.bytes) (file_sets s.file [] m0.holds).set in
+      let free : m5.stages s.record_name ≡ None =
+      names.others s.record_name x.names ∙ x.clear s.record_name in
+      let fresh : (q : List ℕ) → m5.stages q ≢ Some s.record_file =
+      λ q e. elim (cases_Bool (bytes_eq q s.name)) [
+        | inl same ↦ x.files
+            (sym (same_Some s.file s.record_file (sym (ap (λ b. cond b (Some s.file) (m0.stages q)) same)
+            ∙ e)))
+        | inr other ↦ none-some s.record_file (sym (x.clear q)
+            ∙ sym (ap (λ b. cond b (Some s.file) (m0.stages q)) other) ∙ e)
       ] in
       let cleared : ClearsAll m0 m0 = record {
-        only = record { leads = λ n. refl; left = λ n f e. inr e; lost = λ n e. e; files = λ f other. record { holds = refl; on_disk = refl; permissions = refl } };
+        only = record {
+          leads = λ n. refl;
+          left = λ n f e. inr e;
+          lost = λ n e. e;
+          files = λ f other. record { holds = refl; on_disk = refl; permissions = refl };
+        };
         clear = λ q any. x.clear q;
       } in
-      let made : Creates s.name s.file m0 m1 = creates m0 s.file s.name x.fresh (λ q e. none-some s.file (sym (x.clear q) ∙ e)) (x.clear s.name) in
+      let made : Creates s.name s.file m0 m1 =
+      creates m0 s.file s.name x.fresh (λ q e. none-some s.file (sym (x.clear q) ∙ e)) (x.clear s.name) in
       then_call (Clear x.kept.number) Done h h0 (calls h.run m0 cleared, refl, refl) tt (
-      then_call (Create x.kept.number) Done h0 h1 ((calls_owning r0 m1 s.name true made, refl, refl), refl) tt (
-      then_call (Copy x.kept.number) Done h1 h2 (x.bytes ∷ [], (r2, calls r1 m2 (appends m1 s.file x.bytes), refl), rw x.ahead (sym (append-nil (x.bytes ++ []) ∙ append-nil x.bytes)), refl, refl) tt (
+      then_call (Create x.kept.number) Done h0 h1 (
+        (calls_owning r0 m1 s.name true made, refl, refl),
+        refl,
+      ) tt (
+      then_call (Copy x.kept.number) Done h1 h2 (
+        x.bytes ∷ [],
+        (r2, calls r1 m2 (appends m1 s.file x.bytes), refl),
+        rw x.ahead (sym (append-nil (x.bytes ++ []) ∙ append-nil x.bytes)),
+        refl,
+        refl,
+      ) tt (
       then_call (ReadBack x.kept.number) Done h2 h3 (refl, holds) tt (
       then_call (Answer x.kept.number) (Number x.n) h3 h3 (refl, x.update, x.digest) tt (
       then_call (TakePermissions x.n) Done h3 h4 (calls r2 m4 (permits m2 s.file), refl, refl) tt (
-      then_call (Sync x.n) Done h4 h5 (calls r4 m5 (syncs m4 s.file), refl, refl) tt (records x.n h5 x.record_fresh fresh free)
+      then_call (Sync x.n) Done h4 h5 (
+        calls r4 m5 (syncs m4 s.file),
+        refl,
+        refl,
+      ) tt (records x.n h5 x.record_fresh fresh free)
       )
       )
       )
@@ -264,7 +389,8 @@ module _ (s : Setting) where
       let r2 : Run = called r1 m0 in
       let h2 : Host = record h { run = r2; found = x.kept.found } in
       let busy : Sees (λ m. m.busy ≡ false) m0 m0 = record { still = refl; seen = x.free } in
-      let lock : HasLocked h.run r1 = record { stepped = stepped h.run m0 h.run.owns true busy (λ any. refl); held = refl } in
+      let lock : RunHasLocked h.run r1 =
+      record { stepped = stepped h.run m0 h.run.owns true busy (λ any. refl); held = refl } in
       let finds : Finds Record x.kept.found m0 m0 = record { still = refl; seen = x.kept.there } in
       let rest : IsAtRest s h2 = record {
         installs = x.installs;
@@ -284,20 +410,26 @@ module _ (s : Setting) where
       subst (λ b. Reaches (first_due b) h) (sym x.installs) (
       then_call Lock Done h h1 ((lock, record { owns = refl }), refl, refl) tt (
       then_call ReadRecord (Number x.kept.number) h1 h2 ((calls r1 m0 finds, refl, refl), x.kept.held) tt (
-      then_call (Judge x.kept.number) (Leads (Clear x.kept.number)) h2 h2 (((refl, refl), refl), inr (inr (x.installs, inr refl))) tt (stages h2 rest)
+      then_call (Judge x.kept.number) (Leads (Clear x.kept.number)) h2 h2 (
+        ((refl, refl), refl),
+        inr (inr (x.installs, inr refl)),
+      ) tt (stages h2 rest)
       )
       )
       )
 
--- == Texts and a directory for which there is one: the key and the signature that were published with the Rust crate ==
+-- == Texts and a directory for which there is one: what was published with the Rust crate ==
 
 abbrev key_text : List ℕ
-key_text = line (codes "untrusted comment: minisign public key E7620F1842B4E81F") ++ line (codes "RWQf6LRCGA9i53mlYecO4IzT51TGPpvWucNSCh1CBM0QTaLn73Y7GFO3")
+key_text =
+    line (codes "untrusted comment: minisign public key E7620F1842B4E81F")
+    ++ line (codes "RWQf6LRCGA9i53mlYecO4IzT51TGPpvWucNSCh1CBM0QTaLn73Y7GFO3")
 
 abbrev signature_text : List ℕ
 signature_text =
     line (codes "untrusted comment: signature from minisign secret key")
-    ++ line (codes "RUQf6LRCGA9i559r3g7V1qNyJDApGip8MfqcadIgT9CuhV3EMhHoN1mGTkUidF/z7SrlQgXdy8ofjb7bNJJylDOocrCo8KLzZwo=")
+    ++ line (codes
+    "RUQf6LRCGA9i559r3g7V1qNyJDApGip8MfqcadIgT9CuhV3EMhHoN1mGTkUidF/z7SrlQgXdy8ofjb7bNJJylDOocrCo8KLzZwo=")
     ++ line (codes "trusted comment: timestamp:1556193335\tfile:test")
     ++ codes "y/rUw2y8/hOUYjZU71eHp/Wo1KZ40fGy2VJEDl34XMJM+TX48Ss/17u3IvIfbVR1FkZZSNCisQbuQY+bHwhEBg=="
 
@@ -307,11 +439,12 @@ or_nothing (Err e) = record { algorithm = []; keynum = []; key = [] }
 
 -- what the two texts read as
 unfoldable readers : ℕ
-unfolding read_public_key read_signature untrusted_comment_label trusted_comment_label base64_of base64_bytes is_base64
-    encode_symbols groups_bytes scan_steps trim_start trim_end chars encode
+unfolding read_public_key read_signature untrusted_comment_label trusted_comment_label base64_of base64_bytes
+    is_base64 encode_symbols groups_bytes scan_steps trim_start trim_end chars encode
 readers = 0
 
-pub key_of_text : (key : PublicKeyRecord) × (read_public_key key_text ≡ Ok key) × (key.keynum ≡ to_le_bytes w64 0xE7620F1842B4E81F) × (length key.key ≡ 32)
+pub key_of_text : (key : PublicKeyRecord) × (read_public_key key_text ≡ Ok key)
+    × (key.keynum ≡ to_le_bytes w64 0xE7620F1842B4E81F) × (length key.key ≡ 32)
 unfolding readers
 key_of_text = (or_nothing (read_public_key key_text), refl, refl, refl)
 
@@ -322,8 +455,10 @@ or_unsigned (Err e) = record {
   comments = record { untrusted = []; trusted = []; signature = [] };
 }
 
-signature_of_text : (signed : SignatureTextRecord) × (read_signature signature_text ≡ Ok signed) × (signed.comments.trusted ≡ codes "timestamp:1556193335\tfile:test")
-    × (signed.signature.keynum ≡ to_le_bytes w64 0xE7620F1842B4E81F) × (signed.signature.algorithm ≡ codes "ED") × (length signed.comments.signature ≡ 64)
+signature_of_text : (signed : SignatureTextRecord) × (read_signature signature_text ≡ Ok signed)
+    × (signed.comments.trusted ≡ codes "timestamp:1556193335\tfile:test")
+    × (signed.signature.keynum ≡ to_le_bytes w64 0xE7620F1842B4E81F)
+    × (signed.signature.algorithm ≡ codes "ED") × (length signed.comments.signature ≡ 64)
 unfolding readers
 signature_of_text = (or_unsigned (read_signature signature_text), refl, refl, refl, refl, refl)
 
@@ -343,26 +478,57 @@ wanted = record {
   keys = [];
 }
 
-vouched : TextsVouchWith accepts_all key_text signature_text (codes "test") false (codes "timestamp:1556193335\tfile:test")
+vouched : TextsVouchWith accepts_all key_text signature_text (codes "test") false
+    (codes "timestamp:1556193335\tfile:test")
 vouched = record {
   vouched = record {
     key = key_of_text.0;
     box = box_of signature_of_text.0;
     key_read = key_of_text.1;
     box_read = ap (λ r. map_ok box_of r) signature_of_text.1;
-    vouches = record { same_key = signature_of_text.3 ∙ sym key_of_text.2; allowed = inl signature_of_text.4; signed = refl; comment_signed = record { long_enough = omega (arith, signature_of_text.5); signed = refl } };
+    vouches =
+        record {
+          same_key = signature_of_text.3 ∙ sym key_of_text.2;
+          allowed = inl signature_of_text.4;
+          signed = refl;
+          comment_signed =
+              record { long_enough = omega (arith, signature_of_text.5); signed = refl };
+        };
   };
   comments = signature_of_text.0.comments;
   both = refl;
   trusted = signature_of_text.2;
 }
 
-says : Says (codes "timestamp:1556193335\tfile:test") wanted 1556193335
+says : CommentSays (codes "timestamp:1556193335\tfile:test") wanted 1556193335
 says = record {
   value = codes "1556193335";
   named = refl;
   numbered = refl;
-  number = record { numeral = (omega arith, (omega arith, (omega arith, (omega arith, (omega arith, (omega arith, (omega arith, (omega arith, (omega arith, (omega arith, (omega arith, tt))))))))))); is = refl; bound = omega arith };
+  number =
+      record {
+        numeral = (
+          omega arith,
+          (
+            omega arith,
+            (
+              omega arith,
+              (
+                omega arith,
+                (
+                  omega arith,
+                  (
+                    omega arith,
+                    (omega arith, (omega arith, (omega arith, (omega arith, (omega arith, tt))))),
+                  ),
+                ),
+              ),
+            ),
+          ),
+        );
+        is = refl;
+        bound = omega arith;
+      };
   unexpired = inl (refl, refl);
   sized = λ heeds. (None, refl);
 }
@@ -423,7 +589,13 @@ is_at_rest = record {
   bytes = codes "test";
   ahead = refl;
   n = 1556193335;
-  update = record { comment = codes "timestamp:1556193335\tfile:test"; vouched = vouched; says = says; newer = omega arith };
+  update =
+      record {
+        comment = codes "timestamp:1556193335\tfile:test";
+        vouched = vouched;
+        says = says;
+        newer = omega arith;
+      };
   digest = refl;
   clear = λ q. refl;
   fresh = apart 1;

@@ -1,15 +1,43 @@
 -- A host that does what the header says makes a run of the law: each of its calls is one that was due.
-use Rattle.minisign_install.proofs.Common.{Already, Answer, AnswersComment, AnswersTexts, Bool, Clear, Copy, Create, Done, Due, Err, Explains, Failed, Fault, GivesUpdate, GoesOn, HasRun, Host, InstallFault, Installation, IsAboutRefusal, IsAsking, IsDue, IsFedState, IsKeptNumber, IsKeptOrNone, IsKeyText, RecordIsOwn, IsReading, IsRecordRefused, IsTextRefused, Judge, JudgeTarget, JudgesComment, JudgesTarget, Kept, Leads, Library, List, Lock, Look, Makes, More, None, Number, Numbering, Ok, Option, OtherSize, Outcome, PublicKeyValue, ReadBack, ReadRecord, Receive, Refusal, Rejects, Result, SameNumber, SaysSize, SeesOtherSize, Setting, SignatureTextRecord, SizedAs, Some, SyncName, SyncTarget, SyncTargetName, Unlock, WouldInstall, WriteRecord, WrongUse, [], after_comment, ap, append-nil, arith, blake2b_digest, by_number, cases_Bool, cond, counted, digest_in, due_number, eq-eqb, false, first_due, fits, going_on, inl, inr, install_number, is_same, kept_digest, key_for, length, length-append, may_wait, nat_le, next, numbering_of, piece_outcome, read_signature, refl, signed_comment, signed_size, standing, subst, sym, true, true≢false, unwrap_or, ℕ, ⊤, ◌&&◌, ◌++◌, ◌+◌, ◌==◌, ◌||◌, ◌∙◌, ◌∷◌, ◌≡◌, ◌≢◌, ◌⊎◌}
-use Rattle.std.specs.Prelude.{OnOk}
-use Rattle.minisign_external.specs.declared.state.Refusal.TheVariants.{Refused}
-use Rattle.minisign_install.specs.Hosted.{HasReadBack, key_under, keys_of, must_expire_of, takes_data}
-use Rattle.minisign_install.specs.RecordTexts.{is_other, record_key}
-use Rattle.std.specs.Prelude.{is_some, not, ◌<◌}
-use Rattle.std.proofs.lemmas.Bool.{leb-false}
+use Rattle.std.specs.Prelude.{⊤, ◌&&◌, OnOk, is_some, not, ◌<◌}
+use Rattle.std.proofs.Common.{Bool, Err, List, None, Ok, Option, Result, Some, [], ap, append-nil, arith}
+use Rattle.std.proofs.Common.{cond, false, inl, inr, length, length-append, nat_le, refl, subst, sym, true, ℕ}
+use Rattle.std.proofs.Common.{◌++◌, ◌+◌, ◌==◌, ◌||◌, ◌∙◌, ◌∷◌, ◌≡◌, ◌≢◌, ◌⊎◌}
+use Rattle.std.proofs.lemmas.Bool.{cases_Bool, eq-eqb, true≢false, leb-false}
+use Rattle.std.specs.Option.{unwrap_or}
+use Rattle.minisign_hash.specs.Blake2b.{blake2b_digest}
+use Rattle.minisign.specs.SignatureText.{SignatureTextRecord, read_signature}
+use Rattle.minisign_external.specs.Questions.{AnswersComment, AnswersTexts, IsKeyText}
+use Rattle.minisign_external.specs.States.{IsFedState}
+use Rattle.minisign_external.specs.declared.public_keys.PublicKeyValue.{PublicKeyValue}
+use Rattle.minisign_external.specs.declared.state.Refusal.{Refusal}
+use Rattle.minisign_external.specs.declared.state.Refusal.TheVariants.{WrongUse, Refused}
+use Rattle.minisign_install.specs.Order.{Already, Answer, Clear, Copy, Create, Done, Due, Failed, Judge}
+use Rattle.minisign_install.specs.Order.{JudgeTarget, Leads, Lock, Look, More, Number, Outcome, ReadBack}
+use Rattle.minisign_install.specs.Order.{ReadRecord, Receive, SyncName, SyncTarget, SyncTargetName, Unlock}
+use Rattle.minisign_install.specs.Order.{WouldInstall, WriteRecord, fits, next}
+use Rattle.minisign_install.specs.Hosts.{OutcomeIsExplained, RunGoesOn, CallsLead, Host, HostMakesCall}
+use Rattle.minisign_install.specs.Hosts.{FindingIsRejected, HostSeesOtherSize, first_due}
+use Rattle.minisign_install.specs.Faults.{Fault, InstallFault, Library, OtherSize, SameNumber, install_number}
+use Rattle.minisign_install.specs.Hosted.{StageGivesUpdate, IsAboutRefusal, IsAsking, IsDue, CallReads}
+use Rattle.minisign_install.specs.Hosted.{AnswersJudgeComment, AnswersJudgeTarget, after_comment, by_number}
+use Rattle.minisign_install.specs.Hosted.{digest_in, due_number, going_on, is_same, kept_digest, key_for}
+use Rattle.minisign_install.specs.Hosted.{may_wait, numbering_of, piece_outcome, signed_size, standing}
+use Rattle.minisign_install.specs.Hosted.{PieceWasRead, key_under, keys_of, must_expire_of, takes_data}
+use Rattle.minisign_install.specs.declared.hosted.Installation.{Installation}
+use Rattle.minisign_install.specs.Installing.{IsKeptNumber, IsKeptOrNone, Setting, signed_comment}
+use Rattle.minisign_install.specs.Refusals.{RecordIsOwn, IsRecordRefused, IsTextRefused, CommentSaysSize}
+use Rattle.minisign_install.specs.declared.hosted.Kept.{Kept}
+use Rattle.minisign_install.specs.Comments.{Numbering, SizedAs}
+use Rattle.minisign_install.specs.RecordTexts.{counted, is_other, record_key}
 use Rattle.minisign_install.specs.declared.hosted.Chosen.{Chosen}
 use Rattle.minisign_install.specs.declared.recording.Mark.{Mark}
-use Rattle.minisign_install.specs.Hosting.{HasBegun, HasObeyed, MakesDue, MakesSo, Obeys, TellsAnswers, TellsDone, TellsFailure, TellsMore, TellsNoTarget, TellsRecord, TellsRefusal, TellsSize, first_answer, second_answer}
-use Rattle.minisign_install.proofs.Judgements.{answers_comment, answers_texts, one_value, opened, same_text, signed_text}
+use Rattle.minisign_install.specs.Hosting.{HostHasBegun, HostHasObeyed, HostMakesDueCall, HostMakesCallSo}
+use Rattle.minisign_install.specs.Hosting.{HostObeys, HostTellsAnswers, HostTellsDone, HostTellsFailure}
+use Rattle.minisign_install.specs.Hosting.{HostTellsMore, HostTellsNoTarget, HostTellsRecord}
+use Rattle.minisign_install.specs.Hosting.{HostTellsRefusal, HostTellsSize, first_answer, second_answer}
+use Rattle.minisign_install.proofs.Judgements.{answers_comment, answers_texts, one_value, opened, same_text}
+use Rattle.minisign_install.proofs.Judgements.{signed_text}
 use Rattle.minisign_install.proofs.Works.{call_with}
 
 -- whether what was read is still to be judged
@@ -32,11 +60,13 @@ judged_before (SyncName n) e = refl
 judged_before d e = e
 
 -- what failed was judged, or never is
-unjudged_no_more : {P : Type 0} (d : Due InstallFault) (e : InstallFault) → is_unjudged (next d (Failed e)) ≡ true → P
+unjudged_no_more : {P : Type 0} (d : Due InstallFault) (e : InstallFault)
+    → is_unjudged (next d (Failed e)) ≡ true → P
 unjudged_no_more Lock e is = cc is
 unjudged_no_more d e is = cc is
 
-judged_no_more : {P : Type 0} (d : Due InstallFault) (e : InstallFault) → is_judged (next d (Failed e)) ≡ true → P
+judged_no_more : {P : Type 0} (d : Due InstallFault) (e : InstallFault) → is_judged (next d (Failed e)) ≡ true
+    → P
 judged_no_more Lock e is = cc is
 judged_no_more d e is = cc is
 
@@ -46,7 +76,8 @@ next_done : (d : Due InstallFault) → by_number (next d Done) ≡ next (by_numb
 next_done Lock = refl
 next_done d = refl
 
-next_failed : (d : Due InstallFault) (e : InstallFault) → by_number (next d (Failed e)) ≡ next (by_number d) (Failed (install_number e))
+next_failed : (d : Due InstallFault) (e : InstallFault)
+    → by_number (next d (Failed e)) ≡ next (by_number d) (Failed (install_number e))
 next_failed Lock e = refl
 next_failed d e = refl
 
@@ -78,7 +109,9 @@ is_answer d kept e = cc e
 on_number : (i : Installation) (kept : ℕ) → by_number (going_on i kept) ≡ going_on i kept
 on_number i kept = number_of (i.chosen.is_check == 1) (may_wait i)
   where
-    number_of : (b c : Bool) → by_number (cond b WouldInstall (cond c Unlock (Clear kept))) ≡ cond b WouldInstall (cond c Unlock (Clear kept))
+    number_of : (b c : Bool)
+        → by_number (cond b WouldInstall (cond c Unlock (Clear kept)))
+        ≡ cond b WouldInstall (cond c Unlock (Clear kept))
     number_of true c = refl
     number_of false true = refl
     number_of false false = refl
@@ -86,7 +119,8 @@ on_number i kept = number_of (i.chosen.is_check == 1) (may_wait i)
 after_number : (i : Installation) (kept n : ℕ) → by_number (after_comment i kept n) ≡ after_comment i kept n
 after_number i kept n = number_of (is_same i kept n)
   where
-    number_of : (b : Bool) → by_number (cond b (Look kept) (going_on i kept)) ≡ cond b (Look kept) (going_on i kept)
+    number_of : (b : Bool)
+        → by_number (cond b (Look kept) (going_on i kept)) ≡ cond b (Look kept) (going_on i kept)
     number_of true = refl
     number_of false = on_number i kept
 
@@ -97,17 +131,20 @@ standing_number i = number_of (i.chosen.is_check == 1)
     number_of true = refl
     number_of false = refl
 
-look_number : (b : Bool) (kept : ℕ) → by_number (next (Look kept) (cond b Done More)) ≡ next (Look kept) (cond b Done More)
+look_number : (b : Bool) (kept : ℕ)
+    → by_number (next (Look kept) (cond b Done More)) ≡ next (Look kept) (cond b Done More)
 look_number true kept = refl
 look_number false kept = refl
 
-back_number : (b : Bool) (kept : ℕ) → by_number (next (ReadBack kept) (cond b Done More)) ≡ next (ReadBack kept) (cond b Done More)
+back_number : (b : Bool) (kept : ℕ)
+    → by_number (next (ReadBack kept) (cond b Done More)) ≡ next (ReadBack kept) (cond b Done More)
 back_number true kept = refl
 back_number false kept = refl
 
 -- == What the host has chosen ==
 
-key_stays : (i j : Installation) → j.chosen ≡ i.chosen → (r : Result SignatureTextRecord Fault) → key_under j r ≡ key_under i r
+key_stays : (i j : Installation) → j.chosen ≡ i.chosen → (r : Result SignatureTextRecord Fault)
+    → key_under j r ≡ key_under i r
 key_stays i j same (Ok t) = rw same refl
 key_stays i j same (Err e) = rw same refl
 
@@ -134,16 +171,23 @@ chose_more s i j same x = record {
   keys = rw same x.keys;
 }
 
-kept_number : (numbering : Numbering) (first : Bool) (found : Option (List ℕ)) (kept : Option ℕ) → IsKeptOrNone numbering first found kept → IsKeptNumber numbering first found (unwrap_or kept 0)
+kept_number : (numbering : Numbering) (first : Bool) (found : Option (List ℕ)) (kept : Option ℕ)
+    → IsKeptOrNone numbering first found kept → IsKeptNumber numbering first found (unwrap_or kept 0)
 kept_number numbering first found (Some k) is = inl is
 kept_number numbering first found None is = inr (refl, is)
 
 -- where a run goes on
-goes_on : {E : Type 0} (s : Setting) (i : Installation) (kept : ℕ) → (i.chosen.is_check == 1) ≡ s.check → GoesOn {E = E} s kept (going_on i kept)
+goes_on : {E : Type 0} (s : Setting) (i : Installation) (kept : ℕ) → (i.chosen.is_check == 1) ≡ s.check
+    → RunGoesOn {E = E} s kept (going_on i kept)
 goes_on {E = E} s i kept check = elim (cases_Bool s.check) [
-  | inl checks ↦ inl (checks, ap (λ b. cond b WouldInstall (cond (may_wait i) Unlock (Clear kept))) (check ∙ checks))
+  | inl checks ↦ inl (
+    checks,
+    ap (λ b. cond b WouldInstall (cond (may_wait i) Unlock (Clear kept))) (check
+        ∙ checks),
+  )
   | inr other ↦
-      let on : going_on {E = E} i kept ≡ cond (may_wait i) Unlock (Clear kept) = ap (λ b. cond b WouldInstall (cond (may_wait i) Unlock (Clear kept))) (check ∙ other) in
+      let on : going_on {E = E} i kept ≡ cond (may_wait i) Unlock (Clear kept) =
+      ap (λ b. cond b WouldInstall (cond (may_wait i) Unlock (Clear kept))) (check ∙ other) in
       inr (
         other,
         elim (cases_Bool (may_wait i)) [
@@ -153,27 +197,35 @@ goes_on {E = E} s i kept check = elim (cases_Bool s.check) [
       )
 ]
 
-looks_or_goes : (s : Setting) (i : Installation) (kept n : ℕ) → (i.chosen.is_check == 1) ≡ s.check → (after_comment {E = InstallFault} i kept n ≡ Look kept) ⊎ GoesOn {E = InstallFault} s kept (after_comment i kept n)
+looks_or_goes : (s : Setting) (i : Installation) (kept n : ℕ) → (i.chosen.is_check == 1) ≡ s.check
+    → (after_comment {E = InstallFault} i kept n ≡ Look kept)
+    ⊎ RunGoesOn {E = InstallFault} s kept (after_comment i kept n)
 looks_or_goes s i kept n check = elim (cases_Bool (is_same i kept n)) [
   | inl same ↦ inl (ap (λ b. cond b (Look kept) (going_on i kept)) same)
-  | inr other ↦ inr (subst (λ d. GoesOn s kept d) (sym (ap (λ b. cond b (Look kept) (going_on i kept)) other)) (goes_on s i kept check))
+  | inr other ↦ inr
+      (subst (λ d. RunGoesOn s kept d) (sym (ap (λ b. cond b (Look kept) (going_on i kept)) other))
+      (goes_on s i kept check))
 ]
 
 -- what the update is not yet judged there
-unmarked : {P : Type 0} (s : Setting) (kept : ℕ) (d : Due InstallFault) → (d ≡ Look kept) ⊎ GoesOn s kept d → is_judged d ≡ true → P
+unmarked : {P : Type 0} (s : Setting) (kept : ℕ) (d : Due InstallFault) → (d ≡ Look kept) ⊎ RunGoesOn s kept d
+    → is_judged d ≡ true → P
 unmarked s kept d (inl is) e = cc (rw is at e)
 unmarked s kept d (inr (inl (check, is))) e = cc (rw is at e)
 unmarked s kept d (inr (inr (check, (inl is)))) e = cc (rw is at e)
 unmarked s kept d (inr (inr (check, (inr is)))) e = cc (rw is at e)
 
-stands_so : (s : Setting) (i : Installation) → (i.chosen.is_check == 1) ≡ s.check → standing {E = InstallFault} i ≡ cond s.check Already SyncTarget
+stands_so : (s : Setting) (i : Installation) → (i.chosen.is_check == 1) ≡ s.check
+    → standing {E = InstallFault} i ≡ cond s.check Already SyncTarget
 stands_so s i check = ap (λ b. cond b Already SyncTarget) check
 
-stands_unread : {P : Type 0} (b : Bool) (d : Due InstallFault) → d ≡ cond b Already SyncTarget → is_unjudged d ≡ true → P
+stands_unread : {P : Type 0} (b : Bool) (d : Due InstallFault) → d ≡ cond b Already SyncTarget
+    → is_unjudged d ≡ true → P
 stands_unread true d is e = cc (rw is at e)
 stands_unread false d is e = cc (rw is at e)
 
-stands_unmarked : {P : Type 0} (b : Bool) (d : Due InstallFault) → d ≡ cond b Already SyncTarget → is_judged d ≡ true → P
+stands_unmarked : {P : Type 0} (b : Bool) (d : Due InstallFault) → d ≡ cond b Already SyncTarget
+    → is_judged d ≡ true → P
 stands_unmarked true d is e = cc (rw is at e)
 stands_unmarked false d is e = cc (rw is at e)
 
@@ -187,8 +239,8 @@ IsSigned s = (comment : List ℕ) × (signed_comment s.accepts s.key s.terms.sig
 abbrev IsCounted : Installation → Host → Type 0
 IsCounted i h = (i.judged.is_sized == 1) ≡ true → i.copied ≡ length h.taken
 
--- The digest of the record is kept; and where the target is looked at, whether it was written for this update, by a comment
--- that is signed. Where data is taken, it is counted.
+-- The digest of the record is kept; and where the target is looked at, whether it was written for this
+-- update, by a comment that is signed. Where data is taken, it is counted.
 abbrev KnowsRecord : Setting → Due InstallFault → Installation → Host → Type 0
 KnowsRecord s (Judge kept) i h =
     (kept_digest i.kept ≡ digest_in (counted s.first s.terms.keys h.found))
@@ -200,25 +252,33 @@ KnowsRecord s (Copy kept) i h = IsCounted i h
 KnowsRecord s d i h = ⊤
 
 -- what counts is all that was found, where any does
-counts_all : (first : Bool) (keys : List (List ℕ)) (found : Option (List ℕ)) (bytes : List ℕ) → counted first keys found ≡ Some bytes → counted first keys found ≡ found
+counts_all : (first : Bool) (keys : List (List ℕ)) (found : Option (List ℕ)) (bytes : List ℕ)
+    → counted first keys found ≡ Some bytes → counted first keys found ≡ found
 counts_all first keys None bytes h = refl
 counts_all first keys (Some text) bytes h = elim (cases_Bool (first && is_other keys (record_key text))) [
   | inl names ↦ let both : None ≡ Some bytes = sym (ap (λ b. cond b None (Some text)) names) ∙ h in cc both
   | inr own ↦ ap (λ b. cond b None (Some text)) own
 ]
 
-numbered_counts : (numbering : Numbering) (first : Bool) (keys : List (List ℕ)) (found : Option (List ℕ)) (kept : Option ℕ) → IsKeptOrNone numbering first (counted first keys found) kept → is_some kept ≡ true → counted first keys found ≡ found
-numbered_counts numbering first keys found (Some k) (bytes, there, number) has = counts_all first keys found bytes there
+numbered_counts : (numbering : Numbering) (first : Bool) (keys : List (List ℕ)) (found : Option (List ℕ))
+    (kept : Option ℕ) → IsKeptOrNone numbering first (counted first keys found) kept → is_some kept ≡ true
+    → counted first keys found ≡ found
+numbered_counts numbering first keys found (Some k) (bytes, there, number) has =
+    counts_all first keys found bytes there
 numbered_counts numbering first keys found None none has = cc has
 
 -- a record that is rejected counts
-refused_found : (numbering : Numbering) (first : Bool) (keys : List (List ℕ)) (found : Option (List ℕ)) (e : InstallFault) → IsRecordRefused numbering first (counted first keys found) e → IsRecordRefused numbering first found e
+refused_found : (numbering : Numbering) (first : Bool) (keys : List (List ℕ)) (found : Option (List ℕ))
+    (e : InstallFault) → IsRecordRefused numbering first (counted first keys found) e
+    → IsRecordRefused numbering first found e
 refused_found numbering first keys None e why = why
 refused_found numbering first keys (Some bytes) e (other, why) = (other, rw other at why)
 
-digest_said : (kept : Kept) (d : List ℕ) → kept_digest kept ≡ Some d → ((kept.has_digest == 1) ≡ true) × (kept.digest ≡ d)
+digest_said : (kept : Kept) (d : List ℕ) → kept_digest kept ≡ Some d
+    → ((kept.has_digest == 1) ≡ true) × (kept.digest ≡ d)
 digest_said kept d h = elim (cases_Bool (kept.has_digest == 1)) [
-  | inl is ↦ let two : Some kept.digest ≡ Some d = sym (ap (λ b. cond b (Some kept.digest) None) is) ∙ h in (is, cc two)
+  | inl is ↦ let two : Some kept.digest ≡ Some d =
+      sym (ap (λ b. cond b (Some kept.digest) None) is) ∙ h in (is, cc two)
   | inr other ↦ let two : None ≡ Some d = sym (ap (λ b. cond b (Some kept.digest) None) other) ∙ h in cc two
 ]
 
@@ -231,10 +291,12 @@ neither true b h = cc h
 neither false b h = (refl, h)
 
 module _ (s : Setting) (i i' : Installation) (h h' : Host) (kept : i'.kept ≡ i.kept) where
-  looks_own : h'.found ≡ h.found → (RecordIsOwn s h.found → (i.kept.is_own == 1) ≡ true) × IsSigned s → (RecordIsOwn s h'.found → (i'.kept.is_own == 1) ≡ true) × IsSigned s
+  looks_own : h'.found ≡ h.found → (RecordIsOwn s h.found → (i.kept.is_own == 1) ≡ true) × IsSigned s
+      → (RecordIsOwn s h'.found → (i'.kept.is_own == 1) ≡ true) × IsSigned s
   looks_own found (own, signed) = ((λ is. rw kept (own (rw found at is))), signed)
 
-  knows_done : (d : Due InstallFault) → Makes s d Done h h' → i'.copied ≡ 0 → h'.taken ≡ [] → KnowsRecord s d i h → KnowsRecord s (next d Done) i' h'
+  knows_done : (d : Due InstallFault) → HostMakesCall s d Done h h' → i'.copied ≡ 0 → h'.taken ≡ []
+      → KnowsRecord s d i h → KnowsRecord s (next d Done) i' h'
   knows_done (Look n) (made, found) copied taken own = looks_own found own
   knows_done (Judge n) never copied taken own = absurd never
   knows_done (JudgeTarget n) never copied taken own = absurd never
@@ -271,26 +333,31 @@ takes_unjudged Receive is = refl
 takes_unjudged (Copy kept) is = refl
 takes_unjudged d is = cc is
 
-counted_at : (s : Setting) (i : Installation) (h : Host) (d : Due InstallFault) → takes_data (by_number d) ≡ true → KnowsRecord s d i h → IsCounted i h
+counted_at : (s : Setting) (i : Installation) (h : Host) (d : Due InstallFault)
+    → takes_data (by_number d) ≡ true → KnowsRecord s d i h → IsCounted i h
 counted_at s i h Receive is known = known
 counted_at s i h (Copy kept) is known = known
 counted_at s i h d is known = cc is
 
-knows_counted : (s : Setting) (i : Installation) (h : Host) (d : Due InstallFault) → takes_data (by_number d) ≡ true → IsCounted i h → KnowsRecord s d i h
+knows_counted : (s : Setting) (i : Installation) (h : Host) (d : Due InstallFault)
+    → takes_data (by_number d) ≡ true → IsCounted i h → KnowsRecord s d i h
 knows_counted s i h Receive is known = known
 knows_counted s i h (Copy kept) is known = known
 knows_counted s i h d is known = cc is
 
-knows_failed : (s : Setting) (i' : Installation) (h' : Host) (d : Due InstallFault) (e : InstallFault) → KnowsRecord s (next d (Failed e)) i' h'
+knows_failed : (s : Setting) (i' : Installation) (h' : Host) (d : Due InstallFault) (e : InstallFault)
+    → KnowsRecord s (next d (Failed e)) i' h'
 knows_failed s i' h' Lock e = tt
 knows_failed s i' h' d e = tt
 
-knows_on : (s : Setting) (i' : Installation) (h' : Host) (kept : ℕ) (d : Due InstallFault) → GoesOn s kept d → KnowsRecord s d i' h'
+knows_on : (s : Setting) (i' : Installation) (h' : Host) (kept : ℕ) (d : Due InstallFault)
+    → RunGoesOn s kept d → KnowsRecord s d i' h'
 knows_on s i' h' kept d (inl (check, is)) = rw is tt
 knows_on s i' h' kept d (inr (check, (inl is))) = rw is tt
 knows_on s i' h' kept d (inr (check, (inr is))) = rw is tt
 
-knows_standing : (s : Setting) (i' : Installation) (h' : Host) (b : Bool) (d : Due InstallFault) → d ≡ cond b Already SyncTarget → KnowsRecord s d i' h'
+knows_standing : (s : Setting) (i' : Installation) (h' : Host) (b : Bool) (d : Due InstallFault)
+    → d ≡ cond b Already SyncTarget → KnowsRecord s d i' h'
 knows_standing s i' h' true d is = rw is tt
 knows_standing s i' h' false d is = rw is tt
 
@@ -301,7 +368,7 @@ record KnownAt (s : Setting) (d : Due InstallFault) (i : Installation) (h : Host
   pub fed : is_unjudged d ≡ true → IsFedState i.state h.read
   pub mark : is_judged d ≡ true → (i.asked.key ≡ s.key.key) × (i.asked.digest ≡ s.digest)
   pub knows : KnowsRecord s d i h
-  pub sized : is_unjudged d ≡ true → (size : ℕ) → signed_size i.judged ≡ Some size → SaysSize s size
+  pub sized : is_unjudged d ≡ true → (size : ℕ) → signed_size i.judged ≡ Some size → CommentSaysSize s size
 
 -- what is read is not judged yet
 looked : {P : Type 0} (b : Bool) (kept : ℕ) → is_judged (next (Look kept) (cond b Done More)) ≡ true → P
@@ -312,7 +379,7 @@ back : {P : Type 0} (b : Bool) (kept : ℕ) → is_judged (next (ReadBack kept) 
 back true kept e = cc e
 back false kept e = cc e
 
-reading_unjudged : (d : Due InstallFault) → IsReading (by_number d) → is_unjudged d ≡ true
+reading_unjudged : (d : Due InstallFault) → CallReads (by_number d) → is_unjudged d ≡ true
 reading_unjudged (Look kept) is = refl
 reading_unjudged (ReadBack kept) is = refl
 reading_unjudged d never = absurd never
@@ -331,13 +398,18 @@ begun_number false = refl
 
 -- == One call ==
 
-module _ (calls : Due InstallFault → InstallFault → Host → Host → Type 0) (fine : Host → Host → Type 0) (s : Setting) (i i' : Installation) (h h' : Host) where
+module _ (calls : Due InstallFault → InstallFault → Host → Host → Type 0) (fine : Host → Host → Type 0)
+    (s : Setting) (i i' : Installation) (h h' : Host) where
   -- the call was one that was due, and what is known of what is due next
   abbrev MakesCall : Due InstallFault → Type 0
-  MakesCall d = (o : Outcome InstallFault) × (Makes s d o h h' × Explains calls fine s d o h h') × KnownAt s (next d o) i' h'
+  MakesCall d =
+      (o : Outcome InstallFault) × (HostMakesCall s d o h h' × OutcomeIsExplained calls fine s d o h h')
+      × KnownAt s (next d o) i' h'
 
   -- what was rejected or failed ends the run
-  fails : (d : Due InstallFault) → KnownAt s d i h → (e : InstallFault) → Makes s d (Failed e) h h' → Rejects s d e h h' ⊎ calls d e h h' → IsDue i' (next (by_number d) (Failed (install_number e))) → i'.chosen ≡ i.chosen → MakesCall d
+  fails : (d : Due InstallFault) → KnownAt s d i h → (e : InstallFault) → HostMakesCall s d (Failed e) h h'
+      → FindingIsRejected s d e h h' ⊎ calls d e h h'
+      → IsDue i' (next (by_number d) (Failed (install_number e))) → i'.chosen ≡ i.chosen → MakesCall d
   fails d x e made why due chosen = (
     Failed e,
     (made, why),
@@ -352,13 +424,15 @@ module _ (calls : Due InstallFault → InstallFault → Host → Host → Type 0
   )
 
   -- into the stage of the record the host has written that of the setting
-  so : (o : Outcome InstallFault) (d : Due InstallFault) → KnownAt s d i h → MakesSo o s i d h h' → Makes s d o h h'
+  so : (o : Outcome InstallFault) (d : Due InstallFault) → KnownAt s d i h → HostMakesCallSo o s i d h h'
+      → HostMakesCall s d o h h'
   so Done (WriteRecord n) x ((pieces, writes, are), ahead, read) =
       let (key, digest) = x.mark refl in
       ((pieces, writes, rw (← x.chose.field, ← key, ← digest) are), ahead, read)
   so o d x made = made
 
-  made_due : (o : Outcome InstallFault) (d : Due InstallFault) → KnownAt s d i h → MakesDue o s i h h' → Makes s d o h h'
+  made_due : (o : Outcome InstallFault) (d : Due InstallFault) → KnownAt s d i h → HostMakesDueCall o s i h h'
+      → HostMakesCall s d o h h'
   made_due o d x call = so o d x (call d x.due)
 
   at_due : (d e : Due InstallFault) → KnownAt s d i h → d ≡ e → (KnownAt s e i h → MakesCall e) → MakesCall d
@@ -367,7 +441,7 @@ module _ (calls : Due InstallFault → InstallFault → Host → Host → Type 0
   due_is : (d : Due InstallFault) (n : Due ℕ) → KnownAt s d i h → IsDue i n → by_number d ≡ n
   due_is d n x due = let both = sym x.due ∙ due in cc both
 
-  tells_done : (d : Due InstallFault) → KnownAt s d i h → fine h h' → TellsDone s i i' h h' → MakesCall d
+  tells_done : (d : Due InstallFault) → KnownAt s d i h → fine h h' → HostTellsDone s i i' h h' → MakesCall d
   tells_done d x is_fine (((gone, rest), copied), call, read, taken) =
       let made = made_due Done d x call in (
         Done,
@@ -382,14 +456,16 @@ module _ (calls : Due InstallFault → InstallFault → Host → Host → Type 0
         },
       )
 
-  tells_more : (d : Due InstallFault) → KnownAt s d i h → fine h h' → TellsMore s i i' h h' → MakesCall d
+  tells_more : (d : Due InstallFault) → KnownAt s d i h → fine h h' → HostTellsMore s i i' h h' → MakesCall d
   tells_more d x is_fine ((piece, ((gone, rest), count), taken), call, read) =
       let (fit, due) = rw x.due at gone in
       let takes = fits_takes (by_number d) fit in
       let counted : IsCounted i' h' = λ sized.
       let was : (i.judged.is_sized == 1) ≡ true = rw rest.judged at sized in
       let before = counted_at s i h d takes x.knows was in
-      taken_more (i.judged.is_sized == 1) (nat_le (i.copied + length piece) i.judged.size) (i.copied + length piece) i.copied i'.copied count was ∙ omega (arith, before, ap length taken, length-append h.taken piece) in (
+      taken_more (i.judged.is_sized == 1) (nat_le (i.copied + length piece) i.judged.size)
+      (i.copied + length piece) i.copied i'.copied count was
+      ∙ omega (arith, before, ap length taken, length-append h.taken piece) in (
         More,
         (made_due More d x call, is_fine),
         record {
@@ -402,89 +478,141 @@ module _ (calls : Due InstallFault → InstallFault → Host → Host → Type 0
         },
       )
 
-  size_rejects : (d : Due InstallFault) → takes_data (by_number d) ≡ true → SeesOtherSize s d h h' → Rejects s d OtherSize h h'
+  size_rejects : (d : Due InstallFault) → takes_data (by_number d) ≡ true → HostSeesOtherSize s d h h'
+      → FindingIsRejected s d OtherSize h h'
   size_rejects Receive is sees = (refl, sees)
   size_rejects (Copy kept) is sees = (refl, sees)
   size_rejects d is sees = cc is
 
   -- the size that the signed comment says
-  says_size : (d : Due InstallFault) → KnownAt s d i h → takes_data (by_number d) ≡ true → (i.judged.is_sized == 1) ≡ true → SaysSize s i.judged.size
-  says_size d x takes sized = x.sized (takes_unjudged d takes) i.judged.size (ap (λ b. cond b (Some i.judged.size) None) sized)
+  says_size : (d : Due InstallFault) → KnownAt s d i h → takes_data (by_number d) ≡ true
+      → (i.judged.is_sized == 1) ≡ true → CommentSaysSize s i.judged.size
+  says_size d x takes sized =
+      x.sized (takes_unjudged d takes) i.judged.size (ap (λ b. cond b (Some i.judged.size) None) sized)
 
-  tells_size : (d : Due InstallFault) → KnownAt s d i h → TellsSize s i i' h h' → MakesCall d
+  tells_size : (d : Due InstallFault) → KnownAt s d i h → HostTellsSize s i i' h h' → MakesCall d
   tells_size d x (call, (piece, ended, takes, (inl (at_end, nothing, (is, (gone, rest)))))) =
       let (short, due) = rw x.due at gone in
-      let (data_due, sized, other) = all_three (takes_data (by_number d)) (i.judged.is_sized == 1) (i.copied == i.judged.size) short in
+      let (data_due, sized, other) =
+      all_three (takes_data (by_number d)) (i.judged.is_sized == 1) (i.copied == i.judged.size) short in
       let counted = counted_at s i h d data_due x.knows sized in
-      let differs : length (h.taken ++ piece) ≢ i.judged.size = λ same. true≢false (sym (eq-eqb i.copied i.judged.size (counted ∙ sym (ap length (ap (λ l. h.taken ++ l) nothing ∙ append-nil h.taken)) ∙ same)) ∙ other) in
-      fails d x OtherSize (made_due (Failed OtherSize) d x call) (inl (size_rejects d data_due (i.judged.size, says_size d x data_due sized, (piece, ended, takes d x.due, inl (at_end, differs))))) due rest.chosen
+      let differs : length (h.taken ++ piece) ≢ i.judged.size =
+      λ same. true≢false
+      (sym (eq-eqb i.copied i.judged.size (counted
+      ∙ sym (ap length (ap (λ l. h.taken ++ l) nothing ∙ append-nil h.taken)) ∙ same)) ∙ other) in
+      fails d x OtherSize (made_due (Failed OtherSize) d x call)
+      (inl (size_rejects d data_due (
+        i.judged.size,
+        says_size d x data_due sized,
+        (piece, ended, takes d x.due, inl (at_end, differs)),
+      ))) due rest.chosen
   tells_size d x (call, (piece, ended, takes, (inr (is, (gone, rest))))) =
       let ((fit, none), due) = rw x.due at gone in
       let data_due = fits_takes (by_number d) fit in
-      let (sized, over) = too_many (i.judged.is_sized == 1) (nat_le (i.copied + length piece) i.judged.size) (i.copied + length piece) i.copied none in
+      let (sized, over) =
+      too_many (i.judged.is_sized == 1) (nat_le (i.copied + length piece) i.judged.size)
+      (i.copied + length piece) i.copied none in
       let counted = counted_at s i h d data_due x.knows sized in
-      let more : i.judged.size < length (h.taken ++ piece) = omega (arith, leb-false (i.copied + length piece) i.judged.size over, counted, length-append h.taken piece) in
-      fails d x OtherSize (made_due (Failed OtherSize) d x call) (inl (size_rejects d data_due (i.judged.size, says_size d x data_due sized, (piece, ended, takes d x.due, inr more)))) due rest.chosen
+      let more : i.judged.size < length (h.taken ++ piece) =
+      omega (
+        arith,
+        leb-false (i.copied + length piece) i.judged.size over,
+        counted,
+        length-append h.taken piece,
+      ) in
+      fails d x OtherSize (made_due (Failed OtherSize) d x call)
+      (inl (size_rejects d data_due (
+        i.judged.size,
+        says_size d x data_due sized,
+        (piece, ended, takes d x.due, inr more),
+      ))) due rest.chosen
 
-  tells_failure : (d : Due InstallFault) → KnownAt s d i h → TellsFailure calls s i i' h h' → MakesCall d
-  tells_failure d x (e, why, (gone, rest), call, known) = fails d x why (made_due (Failed why) d x call) (inr (known d x.due)) (rw x.due at gone).1 rest.chosen
+  tells_failure : (d : Due InstallFault) → KnownAt s d i h → HostTellsFailure calls s i i' h h' → MakesCall d
+  tells_failure d x (e, why, (gone, rest), call, known) =
+      fails d x why (made_due (Failed why) d x call) (inr (known d x.due)) (rw x.due at gone).1 rest.chosen
 
-  tells_record : fine h h' → TellsRecord i i' h h' → KnownAt s ReadRecord i h → MakesCall ReadRecord
-  tells_record is_fine (moment, (due, state, chosen, comment, which), ((stepped, own), ahead, read)) x = elim which [
-    | inl (kept, judge, number, of) ↦ (
-      Number (unwrap_or kept 0),
-      ((((stepped, own), ahead, read), (rw (x.chose.first, x.chose.field, x.chose.keys) at (kept_number _ _ _ kept number))), is_fine),
-      record {
-        due = judge;
-        chose = chose_more s i i' chosen x.chose;
-        fed = λ e. rw (state, read) (x.fed refl);
-        mark = λ e. cc e;
-        knows = ((rw (x.chose.first, x.chose.keys) at of.digest), (λ has. numbered_counts s.terms.numbering s.first s.terms.keys h'.found kept (rw (x.chose.first, x.chose.field, x.chose.keys) at number) (sym of.number ∙ has)));
-        sized = λ e. rw comment.0 (x.sized refl);
-      },
-    )
-    | inr (e, refused, why) ↦ fails ReadRecord x e ((call_with stepped stepped.this.still, own), ahead, read) (inl (h'.found, refused_found s.terms.numbering s.first s.terms.keys h'.found e (rw (x.chose.first, x.chose.field, x.chose.keys) at why), stepped)) refused chosen
-  ]
+  tells_record : fine h h' → HostTellsRecord i i' h h' → KnownAt s ReadRecord i h → MakesCall ReadRecord
+  tells_record is_fine (moment, (due, state, chosen, comment, which), ((stepped, own), ahead, read)) x =
+      elim which [
+        | inl (kept, judge, number, of) ↦ (
+          Number (unwrap_or kept 0),
+          (
+            (
+              ((stepped, own), ahead, read),
+              (rw (x.chose.first, x.chose.field, x.chose.keys) at (kept_number _ _ _ kept number)),
+            ),
+            is_fine,
+          ),
+          record {
+            due = judge;
+            chose = chose_more s i i' chosen x.chose;
+            fed = λ e. rw (state, read) (x.fed refl);
+            mark = λ e. cc e;
+            knows = (
+              (rw (x.chose.first, x.chose.keys) at of.digest),
+              (λ has. numbered_counts s.terms.numbering s.first s.terms.keys h'.found kept
+                  (rw (x.chose.first, x.chose.field, x.chose.keys) at number) (sym of.number ∙ has)),
+            );
+            sized = λ e. rw comment.0 (x.sized refl);
+          },
+        )
+        | inr (e, refused, why) ↦ fails ReadRecord x e (
+          (call_with stepped stepped.this.still, own),
+          ahead,
+          read,
+        ) (inl (
+          h'.found,
+          refused_found s.terms.numbering s.first s.terms.keys h'.found e
+              (rw (x.chose.first, x.chose.field, x.chose.keys) at why),
+          stepped,
+        )) refused chosen
+      ]
 
-  no_target : fine h h' → (t : TellsNoTarget i i' h h') → KnownAt s (Look t.kept) i h → MakesCall (Look t.kept)
-  no_target is_fine t x =
-      let on = goes_on {E = InstallFault} s i t.kept x.chose.check in (
-        Leads (going_on i t.kept),
-        ((t.found, t.ahead, on), is_fine),
+  no_target : fine h h' → (t : HostTellsNoTarget i i' h h') → KnownAt s (Look t.0.0) i h
+      → MakesCall (Look t.0.0)
+  no_target is_fine ((kept, was, goes, keeps, fed, comment), found, ahead, reset) x =
+      let on = goes_on {E = InstallFault} s i kept x.chose.check in (
+        Leads (going_on i kept),
+        ((found, ahead, on), is_fine),
         record {
-          due = rw (on_number i t.kept) t.goes;
-          chose = chose_more s i i' t.keeps.0 x.chose;
-          fed = λ e. rw t.reset t.fed;
-          mark = unmarked s t.kept (going_on i t.kept) (inr on);
-          knows = knows_on s i' h' t.kept (going_on i t.kept) on;
-          sized = λ e. rw t.comment.0 (x.sized refl);
+          due = rw (on_number i kept) goes;
+          chose = chose_more s i i' keeps.0 x.chose;
+          fed = λ e. rw reset fed;
+          mark = unmarked s kept (going_on i kept) (inr on);
+          knows = knows_on s i' h' kept (going_on i kept) on;
+          sized = λ e. rw comment.0 (x.sized refl);
         },
       )
 
   -- the texts are rejected by themselves
-  texts_refused : (kept : ℕ) (room : ℕ) (e : InstallFault) → Chose s i → IsAboutRefusal i s.terms.sig_text s.terms.file room (Refused e) → IsTextRefused s kept e
+  texts_refused : (kept : ℕ) (room : ℕ) (e : InstallFault) → Chose s i
+      → IsAboutRefusal i s.terms.sig_text s.terms.file room (Refused e) → IsTextRefused s kept e
   texts_refused kept room e x (fault, is, (inl utf8)) = inl (fault, is, inl utf8)
-  texts_refused kept room e x (fault, is, (inr (utf8, refused))) = inl (fault, is, inr (inl (rw x.key at refused)))
+  texts_refused kept room e x (fault, is, (inr (utf8, refused))) =
+      inl (fault, is, inr (inl (rw x.key at refused)))
 
-  tells_refusal : (d : Due InstallFault) → KnownAt s d i h → TellsRefusal s i i' h h' → MakesCall d
+  tells_refusal : (d : Due InstallFault) → KnownAt s d i h → HostTellsRefusal s i i' h h' → MakesCall d
   tells_refusal d x (still, (room, fault, ((gone, rest), (kept, asks), why))) =
       let due = (rw x.due at gone).1 in
       let text = texts_refused kept room fault x.chose why in
       elim asks [
         | inl is ↦
             let same = is_judge d kept (due_is d (Judge kept) x is) in
-            at_due d (Judge kept) x same (λ y. fails (Judge kept) y fault still (inl text) (rw same at due) rest.chosen)
+            at_due d (Judge kept) x same
+            (λ y. fails (Judge kept) y fault still (inl text) (rw same at due) rest.chosen)
         | inr (inl is) ↦
             let same = is_target d kept (due_is d (JudgeTarget kept) x is) in
-            at_due d (JudgeTarget kept) x same (λ y. fails (JudgeTarget kept) y fault still (inl (inl text)) (rw same at due) rest.chosen)
+            at_due d (JudgeTarget kept) x same
+            (λ y. fails (JudgeTarget kept) y fault still (inl (inl text)) (rw same at due) rest.chosen)
         | inr (inr is) ↦
             let same = is_answer d kept (due_is d (Answer kept) x is) in
-            at_due d (Answer kept) x same (λ y. fails (Answer kept) y fault still.0 (inl (inl text)) (rw same at due) rest.chosen)
+            at_due d (Answer kept) x same
+            (λ y. fails (Answer kept) y fault still.0 (inl (inl text)) (rw same at due) rest.chosen)
       ]
 
   -- == The answers of the scheme ==
 
-  module _ (is_fine : fine h h') (t : TellsAnswers s i i' h h') where
+  module _ (is_fine : fine h h') (t : HostTellsAnswers s i i' h h') where
     chosen_so : i'.chosen ≡ i.chosen
     chosen_so = t.chosen.0 ∙ t.about.kept.0
 
@@ -495,35 +623,61 @@ module _ (calls : Due InstallFault → InstallFault → Host → Host → Type 0
     keyed_so x = rw x.key s.keyed
 
     is_asking : Chose s i → IsAsking t.asked s.terms t.about.asking.0
-    is_asking x = subst (λ (b : Bool). IsAsking t.asked (record s.terms { heeds_size = b }) t.about.asking.0) (sym x.sized) (rw (x.field, x.must, x.keys, t.moment) at (t.about.asking.3 s.terms.pk_text (keyed_so x)))
+    is_asking x =
+        subst (λ (b : Bool). IsAsking t.asked (record s.terms { heeds_size = b }) t.about.asking.0)
+        (sym x.sized)
+        (rw (x.field, x.must, x.keys, t.moment) at (t.about.asking.3 s.terms.pk_text (keyed_so x)))
 
     -- the size that the comment says, which was judged
-    size_asked : Chose s i → (comment : List ℕ) → signed_comment s.accepts s.key s.terms.sig_text ≡ Ok comment → (size : ℕ) → signed_size i'.judged ≡ Some size → SaysSize s size
+    size_asked : Chose s i → (comment : List ℕ) → signed_comment s.accepts s.key s.terms.sig_text ≡ Ok comment
+        → (size : ℕ) → signed_size i'.judged ≡ Some size → CommentSaysSize s size
     size_asked x comment signed size is =
         let (text, reads, trusted) = signed_text s.accepts s.key s.terms.sig_text comment signed in
-        let sized : SizedAs text.comments.trusted size = rw (sym (ap signed_size t.chosen.2) ∙ is) at ((is_asking x).judged text reads).size in
+        let sized : SizedAs text.comments.trusted size =
+        rw (sym (ap signed_size t.chosen.2) ∙ is) at ((is_asking x).judged text reads).size in
         (comment, signed, rw trusted at sized)
 
     -- the scheme accepts the signature for the digest of a record that was written for this update
-    own_accepted : (kept : ℕ) → KnownAt s (Judge kept) i h → (i.kept.has_number == 1) ≡ true → RecordIsOwn s h'.found → ((t.asked.kept.has_digest == 1) ≡ true) × (first_answer s t.questions ≡ true)
+    own_accepted : (kept : ℕ) → KnownAt s (Judge kept) i h → (i.kept.has_number == 1) ≡ true
+        → RecordIsOwn s h'.found
+        → ((t.asked.kept.has_digest == 1) ≡ true) × (first_answer s t.questions ≡ true)
     own_accepted kept x number own =
         let said : digest_in h.found ≡ Some own.digest = rw (← t.knows.1, own.there) own.says in
-        let (has, digest) = digest_said i.kept own.digest (x.knows.0 ∙ ap digest_in (x.knows.1 number) ∙ said) in
+        let (has, digest) =
+        digest_said i.kept own.digest (x.knows.0 ∙ ap digest_in (x.knows.1 number) ∙ said) in
         let about : t.questions.digest ≡ own.digest = (rw x.due at t.about.about) ∙ digest in
-        let same = same_text s.terms.sig_text own.signed t.about.signed own.read (opened (key_for i s.terms.sig_text) s.terms.sig_text t.about.signed t.about.opens).0 in
-        let key : t.questions.public_key ≡ s.key.key = rw t.about.are.questions (ap (λ (k : PublicKeyValue). k.key) x.chose.key) in
-        let signature : t.questions.signature ≡ own.signed.signature.signature = rw (t.about.are.questions, same) refl in
+        let same =
+        same_text s.terms.sig_text own.signed t.about.signed own.read
+        (opened (key_for i s.terms.sig_text) s.terms.sig_text t.about.signed t.about.opens).0 in
+        let key : t.questions.public_key ≡ s.key.key =
+        rw t.about.are.questions (ap (λ (k : PublicKeyValue). k.key) x.chose.key) in
+        let signature : t.questions.signature ≡ own.signed.signature.signature =
+        rw (t.about.are.questions, same) refl in
         (rw t.about.kept.1 has, rw (about, key, signature) own.accepted)
 
-    knows_after : (kept n : ℕ) → KnownAt s (Judge kept) i h → (i'.kept.is_own == 1) ≡ (first_answer s t.questions && (t.asked.kept.has_digest == 1)) → (t.asked.chosen.is_check == 1) ≡ s.check → IsSigned s → KnowsRecord s (after_comment t.asked kept n) i' h'
+    knows_after : (kept n : ℕ) → KnownAt s (Judge kept) i h
+        → (i'.kept.is_own == 1) ≡ (first_answer s t.questions && (t.asked.kept.has_digest == 1))
+        → (t.asked.chosen.is_check == 1) ≡ s.check → IsSigned s
+        → KnowsRecord s (after_comment t.asked kept n) i' h'
     knows_after kept n x own check signed = elim (cases_Bool (is_same t.asked kept n)) [
       | inl same ↦
-          let number : (i.kept.has_number == 1) ≡ true = rw t.about.kept.1 at (both (t.asked.kept.has_number == 1) (n == kept) same) in
-          subst (λ d. KnowsRecord s d i' h') (sym (ap (λ b. cond b (Look kept) (going_on t.asked kept)) same)) ((λ record_so. let (has, first) = own_accepted kept x number record_so in own ∙ rw (has, first) refl), signed)
-      | inr other ↦ subst (λ d. KnowsRecord s d i' h') (sym (ap (λ b. cond b (Look kept) (going_on t.asked kept)) other)) (knows_on s i' h' kept (going_on t.asked kept) (goes_on s t.asked kept check))
+          let number : (i.kept.has_number == 1) ≡ true =
+          rw t.about.kept.1 at (both (t.asked.kept.has_number == 1) (n == kept) same) in
+          let looks = ap (λ b. cond b (Look kept) (going_on t.asked kept)) same in
+          subst (λ d. KnowsRecord s d i' h') (sym looks) (
+            (λ record_so. let (has, first) = own_accepted kept x number record_so in own
+                ∙ rw (has, first) refl),
+            signed,
+          )
+      | inr other ↦ subst (λ d. KnowsRecord s d i' h')
+          (sym (ap (λ b. cond b (Look kept) (going_on t.asked kept)) other))
+          (knows_on s i' h' kept (going_on t.asked kept) (goes_on s t.asked kept check))
     ]
 
-    answered_comment : (kept : ℕ) → KnownAt s (Judge kept) i h → (r : Result Unit (Refusal InstallFault)) → OnOk r (IsFedState i'.state []) → JudgesComment s.accepts s.key s.terms kept (first_answer s t.questions) t.asked i' r → MakesCall (Judge kept)
+    answered_comment : (kept : ℕ) → KnownAt s (Judge kept) i h → (r : Result Unit (Refusal InstallFault))
+        → OnOk r (IsFedState i'.state [])
+        → AnswersJudgeComment s.accepts s.key s.terms kept (first_answer s t.questions) t.asked i' r
+        → MakesCall (Judge kept)
     answered_comment kept x (Ok done) fed (inl (comment, signed, (n, worth, due, own))) =
         let check = ap (λ (c : Chosen). c.is_check == 1) t.about.kept.0 ∙ x.chose.check in
         let leads = looks_or_goes s t.asked kept n check in (
@@ -539,15 +693,30 @@ module _ (calls : Due InstallFault → InstallFault → Host → Host → Type 0
           },
         )
     answered_comment kept x (Err (WrongUse m)) fed (inl (comment, signed, never)) = absurd never
-    answered_comment kept x (Err (Refused e)) fed (inl (comment, signed, (due, worth))) = fails (Judge kept) x e t.knows.0 (inl (inr (comment, signed, worth))) due chosen_so
-    answered_comment kept x r fed (inr (fault, signed, is, due)) = fails (Judge kept) x (Library fault) t.knows.0 (inl (inl (fault, refl, inr (inr signed)))) due chosen_so
+    answered_comment kept x (Err (Refused e)) fed (inl (comment, signed, (due, worth))) =
+        fails (Judge kept) x e t.knows.0 (inl (inr (comment, signed, worth))) due chosen_so
+    answered_comment kept x r fed (inr (fault, signed, is, due)) =
+        fails (Judge kept) x (Library fault) t.knows.0 (inl (inl (fault, refl, inr (inr signed)))) due
+        chosen_so
 
-    answered_target : (kept : ℕ) → KnownAt s (JudgeTarget kept) i h → (r : Result Unit (Refusal InstallFault)) → OnOk r (IsDue i' (going_on t.asked kept) → IsFedState i'.state []) → JudgesTarget s.accepts s.terms kept h.read t.asked i' r → MakesCall (JudgeTarget kept)
+    answered_target : (kept : ℕ) → KnownAt s (JudgeTarget kept) i h → (r : Result Unit (Refusal InstallFault))
+        → OnOk r (IsDue i' (going_on t.asked kept) → IsFedState i'.state [])
+        → AnswersJudgeTarget s.accepts s.terms kept h.read t.asked i' r → MakesCall (JudgeTarget kept)
     answered_target kept x (Ok done) fed (inl (comment, vouched, (due, (n, (says, newer))))) =
         let check = ap (λ (c : Chosen). c.is_check == 1) t.about.kept.0 ∙ x.chose.check in
         let stands = stands_so s t.asked check in (
           Leads (standing t.asked),
-          ((t.knows.0, inl (stands, (n, record { comment = comment; vouched = vouched; says = says; newer = newer }), t.there kept x.due)), is_fine),
+          (
+            (
+              t.knows.0,
+              inl (
+                stands,
+                (n, record { comment = comment; vouched = vouched; says = says; newer = newer }),
+                t.there kept x.due,
+              ),
+            ),
+            is_fine,
+          ),
           record {
             due = rw (standing_number t.asked) due;
             chose = chose_more s i i' chosen_so x.chose;
@@ -573,14 +742,19 @@ module _ (calls : Due InstallFault → InstallFault → Host → Host → Type 0
         )
     answered_target kept x (Err (WrongUse m)) fed (inl (comment, vouched, never)) = absurd never
     answered_target kept x (Err (WrongUse m)) fed (inr (rejected, never)) = absurd never
-    answered_target kept x (Err (Refused e)) fed (inl (comment, vouched, (due, worth))) = fails (JudgeTarget kept) x e t.knows.0 (inl (inr (inr (inr (comment, vouched, worth))))) due chosen_so
+    answered_target kept x (Err (Refused e)) fed (inl (comment, vouched, (due, worth))) =
+        fails (JudgeTarget kept) x e t.knows.0 (inl (inr (inr (inr (comment, vouched, worth))))) due chosen_so
     answered_target kept x (Err (Refused e)) fed (inr (rejected, (may, is, due))) =
         let (other, not_again) = neither (t.asked.kept.is_own == 1) (t.asked.chosen.again == 1) may in
         let again : s.again ≡ false = sym x.chose.again ∙ rw t.about.kept.0 at not_again in
-        let other_data : ¬ (RecordIsOwn s h.found) = λ own. true≢false (sym (x.knows.0 own) ∙ rw t.about.kept.1 at other) in
-        fails (JudgeTarget kept) x SameNumber t.knows.0 (inl (inr (inl (refl, rejected, again, other_data)))) due chosen_so
+        let other_data : ¬ (RecordIsOwn s h.found) =
+        λ own. true≢false (sym (x.knows.0 own) ∙ rw t.about.kept.1 at other) in
+        fails (JudgeTarget kept) x SameNumber t.knows.0 (inl (inr (inl (refl, rejected, again, other_data))))
+        due chosen_so
 
-    answered_stage : (kept : ℕ) → KnownAt s (Answer kept) i h → s.digest ≡ blake2b_digest 64 h.read → (r : Result Unit (Refusal InstallFault)) → GivesUpdate s.accepts s.terms kept h.read i' r → MakesCall (Answer kept)
+    answered_stage : (kept : ℕ) → KnownAt s (Answer kept) i h → s.digest ≡ blake2b_digest 64 h.read
+        → (r : Result Unit (Refusal InstallFault)) → StageGivesUpdate s.accepts s.terms kept h.read i' r
+        → MakesCall (Answer kept)
     answered_stage kept x digest (Ok done) (n, due, update) = (
       Number n,
       ((t.knows.0.0, update, digest), is_fine),
@@ -588,43 +762,67 @@ module _ (calls : Due InstallFault → InstallFault → Host → Host → Type 0
         due = due;
         chose = chose_more s i i' chosen_so x.chose;
         fed = λ e. cc e;
-        mark = λ e. (ap (λ (m : Mark). m.key) t.chosen.1 ∙ t.about.key ∙ ap (λ (k : PublicKeyValue). k.key) x.chose.key, ap (λ (m : Mark). m.digest) t.chosen.1 ∙ t.staged kept x.due);
+        mark = λ e. (
+          ap (λ (m : Mark). m.key) t.chosen.1 ∙ t.about.key
+              ∙ ap (λ (k : PublicKeyValue). k.key) x.chose.key,
+          ap (λ (m : Mark). m.digest) t.chosen.1
+              ∙ t.staged kept x.due,
+        );
         knows = tt;
         sized = λ e. cc e;
       },
     )
     answered_stage kept x digest (Err (WrongUse m)) never = absurd never
-    answered_stage kept x digest (Err (Refused e)) (due, why) = fails (Answer kept) x e t.knows.0.0 (inl (inr why)) due chosen_so
+    answered_stage kept x digest (Err (Refused e)) (due, why) =
+        fails (Answer kept) x e t.knows.0.0 (inl (inr why)) due chosen_so
 
     -- the digest that was asked about is that of what was read
-    about_read : (d : Due InstallFault) → KnownAt s d i h → is_unjudged d ≡ true → t.asked.asked.digest ≡ blake2b_digest 64 h.read
+    about_read : (d : Due InstallFault) → KnownAt s d i h → is_unjudged d ≡ true
+        → t.asked.asked.digest ≡ blake2b_digest 64 h.read
     about_read d x unjudged = t.about.digest h.read (x.fed unjudged)
 
-    texts_answer : Chose s i → t.questions.digest ≡ blake2b_digest 64 h.read → AnswersTexts s.accepts s.terms.pk_text s.terms.sig_text h.read (first_answer s t.questions) (second_answer s t.questions t.message)
-    texts_answer x digest = answers_texts s.accepts (key_for i s.terms.sig_text) s.terms.pk_text s.terms.sig_text h.read t.about.signed t.questions t.message (keyed_so x) t.about.opens t.about.are digest
+    texts_answer : Chose s i → t.questions.digest ≡ blake2b_digest 64 h.read
+        → AnswersTexts s.accepts s.terms.pk_text s.terms.sig_text h.read (first_answer s t.questions)
+        (second_answer s t.questions t.message)
+    texts_answer x digest =
+        answers_texts s.accepts (key_for i s.terms.sig_text) s.terms.pk_text s.terms.sig_text h.read
+        t.about.signed t.questions t.message (keyed_so x) t.about.opens t.about.are digest
 
     tells_answers : (d : Due InstallFault) → KnownAt s d i h → MakesCall d
     tells_answers d x = elim t.about.asking.1 [
       | inl is ↦ at_due d (Judge t.about.asking.0) x (is_judge d _ (due_is d _ x is)) (λ y.
           let asking = is_asking y.chose in
           let one : asking.key ≡ s.key = one_value s.terms.pk_text asking.key s.key asking.keyed s.keyed in
-          let answers : AnswersComment s.accepts s.key s.terms.sig_text (second_answer s t.questions t.message) = rw y.chose.key at (answers_comment s.accepts (key_for i s.terms.sig_text) s.terms.sig_text t.about.signed t.questions t.message t.about.opens t.about.are) in
-          answered_comment t.about.asking.0 y t.answer (t.fed t.about.asking.0 (asked_so is)) (rw one at (t.comment t.about.asking.0 (asked_so is) asking (rw one answers))))
+          let answers : AnswersComment s.accepts s.key s.terms.sig_text
+          (second_answer s t.questions t.message) =
+          rw y.chose.key at
+          (answers_comment s.accepts (key_for i s.terms.sig_text) s.terms.sig_text t.about.signed t.questions
+          t.message t.about.opens t.about.are) in
+          answered_comment t.about.asking.0 y t.answer (t.fed t.about.asking.0 (asked_so is))
+          (rw one at (t.comment t.about.asking.0 (asked_so is) asking (rw one answers))))
       | inr (inl is) ↦ at_due d (JudgeTarget t.about.asking.0) x (is_target d _ (due_is d _ x is)) (λ y.
           let digest = (rw is at t.about.about) ∙ about_read (JudgeTarget t.about.asking.0) y refl in
-          answered_target t.about.asking.0 y t.answer (t.again t.about.asking.0 (asked_so is)) (t.of_target t.about.asking.0 h.read (asked_so is) (is_asking y.chose) (texts_answer y.chose digest)))
+          answered_target t.about.asking.0 y t.answer (t.again t.about.asking.0 (asked_so is))
+          (t.of_target t.about.asking.0 h.read (asked_so is) (is_asking y.chose)
+          (texts_answer y.chose digest)))
       | inr (inr is) ↦ at_due d (Answer t.about.asking.0) x (is_answer d _ (due_is d _ x is)) (λ y.
           let read = about_read (Answer t.about.asking.0) y refl in
           let digest = (rw is at t.about.about) ∙ read in
-          answered_stage t.about.asking.0 y (sym (t.staged t.about.asking.0 is) ∙ read) t.answer (t.of_stage t.about.asking.0 h.read (asked_so is) (is_asking y.chose) (texts_answer y.chose digest)))
+          answered_stage t.about.asking.0 y (sym (t.staged t.about.asking.0 is)
+          ∙ read) t.answer
+          (t.of_stage t.about.asking.0 h.read (asked_so is) (is_asking y.chose)
+          (texts_answer y.chose digest)))
     ]
 
   -- what is known of a call that read a piece
-  piece_fine : (b : Bool) (d : Due InstallFault) → fine h h' → Explains calls fine s d (cond b Done More) h h'
+  piece_fine : (b : Bool) (d : Due InstallFault) → fine h h'
+      → OutcomeIsExplained calls fine s d (cond b Done More) h h'
   piece_fine true d is_fine = is_fine
   piece_fine false d is_fine = is_fine
 
-  look_knows : (b : Bool) (kept : ℕ) → i'.kept ≡ i.kept → Makes {E = InstallFault} s (Look kept) (cond b Done More) h h' → KnownAt s (Look kept) i h → KnowsRecord s (next (Look kept) (cond b Done More)) i' h'
+  look_knows : (b : Bool) (kept : ℕ) → i'.kept ≡ i.kept
+      → HostMakesCall {E = InstallFault} s (Look kept) (cond b Done More) h h' → KnownAt s (Look kept) i h
+      → KnowsRecord s (next (Look kept) (cond b Done More)) i' h'
   look_knows true kept same (made, found) x = looks_own s i i' h h' same found x.knows
   look_knows false kept same (made, found) x = looks_own s i i' h h' same found x.knows
 
@@ -633,7 +831,9 @@ module _ (calls : Due InstallFault → InstallFault → Host → Host → Type 0
   back_knows false kept = tt
 
   -- pieces are read
-  reads : (d : Due InstallFault) → KnownAt s d i h → (piece : List ℕ) → fine h h' → HasReadBack piece i i' → IsDue i' (next (by_number d) (piece_outcome piece)) → IsReading (by_number d) → MakesDue (piece_outcome piece) s i h h' → IsFedState i'.state h'.read → MakesCall d
+  reads : (d : Due InstallFault) → KnownAt s d i h → (piece : List ℕ) → fine h h' → PieceWasRead piece i i'
+      → IsDue i' (next (by_number d) (piece_outcome piece)) → CallReads (by_number d)
+      → HostMakesDueCall (piece_outcome piece) s i h h' → IsFedState i'.state h'.read → MakesCall d
   reads (Look kept) x piece is_fine reading due is call fed =
       let made = made_due (piece_outcome piece) (Look kept) x call in (
         piece_outcome piece,
@@ -649,7 +849,10 @@ module _ (calls : Due InstallFault → InstallFault → Host → Host → Type 0
       )
   reads (ReadBack kept) x piece is_fine reading due is call fed = (
     piece_outcome piece,
-    (made_due (piece_outcome piece) (ReadBack kept) x call, piece_fine (length piece == 0) (ReadBack kept) is_fine),
+    (
+      made_due (piece_outcome piece) (ReadBack kept) x call,
+      piece_fine (length piece == 0) (ReadBack kept) is_fine,
+    ),
     record {
       due = rw (back_number (length piece == 0) kept) due;
       chose = chose_more s i i' reading.kept.0 x.chose;
@@ -661,48 +864,83 @@ module _ (calls : Due InstallFault → InstallFault → Host → Host → Type 0
   )
   reads d x piece is_fine reading due never call fed = absurd never
 
-  obeys : (d : Due InstallFault) → KnownAt s d i h → Obeys calls fine s i i' h h' → MakesCall d
+  obeys : (d : Due InstallFault) → KnownAt s d i h → HostObeys calls fine s i i' h h' → MakesCall d
   obeys d x (inl failure) = tells_failure d x failure
   obeys d x (inr (is_fine, (inl done))) = tells_done d x is_fine done
   obeys d x (inr (is_fine, (inr (inl more)))) = tells_more d x is_fine more
   obeys d x (inr (is_fine, (inr (inr (inl size))))) = tells_size d x size
-  obeys d x (inr (is_fine, (inr (inr (inr (inl ((lock, receive, may, rest, copied), (still, ahead, read), taken))))))) = at_due d Lock x (is_lock d (due_is d Lock x lock)) (λ y. (
-    Leads Receive,
-    ((refl, (still, ahead, read)), is_fine),
-    record { due = receive; chose = chose_more s i i' rest.chosen y.chose; fed = λ e. rw (rest.state, read) (y.fed refl); mark = λ e. cc e; knows = λ sized. copied ∙ ap length (sym taken); sized = λ e. rw rest.judged (y.sized refl) },
-  ))
-  obeys d x (inr (is_fine, (inr (inr (inr (inr (inl t))))))) = at_due d ReadRecord x (is_read_record d (due_is d ReadRecord x t.1.0)) (tells_record is_fine t)
+  obeys d x
+      (inr (
+        is_fine,
+        (inr (inr (inr (inl ((lock, receive, may, rest, copied), (still, ahead, read), taken))))),
+      )) = at_due d
+      Lock x (is_lock d (due_is d Lock x lock)) (λ y. (
+        Leads Receive,
+        ((refl, (still, ahead, read)), is_fine),
+        record {
+          due = receive;
+          chose = chose_more s i i' rest.chosen y.chose;
+          fed = λ e. rw (rest.state, read) (y.fed refl);
+          mark = λ e. cc e;
+          knows =
+              λ sized. copied ∙ ap length (sym taken);
+          sized = λ e. rw rest.judged (y.sized refl);
+        },
+      ))
+  obeys d x (inr (is_fine, (inr (inr (inr (inr (inl t))))))) =
+      at_due d ReadRecord x (is_read_record d (due_is d ReadRecord x t.1.0)) (tells_record is_fine t)
   obeys d x (inr (is_fine, (inr (inr (inr (inr (inr (inl (piece, reading, call, read))))))))) =
       let (is, due) = rw x.due at reading.due in
-      reads d x piece is_fine reading due is call (rw read (reading.fed h.read (x.fed (reading_unjudged d is))))
-  obeys d x (inr (is_fine, (inr (inr (inr (inr (inr (inr (inl t))))))))) = at_due d (Look t.kept) x (is_look d t.kept (due_is d (Look t.kept) x t.was)) (no_target is_fine t)
+      reads d x piece is_fine reading due is call
+      (rw read (reading.fed h.read (x.fed (reading_unjudged d is))))
+  obeys d x (inr (is_fine, (inr (inr (inr (inr (inr (inr (inl t))))))))) =
+      at_due d (Look t.0.0) x (is_look d t.0.0 (due_is d (Look t.0.0) x t.0.1)) (no_target is_fine t)
   obeys d x (inr (is_fine, (inr (inr (inr (inr (inr (inr (inr (inl t)))))))))) = tells_answers is_fine t d x
   obeys d x (inr (is_fine, (inr (inr (inr (inr (inr (inr (inr (inr t)))))))))) = tells_refusal d x t
 
 -- == All calls ==
 
-module _ (calls : Due InstallFault → InstallFault → Host → Host → Type 0) (fine : Host → Host → Type 0) (s : Setting) where
+module _ (calls : Due InstallFault → InstallFault → Host → Host → Type 0) (fine : Host → Host → Type 0)
+    (s : Setting) where
   abbrev Runs : Due InstallFault → Host → Installation → Host → Type 0
   Runs d h i' h' =
       (events : List (Outcome InstallFault × Host)) × (due : Due InstallFault) × IsDue i' (by_number due)
-      × HasRun (λ due o k k'. Makes s due o k k' × Explains calls fine s due o k k') d h events due h'
+      × CallsLead (λ due o k k'. HostMakesCall s due o k k' × OutcomeIsExplained calls fine s due o k k') d h
+      events due h'
 
   -- the calls of a run alone
-  pub runs_only : (d : Due InstallFault) (h : Host) (events : List (Outcome InstallFault × Host)) (due : Due InstallFault) (h' : Host) → HasRun (λ due o k k'. Makes s due o k k' × Explains calls fine s due o k k') d h events due h' → HasRun (Makes s) d h events due h'
+  pub runs_only : (d : Due InstallFault) (h : Host) (events : List (Outcome InstallFault × Host))
+      (due : Due InstallFault) (h' : Host)
+      → CallsLead (λ due o k k'. HostMakesCall s due o k k' × OutcomeIsExplained calls fine s due o k k') d h
+      events due h' → CallsLead (HostMakesCall s) d h events due h'
   runs_only d h [] due h' end = end
   runs_only d h ((o, k) ∷ more) due h' (made, rest) = (made.0, runs_only (next d o) k more due h' rest)
 
-  run_from : (d : Due InstallFault) (i : Installation) (h : Host) (told : List (Installation × Host)) (i' : Installation) (h' : Host) → KnownAt s d i h → HasObeyed (Obeys calls fine s) i h told i' h' → Runs d h i' h'
+  run_from : (d : Due InstallFault) (i : Installation) (h : Host) (told : List (Installation × Host))
+      (i' : Installation) (h' : Host) → KnownAt s d i h
+      → HostHasObeyed (HostObeys calls fine s) i h told i' h' → Runs d h i' h'
   run_from d i h [] i' h' x (same, host) = ([], d, rw same x.due, (refl, host))
   run_from d i h ((j, k) ∷ more) i' h' x (call, rest) =
       let (o, made, y) = obeys calls fine s i j h k d x call in
       let (events, due, is, run) = run_from (next d o) j k more i' h' y rest in
       ((o, k) ∷ events, due, is, (made, run))
 
-  pub makes_run : (i i' : Installation) (h h' : Host) (told : List (Installation × Host)) → HasBegun s i h → HasObeyed (Obeys calls fine s) i h told i' h' → Runs (first_due s.check) h i' h'
+  pub makes_run : (i i' : Installation) (h h' : Host) (told : List (Installation × Host)) → HostHasBegun s i h
+      → HostHasObeyed (HostObeys calls fine s) i h told i' h' → Runs (first_due s.check) h i' h'
   makes_run i i' h h' told b obeyed = run_from (first_due s.check) i h told i' h' (record {
     due = rw (begun_number s.check) (rw b.check at b.begun.due);
-    chose = record { first = b.begun.first ∙ b.first; again = b.begun.again ∙ b.again; field = b.begun.field ∙ b.field; check = b.begun.check ∙ b.check; must = b.begun.must ∙ b.must; sized = b.sized; key = b.key; keys = b.keys };
+    chose = record {
+      first = b.begun.first ∙ b.first;
+      again = b.begun.again ∙ b.again;
+      field = b.begun.field
+          ∙ b.field;
+      check = b.begun.check ∙ b.check;
+      must = b.begun.must ∙ b.must;
+      sized = b.sized;
+      key =
+          b.key;
+      keys = b.keys;
+    };
     fed = λ e. rw b.unread b.begun.fed;
     mark = begun_unmarked s.check;
     knows = begun_knows s i h s.check;

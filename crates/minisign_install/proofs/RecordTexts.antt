@@ -1,11 +1,25 @@
 -- A record reads as it was written, and holds one number at most for a field.
-use Rattle.minisign_install.proofs.Common.{IsAscii-decimal, IsNumberFor, IsNumberText, IsUtf8, IsUtf8-append, IsUtf8-from_ascii, List, Numbering, Some, Timestamp, Version, [], ap, append_assoc, arith, codes, decimal, decimal_is_IsNumeral, drop, drop_at, get_or, get_or-append_right, is_marked, le-leb, length, length-append, length-decimal-le, lt-leb, mark_text, number_label, record_digest, record_of, record_text, refl, slice_index, strip, subst, suc, sym, take, take_at, true, unwrap_or, zero, ℕ, ◌*◌, ◌++◌, ◌+◌, ◌-◌, ◌<◌, ◌^◌, ◌∙◌, ◌∷◌, ◌≡◌, ◌≤◌}
+use Rattle.std.specs.Prelude.{codes, slice_index, ◌*◌}
+use Rattle.std.proofs.Common.{List, Some, [], ap, append_assoc, arith, drop, get_or, length, length-append}
+use Rattle.std.proofs.Common.{refl, subst, suc, sym, take, true, zero, ℕ, ◌++◌, ◌+◌, ◌-◌, ◌<◌, ◌^◌, ◌∙◌, ◌∷◌}
+use Rattle.std.proofs.Common.{◌≡◌, ◌≤◌}
+use Rattle.std.proofs.lemmas.Fmt.{IsAscii-decimal, decimal_is_IsNumeral, length-decimal-le}
+use Rattle.std.specs.Str.{IsUtf8}
+use Rattle.std.proofs.lemmas.Str.{IsUtf8-append, IsUtf8-from_ascii}
+use Rattle.std.specs.Fmt.{decimal}
+use Rattle.std.proofs.lemmas.List.{drop_at, take_at}
+use Rattle.std.proofs.Math.Seq.{get_or-append_right}
+use Rattle.std.proofs.lemmas.Bool.{le-leb, lt-leb}
+use Rattle.std.specs.Option.{unwrap_or}
 use Rattle.std.specs.Int.{bytes_low_first, to_le_bytes, w64}
 use Rattle.std.specs.List.{flat_map}
-use Rattle.minisign_hash.specs.Blake2b.{blake2b_digest, compress}
-use Rattle.minisign_hash.specs.Words.{bytes_of_words64}
 use Rattle.hex.specs.Hex.{IsBytes, encode_lower, lower_digits}
 use Rattle.hex.proofs.HexLemmas.{decode_sized-encode_lower, length-encode_with}
+use Rattle.minisign_hash.specs.Blake2b.{blake2b_digest, compress}
+use Rattle.minisign_hash.specs.Words.{bytes_of_words64}
+use Rattle.minisign_install.specs.RecordTexts.{IsNumberFor, is_marked, mark_text, record_digest, record_of}
+use Rattle.minisign_install.specs.RecordTexts.{record_text}
+use Rattle.minisign_install.specs.Comments.{IsNumberText, Numbering, Timestamp, Version, number_label, strip}
 use Rattle.minisign_install.proofs.Fields.{strips}
 
 -- == A digest ==
@@ -23,7 +37,9 @@ both_bytes (x ∷ a) b h j (suc i) = both_bytes a b (λ k. h (suc k)) j i
 
 words_bytes : (words : List ℕ) → IsBytes (flat_map (to_le_bytes w64) words)
 words_bytes [] = λ i. omega arith
-words_bytes (w ∷ words) = both_bytes (to_le_bytes w64 w) (flat_map (to_le_bytes w64) words) (bytes_of_number 8 0 w) (words_bytes words)
+words_bytes (w ∷ words) =
+    both_bytes (to_le_bytes w64 w) (flat_map (to_le_bytes w64) words) (bytes_of_number 8 0 w)
+    (words_bytes words)
 
 front_bytes : (n : ℕ) (xs : List ℕ) → IsBytes xs → IsBytes (take n xs)
 front_bytes zero xs h i = omega arith
@@ -41,7 +57,8 @@ length_digest m = refl
 
 -- == A record ==
 
-pub same_number : (numbering : Numbering) (bytes : List ℕ) (n m : ℕ) → IsNumberFor numbering bytes n → IsNumberFor numbering bytes m → n ≡ m
+pub same_number : (numbering : Numbering) (bytes : List ℕ) (n m : ℕ) → IsNumberFor numbering bytes n
+    → IsNumberFor numbering bytes m → n ≡ m
 same_number numbering bytes n m a b = sym a.number.is ∙ b.number.is
 
 label_short : (numbering : Numbering) → length (number_label numbering) ≤ 10
@@ -50,57 +67,100 @@ label_short Version = omega arith
 
 line_short : (numbering : Numbering) (n : ℕ) → n < 2 ^ 64 → length (number_label numbering ++ decimal n) ≤ 30
 line_short numbering n bound =
-    omega (arith, length-append (number_label numbering) (decimal n), label_short numbering, length-decimal-le 20 n (omega arith) (omega arith) bound)
+    omega (
+      arith,
+      length-append (number_label numbering) (decimal n),
+      label_short numbering,
+      length-decimal-le 20 n (omega arith) (omega arith) bound,
+    )
 
-pub length-mark : (key digest : List ℕ) → length (mark_text key digest) ≡ 2 + 2 * length key + 2 * length digest
+pub length-mark : (key digest : List ℕ)
+    → length (mark_text key digest) ≡ 2 + 2 * length key + 2 * length digest
 length-mark key digest =
-    omega (arith, length-append (10 ∷ encode_lower key) (10 ∷ encode_lower digest), length-encode_with lower_digits key, length-encode_with lower_digits digest)
+    omega (
+      arith,
+      length-append (10 ∷ encode_lower key) (10 ∷ encode_lower digest),
+      length-encode_with lower_digits key,
+      length-encode_with lower_digits digest,
+    )
 
-module _ (numbering : Numbering) (n : ℕ) (bound : n < 2 ^ 64) (key digest : List ℕ) (key_whole : length key ≡ 32) (digest_whole : length digest ≡ 64) where
+module _ (numbering : Numbering) (n : ℕ) (bound : n < 2 ^ 64) (key digest : List ℕ) (key_whole : length key
+    ≡ 32) (digest_whole : length digest ≡ 64) where
   abbrev line : List ℕ
   line = number_label numbering ++ decimal n
 
   len : length (line ++ mark_text key digest) ≡ length line + 194
-  len = omega (arith, length-append line (mark_text key digest), length-mark key digest, key_whole, digest_whole)
+  len = omega (
+    arith,
+    length-append line (mark_text key digest),
+    length-mark key digest,
+    key_whole,
+    digest_whole,
+  )
 
   -- behind the first line stands a line feed
   ends : slice_index (line ++ mark_text key digest) (length (line ++ mark_text key digest) - 194) ≡ 10
   ends =
       let at : length (line ++ mark_text key digest) - 194 - length line ≡ 0 = omega (arith, len) in
-      get_or-append_right line (mark_text key digest) (length (line ++ mark_text key digest) - 194) 0 (omega (arith, len)) ∙ ap (λ i. get_or (mark_text key digest) i 0) at
+      get_or-append_right line (mark_text key digest) (length (line ++ mark_text key digest) - 194) 0
+      (omega (arith, len)) ∙ ap (λ i. get_or (mark_text key digest) i 0) at
 
   is_written : is_marked (record_of numbering n key digest) ≡ true
   is_written =
-      rw (le-leb 194 (length (record_of numbering n key digest)) (omega (arith, len)), le-leb (length (record_of numbering n key digest)) 258 (omega (arith, len, line_short numbering n bound)), ends) refl
+      rw (
+        le-leb 194 (length (record_of numbering n key digest)) (omega (arith, len)),
+        le-leb (length (record_of numbering n key digest)) 258
+            (omega (arith, len, line_short numbering n bound)),
+        ends,
+      ) refl
 
   text_of : record_text (record_of numbering n key digest) ≡ line
   text_of =
       let xs = record_of numbering n key digest in
       let at : length xs - 194 ≡ length line = omega (arith, len) in
-      rw (lt-leb (length xs) 64 (omega (arith, len)), is_written) (ap (λ i. take i xs) at ∙ take_at line (mark_text key digest) (length line) refl)
+      rw (lt-leb (length xs) 64 (omega (arith, len)), is_written) (ap (λ i. take i xs) at
+      ∙ take_at line (mark_text key digest) (length line) refl)
 
 label_utf8 : (numbering : Numbering) → IsUtf8 (number_label numbering)
 unfolding lib.Utf8.encode
 label_utf8 Timestamp = (codes "timestamp:", (refl, refl))
 label_utf8 Version = (codes "version:", (refl, refl))
 
-pub record_reads : (numbering : Numbering) (n : ℕ) → n < 2 ^ 64 → (key digest : List ℕ) → length key ≡ 32 → length digest ≡ 64 → IsNumberFor numbering (record_of numbering n key digest) n
+pub record_reads : (numbering : Numbering) (n : ℕ) → n < 2 ^ 64 → (key digest : List ℕ) → length key ≡ 32
+    → length digest ≡ 64 → IsNumberFor numbering (record_of numbering n key digest) n
 record_reads numbering n bound key digest key_whole digest_whole =
     let (numeral, value) = decimal_is_IsNumeral n bound in
     let number : IsNumberText (decimal n) n = record { numeral = numeral; is = value; bound = bound } in
     let same = sym (text_of numbering n bound key digest key_whole digest_whole) in record {
-      utf8 = subst IsUtf8 same (IsUtf8-append (number_label numbering) (decimal n) (label_utf8 numbering) (IsUtf8-from_ascii (decimal n) (IsAscii-decimal n bound)));
-      number = subst (λ t. IsNumberText (unwrap_or (strip (number_label numbering) t) t) n) same (subst (λ v. IsNumberText (unwrap_or v (number_label numbering ++ decimal n)) n) (sym (strips (number_label numbering) (decimal n))) number);
+      utf8 = subst IsUtf8 same
+          (IsUtf8-append (number_label numbering) (decimal n) (label_utf8 numbering)
+          (IsUtf8-from_ascii (decimal n) (IsAscii-decimal n bound)));
+      number =
+          subst (λ t. IsNumberText (unwrap_or (strip (number_label numbering) t) t) n) same
+          (subst (λ v. IsNumberText (unwrap_or v (number_label numbering ++ decimal n)) n)
+          (sym (strips (number_label numbering) (decimal n))) number);
     }
 
 -- the digest of the data is read as it was written
-pub digest_reads : (numbering : Numbering) (n : ℕ) → n < 2 ^ 64 → (key digest : List ℕ) → length key ≡ 32 → length digest ≡ 64 → IsBytes digest → record_digest (record_of numbering n key digest) ≡ Some digest
+pub digest_reads : (numbering : Numbering) (n : ℕ) → n < 2 ^ 64 → (key digest : List ℕ) → length key ≡ 32
+    → length digest ≡ 64 → IsBytes digest → record_digest (record_of numbering n key digest) ≡ Some digest
 digest_reads numbering n bound key digest key_whole digest_whole bytes =
     let xs = record_of numbering n key digest in
     let whole = len numbering n bound key digest key_whole digest_whole in
     let front = (number_label numbering ++ decimal n) ++ ((10 ∷ encode_lower key) ++ (10 ∷ [])) in
-    let split : xs ≡ front ++ encode_lower digest = ap (λ t. (number_label numbering ++ decimal n) ++ t) (sym (append_assoc (10 ∷ encode_lower key) (10 ∷ []) (encode_lower digest))) ∙ sym (append_assoc (number_label numbering ++ decimal n) ((10 ∷ encode_lower key) ++ (10 ∷ [])) (encode_lower digest)) in
+    let split : xs ≡ front ++ encode_lower digest =
+    ap (λ t. (number_label numbering ++ decimal n) ++ t)
+    (sym (append_assoc (10 ∷ encode_lower key) (10 ∷ []) (encode_lower digest)))
+    ∙ sym (append_assoc (number_label numbering ++ decimal n) ((10 ∷ encode_lower key) ++ (10 ∷ []))
+    (encode_lower digest)) in
     let digits = length-encode_with lower_digits digest in
-    let at : length xs - 128 ≡ length front = omega (arith, ap length split, length-append front (encode_lower digest), digits, digest_whole) in
-    let tail : drop (length xs - 128) xs ≡ encode_lower digest = ap (λ i. drop i xs) at ∙ ap (drop (length front)) split ∙ drop_at front (encode_lower digest) (length front) refl in
-    rw (is_written numbering n bound key digest key_whole digest_whole, tail, decode_sized-encode_lower digest 64 digest_whole bytes) refl
+    let at : length xs - 128 ≡ length front =
+    omega (arith, ap length split, length-append front (encode_lower digest), digits, digest_whole) in
+    let tail : drop (length xs - 128) xs ≡ encode_lower digest =
+    ap (λ i. drop i xs) at ∙ ap (drop (length front)) split
+    ∙ drop_at front (encode_lower digest) (length front) refl in
+    rw (
+      is_written numbering n bound key digest key_whole digest_whole,
+      tail,
+      decode_sized-encode_lower digest 64 digest_whole bytes,
+    ) refl

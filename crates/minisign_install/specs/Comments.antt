@@ -1,13 +1,16 @@
 -- What a signed comment says of an update.
-use Rattle.std.specs.Prelude.{◌≡◌, ◌⊎◌, ℕ, ◌^◌, ◌<◌, ◌≤◌, Bool, true, false, not, List, [], ◌∷◌, ◌==◌, map, filter, length, Option, Some, None, if◌then◌else◌, codes, filter_map, slice_get}
-use Rattle.minisign_install.specs.Common.{slice_split, is_ascii_whitespace, to_ascii_lowercase, IsNumeral, digits_value}
+use Rattle.std.specs.Prelude.{◌≡◌, ◌⊎◌, ℕ, ◌^◌, ◌<◌, ◌≤◌, Bool, true, false, not, List, [], ◌∷◌, ◌==◌, map}
+use Rattle.std.specs.Prelude.{filter, length, Option, Some, None, if◌then◌else◌, codes, filter_map, slice_get}
+use Rattle.std.specs.List.{slice_split}
+use Rattle.std.specs.Char.{is_ascii_whitespace, to_ascii_lowercase}
+use Rattle.std.specs.Str.Parse.{IsNumeral, digits_value}
 pub use Rattle.minisign_install.specs.declared.comments.Numbering.{Numbering}
 pub use Rattle.minisign_install.specs.declared.comments.Numbering.TheVariants.{Timestamp, Version}
 use Rattle.minisign_install.specs.Faults.{InstallFault, BadExpiry, Expired, NoExpiry}
 
--- which updates are wanted: the two texts, the file's name, where the number stands, at which moment they must not
--- have expired, in seconds since the beginning of 1970, whether the comment has to say when they do, and whether what it
--- says of the data's size counts; and the keys of which one has to have signed
+-- which updates are wanted: the two texts, the file's name, where the number stands, at which moment they
+-- must not have expired, in seconds since the beginning of 1970, whether the comment has to say when they do,
+-- and whether what it says of the data's size counts; and the keys of which one has to have signed
 pub record Terms : Type 0 where
   pub pk_text : List ℕ
   pub sig_text : List ℕ
@@ -56,7 +59,8 @@ pub record HasNumber (comment : List ℕ) (numbering : Numbering) (n : ℕ) : Ty
   pub numbered : value_of (number_label numbering) comment ≡ Some value
   pub number : IsNumberText value n
 
--- the label of the field that has the moment at which the update expires, in seconds since the beginning of 1970
+-- the label of the field that has the moment at which the update expires, in seconds since the beginning of
+-- 1970
 abbrev pub expiry_label : List ℕ
 expiry_label = codes "expires:"
 
@@ -64,8 +68,8 @@ expiry_label = codes "expires:"
 abbrev pub folded : List ℕ → List ℕ
 folded text = map to_ascii_lowercase (filter (λ b. not (is_ascii_whitespace b)) text)
 
--- The fields by which a comment says when its update expires, by what stands behind the label. Where it has to say so,
--- those count too that differ from such a field in white space or case alone.
+-- The fields by which a comment says when its update expires, by what stands behind the label. Where it has
+-- to say so, those count too that differ from such a field in white space or case alone.
 abbrev pub expiry_in : Bool → List ℕ → Option (List ℕ)
 expiry_in must field = strip expiry_label (if must then folded field else field)
 
@@ -85,8 +89,8 @@ IsUnexpired must moment comment =
     ((must ≡ false) × (expiries must comment ≡ []))
     ⊎ ((until : ℕ) × ExpiresAt must comment until × (moment < until))
 
--- Why the field is refused at this moment: the update has expired; or there is no such field where there has to be one;
--- or there are more than one, or one that has another label or no number.
+-- Why the field is refused at this moment: the update has expired; or there is no such field where there has
+-- to be one; or there are more than one, or one that has another label or no number.
 abbrev pub IsExpiryRefused : Bool → ℕ → List ℕ → InstallFault → Type 0
 IsExpiryRefused must moment comment e =
     ((e ≡ Expired) × ((until : ℕ) × ExpiresAt must comment until × (until ≤ moment)))
@@ -112,9 +116,9 @@ HasSize comment None = values_of size_label comment ≡ []
 abbrev pub IsBadlySized : List ℕ → Type 0
 IsBadlySized comment = ¬ (values_of size_label comment ≡ []) × ((size : ℕ) → ¬ (SizedAs comment size))
 
--- the comment names this file, has this number, has not expired at this moment, and says nothing of the data's size, or
--- says it once, in a number
-pub record Says (comment : List ℕ) (terms : Terms) (n : ℕ) : Type 0 where
+-- the comment names this file, has this number, has not expired at this moment, and says nothing of the
+-- data's size, or says it once, in a number
+pub record CommentSays (comment : List ℕ) (terms : Terms) (n : ℕ) : Type 0 where
   pub value : List ℕ
   pub named : value_of file_label comment ≡ Some terms.file
   pub numbered : value_of (number_label terms.numbering) comment ≡ Some value

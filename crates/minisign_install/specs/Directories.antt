@@ -1,11 +1,11 @@
--- A directory that processes share, one layer below bytes: names that lead to files, what the files hold, and what a
--- crash leaves of both. Files are numbered, and no number comes twice. The definitions say what one call of the
--- system does from one moment to the next, and what other processes may do between two calls.
+-- A directory that processes share, one layer below bytes: names that lead to files, what the files hold, and
+-- what a crash leaves of both. Files are numbered, and no number comes twice. The definitions say what one
+-- call of the system does from one moment to the next, and what other processes may do between two calls.
 use Rattle.std.specs.Prelude.{◌≡◌, ◌≢◌, ◌⊎◌, ℕ, Bool, true, false, List, [], ◌∷◌, ◌++◌, Option, Some, None}
 
--- the names that outlive a run: the target, called the place, where updates are installed, and the record beside it
+-- the names that outlive a run: the target, where updates are installed, and the record beside it
 pub data Name : Type 0 where
-  Place : Name
+  Target : Name
   Record : Name
 
 -- what processes find in the directory at one moment
@@ -22,11 +22,11 @@ pub record Moment : Type 0 where
   pub left : Name → ℕ → Bool
   -- whether a crash may leave the name leading to no file
   pub lost : Name → Bool
-  -- whether the file was given the permissions of the file at the place, where there was one
+  -- whether the file was given the permissions of the file at the target, where there was one
   pub permissions : ℕ → Bool
   -- whether the name of a stage cannot be removed
   pub fixed : List ℕ → Bool
-  -- whether another run holds the lock on the place
+  -- whether another run holds the lock on the target
   pub busy : Bool
 
 -- one call of this run: the moments before and after it
@@ -34,22 +34,15 @@ pub record RunStep : Type 0 where
   pub before : Moment
   pub after : Moment
 
--- a run so far: the moment after its last call, all its calls, the newest first, the stages' names that are its
--- own, whether it holds the lock on the place, and whether all this is known of its directory: else nothing is said
+-- a run so far: the moment after its last call, all its calls, the newest first, the stages' names that are
+-- its own, whether it holds the lock on the target, and whether all this is known of its directory: else
+-- nothing is said
 pub record Run : Type 0 where
   pub known : Bool
   pub now : Moment
   pub steps : List RunStep
   pub owns : List ℕ → Bool
   pub locked : Bool
-
--- where it is known what the directory holds
-abbrev pub Known : Run → Type 0 → Type 0
-Known r fact = r.known ≡ true → fact
-
--- where it is known what the directory holds, and the run holds the lock
-abbrev pub Held : Run → Type 0 → Type 0
-Held r fact = r.known ≡ true → r.locked ≡ true → fact
 
 -- == What may be found ==
 
@@ -89,8 +82,8 @@ pub record Sets {K A : Type 0} (key : K) (value : A) (old new : K → A) : Type 
 
 -- == What other processes may do ==
 
--- The record leads to the file that it led to, and a crash leaves it leading to no more files than before, nor to none. All of
--- them hold what they held, and hold it after a crash where they did so before.
+-- The record leads to the file that it led to, and a crash leaves it leading to no more files than before,
+-- nor to none. All of them hold what they held, and hold it after a crash where they did so before.
 pub record RecordUnchanged (old new : Moment) : Type 0 where
   pub leads : new.leads Record ≡ old.leads Record
   pub left : (f : ℕ) → new.left Record f ≡ true → MayLead old Record f
@@ -98,11 +91,11 @@ pub record RecordUnchanged (old new : Moment) : Type 0 where
   pub holds : (f : ℕ) → MayLead old Record f → new.holds f ≡ old.holds f
   pub on_disk : (f : ℕ) → MayLead old Record f → old.on_disk f ≡ true → new.on_disk f ≡ true
 
--- Other processes leave the stages alone whose names are this run's own: they neither rename nor remove such a
--- name, nor write its file, nor give it another name. While this run holds the lock they leave the record alone too,
--- since whoever keeps to the lock writes the record only with the lock held. All else they may do: to the place at
--- any time, and to the record while this run does not hold the lock. Of a process that changes the record without the
--- lock, or a stage that is not its own, nothing is said.
+-- Other processes leave the stages alone whose names are this run's own: they neither rename nor remove such
+-- a name, nor write its file, nor give it another name. While this run holds the lock they leave the record
+-- alone too, since whoever keeps to the lock writes the record only with the lock held. All else they may do:
+-- to the target at any time, and to the record while this run does not hold the lock. Of a process that
+-- changes the record without the lock, or a stage that is not its own, nothing is said.
 pub record OtherProcesses (locked : Bool) (owns : List ℕ → Bool) (old new : Moment) : Type 0 where
   pub stages : (s : List ℕ) → owns s ≡ true → new.stages s ≡ old.stages s
   pub files : (s : List ℕ) (f : ℕ) → owns s ≡ true → old.stages s ≡ Some f → FileStays f old new
@@ -111,8 +104,8 @@ pub record OtherProcesses (locked : Bool) (owns : List ℕ → Bool) (old new : 
 
 -- == What one call does ==
 
--- The lasting names lead where they led, and a crash leaves them leading to no more files than before, nor to none. All
--- files stay as they were but those that are touched.
+-- The lasting names lead where they led, and a crash leaves them leading to no more files than before, nor to
+-- none. All files stay as they were but those that are touched.
 pub record TouchesOnly (touched : ℕ → Type 0) (old new : Moment) : Type 0 where
   pub leads : (n : Name) → new.leads n ≡ old.leads n
   pub left : (n : Name) (f : ℕ) → new.left n f ≡ true → MayLead old n f
@@ -142,7 +135,7 @@ pub record Appends (file : ℕ) (bytes : List ℕ) (old new : Moment) : Type 0 w
   pub spoils : Spoils file old new
   pub grown : new.holds file ≡ old.holds file ++ bytes
 
--- the file is given the permissions of the file at the place, where there is one, and holds what it held
+-- the file is given the permissions of the file at the target, where there is one, and holds what it held
 pub record GivesPermissions (file : ℕ) (old new : Moment) : Type 0 where
   pub spoils : Spoils file old new
   pub same : new.holds file ≡ old.holds file
@@ -168,8 +161,8 @@ pub record SyncsFile (file : ℕ) (old new : Moment) : Type 0 where
   pub same : MaySyncFile old new
   pub synced : new.on_disk file ≡ true
 
--- The file of a stage's name, whichever it is at this moment, gets the lasting name, in one step. Until the directory
--- is synced a crash may leave what the name led to before, or nothing, where it led to nothing.
+-- The file of a stage's name, whichever it is at this moment, gets the lasting name, in one step. Until the
+-- directory is synced a crash may leave what the name led to before, or nothing, where it led to nothing.
 pub record Renames (name : List ℕ) (to : Name) (old new : Moment) : Type 0 where
   pub leads : Sets to (old.stages name) old.leads new.leads
   pub left : (n : Name) (f : ℕ) → new.left n f ≡ true → MayLead old n f
@@ -222,7 +215,7 @@ IsBusy = Sees (λ m. m.busy ≡ true)
 -- == A call of a run ==
 
 -- Some steps of others, then this call's own, which is noted. No call lets the lock go.
-pub record HasStepped (old new : Run) (call : Moment → Moment → Type 0) : Type 0 where
+pub record RunHasStepped (old new : Run) (call : Moment → Moment → Type 0) : Type 0 where
   pub before : Moment
   pub others : OtherProcesses old.locked old.owns old.now before
   pub this : call before new.now
@@ -231,36 +224,37 @@ pub record HasStepped (old new : Run) (call : Moment → Moment → Type 0) : Ty
   pub locked : old.locked ≡ true → new.locked ≡ true
 
 -- what is the run's own stays
-pub record OwnsTheSame (old new : Run) : Type 0 where
+pub record RunOwnsTheSame (old new : Run) : Type 0 where
   pub owns : new.owns ≡ old.owns
 
 -- the call went so, and nothing became or ceased to be the run's own
 abbrev pub Calls : (Moment → Moment → Type 0) → Run → Run → Type 0
-Calls call old new = HasStepped old new call × OwnsTheSame old new
+Calls call old new = RunHasStepped old new call × RunOwnsTheSame old new
 
 -- the call went so, and the stage of this name became the run's own, or ceased to be
-pub record CallsOwning (name : List ℕ) (is : Bool) (call : Moment → Moment → Type 0) (old new : Run) : Type 0 where
-  pub stepped : HasStepped old new call
+pub record CallsOwning (name : List ℕ) (is : Bool) (call : Moment → Moment → Type 0)
+    (old new : Run) : Type 0 where
+  pub stepped : RunHasStepped old new call
   pub own : Sets name is old.owns new.owns
 
 -- the lock was asked for, which changed nothing, and got, since no other run held it
-pub record HasLocked (old new : Run) : Type 0 where
-  pub stepped : HasStepped old new (Sees (λ m. m.busy ≡ false))
+pub record RunHasLocked (old new : Run) : Type 0 where
+  pub stepped : RunHasStepped old new (Sees (λ m. m.busy ≡ false))
   pub held : new.locked ≡ true
 
 -- the lock was let go of, with which no call is noted; others may have done something before
-pub record HasUnlocked (old new : Run) : Type 0 where
+pub record RunHasUnlocked (old new : Run) : Type 0 where
   pub noted : new.steps ≡ old.steps
   pub known : new.known ≡ old.known
   pub owns : new.owns ≡ old.owns
 
 -- a stage was created, whose name and file are the run's own from now on
-abbrev pub HasCreated : List ℕ → ℕ → Run → Run → Type 0
-HasCreated name file = CallsOwning name true (Creates name file)
+abbrev pub RunHasCreated : List ℕ → ℕ → Run → Run → Type 0
+RunHasCreated name file = CallsOwning name true (Creates name file)
 
 -- a stage's file got a lasting name, and the stage is the run's own no longer
-abbrev pub HasRenamed : List ℕ → Name → Run → Run → Type 0
-HasRenamed name to = CallsOwning name false (Renames name to)
+abbrev pub RunHasRenamed : List ℕ → Name → Run → Run → Type 0
+RunHasRenamed name to = CallsOwning name false (Renames name to)
 
 -- what a name is found to lead to: no file, or one that holds these bytes
 abbrev pub IsFound : Moment → Name → Option (List ℕ) → Type 0

@@ -1,5 +1,4 @@
 pub mod Comments
-pub mod Common
 pub mod Directories
 pub mod Faults
 pub mod Hosted
@@ -11,4 +10,3 @@ pub mod RecordTexts
 pub mod Refusals
 pub mod Runs
 pub mod Sequences
-pub mod Words

@@ -1,7 +1,15 @@
 -- Which call comes after which: the table of the machine that tells a host how to install an update.
 use Rattle.std.specs.Prelude.{ℕ, Bool, true, false}
 pub use Rattle.minisign_install.specs.declared.order.Due.{Due}
-pub use Rattle.minisign_install.specs.declared.order.Due.TheVariants.{Lock, ReadRecord, Judge, Look, JudgeTarget, SyncTarget, SyncTargetName, Unlock, Receive, Clear, Create, Copy, ReadBack, Answer, TakePermissions, Sync, CreateRecord, WriteRecord, SyncRecord, RenameRecord, SyncRecordName, Rename, SyncName, RemoveRecord, Remove, Installed, Already, WouldInstall, Refused}
+pub use Rattle.minisign_install.specs.declared.order.Due.TheVariants.{Lock, ReadRecord, Judge, Look}
+pub use Rattle.minisign_install.specs.declared.order.Due.TheVariants.{JudgeTarget, SyncTarget, SyncTargetName}
+pub use Rattle.minisign_install.specs.declared.order.Due.TheVariants.{Unlock, Receive, Clear, Create, Copy}
+pub use Rattle.minisign_install.specs.declared.order.Due.TheVariants.{ReadBack, Answer, TakePermissions, Sync}
+pub use Rattle.minisign_install.specs.declared.order.Due.TheVariants.{CreateRecord, WriteRecord, SyncRecord}
+pub use Rattle.minisign_install.specs.declared.order.Due.TheVariants.{RenameRecord, SyncRecordName, Rename}
+pub use Rattle.minisign_install.specs.declared.order.Due.TheVariants.{SyncName, RemoveRecord, Remove}
+pub use Rattle.minisign_install.specs.declared.order.Due.TheVariants.{Installed, Already, WouldInstall}
+pub use Rattle.minisign_install.specs.declared.order.Due.TheVariants.{Refused}
 pub use Rattle.minisign_install.specs.declared.order.Outcome.{Outcome}
 pub use Rattle.minisign_install.specs.declared.order.Outcome.TheVariants.{Done, More, Number, Leads, Failed}
 
@@ -37,9 +45,10 @@ due_number Already = 27
 due_number WouldInstall = 28
 due_number (Refused e) = 29
 
--- What is due next. By what was found a call may lead elsewhere. Where one fails before there is a stage, nothing is due;
--- then what was made is removed: the stage of the record where that is still a stage, and the other one. Whatever comes
--- of a removal, the run is rejected for what came before it. An outcome that does not fit changes nothing.
+-- What is due next. By what was found a call may lead elsewhere. Where one fails before there is a stage,
+-- nothing is due; then what was made is removed: the stage of the record where that is still a stage, and the
+-- other one. Whatever comes of a removal, the run is rejected for what came before it. An outcome that does
+-- not fit changes nothing.
 abbrev pub next : {E : Type 0} → Due E → Outcome E → Due E
 next due More = due
 next Lock (Leads due) = due
@@ -98,8 +107,8 @@ has_ended WouldInstall = true
 has_ended (Refused e) = true
 has_ended due = false
 
--- The call that is due can be told to have gone so, with nothing found: what is read, and what a scheme answers, have
--- calls of their own.
+-- The call that is due can be told to have gone so, with nothing found: what is read, and what a scheme
+-- answers, have calls of their own.
 abbrev pub fits : {E : Type 0} → Due E → Outcome E → Bool
 fits Installed outcome = false
 fits Already outcome = false

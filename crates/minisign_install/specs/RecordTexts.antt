@@ -1,26 +1,35 @@
 -- What the record beside the target holds: the number of the newest update, behind the label of its field.
-use Rattle.std.specs.Prelude.{◌≡◌, ◌⊎◌, ℕ, Bool, false, List, [], ◌∷◌, ◌++◌, ◌-◌, ◌==◌, ◌&&◌, not, bytes_eq, Option, Some, None, Result, Ok, Err, length, take, drop, slice_index, nat_le, if◌then◌else◌}
-use Rattle.minisign_install.specs.Common.{decimal, list_any, strip_last, unwrap_or, IsUtf8, decode_sized, encode_lower, FromHexError}
+use Rattle.std.specs.Prelude.{ℕ, Bool, false, List, [], ◌∷◌, ◌++◌, ◌-◌, ◌==◌, ◌&&◌, not, bytes_eq, Option}
+use Rattle.std.specs.Prelude.{Some, None, Result, Ok, Err, length, take, drop, slice_index, nat_le}
+use Rattle.std.specs.Prelude.{if◌then◌else◌}
+use Rattle.std.specs.Fmt.{decimal}
+use Rattle.std.specs.List.{list_any}
+use Rattle.std.specs.Io.BufRead.{strip_last}
+use Rattle.std.specs.Option.{unwrap_or}
+use Rattle.std.specs.Str.{IsUtf8}
+use Rattle.hex.specs.Hex.{decode_sized, encode_lower}
+use Rattle.hex.specs.declared.error.FromHexError.{FromHexError}
 use Rattle.minisign_install.specs.Comments.{IsNumberText, number_label, strip, Numbering, Timestamp, Version}
-use Rattle.minisign_install.specs.Faults.{InstallFault, DamagedRecord, KeptByTimestamp, KeptByVersion}
+use Rattle.minisign_install.specs.Faults.{InstallFault, KeptByTimestamp, KeptByVersion}
 
--- what stands behind the number in a record: the key that has vouched and the digest of the data, in hexadecimal digits,
--- each behind a line feed
+-- what stands behind the number in a record: the key that has vouched and the digest of the data, in
+-- hexadecimal digits, each behind a line feed
 abbrev pub mark_text : List ℕ → List ℕ → List ℕ
 mark_text key digest = (10 ∷ encode_lower key) ++ (10 ∷ encode_lower digest)
 
--- what is written into a record: the number of an update behind the label of the field that it stands in, as in the
--- signed comment; and behind that, for which data, and by which key
+-- what is written into a record: the number of an update behind the label of the field that it stands in, as
+-- in the signed comment; and behind that, for which data, and by which key
 abbrev pub record_of : Numbering → ℕ → List ℕ → List ℕ → List ℕ
 record_of numbering n key digest = (number_label numbering ++ decimal n) ++ mark_text key digest
 
--- the record has two more lines behind the first one, of 64 and of 128 bytes, and the first has no more than 64
+-- the record has two more lines behind the first one, of 64 and of 128 bytes, and the first has no more than
+-- 64
 abbrev pub is_marked : List ℕ → Bool
 is_marked bytes =
     nat_le 194 (length bytes) && nat_le (length bytes) 258 && (slice_index bytes (length bytes - 194) == 10)
 
--- what is read of a record of these bytes as its number: the first line of such a one; or all of at most 64 bytes, where
--- a line feed at their end is left out, as records were written before they said for which data
+-- what is read of a record of these bytes as its number: the first line of such a one; or all of at most 64
+-- bytes, where a line feed at their end is left out, as records were written before they said for which data
 abbrev pub marked_line : List ℕ → List ℕ
 marked_line bytes = if is_marked bytes then take (length bytes - 194) bytes else []
 
@@ -52,11 +61,12 @@ abbrev pub counted : Bool → List (List ℕ) → Option (List ℕ) → Option (
 counted first keys (Some bytes) = if first && is_other keys (record_key bytes) then None else Some bytes
 counted first keys None = None
 
--- A record of these bytes holds this number for updates whose number stands in this field: behind its label; or alone,
--- as records were written before they named a field, which counts for either.
+-- A record of these bytes holds this number for updates whose number stands in this field: behind its label;
+-- or alone, as records were written before they named a field, which counts for either.
 pub record IsNumberFor (numbering : Numbering) (bytes : List ℕ) (n : ℕ) : Type 0 where
   pub utf8 : IsUtf8 (record_text bytes)
-  pub number : IsNumberText (unwrap_or (strip (number_label numbering) (record_text bytes)) (record_text bytes)) n
+  pub number : IsNumberText
+      (unwrap_or (strip (number_label numbering) (record_text bytes)) (record_text bytes)) n
 
 -- it holds none
 abbrev pub HasNoNumber : Numbering → List ℕ → Type 0
@@ -66,14 +76,7 @@ abbrev pub other_field : Numbering → Numbering
 other_field Timestamp = Version
 other_field Version = Timestamp
 
--- the place is kept by this field
+-- the target is kept by this field
 abbrev pub kept_by : Numbering → InstallFault
 kept_by Timestamp = KeptByTimestamp
 kept_by Version = KeptByVersion
-
--- Why a record of these bytes, which holds no number for this field, is refused: it holds one for the other field, or
--- none.
-abbrev pub IsUnfit : Numbering → List ℕ → InstallFault → Type 0
-IsUnfit numbering bytes e =
-    ((e ≡ kept_by (other_field numbering)) × ((n : ℕ) × IsNumberFor (other_field numbering) bytes n))
-    ⊎ ((e ≡ DamagedRecord) × HasNoNumber (other_field numbering) bytes)

@@ -1,8 +1,16 @@
 //! What the signed comment says of an update.
 
+ghost use Rattle.std.specs.Prelude.{◌≡◌, ◌==◌, ◌<◌, ◌∷◌, [], ℕ, Bool, true, if◌then◌else◌, List, Option};
+ghost use Rattle.std.specs.Prelude.{Some, None, is_some, option_map, MatchOption, MatchResult, filter_map};
+ghost use Rattle.std.specs.Prelude.{length};
 ghost use Rattle.std.specs.Char.{to_ascii_lowercase};
-ghost use Rattle.std.specs.Prelude.{◌≡◌, ◌==◌, ◌≢◌, ◌⊎◌, ◌<◌, ◌∷◌, [], ℕ, Bool, true, if◌then◌else◌, List, Option, Some, None, is_some, option_map, MatchOption, MatchResult, filter_map, length};
-ghost use Rattle.minisign_install.specs.Words.{ExpiresAt, HasNumber, HasSize, IsBadlySized, IsExpiryRefused, IsNumberText, IsUnexpired, SizedAs, expiries, expiry_in, expiry_label, fields, file_label, folded, number_label, size_label, strip, value_of, values_of, other_field, IsWorth, BadExpiry, BadSize, Expired, NoExpiry, NoNumber, OlderUpdate, OtherFile};
+ghost use Rattle.minisign_install.specs.Comments.{HasNumber, HasSize, IsBadlySized, IsExpiryRefused};
+ghost use Rattle.minisign_install.specs.Comments.{IsNumberText, IsUnexpired, SizedAs, expiries, expiry_in};
+ghost use Rattle.minisign_install.specs.Comments.{fields, folded, number_label, strip, value_of, values_of};
+ghost use Rattle.minisign_install.specs.RecordTexts.{other_field};
+ghost use Rattle.minisign_install.specs.Hosted.{IsWorth, terms_by};
+ghost use Rattle.minisign_install.specs.Faults.{BadExpiry, BadSize, Expired, NoExpiry, NoNumber, OlderUpdate};
+ghost use Rattle.minisign_install.specs.Faults.{OtherFile};
 
 use crate::faults::InstallFault;
 
@@ -38,8 +46,8 @@ impl Numbering {
     }
 }
 
-// The number of an update whose comment names this file and has not expired, where it is not below the kept one. What the
-// comment says of the data's size is passed over, but where it counts.
+// The number of an update whose comment names this file and has not expired, where it is not below the kept
+// one. What the comment says of the data's size is passed over, but where it counts.
 pub(crate) fn check_comment(
     comment: &str,
     file: &str,
@@ -49,7 +57,7 @@ pub(crate) fn check_comment(
     heeds_size: bool,
     kept: u64,
 ) -> Result<u64, InstallFault>
-    ensures { IsWorth (record { pk_text = []; sig_text = []; file = file.now; numbering = numbering; moment = moment; must_expire = must_expire; heeds_size = heeds_size; keys = [] }) kept comment.now result }
+    ensures { IsWorth (terms_by file.now numbering moment must_expire heeds_size) kept comment.now result }
 {
     if value(comment, "file:") != Some(file) {
         return Err(InstallFault::OtherFile);
@@ -67,7 +75,8 @@ pub(crate) fn check_comment(
 
 // The number of a comment, where it has one.
 pub(crate) fn number_in(comment: &str, numbering: Numbering) -> Option<u64>
-    ensures { MatchOption result ((n : ℕ) → ¬ (HasNumber comment.now numbering n)) (HasNumber comment.now numbering) }
+    ensures { MatchOption result ((n : ℕ) → ¬ (HasNumber comment.now numbering n))
+        (HasNumber comment.now numbering) }
 {
     let digits = value(comment, numbering.label())?;
     number_of(digits)
@@ -75,7 +84,8 @@ pub(crate) fn number_in(comment: &str, numbering: Numbering) -> Option<u64>
 
 // Whether an update of this comment has not expired at this moment.
 fn check_expiry(comment: &str, moment: u64, must_expire: bool) -> Result<(), InstallFault>
-    ensures { MatchResult result (λ _. IsUnexpired must_expire moment comment.now) (IsExpiryRefused must_expire moment comment.now) }
+    ensures { MatchResult result (λ _. IsUnexpired must_expire moment comment.now)
+        (IsExpiryRefused must_expire moment comment.now) }
 {
     let Some(rest) = first_expiry(comment, must_expire) else {
         if must_expire {
@@ -113,7 +123,8 @@ fn first_expiry(comment: &str, must_expire: bool) -> Option<&str>
     None
 }
 
-// Whether a field begins with the label; loosely also one that differs from such a field in white space or case alone.
+// Whether a field begins with the label; loosely also one that differs from such a field in white space or
+// case alone.
 fn begins(field: &str, label: &str, loosely: bool) -> bool
     ensures { result ≡ is_some (strip label.now (if loosely then folded field.now else field.now)) }
 {
@@ -218,8 +229,10 @@ fn first_value<'a>(comment: &'a str, label: &str) -> Option<(&'a str, &'a str)>
 
 // The first field of a comment, and those behind it: no text where there are none.
 fn first_field(comment: &str) -> (&str, &str)
-    ensures field { (label : List ℕ) → 0 < length label → values_of label comment.now ≡ filter_map (strip label) (result.0.now ∷ fields result.1.now) }
-    ensures expiry { (must : Bool) → expiries must comment.now ≡ filter_map (expiry_in must) (result.0.now ∷ fields result.1.now) }
+    ensures field { (label : List ℕ) → 0 < length label
+        → values_of label comment.now ≡ filter_map (strip label) (result.0.now ∷ fields result.1.now) }
+    ensures expiry { (must : Bool)
+        → expiries must comment.now ≡ filter_map (expiry_in must) (result.0.now ∷ fields result.1.now) }
     ensures shorter { 0 < length comment.now → length result.1.now < length comment.now }
 {
     match comment.split_once('\t') {

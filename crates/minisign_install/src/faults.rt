@@ -1,8 +1,9 @@
-//! Why an installation is rejected: one enum of the errors of the library and of those that installing adds, of each of
-//! the latter the number, the kind and the text. None of these allocates.
+//! Why an installation is rejected: one enum of the errors of the library and of those that installing adds,
+//! of each of the latter the number, the kind and the text. None of these allocates.
 
-ghost use Rattle.std.specs.Prelude.{◌≡◌, Some, IfSome, MatchResult};
-ghost use Rattle.minisign_install.specs.Words.{Named, IsOwn, install_number, install_row, Library};
+ghost use Rattle.std.specs.Prelude.{◌≡◌, Some, true, IfSome, MatchResult};
+ghost use Rattle.minisign_base.specs.Faults.{row};
+ghost use Rattle.minisign_install.specs.Faults.{Named, is_own, install_number, install_row, Library};
 
 use minisign_base::ErrorKind::{self, Io, Verify};
 use minisign_base::{NamedFault, PError};
@@ -38,17 +39,17 @@ pub enum InstallFault {
     KeptByVersion,
     /// The update has expired at the moment that the caller passes.
     Expired,
-    /// The trusted comment has more than one field for when the update expires, or one with no number in decimal digits
-    /// alone, or none below 2^64. Where the caller wants such a field, one that differs from it in white space or case
-    /// alone is one too.
+    /// The trusted comment has more than one field for when the update expires, or one with no number in
+    /// decimal digits alone, or none below 2^64. Where the caller wants such a field, one that differs from
+    /// it in white space or case alone is one too.
     BadExpiry,
-    /// The number of the trusted comment is the one that is kept, other data stands at the target, and the caller did
-    /// not ask for the update to be installed again.
+    /// The number of the trusted comment is the one that is kept, other data stands at the target, and the
+    /// caller did not ask for the update to be installed again.
     SameNumber,
     /// The trusted comment has no field for when the update expires, and the caller wants one.
     NoExpiry,
-    /// The trusted comment has more than one field for the length of the data, or one with no number in decimal digits
-    /// alone, or none below 2^64.
+    /// The trusted comment has more than one field for the length of the data, or one with no number in
+    /// decimal digits alone, or none below 2^64.
     BadSize,
     /// The data is longer than the trusted comment says, or shorter.
     OtherSize,
@@ -68,8 +69,8 @@ impl InstallFault {
 
     /// The error of installing that has this number.
     pub(crate) fn of_number(number: u32) -> Option<InstallFault>
-        ensures found { (e : InstallFault) → IsOwn e → number ≡ install_number e → result ≡ Some e }
-        ensures own { IfSome result (λ e. IsOwn e × (number ≡ install_number e)) }
+        ensures found { (e : InstallFault) → is_own e ≡ true → number ≡ install_number e → result ≡ Some e }
+        ensures own { IfSome result (λ e. (is_own e ≡ true) × (number ≡ install_number e)) }
     {
         use InstallFault::*;
         Some(match number {
@@ -92,9 +93,11 @@ impl InstallFault {
         })
     }
 
-    // The number, the kind and the text of an error that installing adds; of any other the error of the library.
+    // The number, the kind and the text of an error that installing adds; of any other the error of the
+    // library.
     pub(crate) fn row(&self) -> Result<&'static (u32, ErrorKind, &'static str), &PError>
-        ensures { MatchResult result (λ row. IsOwn self.now × (record { number = row.now.0; kind = row.now.1; summary = row.now.2.now } ≡ install_row self.now))
+        ensures { MatchResult result
+            (λ r. (is_own self.now ≡ true) × (row r.now.0 r.now.1 r.now.2.now ≡ install_row self.now))
             (λ fault. self.now ≡ Library fault.now) }
     {
         use InstallFault::*;

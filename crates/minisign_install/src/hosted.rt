@@ -1,10 +1,28 @@
-//! An installation of fixed size that a host in another language holds: it is told which call is due, says how the call
-//! went, and hands over what it reads; the numbers by which the host knows errors and choices; and the law that
-//! such a host makes a run of the law on runs. None of it allocates.
+//! An installation of fixed size that a host in another language holds: it is told which call is due, says
+//! how the call went, and hands over what it reads; the numbers by which the host knows errors and choices;
+//! and the law that such a host makes a run of the law on runs. None of it allocates.
 
-ghost use Rattle.std.specs.Prelude.{◌≡◌, ◌≢◌, ◌⊎◌, false, None, ◌<◌, ◌≤◌, ℕ, [], List, Some, option_map, if◌then◌else◌, OnOk, IfErr, MatchOption, length, take, drop, ◌==◌, true, IfOk, IfSome};
-ghost use Rattle.minisign_install.specs.Words.{Any, AnyFailure, CannotBeFed, Done, ExplainsCounted, Failed, FailsFor, HasBegun, HasGone, HasObeyed, HasRun, Host, Makes, NoFailure, Obeys, OnlyRejects, Setting, first_due, HasReadBack, HasReadRecord, HasWaited, IsBegun, IsDue, IsFedState, IsFine, IsHostMeaning, IsKeptOf, IsNotDue, IsUnused, KeepsRecord, Look, More, ReadRecord, RestUnchanged, WasDone, WriteRecord, WritesCut, by_number, call_of, early_call, late_call, due_number, due_of, failure, going_on, is_device_error, may_wait, no_record, numbering_number, numbering_of, record_of, KeepsComment, fits, is_short, count_after, WrongUse, HasTaken, IsDoneRefusal, IsMoreRefusal, counted_by, device_failure, moment_of, nothing_judged, numbering_by};
+ghost use Rattle.std.specs.Prelude.{◌≡◌, ◌≢◌, false, None, ◌<◌, ◌≤◌, ℕ, [], List, Some, option_map};
+ghost use Rattle.std.specs.Prelude.{if◌then◌else◌, OnOk, IfErr, MatchOption, length, take, drop, ◌==◌, true};
+ghost use Rattle.std.specs.Prelude.{IfOk, IfSome};
+ghost use Rattle.minisign_external.specs.States.{IsFedState};
+ghost use Rattle.minisign_external.specs.Numbers.{WritesCut};
+ghost use Rattle.minisign_external.specs.declared.state.Refusal.TheVariants.{WrongUse};
 ghost use Rattle.minisign_external.specs.declared.state.Misuse.TheVariants.{NotDue};
+ghost use Rattle.minisign_install.specs.Hosts.{AnyCall, AnyFailure, CallFailsFor, Host, NoFailure};
+ghost use Rattle.minisign_install.specs.Hosts.{CountsStay, HostRuns, HostRunsCounted, HostRunsThrough};
+ghost use Rattle.minisign_install.specs.Hosted.{PieceCannotBeFed, PieceWasRead, RecordWasRead, IsBegun};
+ghost use Rattle.minisign_install.specs.Hosted.{IsDue, IsHostMeaning, IsKeptOf, CallIsNotDue, IsUnused};
+ghost use Rattle.minisign_install.specs.Hosted.{RestUnchanged, CallWasDone, call_of, early_call, late_call};
+ghost use Rattle.minisign_install.specs.Hosted.{due_number, due_of, failure, going_on, is_device_error};
+ghost use Rattle.minisign_install.specs.Hosted.{may_wait, no_record, numbering_number, numbering_of};
+ghost use Rattle.minisign_install.specs.Hosted.{InstallationKeepsComment, is_short, count_after};
+ghost use Rattle.minisign_install.specs.Hosted.{PieceWasTaken, IsDoneRefusal, IsMoreRefusal, counted_by};
+ghost use Rattle.minisign_install.specs.Hosted.{device_failure, moment_of, nothing_judged, numbering_by};
+ghost use Rattle.minisign_install.specs.Hosted.{CallHasFailed, TargetIsMissing, record_for};
+ghost use Rattle.minisign_install.specs.Order.{Done, Failed, Look, More, ReadRecord, WriteRecord, fits};
+ghost use Rattle.minisign_install.specs.Hosting.{HostHasBegun, HostHasObeyed, HostObeys, SomeRunLeadsTo};
+ghost use Rattle.minisign_install.specs.Installing.{Setting};
 ghost use Rattle.minisign_install.specs.declared.order.Due.TheVariants as ended;
 
 use crate::comments::Numbering;
@@ -82,7 +100,8 @@ pub(crate) struct Kept {
     pub(crate) digest: [u8; 64],
 }
 
-// What came of the signed comment. It is written as a whole where the comment is judged; before that it is zeros.
+// What came of the signed comment. It is written as a whole where the comment is judged; before that it is
+// zeros.
 #[repr(C)]
 #[derive(Clone, Copy)]
 pub(crate) struct Judged {
@@ -114,8 +133,8 @@ pub struct Choices {
 }
 
 impl Installation {
-    /// Begins: the lock is due, or of a check the record, and nothing was read. One of the two keys has to have signed:
-    /// the one that has the key ID of the signature, and otherwise the other one.
+    /// Begins: the lock is due, or of a check the record, and nothing was read. One of the two keys has to
+    /// have signed: the one that has the key ID of the signature, and otherwise the other one.
     pub fn new(key: &PublicKeyValue, other: &PublicKeyValue, choices: Choices) -> Installation
         // That is due, the state was fed nothing, and the keys and the choices are kept.
         ensures begun { IsBegun key.now other.now choices result }
@@ -178,12 +197,14 @@ impl Installation {
         }
     }
 
-    /// The call that is due was done. Not of one that reads, that has the scheme answer, or that ends the run. Data that
-    /// was received or copied is rejected where it has fewer bytes than the signed comment says.
+    /// The call that is due was done. Not of one that reads, that has the scheme answer, or that ends the
+    /// run. Data that was received or copied is rejected where it has fewer bytes than the signed comment
+    /// says.
     pub fn done(&mut self) -> Result<(), Refusal<InstallFault>>
-        // What is due next is what the table says, and bytes are counted anew. Otherwise nothing changes, and no call was
-        // due that can go so and has no call of its own; or the data has fewer bytes, and the run is rejected for that.
-        ensures gone { OnOk result (WasDone self.old self.new) }
+        // What is due next is what the table says, and bytes are counted anew. Otherwise nothing changes, and
+        // no call was due that can go so and has no call of its own; or the data has fewer bytes, and the run
+        // is rejected for that.
+        ensures gone { OnOk result (CallWasDone self.old self.new) }
         ensures refused { IfErr result (IsDoneRefusal self.old self.new) }
     {
         let due = self.due_for(&Outcome::Done)?;
@@ -197,12 +218,12 @@ impl Installation {
         Ok(())
     }
 
-    /// A piece of so many bytes was received or copied, and there may be more. The data is rejected where it has more
-    /// bytes than the signed comment says.
+    /// A piece of so many bytes was received or copied, and there may be more. The data is rejected where it
+    /// has more bytes than the signed comment says.
     pub fn more(&mut self, len: usize) -> Result<(), Refusal<InstallFault>>
-        // The same call is due, and the bytes were counted. Otherwise nothing changes, and nothing was to be received or
-        // copied; or the data has more bytes, and the run is rejected for that.
-        ensures gone { OnOk result (HasTaken len self.old self.new) }
+        // The same call is due, and the bytes were counted. Otherwise nothing changes, and nothing was to be
+        // received or copied; or the data has more bytes, and the run is rejected for that.
+        ensures gone { OnOk result (PieceWasTaken len self.old self.new) }
         ensures refused { IfErr result (IsMoreRefusal len self.old self.new) }
     {
         let due = self.due_for(&Outcome::More)?;
@@ -219,7 +240,8 @@ impl Installation {
     // What is due, where that can be told to have gone so.
     fn due_for(&self, outcome: &Outcome<u32>) -> Result<Due<u32>, Refusal<InstallFault>>
         ensures due { IfOk result (λ due. IsDue self.now due × (fits due outcome.now ≡ true)) }
-        ensures refused { IfErr result (λ r. (r ≡ WrongUse NotDue) × IfSome (due_of self.now) (λ due. fits due outcome.now ≡ false)) }
+        ensures refused { IfErr result (λ r. (r ≡ WrongUse NotDue)
+            × IfSome (due_of self.now) (λ due. fits due outcome.now ≡ false)) }
     {
         let Some(due) = self.due() else {
             return Err(Refusal::WrongUse(Misuse::NotDue));
@@ -253,8 +275,8 @@ impl Installation {
         }
     }
 
-    // How many bytes of the data there are with so many more, where the signed comment allows them; without a size none are
-    // counted.
+    // How many bytes of the data there are with so many more, where the signed comment allows them; without a
+    // size none are counted.
     fn count_after(&self, len: u64) -> Option<u64>
         ensures { result ≡ count_after self.now len }
     {
@@ -272,10 +294,10 @@ impl Installation {
     /// source, and of locking that another holds the lock. Where the target or its name could not be
     /// synced, that is the error. Data that may stand still is received first where another holds the lock.
     pub fn failed(&mut self, error: u32) -> Result<(), Misuse>
-        // What is due next is what the table says; or the lock was due and held by another, and the data is received
-        // first. Otherwise nothing changes, and no call was due that can fail so.
-        ensures failed { OnOk result (((why : ℕ) × HasGone (λ due. failure due error ≡ Some why) (Failed why) self.old self.new) ⊎ HasWaited self.old self.new) }
-        ensures refused { IfErr result (IsNotDue (λ due. failure due error ≡ None) self.old self.new) }
+        // What is due next is what the table says; or the lock was due and held by another, and the data is
+        // received first. Otherwise nothing changes, and no call was due that can fail so.
+        ensures failed { OnOk result (CallHasFailed error self.old self.new) }
+        ensures refused { IfErr result (CallIsNotDue (λ due. failure due error ≡ None) self.old self.new) }
     {
         let due = self.due().ok_or(Misuse::NotDue)?;
         let why = failure(&due, error).ok_or(Misuse::NotDue)?;
@@ -290,19 +312,21 @@ impl Installation {
         Ok(())
     }
 
-    /// The record was found to hold these bytes, or there is none: the number behind the label of its field, as
-    /// `timestamp:5`, or alone, which counts for either field. A line feed at their end is left out, and more than 64
-    /// bytes are no number, but where two lines of their lengths follow on the first one. At the first installation a
-    /// record that names another key than the two counts as none.
+    /// The record was found to hold these bytes, or there is none: the number behind the label of its field,
+    /// as `timestamp:5`, or alone, which counts for either field. A line feed at their end is left out, and
+    /// more than 64 bytes are no number, but where two lines of their lengths follow on the first one. At the
+    /// first installation a record that names another key than the two counts as none.
     ///
-    /// It was last written at this moment, in seconds since the beginning of 1970, or that is not known, and 0. A clock
-    /// that shows less counts as one that shows the greatest moment, but at the first installation.
+    /// It was last written at this moment, in seconds since the beginning of 1970, or that is not known, and
+    /// 0. A clock that shows less counts as one that shows the greatest moment, but at the first
+    /// installation.
     pub fn record(&mut self, found: Option<&[u8]>, written: u64) -> Result<(), Misuse>
-        // The number that the record holds for the field is kept, and for which data it was written, and when; or the run
-        // is rejected where it holds none, or there is none, and this is not the first installation. Otherwise nothing
-        // changes, and the record was not to be read.
-        ensures read { OnOk result (HasReadRecord (option_map (λ b. b.now) found.entry) written self.old self.new) }
-        ensures refused { IfErr result (IsNotDue (λ due. due ≢ ReadRecord) self.old self.new) }
+        // The number that the record holds for the field is kept, and for which data it was written, and
+        // when; or the run is rejected where it holds none, or there is none, and this is not the first
+        // installation. Otherwise nothing changes, and the record was not to be read.
+        ensures read { OnOk result
+            (RecordWasRead (option_map (λ b. b.now) found.entry) written self.old self.new) }
+        ensures refused { IfErr result (CallIsNotDue (λ due. due ≢ ReadRecord) self.old self.new) }
     {
         let Some(Due::ReadRecord) = self.due() else {
             return Err(Misuse::NotDue);
@@ -320,10 +344,10 @@ impl Installation {
 
     /// The next bytes of what the stage, or the file at the target, holds were read; none at its end.
     pub fn piece(&mut self, piece: &[u8]) -> Result<(), Misuse>
-        // Each piece appends to what was read back, and is not told apart from what was fed. At the end the answers of the
-        // scheme are due. Otherwise nothing changes, and nothing was to be read back.
-        ensures read { OnOk result (HasReadBack piece.now self.old self.new) }
-        ensures refused { IfErr result (λ m. (self.new ≡ self.old) × CannotBeFed self.old m) }
+        // Each piece appends to what was read back, and is not told apart from what was fed. At the end the
+        // answers of the scheme are due. Otherwise nothing changes, and nothing was to be read back.
+        ensures read { OnOk result (PieceWasRead piece.now self.old self.new) }
+        ensures refused { IfErr result (λ m. (self.new ≡ self.old) × PieceCannotBeFed self.old m) }
     {
         let next = match self.due() {
             Some(Due::Look(kept)) => Due::JudgeTarget(kept),
@@ -340,8 +364,9 @@ impl Installation {
     /// No file stands at the target: the update is installed.
     pub fn no_target(&mut self) -> Result<(), Misuse>
         // The run goes on. Otherwise nothing changes, and the file at the target was not to be read.
-        ensures gone { OnOk result ((kept : ℕ) × IsDue self.old (Look kept) × IsDue self.new (going_on self.old kept) × KeepsRecord self.old self.new × IsFedState self.new.state [] × KeepsComment self.old self.new) }
-        ensures refused { IfErr result (λ m. (self.new ≡ self.old) × (m ≡ NotDue) × ((kept : ℕ) → ¬ (IsDue self.old (Look kept)))) }
+        ensures gone { OnOk result (TargetIsMissing self.old self.new) }
+        ensures refused { IfErr result (λ m. (self.new ≡ self.old) × (m ≡ NotDue)
+            × ((kept : ℕ) → ¬ (IsDue self.old (Look kept)))) }
     {
         let Some(Due::Look(kept)) = self.due() else {
             return Err(Misuse::NotDue);
@@ -350,15 +375,19 @@ impl Installation {
         Ok(())
     }
 
-    /// Writes the record as it is to be written to the front of `to`, at most 224 bytes, with no 0 behind them: the label
-    /// of its field and decimal digits; the key that has vouched, and the digest of the data, each in a line of its own
-    /// in hexadecimal digits. Returns how many bytes, and 0 where no record is to be written or there is no room.
+    /// Writes the record as it is to be written to the front of `to`, at most 224 bytes, with no 0 behind
+    /// them: the label of its field and decimal digits; the key that has vouched, and the digest of the data,
+    /// each in a line of its own in hexadecimal digits. Returns how many bytes, and 0 where no record is to
+    /// be written or there is no room.
     pub fn write_record(&self, to: &mut [u8]) -> usize
-        // The record of the update stands at the front of the buffer where it is to be written and has room, and otherwise
-        // nothing is written; the rest of the buffer stays.
-        ensures written { 0 < result → (n : ℕ) × IsDue self.now (WriteRecord n) × (result ≤ length to.new) × (take result to.new ≡ record_of (numbering_of self.now) n self.now.asked.key self.now.asked.digest) }
+        // The record of the update stands at the front of the buffer where it is to be written and has room,
+        // and otherwise nothing is written; the rest of the buffer stays.
+        ensures written { 0 < result → (n : ℕ) × IsDue self.now (WriteRecord n) × (result ≤ length to.new)
+            × (take result to.new ≡ record_for self.now n) }
         ensures rest { drop result to.new ≡ drop result to.old }
-        ensures unwritten { result ≡ 0 → (to.new ≡ to.old) × ((n : ℕ) → IsDue self.now (WriteRecord n) → length to.old < length (record_of (numbering_of self.now) n self.now.asked.key self.now.asked.digest)) }
+        ensures unwritten { result ≡ 0
+            → (to.new ≡ to.old)
+            × ((n : ℕ) → IsDue self.now (WriteRecord n) → length to.old < length (record_for self.now n)) }
     {
         match self.due() {
             Some(Due::WriteRecord(number)) => {
@@ -368,12 +397,13 @@ impl Installation {
         }
     }
 
-    // The run goes on: it would be installed, of a check; data that may stand still is received first; or what killed
-    // runs have left is removed. What was read counts no more.
+    // The run goes on: it would be installed, of a check; data that may stand still is received first; or
+    // what killed runs have left is removed. What was read counts no more.
     pub(crate) fn go_on(&mut self, kept: u64)
         ensures due { IsDue self.new (going_on self.old kept) }
         ensures fed { IsFedState self.new.state [] }
-        ensures rest { (self.new.chosen ≡ self.old.chosen) × (self.new.asked ≡ self.old.asked) × KeepsComment self.old self.new × (self.new.kept ≡ self.old.kept) }
+        ensures rest { (self.new.chosen ≡ self.old.chosen) × (self.new.asked ≡ self.old.asked)
+            × InstallationKeepsComment self.old self.new × (self.new.kept ≡ self.old.kept) }
     {
         self.state = State::new();
         let due = if self.chosen.is_check == 1 {
@@ -405,8 +435,8 @@ impl Installation {
         )
     }
 
-    // The moment that counts: what the clock shows; or the greatest one, where that is below when the record was last
-    // written, and this is not the first installation.
+    // The moment that counts: what the clock shows; or the greatest one, where that is below when the record
+    // was last written, and this is not the first installation.
     pub(crate) fn moment(&self, now: u64) -> u64
         ensures { result ≡ moment_of self.now now }
     {
@@ -597,7 +627,8 @@ fn stored(due: &Due<u32>) -> (u32, u64, u32)
     }
 }
 
-// What a run is rejected for where the call that is due failed for the error of this number, if it can fail so.
+// What a run is rejected for where the call that is due failed for the error of this number, if it can fail
+// so.
 fn failure(due: &Due<u32>, error: u32) -> Option<u32>
     ensures { result ≡ failure due.now error }
 {
@@ -637,8 +668,8 @@ fn is_device_error(error: u32) -> bool
 
 /// What a number means, in English: of an error of the library what it says without its identifiers.
 pub fn error_text(number: u32) -> &'static str
-    // The text of a number is that of the wrong use, of the error of installing, or what the error of the library says
-    // without its identifiers; it has less than 128 bytes.
+    // The text of a number is that of the wrong use, of the error of installing, or what the error of the
+    // library says without its identifiers; it has less than 128 bytes.
     ensures meaning { IsHostMeaning number result.now }
     ensures room { length result.now < 128 }
 {
@@ -655,7 +686,8 @@ pub fn error_text(number: u32) -> &'static str
 /// behind the 0 stays; where `to` has no byte nothing is written.
 pub fn write_error_text(number: u32, to: &mut [u8]) -> usize
     // The text is that of `error_text`, cut to its room and ended by a 0, behind which the buffer stays.
-    ensures written { (text : List ℕ) × IsHostMeaning number text × (result ≡ length text) × WritesCut text to.old to.new }
+    ensures written { (text : List ℕ) × IsHostMeaning number text × (result ≡ length text)
+        × WritesCut text to.old to.new }
     ensures room { result < 128 }
 {
     numbers::write_cut(error_text(number), to)
@@ -687,22 +719,22 @@ impl Numbering {
 /// and tells how it went by the calls of the header, installs only updates, whatever comes of its
 /// calls.
 pub fn any_host_installs_only_updates()
-    // Such a host makes a run of `any_run_installs_only_updates`, in which the same call is due at the end: so `safe` of
-    // that law holds of it wherever it is cut off, `installed` where the installation says that the update is installed,
-    // `already` where it says that it stands there, `would` where it says that it would be installed, and `lets_go` however
-    // it has ended.
+    // Such a host makes a run of `any_run_installs_only_updates`, in which the same call is due at the end:
+    // so `safe` of that law holds of it wherever it is cut off, `installed` where the installation says that
+    // the update is installed, `already` where it says that it stands there, `would` where it says that it
+    // would be installed, and `lets_go` however it has ended.
     ensures run { (s : Setting) (i i' : Installation) (h h' : Host) (told : List (Installation × Host))
-        → HasBegun s i h → HasObeyed (Obeys AnyFailure Any s) i h told i' h'
-        → (events : List (Outcome InstallFault × Host)) × (due : Due InstallFault) × IsDue i' (by_number due) × HasRun (Makes s) (first_due s.check) h events due h' }
+        → HostHasBegun s i h → HostHasObeyed (HostObeys AnyFailure AnyCall s) i h told i' h'
+        → SomeRunLeadsTo i' (λ events due. HostRuns s h events due h') }
 
-    // What the installation rejects it rejects for what was found. So where the devices of the host count their errors,
-    // `refused` of that law holds of it too.
+    // What the installation rejects it rejects for what was found. So where the devices of the host count
+    // their errors, `refused` of that law holds of it too.
     ensures counted { (s : Setting) (i i' : Installation) (h h' : Host) (told : List (Installation × Host))
-        → HasBegun s i h → HasObeyed (Obeys (FailsFor s) IsFine s) i h told i' h'
-        → (events : List (Outcome InstallFault × Host)) × (due : Due InstallFault) × IsDue i' (by_number due) × HasRun (λ due o k k'. Makes s due o k k' × ExplainsCounted s due o k k') (first_due s.check) h events due h' }
+        → HostHasBegun s i h → HostHasObeyed (HostObeys (CallFailsFor s) CountsStay s) i h told i' h'
+        → SomeRunLeadsTo i' (λ events due. HostRunsCounted s h events due h') }
 
     // And where no call of the host failed, `found` does.
     ensures through { (s : Setting) (i i' : Installation) (h h' : Host) (told : List (Installation × Host))
-        → HasBegun s i h → HasObeyed (Obeys NoFailure Any s) i h told i' h'
-        → (events : List (Outcome InstallFault × Host)) × (due : Due InstallFault) × IsDue i' (by_number due) × HasRun (λ due o k k'. Makes s due o k k' × OnlyRejects s due o k k') (first_due s.check) h events due h' }
+        → HostHasBegun s i h → HostHasObeyed (HostObeys NoFailure AnyCall s) i h told i' h'
+        → SomeRunLeadsTo i' (λ events due. HostRunsThrough s h events due h') }
 {}

@@ -1,9 +1,26 @@
-//! Asking a signature scheme about the signed comment, the record and what a host has read, and what follows from its
-//! answers. None of it allocates.
+//! Asking a signature scheme about the signed comment, the record and what a host has read, and what follows
+//! from its answers. None of it allocates.
 
-ghost use Rattle.std.specs.Prelude.{◌≡◌, ◌⊎◌, ◌==◌, ◌&&◌, ◌<◌, false, ℕ, List, OnOk, OnErr, IfErr, [], Ok, Err, length, drop, is_ok};
-ghost use Rattle.minisign_install.specs.Words.{AnswersComment, AnswersTexts, Answer, AreQuestions, Failed, GivesUpdate, GoesByComment, HasAsked, HasAskedAbout, KeepsComment, IsVouched, Takes, is_vouched, told_number, IsAboutRefusal, IsAnswerRefusal, IsAskRefusal, IsAsking, IsDue, IsFedState, IsJudged, IsMarkedTold, IsJudgedFault, SameNumber, moment_of, keys_of, IsRejection, IsWorth, Judge, JudgeTarget, JudgesComment, JudgesTarget, KeepsRecord, ReadsTexts, RejectsFor, Replaces, RestUnchanged, SignatureTextRecord, StandsBy, TakePermissions, Terms, Verifier, after_comment, asked_digest, blake2b_digest, due_of, going_on, install_number, key_by, key_for, must_expire_of, next, numbering_of, of_installing, read_under, said_by, signed_size, standing, wanted_by, signed_comment, IsVerdict};
+ghost use Rattle.std.specs.Prelude.{◌≡◌, ◌⊎◌, ◌==◌, ◌&&◌, ◌<◌, false, ℕ, List, OnOk, OnErr, IfErr, [], Ok};
+ghost use Rattle.std.specs.Prelude.{Err, length, drop, is_ok};
+ghost use Rattle.minisign_external.specs.Questions.{AnswersComment, AnswersTexts};
+ghost use Rattle.minisign_external.specs.States.{IsFedState};
 ghost use Rattle.minisign_external.specs.declared.state.Refusal.TheVariants.{Refused};
+ghost use Rattle.minisign_install.specs.Order.{Answer, Failed, Judge, JudgeTarget, TakePermissions, next};
+ghost use Rattle.minisign_install.specs.Hosted.{StageGivesUpdate, InstallationGoesByComment};
+ghost use Rattle.minisign_install.specs.Hosted.{InstallationHasAskedAbout, InstallationKeepsComment};
+ghost use Rattle.minisign_install.specs.Hosted.{StageIsTaken, is_vouched, told_number, IsAboutRefusal};
+ghost use Rattle.minisign_install.specs.Hosted.{IsAnswerRefusal, IsAskRefusal, IsAsking, IsDue, IsJudged};
+ghost use Rattle.minisign_install.specs.Hosted.{IsJudgedFault, IsRejection, IsWorth, AnswersJudgeComment};
+ghost use Rattle.minisign_install.specs.Hosted.{AnswersJudgeTarget, InstallationKeepsRecord, TextsAreRead};
+ghost use Rattle.minisign_install.specs.Hosted.{CallIsRejectedFor, TargetIsReplaced, RestUnchanged};
+ghost use Rattle.minisign_install.specs.Hosted.{TargetStands, after_comment, asked_digest, due_of, going_on};
+ghost use Rattle.minisign_install.specs.Hosted.{key_by, key_for, must_expire_of, of_installing, said_by};
+ghost use Rattle.minisign_install.specs.Hosted.{signed_size, standing, wanted_by, IsVerdict, DigestIsKept};
+ghost use Rattle.minisign_install.specs.Hosted.{InstallationKeepsAsked, TextWasAskedAbout, WhereAnswered};
+ghost use Rattle.minisign_install.specs.Hosted.{AnswerVouches, WhereCommentAnswered};
+ghost use Rattle.minisign_install.specs.Faults.{SameNumber, install_number};
+ghost use Rattle.minisign_install.specs.Installing.{Terms, Verifier, signed_comment};
 
 use crate::comments::{Numbering, check_comment, number_in, told_size};
 use crate::faults::InstallFault;
@@ -17,13 +34,14 @@ use minisign_external::signatures::SignatureValue;
 use minisign_external::state::{Misuse, Questions, Refusal, State};
 
 impl Installation {
-    /// Reads the text of the signature, and asks what the scheme has to answer before it is known whether one of the
-    /// keys and the signature vouch: at first for the comment and for the data that the record was written for; then for
-    /// what the file at the target holds, or for what was read back of the stage. The signed comment is judged, which is
-    /// told only behind the answers. Signatures over the data itself are never taken.
+    /// Reads the text of the signature, and asks what the scheme has to answer before it is known whether one
+    /// of the keys and the signature vouch: at first for the comment and for the data that the record was
+    /// written for; then for what the file at the target holds, or for what was read back of the stage. The
+    /// signed comment is judged, which is told only behind the answers. Signatures over the data itself are
+    /// never taken.
     ///
-    /// What the clock shows is no time where that is below when the record was last written, but at the first installation:
-    /// then it counts as the greatest moment, at which each update that expires has expired.
+    /// What the clock shows is no time where that is below when the record was last written, but at the first
+    /// installation: then it counts as the greatest moment, at which each update that expires has expired.
     ///
     /// As much room for the message as the text of the signature has bytes will do.
     pub fn ask(
@@ -34,20 +52,23 @@ impl Installation {
         questions: &mut Questions,
         message: &mut [u8],
     ) -> Result<(), Refusal<InstallFault>>
-        // The questions are those of the key that has to have signed, by its key ID, and of what the text reads as. The digest
-        // is that of everything that was read; but at first it is that of the data that the record was written for. They
-        // are then asked, and the comment that was asked about is judged, against the number that was kept; the answers are
-        // due before and behind.
-        ensures asked { OnOk result (HasAskedAbout sig_text.now file.now now questions.new message.new self.old self.new) }
+        // The questions are those of the key that has to have signed, by its key ID, and of what the text
+        // reads as. The digest is that of everything that was read; but at first it is that of the data that
+        // the record was written for. They are then asked, and the comment that was asked about is judged,
+        // against the number that was kept; the answers are due before and behind.
+        ensures asked { OnOk result (InstallationHasAskedAbout sig_text.now file.now now questions.new
+            message.new self.old self.new) }
 
-        // The reasons of a rejection come in one order: answers that are not due; a name that is not UTF-8; a text of the
-        // signature that does not read; what `State::ask_fed` rejects, in its order. A wrong use leaves the installation as
-        // it was, as a buffer without room is. For any other reason the run is rejected, and a stage is to be removed before.
-        // Questions and message buffer are as they were; what stands behind a message that is written stays; and what the
-        // host has chosen stays in any case.
-        ensures refused { IfErr result (IsAskRefusal self.old self.new sig_text.now file.now (length message.old)) }
+        // The reasons of a rejection come in one order: answers that are not due; a name that is not UTF-8; a
+        // text of the signature that does not read; what `State::ask_fed` rejects, in its order. A wrong use
+        // leaves the installation as it was, as a buffer without room is. For any other reason the run is
+        // rejected, and a stage is to be removed before. Questions and message buffer are as they were; what
+        // stands behind a message that is written stays; and what the host has chosen stays in any case.
+        ensures refused { IfErr result
+            (IsAskRefusal self.old self.new sig_text.now file.now (length message.old)) }
         ensures kept { OnErr result ((questions.new ≡ questions.old) × (message.new ≡ message.old)) }
-        ensures rest { OnOk result (drop questions.new.message_len message.new ≡ drop questions.new.message_len message.old) }
+        ensures rest { OnOk result (drop questions.new.message_len message.new
+            ≡ drop questions.new.message_len message.old) }
         ensures chosen { self.new.chosen ≡ self.old.chosen }
     {
         match self.due() {
@@ -95,10 +116,13 @@ impl Installation {
     ) -> Result<(), Refusal<InstallFault>>
         requires due { IsDue self.old due }
         requires asking { (due ≡ Judge kept) ⊎ ((due ≡ JudgeTarget kept) ⊎ (due ≡ Answer kept)) }
-        ensures asked { OnOk result (HasAskedAbout sig_text.now file.now now questions.new message.new self.old self.new) }
-        ensures refused { IfErr result (IsAskRefusal self.old self.new sig_text.now file.now (length message.old)) }
+        ensures asked { OnOk result (InstallationHasAskedAbout sig_text.now file.now now questions.new
+            message.new self.old self.new) }
+        ensures refused { IfErr result
+            (IsAskRefusal self.old self.new sig_text.now file.now (length message.old)) }
         ensures kept { OnErr result ((questions.new ≡ questions.old) × (message.new ≡ message.old)) }
-        ensures rest { OnOk result (drop questions.new.message_len message.new ≡ drop questions.new.message_len message.old) }
+        ensures rest { OnOk result (drop questions.new.message_len message.new
+            ≡ drop questions.new.message_len message.old) }
         ensures chosen { self.new.chosen ≡ self.old.chosen }
     {
         match self.ask_about(kept, sig_text, file, now, questions, message) {
@@ -111,8 +135,8 @@ impl Installation {
         }
     }
 
-    // The digest that the first question is about: at first that of the data that the record was written for, and then that
-    // of what was read.
+    // The digest that the first question is about: at first that of the data that the record was written for,
+    // and then that of what was read.
     fn digest_for(&self, due: &Due<u32>) -> [u8; 64]
         ensures { result ≡ asked_digest self.now due.now self.now.asked.digest }
     {
@@ -132,17 +156,17 @@ impl Installation {
         questions: &mut Questions,
         message: &mut [u8],
     ) -> Result<(), Refusal<InstallFault>>
-        ensures asked { OnOk result ((t : SignatureTextRecord) × (read_under (key_for self.old sig_text.now) false sig_text.now ≡ Ok t)
-            × AreQuestions questions.new message.new (key_for self.old sig_text.now) t
-            × HasAsked self.new.state (key_for self.old sig_text.now) sig_text.now false × IsMarkedTold self.new.state
-            × ((pk_text : List ℕ) → IsJudged self.new.judged (wanted_by pk_text sig_text.now file.now (numbering_of self.old) (moment_of self.old now) (must_expire_of self.old) (keys_of self.old)) kept t.comments.trusted)) }
-        ensures mark { OnOk result ((self.new.asked.key ≡ (key_for self.old sig_text.now).key) × (self.new.asked.digest ≡ questions.new.digest)
-            × ((m : List ℕ) → IsFedState self.old.state m → questions.new.digest ≡ blake2b_digest 64 m)) }
-        ensures rest { (due_of self.new ≡ due_of self.old) × KeepsRecord self.old self.new }
+        ensures asked { OnOk result
+            (TextWasAskedAbout kept sig_text.now file.now now questions.new message.new
+            self.old self.new) }
+        ensures mark { OnOk result (DigestIsKept sig_text.now questions.new self.old self.new) }
+        ensures rest { (due_of self.new ≡ due_of self.old) × InstallationKeepsRecord self.old self.new }
         ensures unvouched { OnOk result (self.new.is_vouched ≡ 0) }
         ensures refused { IfErr result (IsAboutRefusal self.old sig_text.now file.now (length message.old)) }
-        ensures kept { OnErr result ((self.new ≡ self.old) × (questions.new ≡ questions.old) × (message.new ≡ message.old)) }
-        ensures behind { OnOk result (drop questions.new.message_len message.new ≡ drop questions.new.message_len message.old) }
+        ensures kept { OnErr result ((self.new ≡ self.old) × (questions.new ≡ questions.old)
+            × (message.new ≡ message.old)) }
+        ensures behind { OnOk result (drop questions.new.message_len message.new
+            ≡ drop questions.new.message_len message.old) }
     {
         let Ok(file) = str::from_utf8(file) else {
             return Err(Refusal::Refused(NamedFault::NotUtf8.into()));
@@ -179,43 +203,40 @@ impl Installation {
 
     /// The scheme answered so.
     pub fn answer(&mut self, first: bool, second: bool) -> Result<(), Refusal<InstallFault>>
-        // **For every relation that answers the second question so: the target is to be looked at, or the run goes on,
-        // exactly where the key has signed the comment, and it names the file, has not expired at the moment of asking, and
-        // has a number that is not below the kept one; the former where it is the kept one. Otherwise the run is rejected for
-        // the first reason. Whether the record was written for this update is kept, as the first answer says.**
-        ensures comment { (terms : Terms) (kept : ℕ) (accepts : Verifier)
-            → IsDue self.old (Judge kept) → (asking : IsAsking self.old terms kept) → AnswersComment accepts asking.key terms.sig_text second
-            → JudgesComment accepts asking.key terms kept first self.old self.new result }
+        // **For every relation that answers the second question so: the target is to be looked at, or the run
+        // goes on, exactly where the key has signed the comment, and it names the file, has not expired at
+        // the moment of asking, and has a number that is not below the kept one; the former where it is the
+        // kept one. Otherwise the run is rejected for the first reason. Whether the record was written for
+        // this update is kept, as the first answer says.**
+        ensures comment { WhereCommentAnswered second self.old
+            (λ accepts key terms k. AnswersJudgeComment accepts key terms k first self.old self.new result) }
 
-        // **For every relation that answers the two questions so, and every message: the update stands at the target exactly
-        // where the texts vouch for the message and the comment is still what is wanted; then it is synced, or of a check
-        // that is the end. Where the texts are rejected, the run goes on if the record was written for this update, or
-        // other data is to be replaced; otherwise it is rejected, as the number is the same.**
-        ensures target { (terms : Terms) (kept : ℕ) (message : List ℕ) (accepts : Verifier)
-            → IsDue self.old (JudgeTarget kept) → IsAsking self.old terms kept
-            → AnswersTexts accepts terms.pk_text terms.sig_text message first second
-            → JudgesTarget accepts terms kept message self.old self.new result }
+        // **For every relation that answers the two questions so, and every message: the update stands at the
+        // target exactly where the texts vouch for the message and the comment is still what is wanted; then
+        // it is synced, or of a check that is the end. Where the texts are rejected, the run goes on if the
+        // record was written for this update, or other data is to be replaced; otherwise it is rejected, as
+        // the number is the same.**
+        ensures target { WhereAnswered JudgeTarget first second self.old
+            (λ accepts terms kept m. AnswersJudgeTarget accepts terms kept m self.old self.new result) }
 
-        // **For every relation that answers the two questions so, and every message: the permissions are due, for the
-        // number n, exactly where the texts vouch for the message, not by a signature over the data itself, and the comment
-        // that was signed with it names the file, has not expired at the moment of asking, and has the number n, which is
-        // not below the kept one. Otherwise the stage is to be removed, and the run is rejected for the first reason.**
-        ensures stage { (terms : Terms) (kept : ℕ) (message : List ℕ) (accepts : Verifier)
-            → IsDue self.old (Answer kept) → IsAsking self.old terms kept
-            → AnswersTexts accepts terms.pk_text terms.sig_text message first second
-            → GivesUpdate accepts terms kept message self.new result }
+        // **For every relation that answers the two questions so, and every message: the permissions are due,
+        // for the number n, exactly where the texts vouch for the message, not by a signature over the data
+        // itself, and the comment that was signed with it names the file, has not expired at the moment of
+        // asking, and has the number n, which is not below the kept one. Otherwise the stage is to be
+        // removed, and the run is rejected for the first reason.**
+        ensures stage { WhereAnswered Answer first second self.old
+            (λ accepts terms kept m. StageGivesUpdate accepts terms kept m self.new result) }
 
-        // **The comment that was asked about is vouched for exactly where the key has signed it, whatever comes of it and of
-        // what was read. What came of the comment stays as it was judged.**
-        ensures vouched { (terms : Terms) (kept : ℕ) (accepts : Verifier)
-            → (asking : IsAsking self.old terms kept) → AnswersComment accepts asking.key terms.sig_text second
-            → IsVouched accepts asking.key terms.sig_text self.new }
+        // **The comment that was asked about is vouched for exactly where the key has signed it, whatever
+        // comes of it and of what was read. What came of the comment stays as it was judged.**
+        ensures vouched { AnswerVouches second self.old self.new }
 
-        // Where the run goes on or the target is looked at, what is read next is fed to a state that was fed nothing. What
-        // the host has chosen stays, and what was asked about; a wrong use changes nothing.
+        // Where the run goes on or the target is looked at, what is read next is fed to a state that was fed
+        // nothing. What the host has chosen stays, and what was asked about; a wrong use changes nothing.
         ensures fed { (kept : ℕ) → IsDue self.old (Judge kept) → OnOk result (IsFedState self.new.state []) }
-        ensures again { (kept : ℕ) → IsDue self.old (JudgeTarget kept) → OnOk result (IsDue self.new (going_on self.old kept) → IsFedState self.new.state []) }
-        ensures chosen { (self.new.chosen ≡ self.old.chosen) × (self.new.asked ≡ self.old.asked) × (self.new.judged ≡ self.old.judged) }
+        ensures again { (kept : ℕ) → IsDue self.old (JudgeTarget kept)
+            → OnOk result (IsDue self.new (going_on self.old kept) → IsFedState self.new.state []) }
+        ensures chosen { InstallationKeepsAsked self.old self.new }
         // The error is the first one that the answers, or what was judged, say.
         ensures refused { IfErr result (IsAnswerRefusal first second self.old self.new) }
     {
@@ -227,8 +248,8 @@ impl Installation {
         }
     }
 
-    // The answers about the comment and about the data that the record was written for. The comment is rejected, or the
-    // target is looked at, where its number is the kept one; otherwise the run goes on.
+    // The answers about the comment and about the data that the record was written for. The comment is
+    // rejected, or the target is looked at, where its number is the kept one; otherwise the run goes on.
     fn answer_comment(
         &mut self,
         kept: u64,
@@ -238,11 +259,10 @@ impl Installation {
         requires { IsDue self.old (Judge kept) }
         ensures comment { (terms : Terms) (accepts : Verifier) (asking : IsAsking self.old terms kept)
             → AnswersComment accepts asking.key terms.sig_text second
-            → JudgesComment accepts asking.key terms kept first self.old self.new result }
+            → AnswersJudgeComment accepts asking.key terms kept first self.old self.new result }
         ensures fed { OnOk result (IsFedState self.new.state []) }
-        ensures chosen { (self.new.chosen ≡ self.old.chosen) × (self.new.asked ≡ self.old.asked) × (self.new.judged ≡ self.old.judged) }
-        ensures vouched { (terms : Terms) (kept : ℕ) (accepts : Verifier) → (asking : IsAsking self.old terms kept)
-            → AnswersComment accepts asking.key terms.sig_text second → IsVouched accepts asking.key terms.sig_text self.new }
+        ensures chosen { InstallationKeepsAsked self.old self.new }
+        ensures vouched { AnswerVouches second self.old self.new }
         ensures refused { IfErr result (IsAnswerRefusal first second self.old self.new) }
     {
         let signed = self.is_signed(second);
@@ -268,9 +288,9 @@ impl Installation {
     fn go_by_comment(&mut self, kept: u64, first: bool) -> Result<(), Refusal<InstallFault>>
         requires { IsDue self.old (Judge kept) }
         ensures goes { (terms : Terms) (comment : List ℕ) → IsJudged self.old.judged terms kept comment
-            → GoesByComment terms kept comment first self.old self.new result }
+            → InstallationGoesByComment terms kept comment first self.old self.new result }
         ensures fed { OnOk result (IsFedState self.new.state []) }
-        ensures chosen { (self.new.chosen ≡ self.old.chosen) × (self.new.asked ≡ self.old.asked) × (self.new.judged ≡ self.old.judged) }
+        ensures chosen { InstallationKeepsAsked self.old self.new }
         ensures vouched { self.new.is_vouched ≡ self.old.is_vouched }
         ensures refused { IfErr result (IsRejection (λ _. IsJudgedFault self.old.judged) self.old self.new) }
     {
@@ -284,10 +304,12 @@ impl Installation {
         }
     }
 
-    // Keeps whether the record was written for this update: the signature was accepted for the digest that it says.
+    // Keeps whether the record was written for this update: the signature was accepted for the digest that it
+    // says.
     fn keep_own(&mut self, first: bool)
         ensures own { (self.new.kept.is_own == 1) ≡ (first && (self.old.kept.has_digest == 1)) }
-        ensures rest { self.new ≡ record self.old { kept = record self.old.kept { is_own = self.new.kept.is_own } } }
+        ensures rest { self.new
+            ≡ record self.old { kept = record self.old.kept { is_own = self.new.kept.is_own } } }
     {
         self.kept.is_own = u32::from(first && self.kept.has_digest == 1);
     }
@@ -296,7 +318,8 @@ impl Installation {
     fn look_or_go_on(&mut self, kept: u64, number: u64)
         ensures due { IsDue self.new (after_comment self.old kept number) }
         ensures fed { IsFedState self.new.state [] }
-        ensures rest { (self.new.chosen ≡ self.old.chosen) × (self.new.asked ≡ self.old.asked) × (self.new.kept ≡ self.old.kept) × KeepsComment self.old self.new }
+        ensures rest { (self.new.chosen ≡ self.old.chosen) × (self.new.asked ≡ self.old.asked)
+            × (self.new.kept ≡ self.old.kept) × InstallationKeepsComment self.old self.new }
     {
         if self.kept.has_number == 1 && number == kept {
             self.state = State::new();
@@ -306,8 +329,8 @@ impl Installation {
         }
     }
 
-    // The answers about what the file at the target holds. It is the update, or other data, which is rejected, but where
-    // the record was written for this update or it was asked for.
+    // The answers about what the file at the target holds. It is the update, or other data, which is
+    // rejected, but where the record was written for this update or it was asked for.
     fn answer_target(
         &mut self,
         kept: u64,
@@ -315,13 +338,12 @@ impl Installation {
         second: bool,
     ) -> Result<(), Refusal<InstallFault>>
         requires { IsDue self.old (JudgeTarget kept) }
-        ensures target { (terms : Terms) (message : List ℕ) (accepts : Verifier)
-            → IsAsking self.old terms kept → AnswersTexts accepts terms.pk_text terms.sig_text message first second
-            → JudgesTarget accepts terms kept message self.old self.new result }
+        ensures target { (terms : Terms) (m : List ℕ) (accepts : Verifier) → IsAsking self.old terms kept
+            → AnswersTexts accepts terms.pk_text terms.sig_text m first second
+            → AnswersJudgeTarget accepts terms kept m self.old self.new result }
         ensures again { OnOk result (IsDue self.new (going_on self.old kept) → IsFedState self.new.state []) }
-        ensures chosen { (self.new.chosen ≡ self.old.chosen) × (self.new.asked ≡ self.old.asked) × (self.new.judged ≡ self.old.judged) }
-        ensures vouched { (terms : Terms) (kept : ℕ) (accepts : Verifier) → (asking : IsAsking self.old terms kept)
-            → AnswersComment accepts asking.key terms.sig_text second → IsVouched accepts asking.key terms.sig_text self.new }
+        ensures chosen { InstallationKeepsAsked self.old self.new }
+        ensures vouched { AnswerVouches second self.old self.new }
         ensures refused { IfErr result (IsAnswerRefusal first second self.old self.new) }
     {
         let signed = self.is_signed(second);
@@ -338,13 +360,14 @@ impl Installation {
         }
     }
 
-    // The texts vouch for what stands at the target: it is the update, where the comment is still what is wanted.
+    // The texts vouch for what stands at the target: it is the update, where the comment is still what is
+    // wanted.
     fn stand(&mut self, kept: u64) -> Result<(), Refusal<InstallFault>>
         requires { IsDue self.old (JudgeTarget kept) }
         ensures stands { (terms : Terms) (comment : List ℕ) → IsJudged self.old.judged terms kept comment
-            → StandsBy terms kept comment self.old self.new result }
+            → TargetStands terms kept comment self.old self.new result }
         ensures due { OnOk result (IsDue self.new (standing self.old)) }
-        ensures chosen { (self.new.chosen ≡ self.old.chosen) × (self.new.asked ≡ self.old.asked) × (self.new.judged ≡ self.old.judged) }
+        ensures chosen { InstallationKeepsAsked self.old self.new }
         ensures vouched { self.new.is_vouched ≡ self.old.is_vouched }
         ensures refused { IfErr result (IsRejection (λ _. IsJudgedFault self.old.judged) self.old self.new) }
     {
@@ -357,12 +380,13 @@ impl Installation {
         }
     }
 
-    // Other data stands at the target, for which the texts are rejected: it is replaced, or the run is rejected.
+    // Other data stands at the target, for which the texts are rejected: it is replaced, or the run is
+    // rejected.
     fn replace(&mut self, kept: u64) -> Result<(), Refusal<InstallFault>>
         requires { IsDue self.old (JudgeTarget kept) }
-        ensures replaced { Replaces kept self.old self.new result }
+        ensures replaced { TargetIsReplaced kept self.old self.new result }
         ensures fed { OnOk result (IsFedState self.new.state []) }
-        ensures chosen { (self.new.chosen ≡ self.old.chosen) × (self.new.asked ≡ self.old.asked) × (self.new.judged ≡ self.old.judged) }
+        ensures chosen { InstallationKeepsAsked self.old self.new }
         ensures vouched { self.new.is_vouched ≡ self.old.is_vouched }
         ensures refused { IfErr result (IsRejection (λ _ e. e ≡ SameNumber) self.old self.new) }
     {
@@ -394,14 +418,12 @@ impl Installation {
         second: bool,
     ) -> Result<(), Refusal<InstallFault>>
         requires { IsDue self.old (Answer kept) }
-        ensures stage { (terms : Terms) (message : List ℕ) (accepts : Verifier)
-            → IsAsking self.old terms kept
-            → AnswersTexts accepts terms.pk_text terms.sig_text message first second
-            → GivesUpdate accepts terms kept message self.new result }
+        ensures stage { (terms : Terms) (m : List ℕ) (accepts : Verifier) → IsAsking self.old terms kept
+            → AnswersTexts accepts terms.pk_text terms.sig_text m first second
+            → StageGivesUpdate accepts terms kept m self.new result }
         ensures due { OnOk result ((n : ℕ) × IsDue self.new (TakePermissions n)) }
-        ensures chosen { (self.new.chosen ≡ self.old.chosen) × (self.new.asked ≡ self.old.asked) × (self.new.judged ≡ self.old.judged) }
-        ensures vouched { (terms : Terms) (kept : ℕ) (accepts : Verifier) → (asking : IsAsking self.old terms kept)
-            → AnswersComment accepts asking.key terms.sig_text second → IsVouched accepts asking.key terms.sig_text self.new }
+        ensures chosen { InstallationKeepsAsked self.old self.new }
+        ensures vouched { AnswerVouches second self.old self.new }
         ensures refused { IfErr result (IsAnswerRefusal first second self.old self.new) }
     {
         let signed = self.is_signed(second);
@@ -418,13 +440,14 @@ impl Installation {
         }
     }
 
-    // The texts vouch for what was read back: its permissions are due, where the comment is still what is wanted.
+    // The texts vouch for what was read back: its permissions are due, where the comment is still what is
+    // wanted.
     fn take(&mut self, kept: u64) -> Result<(), Refusal<InstallFault>>
         requires { IsDue self.old (Answer kept) }
         ensures takes { (terms : Terms) (comment : List ℕ) → IsJudged self.old.judged terms kept comment
-            → Takes terms kept comment self.new result }
+            → StageIsTaken terms kept comment self.new result }
         ensures due { OnOk result ((n : ℕ) × IsDue self.new (TakePermissions n)) }
-        ensures chosen { (self.new.chosen ≡ self.old.chosen) × (self.new.asked ≡ self.old.asked) × (self.new.judged ≡ self.old.judged) }
+        ensures chosen { InstallationKeepsAsked self.old self.new }
         ensures vouched { self.new.is_vouched ≡ self.old.is_vouched }
         ensures refused { IfErr result (IsRejection (λ _. IsJudgedFault self.old.judged) self.old self.new) }
     {
@@ -437,8 +460,8 @@ impl Installation {
         }
     }
 
-    /// Whether a key was found to have signed the comment that was asked about last, also where the run was then rejected
-    /// for what the comment says; not from asking until its answers.
+    /// Whether a key was found to have signed the comment that was asked about last, also where the run was
+    /// then rejected for what the comment says; not from asking until its answers.
     pub fn is_vouched(&self) -> bool
         // That is what `answer` says, and not before.
         ensures { result ≡ is_vouched self.now }
@@ -446,9 +469,11 @@ impl Installation {
         self.is_vouched == 1
     }
 
-    /// The number of the comment, once a key was found to have signed it; before that it is 0, as where it has none.
+    /// The number of the comment, once a key was found to have signed it; before that it is 0, as where it
+    /// has none.
     pub fn number(&self) -> u64
-        // Of a comment that is vouched for it is the number that was found where it was judged, and otherwise 0.
+        // Of a comment that is vouched for it is the number that was found where it was judged, and otherwise
+        // 0.
         ensures { result ≡ told_number self.now }
     {
         if self.is_vouched() {
@@ -478,7 +503,7 @@ impl Installation {
 
     // What is due fails for this rejection, but for a wrong use.
     fn reject_for(&mut self, due: Due<u32>, refusal: Refusal) -> Refusal<InstallFault>
-        ensures rejects { RejectsFor due refusal self.old self.new }
+        ensures rejects { CallIsRejectedFor due refusal self.old self.new }
         ensures refusal { result ≡ of_installing refusal }
     {
         match refusal {
@@ -521,7 +546,8 @@ impl Judged {
         must_expire: bool,
         kept: u64,
     ) -> Judged
-        ensures { (pk_text sig_text : List ℕ) (keys : List (List ℕ)) → IsJudged result (wanted_by pk_text sig_text file.now numbering moment must_expire keys) kept comment.now }
+        ensures { (pk_text sig_text : List ℕ) (keys : List (List ℕ)) → IsJudged result
+            (wanted_by pk_text sig_text file.now numbering moment must_expire keys) kept comment.now }
     {
         let verdict = verdict_of(comment, file, numbering, moment, must_expire, kept);
         let number = number_in(comment, numbering).unwrap_or(0);
@@ -549,8 +575,8 @@ impl Judged {
         }
     }
 
-    // The number of the update, where the comment says that this is one. A verdict that none has is there only where a
-    // host has written into the installation, and counts as that of another file.
+    // The number of the update, where the comment says that this is one. A verdict that none has is there
+    // only where a host has written into the installation, and counts as that of another file.
     fn update(&self) -> Result<u64, InstallFault>
         ensures worth { (terms : Terms) (kept : ℕ) (comment : List ℕ) → IsJudged self.now terms kept comment
             → IsWorth terms kept comment result }
@@ -572,7 +598,8 @@ fn verdict_of(
     must_expire: bool,
     kept: u64,
 ) -> u32
-    ensures { (pk_text sig_text : List ℕ) (keys : List (List ℕ)) → (n : ℕ) × IsVerdict result n (wanted_by pk_text sig_text file.now numbering moment must_expire keys) kept comment.now }
+    ensures { (pk_text sig_text : List ℕ) (keys : List (List ℕ)) → (n : ℕ) × IsVerdict result n
+        (wanted_by pk_text sig_text file.now numbering moment must_expire keys) kept comment.now }
 {
     match check_comment(comment, file, numbering, moment, must_expire, true, kept) {
         Ok(_) => IS_UPDATE,
@@ -580,8 +607,9 @@ fn verdict_of(
     }
 }
 
-/// Judges a signed comment by itself, for hosts that install in other ways: its number, where it names the file, has
-/// not expired at this moment, in seconds since the beginning of 1970, and has one that is not below the kept one.
+/// Judges a signed comment by itself, for hosts that install in other ways: its number, where it names the
+/// file, has not expired at this moment, in seconds since the beginning of 1970, and has one that is not
+/// below the kept one.
 pub fn judge_comment(
     comment: &[u8],
     file: &[u8],
@@ -589,9 +617,11 @@ pub fn judge_comment(
     moment: u64,
     kept: u64,
 ) -> Result<u64, InstallFault>
-    // The number of the comment is told exactly where the comment and the name are UTF-8, the comment names the file, has
-    // this number and has not expired, and it is not below the kept one; otherwise the first reason is.
-    ensures { ReadsTexts comment.now file.now (IsWorth (said_by file.now numbering moment) kept comment.now) result }
+    // The number of the comment is told exactly where the comment and the name are UTF-8, the comment names
+    // the file, has this number and has not expired, and it is not below the kept one; otherwise the first
+    // reason is.
+    ensures { TextsAreRead comment.now file.now (IsWorth (said_by file.now numbering moment) kept comment.now)
+        result }
 {
     let comment = str::from_utf8(comment).map_err(|_| NamedFault::NotUtf8)?;
     let file = str::from_utf8(file).map_err(|_| NamedFault::NotUtf8)?;

@@ -1,4 +1,4 @@
-//! Installs an update that two texts vouch for, and nothing else: call by call, by a host that makes each.
+//! Installs an update that two texts vouch for, and nothing else. A host makes each call.
 
 #![tactic(auto)]
 

@@ -1,8 +1,15 @@
-//! The order of the calls that install an update, told one by one: a host of any language makes the
-//! call that is due, says how it went, and is told the next one. What an error is, is the host's.
+//! The order of the calls that install an update. A host in any language makes the call that is due, says
+//! how it went, and is told the next one. The host chooses the type of its errors.
 
 ghost use Rattle.std.specs.Prelude.{◌≡◌, ◌⊎◌, List, true};
-ghost use Rattle.minisign_install.specs.Words.{Done, ExplainsCounted, Failed, HasInstalled, InstallFault, IsFoundRefusal, IsRefusal, HasRun, Host, IsAtRest, OnlyRejects, InstallsOnlyUpdates, IsStanding, Leads, LocksAt, Makes, Number, OwnsNoMore, Rests, Run, Setting, first_due, fits, has_ended, next};
+ghost use Rattle.minisign_install.specs.Order.{Done, Failed, Leads, Number, fits, has_ended, next};
+ghost use Rattle.minisign_install.specs.Hosts.{Host, IsAtRest, HostRuns, HostRunsCounted, HostRunsThrough};
+ghost use Rattle.minisign_install.specs.Installing.{RunHasInstalled, RunInstallsOnlyUpdates, UpdateStands};
+ghost use Rattle.minisign_install.specs.Installing.{Setting};
+ghost use Rattle.minisign_install.specs.Faults.{InstallFault};
+ghost use Rattle.minisign_install.specs.Refusals.{IsFoundRefusal, IsRefusal};
+ghost use Rattle.minisign_install.specs.Runs.{RunLocksAt, RunOwnsNoMore, RunRests};
+ghost use Rattle.minisign_install.specs.Directories.{Run};
 
 /// What is due: the call that the host makes next, or how the run has ended. The numbers are those
 /// of the record up to the answers of the signature scheme on what was staged, and then those of the update.
@@ -84,7 +91,8 @@ pub enum Outcome<E> {
 }
 
 impl<E: Drop> Due<E> {
-    /// Whether the call that is due can be told to have gone so, with nothing found. Nothing can once the run has ended.
+    /// Whether the call that is due can be told to have gone so, with nothing found. Nothing can once the run
+    /// has ended.
     pub fn fits(&self, outcome: &Outcome<E>) -> bool
         ensures { result ≡ fits self.now outcome.now }
     {
@@ -177,7 +185,8 @@ impl<E: Drop> Due<E> {
         }
     }
 
-    // What is due after a call that failed. Whatever comes of a removal, the run is rejected for what came before it.
+    // What is due after a call that failed. Whatever comes of a removal, the run is rejected for what came
+    // before it.
     fn after_failure(self, fault: E) -> Due<E>
         ensures { result ≡ next self (Failed fault) }
     {
@@ -205,46 +214,48 @@ impl<E: Drop> Due<E> {
 /// A law, for which nothing is done: whatever comes of the calls of a host that makes each one as
 /// it is due, only updates are installed.
 pub fn any_run_installs_only_updates<E: Drop>()
-    // Wherever the run is cut off: nothing was changed by then, or since the lock was got only what is to be installed was
-    // brought: only updates get to the target, the record goes first, and its number never falls.
+    // Wherever the run is cut off: nothing was changed by then, or since the lock was got only what is to be
+    // installed was brought: only updates get to the target, the record goes first, and its number never
+    // falls, unless it named another key at the first installation.
     ensures safe { (s : Setting) (h h' : Host) (events : List (Outcome E × Host)) (due : Due E)
-        → HasRun (Makes s) (first_due s.check) h events due h' → InstallsOnlyUpdates s.accepts s.terms s.first h.run h'.run }
+        → HostRuns s h events due h' → RunInstallsOnlyUpdates s.accepts s.terms s.first h.run h'.run }
 
     // Where it has installed, that is the data that was ahead, on the disk and for good.
     ensures installed { (s : Setting) (h h' : Host) (events : List (Outcome E × Host))
-        → HasRun (Makes s) (first_due s.check) h events Due.Installed h'
-        → (locked : Run) × LocksAt h.run locked × HasInstalled s.accepts s.terms s.first h.ahead locked h'.run }
+        → HostRuns s h events Due.Installed h' → (locked : Run) × RunLocksAt h.run locked
+        × RunHasInstalled s.accepts s.terms s.first h.ahead locked h'.run }
 
-    // Where it has said that the update stands at the target already, that was found there since the lock was got, and was
-    // synced, with its name. A check has changed nothing.
+    // Where it has said that the update stands at the target already, that was found there since the lock was
+    // got, and was synced, with its name. A check has changed nothing.
     ensures already { (s : Setting) (h h' : Host) (events : List (Outcome E × Host))
-        → HasRun (Makes s) (first_due s.check) h events Due.Already h'
-        → ((s.check ≡ true) × Rests h.run h'.run) ⊎ ((locked : Run) × LocksAt h.run locked × IsStanding s.accepts s.terms s.first locked h'.run) }
+        → HostRuns s h events Due.Already h' → ((s.check ≡ true) × RunRests h.run h'.run)
+        ⊎ ((locked : Run) × RunLocksAt h.run locked × UpdateStands s.accepts s.terms s.first locked h'.run) }
 
     // Only a check says that the update would be installed, and nothing was changed.
     ensures would { (s : Setting) (h h' : Host) (events : List (Outcome E × Host))
-        → HasRun (Makes s) (first_due s.check) h events Due.WouldInstall h' → (s.check ≡ true) × Rests h.run h'.run }
+        → HostRuns s h events Due.WouldInstall h' → (s.check ≡ true) × RunRests h.run h'.run }
 
-    // Where it was rejected, and each failing call says why it failed, the error is the first reason, and what the run has
-    // published by then is as that says.
-    ensures refused { (s : Setting) (h h' : Host) (events : List (Outcome InstallFault × Host)) (e : InstallFault)
-        → HasRun (λ due o k k'. Makes s due o k k' × ExplainsCounted s due o k k') (first_due s.check) h events (Due.Refused e) h'
+    // Where it was rejected, and each failing call says why it failed, the error is the first reason, and
+    // what the run has published by then is as that says.
+    ensures refused { (s : Setting) (h h' : Host) (events : List (Outcome InstallFault × Host))
+        (e : InstallFault) → HostRunsCounted s h events (Due.Refused e) h'
         → IsRefusal s h.ahead h.faults h'.faults h.run h'.run e }
 
-    // Where no call failed, but for what was found, that is the reason. The update is never rejected as other data of its
-    // number where the record was written for it, or where it was asked for that other data is replaced.
-    ensures found { (s : Setting) (h h' : Host) (events : List (Outcome InstallFault × Host)) (e : InstallFault)
-        → HasRun (λ due o k k'. Makes s due o k k' × OnlyRejects s due o k k') (first_due s.check) h events (Due.Refused e) h'
+    // Where no call failed, but for what was found, that is the reason. The update is never rejected as other
+    // data of its number where the record was written for it, or where it was asked for that other data is
+    // replaced.
+    ensures found { (s : Setting) (h h' : Host) (events : List (Outcome InstallFault × Host))
+        (e : InstallFault) → HostRunsThrough s h events (Due.Refused e) h'
         → IsFoundRefusal s h.ahead h.run h'.run e }
 
     // However it has ended, no stage is the run's own that was not so before.
     ensures lets_go { (s : Setting) (h h' : Host) (events : List (Outcome E × Host)) (due : Due E)
-        → HasRun (Makes s) (first_due s.check) h events due h' → has_ended due ≡ true → OwnsNoMore h.run h'.run }
+        → HostRuns s h events due h' → has_ended due ≡ true → RunOwnsNoMore h.run h'.run }
 
-    // There are such runs: where the texts vouch for what is ahead, and the directory is at rest, one in which no call fails
-    // installs it.
-    ensures met { (s : Setting) (h : Host) → IsAtRest s h → (events : List (Outcome InstallFault × Host)) × (h' : Host)
-        × HasRun (λ due o k k'. Makes s due o k k' × OnlyRejects s due o k k') (first_due s.check) h events Due.Installed h' }
+    // There are such runs: where the texts vouch for what is ahead, and the directory is at rest, one in
+    // which no call fails installs it.
+    ensures met { (s : Setting) (h : Host) → IsAtRest s h → (events : List (Outcome InstallFault × Host))
+        × (h' : Host) × HostRunsThrough s h events Due.Installed h' }
 
     // And there are such texts and such a directory, for a scheme that accepts each signature.
     ensures there { (s : Setting) × (h : Host) × IsAtRest s h }

@@ -1,8 +1,15 @@
-//! The record beside the target: the number of the newest update, behind the label of its field, the key that has
-//! vouched for it, and the digest of the data that it was written for.
+//! The record beside the target: the number of the newest update, behind the label of its field, the key that
+//! has vouched for it, and the digest of the data that it was written for.
 
-ghost use Rattle.std.specs.Prelude.{option_map, Some, ◌≡◌, ◌==◌, ◌<◌, ◌≤◌, ◌+◌, ◌*◌, ◌++◌, ◌∷◌, [], ℕ, List, MatchOption, MatchResult, length, take, drop};
-ghost use Rattle.minisign_install.specs.Words.{HasNoNumber, IsKeptOrNone, IsNumberFor, IsRecordRefused, IsUnfit, counted, encode_lower, is_marked, is_other, mark_text, marked_line, record_digest, record_key, record_of, record_text};
+ghost use Rattle.std.specs.Prelude.{option_map, Some, ◌≡◌, ◌⊎◌, ℕ, ◌==◌, ◌<◌, ◌≤◌, ◌+◌, ◌*◌, ◌++◌, ◌∷◌, []};
+ghost use Rattle.std.specs.Prelude.{MatchOption, MatchResult, length, take, drop};
+ghost use Rattle.hex.specs.Hex.{encode_lower};
+ghost use Rattle.minisign_install.specs.Faults.{DamagedRecord};
+ghost use Rattle.minisign_install.specs.RecordTexts.{kept_by, other_field, HasNoNumber, IsNumberFor, counted};
+ghost use Rattle.minisign_install.specs.RecordTexts.{is_marked, is_other, mark_text, marked_line};
+ghost use Rattle.minisign_install.specs.RecordTexts.{record_digest, record_key, record_of, record_text};
+ghost use Rattle.minisign_install.specs.Installing.{IsKeptOrNone};
+ghost use Rattle.minisign_install.specs.Refusals.{IsRecordRefused};
 
 use crate::comments::{Numbering, number_of, strip};
 use crate::faults::InstallFault;
@@ -23,14 +30,16 @@ pub(crate) struct Mark {
     pub(crate) digest: [u8; 64],
 }
 
-// The number that the record was found to hold for the field; where it holds none, there is none, if this is the first
-// installation.
+// The number that the record was found to hold for the field; where it holds none, there is none, if this is
+// the first installation.
 pub(crate) fn kept_in(
     found: Option<&[u8]>,
     numbering: Numbering,
     is_first: bool,
 ) -> Result<Option<u64>, InstallFault>
-    ensures number { MatchResult result (IsKeptOrNone numbering is_first (option_map (λ b. b.now) found.entry)) (IsRecordRefused numbering is_first (option_map (λ b. b.now) found.entry)) }
+    ensures number { MatchResult result
+        (IsKeptOrNone numbering is_first (option_map (λ b. b.now) found.entry))
+        (IsRecordRefused numbering is_first (option_map (λ b. b.now) found.entry)) }
 {
     match found {
         Some(bytes) => match number_for(bytes, numbering) {
@@ -45,7 +54,9 @@ pub(crate) fn kept_in(
 
 // Why a record of these bytes, which holds no number for the field, is refused.
 fn unfit(bytes: &[u8], numbering: Numbering) -> InstallFault
-    ensures why { IsUnfit numbering bytes.now result }
+    ensures why { ((result ≡ kept_by (other_field numbering))
+        × ((n : ℕ) × IsNumberFor (other_field numbering) bytes.now n))
+        ⊎ ((result ≡ DamagedRecord) × HasNoNumber (other_field numbering) bytes.now) }
 {
     let other = numbering.other();
     match (number_for(bytes, other), other) {
@@ -158,14 +169,16 @@ fn is_neither(named: &[u8; 32], key: &[u8; 32], other: &[u8; 32]) -> bool
     *named != *key && *named != *other
 }
 
-// What of the record counts: at the first installation one that names another key than these two counts as none.
+// What of the record counts: at the first installation one that names another key than these two counts as
+// none.
 pub(crate) fn counted<'a>(
     found: Option<&'a [u8]>,
     key: &[u8; 32],
     other: &[u8; 32],
     is_first: bool,
 ) -> Option<&'a [u8]>
-    ensures { option_map (λ b. b.now) result ≡ counted is_first (key.now ∷ other.now ∷ []) (option_map (λ b. b.now) found.entry) }
+    ensures { option_map (λ b. b.now) result
+        ≡ counted is_first (key.now ∷ other.now ∷ []) (option_map (λ b. b.now) found.entry) }
 {
     match found {
         Some(bytes) if is_first && is_other(bytes, key, other) => None,
@@ -175,9 +188,13 @@ pub(crate) fn counted<'a>(
 
 // Writes a record to the front of `to`, and returns how long that is; where it has no room, nothing.
 pub(crate) fn write_record(numbering: Numbering, number: u64, mark: &Mark, to: &mut [u8]) -> usize
-    ensures written { 0 < result → (result ≤ length to.new) × (take result to.new ≡ record_of numbering number mark.now.key mark.now.digest) }
+    ensures written { 0 < result
+        → (result ≤ length to.new)
+        × (take result to.new ≡ record_of numbering number mark.now.key mark.now.digest) }
     ensures rest { drop result to.new ≡ drop result to.old }
-    ensures unwritten { result ≡ 0 → (to.new ≡ to.old) × (length to.old < length (record_of numbering number mark.now.key mark.now.digest)) }
+    ensures unwritten { result ≡ 0
+        → (to.new ≡ to.old)
+        × (length to.old < length (record_of numbering number mark.now.key mark.now.digest)) }
 {
     let mut buffer = itoa::Buffer::new();
     let digits = buffer.format(number).as_bytes();

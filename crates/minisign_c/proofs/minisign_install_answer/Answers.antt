@@ -1,4 +1,4 @@
-use Rattle.std.proofs.Common.{◌<◌, ℕ, inl, inr, lit<, refl}
+use Rattle.std.proofs.Common.{◌<◌, Err, inl, inr, lit<, refl}
 use Rattle.minisign_external.specs.Numbers.{misuse_number, refusal_number}
 use Rattle.minisign_external.specs.declared.state.Misuse.{Misuse}
 use Rattle.minisign_external.specs.declared.state.Misuse.TheVariants.{NotBegun}
@@ -24,28 +24,46 @@ refused_positive (WrongUse m) = misuse_positive m
 refused_positive (Refused e) = positive e
 
 pub returns-in-Ok-clause-comment : goal.returns-in-Ok-clause-comment
-returns-in-Ok-clause-comment c = λ terms kept accepts due asking (one, two, answers). inl (refl, c.in-Ok.ensures.comment terms kept accepts due asking answers)
+returns-in-Ok-clause-comment c = λ both terms kept accepts due asking answers.
+    inl (refl, c.in-Ok.ensures.comment terms kept accepts due asking answers)
 
 pub returns-in-Err-clause-comment : goal.returns-in-Err-clause-comment
-returns-in-Err-clause-comment c = λ terms kept accepts due asking (one, two, answers).
-    inr (rw c.number-in-Err.ensures (refused_positive c.in-Err.refusal), c.in-Err.refusal, c.number-in-Err.ensures, c.in-Err.ensures.comment terms kept accepts due asking answers)
+returns-in-Err-clause-comment c = λ both terms kept accepts due asking answers.
+    inr (
+      rw c.number-in-Err.ensures (refused_positive c.in-Err.error),
+      c.in-Err.error,
+      c.number-in-Err.ensures,
+      c.in-Err.ensures.comment terms kept accepts due asking answers,
+    )
 
 pub returns-in-Ok-clause-target : goal.returns-in-Ok-clause-target
-returns-in-Ok-clause-target c = λ terms kept message accepts due asking (one, two, answers). inl (refl, c.in-Ok.ensures.target terms kept message accepts due asking answers)
+returns-in-Ok-clause-target c = λ both terms kept message accepts due asking answers.
+    inl (refl, c.in-Ok.ensures.target terms kept message accepts due asking answers)
 
 pub returns-in-Err-clause-target : goal.returns-in-Err-clause-target
-returns-in-Err-clause-target c = λ terms kept message accepts due asking (one, two, answers).
-    inr (rw c.number-in-Err.ensures (refused_positive c.in-Err.refusal), c.in-Err.refusal, c.number-in-Err.ensures, c.in-Err.ensures.target terms kept message accepts due asking answers)
+returns-in-Err-clause-target c = λ both terms kept message accepts due asking answers.
+    inr (
+      rw c.number-in-Err.ensures (refused_positive c.in-Err.error),
+      c.in-Err.error,
+      c.number-in-Err.ensures,
+      c.in-Err.ensures.target terms kept message accepts due asking answers,
+    )
 
 pub returns-in-Ok-clause-stage : goal.returns-in-Ok-clause-stage
-returns-in-Ok-clause-stage c = λ terms kept message accepts due asking (one, two, answers). inl (refl, c.in-Ok.ensures.stage terms kept message accepts due asking answers)
+returns-in-Ok-clause-stage c = λ both terms kept message accepts due asking answers.
+    inl (refl, c.in-Ok.ensures.stage terms kept message accepts due asking answers)
 
 pub returns-in-Err-clause-stage : goal.returns-in-Err-clause-stage
-returns-in-Err-clause-stage c = λ terms kept message accepts due asking (one, two, answers).
-    inr (rw c.number-in-Err.ensures (refused_positive c.in-Err.refusal), c.in-Err.refusal, c.number-in-Err.ensures, c.in-Err.ensures.stage terms kept message accepts due asking answers)
+returns-in-Err-clause-stage c = λ both terms kept message accepts due asking answers.
+    inr (
+      rw c.number-in-Err.ensures (refused_positive c.in-Err.error),
+      c.in-Err.error,
+      c.number-in-Err.ensures,
+      c.in-Err.ensures.stage terms kept message accepts due asking answers,
+    )
 
 pub returns-in-Ok-clause-vouched : goal.returns-in-Ok-clause-vouched
-returns-in-Ok-clause-vouched c = λ terms kept accepts asking (one, two, answers). c.answer.ensures.vouched terms kept accepts asking answers
+returns-in-Ok-clause-vouched c = λ both. c.answer.ensures.vouched
 
 pub returns-in-Err-clause-vouched : goal.returns-in-Err-clause-vouched
-returns-in-Err-clause-vouched c = λ terms kept accepts asking (one, two, answers). c.answer.ensures.vouched terms kept accepts asking answers
+returns-in-Err-clause-vouched c = λ both. c.answer.ensures.vouched

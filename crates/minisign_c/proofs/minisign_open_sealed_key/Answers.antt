@@ -8,10 +8,11 @@ use Rattle.minisign_c.proofs.minisign_open_sealed_key.Goals as goal
 
 pub returns-in-Err : goal.returns-in-Err
 returns-in-Err c = elim c.in-Err.ensures [
-  | inl told ↦ inl (told_refusal (opened_sealed c.args.unopened.now c.args.password.now c.args.most_rows) c.in-Err.refusal c.args.key.now
-      c.open_sealed_key.new.value c.number.result c.number.ensures told)
+  | inl told ↦ inl (told_refusal (opened_sealed c.args.unopened.now c.args.password.now c.args.most_rows)
+      c.in-Err.error c.args.key.now c.open_sealed_key.new.value c.number.result c.number.ensures told)
   | inr (told, derives) ↦ inr (
-    told_refusal (Err (Refused (Named OutOfMemory))) c.in-Err.refusal c.args.key.now c.open_sealed_key.new.value c.number.result c.number.ensures told,
+    told_refusal (Err (Refused (Named OutOfMemory))) c.in-Err.error c.args.key.now
+        c.open_sealed_key.new.value c.number.result c.number.ensures told,
     derives,
   )
 ]

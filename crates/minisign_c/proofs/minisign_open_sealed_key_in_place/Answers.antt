@@ -5,5 +5,7 @@ use Rattle.minisign_c.proofs.minisign_open_sealed_key_in_place.Goals as goal
 
 pub returns-in-Err-clause-opened : goal.returns-in-Err-clause-opened
 returns-in-Err-clause-opened c = told_refusal
-    (opened_in_place c.args.unopened.now c.args.password.now c.args.keep_every c.args.most_rows (length c.args.words.now) (length c.args.bytes.now))
-    c.in-Err.refusal c.args.key.now c.open_sealed_key_in_place.new.value c.number.result c.number.ensures c.in-Err.ensures.opened
+    (opened_in_place c.args.unopened.now c.args.password.now c.args.keep_every c.args.most_rows
+    (length c.args.words.now) (length c.args.bytes.now))
+    c.in-Err.error c.args.key.now c.open_sealed_key_in_place.new.value c.number.result c.number.ensures
+    c.in-Err.ensures.opened

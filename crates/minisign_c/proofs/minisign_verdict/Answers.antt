@@ -1,4 +1,4 @@
-use Rattle.std.proofs.Common.{◌≡◌, ◌∙◌, ◌<◌, ℕ, List, Bool, Result, Ok, Err, ap, inl, inr, refl, subst, sym}
+use Rattle.std.proofs.Common.{◌≡◌, ◌∙◌, ℕ, List, Bool, Result, Ok, Err, ap, inl, inr, refl}
 use Rattle.minisign_base.specs.Fault.{Fault}
 use Rattle.minisign.specs.Acceptance.{Verifier}
 use Rattle.minisign.specs.Headline.{verdict}
@@ -11,13 +11,17 @@ use Rattle.minisign_c.proofs.Positive.{positive}
 use Rattle.minisign_c.proofs.minisign_verdict.Goals as goal
 
 -- a verdict that is no success has the number of its error
-given_number : (accepts : Verifier) (pk_text sig_text message : List ℕ) (legacy : Bool) (r : Refusal Fault) (n : ℕ) → n ≡ refusal_number fault_number r
-    → IsFaultOf (λ f. verdict accepts pk_text sig_text message legacy ≡ Err f) r → GivesNumber accepts pk_text sig_text message legacy n
+given_number : (accepts : Verifier) (pk_text sig_text message : List ℕ) (legacy : Bool) (r : Refusal Fault)
+    (n : ℕ) → n ≡ refusal_number fault_number r
+    → IsFaultOf (λ f. verdict accepts pk_text sig_text message legacy ≡ Err f) r
+    → GivesNumber accepts pk_text sig_text message legacy n
 given_number accepts pk_text sig_text message legacy (WrongUse m) n is refuses = absurd refuses
-given_number accepts pk_text sig_text message legacy (Refused e) n is refuses = inr (subst (λ k. 0 < k) (sym is) (positive e), e, is, refuses)
+given_number accepts pk_text sig_text message legacy (Refused e) n is refuses =
+    inr (rw is (positive e), e, is, refuses)
 
 -- the number of a verdict
-refused_number : (v : Result (List ℕ) Fault) (r : Refusal Fault) → Err r ≡ given_verdict v → refusal_number fault_number r ≡ verdict_number v
+refused_number : (v : Result (List ℕ) Fault) (r : Refusal Fault) → Err r ≡ given_verdict v
+    → refusal_number fault_number r ≡ verdict_number v
 refused_number (Ok t) r h = cc h
 refused_number (Err e) r h = let same : r ≡ Refused e = cc h in ap (refusal_number fault_number) same
 
@@ -27,17 +31,23 @@ success_number (Err e) h = cc h
 
 pub returns-in-Ok-clause-verdict : goal.returns-in-Ok-clause-verdict
 returns-in-Ok-clause-verdict c = λ v sig_text message legacy accepts by.
-    success_number (verdict_under accepts v sig_text message legacy) (c.in-Ok.ensures.verdict v sig_text message legacy accepts by.asked by.told by.answers)
+    success_number (verdict_under accepts v sig_text message legacy)
+    (c.in-Ok.ensures.verdict v sig_text message legacy accepts by.asked by.told by.answers)
 
 pub returns-in-Err-clause-verdict : goal.returns-in-Err-clause-verdict
 returns-in-Err-clause-verdict c = λ v sig_text message legacy accepts by.
-    c.number-in-Err.ensures ∙ refused_number (verdict_under accepts v sig_text message legacy) c.in-Err.refusal (c.in-Err.ensures.verdict v sig_text message legacy accepts by.asked by.told by.answers)
+    c.number-in-Err.ensures
+    ∙ refused_number (verdict_under accepts v sig_text message legacy) c.in-Err.error
+    (c.in-Err.ensures.verdict v sig_text message legacy accepts by.asked by.told by.answers)
 
 pub returns-in-Err-clause-texts : goal.returns-in-Err-clause-texts
 returns-in-Err-clause-texts c = λ v pk_text sig_text message legacy accepts by keyed.
-    given_number accepts pk_text sig_text message legacy c.in-Err.refusal _ c.number-in-Err.ensures
+    given_number accepts pk_text sig_text message legacy c.in-Err.error _ c.number-in-Err.ensures
     (c.in-Err.ensures.texts v pk_text sig_text message legacy accepts by.asked by.told keyed by.answers)
 
 pub returns-in-Ok-clause-texts : goal.returns-in-Ok-clause-texts
 returns-in-Ok-clause-texts c = λ v pk_text sig_text message legacy accepts by keyed.
-    inl (refl, c.in-Ok.ensures.texts v pk_text sig_text message legacy accepts by.asked by.told keyed by.answers)
+    inl (
+      refl,
+      c.in-Ok.ensures.texts v pk_text sig_text message legacy accepts by.asked by.told keyed by.answers,
+    )

@@ -1,4 +1,4 @@
-use Rattle.minisign_install.proofs.Common.{◌≡◌, ◌∙◌, length, rules, sym}
+use Rattle.std.proofs.Common.{◌≡◌, ◌∙◌, length, rules, sym}
 use Rattle.minisign_install.proofs.Fields.{ended}
 use Rattle.minisign_install.proofs.comments.begins_loosely.Goals as goal
 

@@ -1,6 +1,6 @@
-use Rattle.minisign_install.proofs.Common.{◌≡◌, length, strip}
 use Rattle.std.specs.Prelude.{is_some}
-use Rattle.minisign_install.specs.Words.{folded}
+use Rattle.std.proofs.Common.{◌≡◌, length}
+use Rattle.minisign_install.specs.Comments.{strip, folded}
 use Rattle.minisign_install.proofs.comments.begins_loosely.Given as goal
 
 abbrev pub invariant-letters : goal.invariant-letters

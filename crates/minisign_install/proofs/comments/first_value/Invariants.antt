@@ -1,4 +1,5 @@
-use Rattle.minisign_install.proofs.Common.{◌≡◌, length, values_of}
+use Rattle.std.proofs.Common.{◌≡◌, length}
+use Rattle.minisign_install.specs.Comments.{values_of}
 use denote.Text.{Utf8}
 use denote.Shadow.{shadow}
 use Rattle.minisign_install.proofs.comments.first_value.Given as goal

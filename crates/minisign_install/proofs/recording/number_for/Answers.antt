@@ -1,4 +1,4 @@
-use Rattle.minisign_install.proofs.Common.{◌∙◌}
+use Rattle.std.proofs.Common.{◌∙◌}
 use Rattle.minisign_install.proofs.recording.number_for.Goals as goal
 
 pub returns-in-None-number_of : goal.returns-in-None-number_of

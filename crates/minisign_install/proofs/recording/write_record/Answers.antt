@@ -1,4 +1,7 @@
-use Rattle.minisign_install.proofs.Common.{◌≡◌, ◌++◌, ◌∙◌, ap, arith, decimal, length, length-append, mark_text, number_label, refl}
+use Rattle.std.proofs.Common.{◌≡◌, ◌++◌, ◌∙◌, ap, arith, length, length-append, refl}
+use Rattle.std.specs.Fmt.{decimal}
+use Rattle.minisign_install.specs.RecordTexts.{mark_text}
+use Rattle.minisign_install.specs.Comments.{number_label}
 use Rattle.minisign_install.proofs.RecordTexts.{length-mark}
 use Rattle.minisign_install.proofs.recording.write_record.Goals as goal
 
@@ -11,5 +14,15 @@ returns-then-to-line-clause-unwritten c = λ nothing.
     let line = number_label c.args.numbering ++ decimal c.args.number in
     let marked = mark_text c.args.mark.now.key c.args.mark.now.digest in (
       refl,
-      omega (arith, c.if-to-line.true, label, digits, key, digest, length-mark c.args.mark.now.key c.args.mark.now.digest, length-append line marked, length-append (number_label c.args.numbering) (decimal c.args.number)),
+      omega (
+        arith,
+        c.if-to-line.true,
+        label,
+        digits,
+        key,
+        digest,
+        length-mark c.args.mark.now.key c.args.mark.now.digest,
+        length-append line marked,
+        length-append (number_label c.args.numbering) (decimal c.args.number),
+      ),
     )

@@ -1,4 +1,5 @@
-use Rattle.minisign_install.proofs.Common.{◌∙◌, key_for}
+use Rattle.std.proofs.Common.{◌∙◌}
+use Rattle.minisign_install.specs.Hosted.{key_for}
 use Rattle.minisign_install.proofs.Judgements.{ask_due, asked_same, opened, redigested, same_text}
 use Rattle.minisign_install.proofs.hosted.Installation.ask_due.Goals as goal
 
@@ -15,7 +16,8 @@ returns-in-Ok-clause-asked c =
       are = redigested _ _ _ t _ are;
       key = key;
       digest = λ m fed. kept_digest ∙ digest m fed;
-      about = rw c.requires.due (c.digest_for-questions.ensures ∙ asked_same c.args.self.now c.ask_about.new.self keeps.1 c.args.due _);
+      about = rw c.requires.due (c.digest_for-questions.ensures
+          ∙ asked_same c.args.self.now c.ask_about.new.self keeps.1 c.args.due _);
       kept = keeps;
       unvouched = c.in-Ok.ensures.unvouched;
       asking = (
@@ -29,7 +31,9 @@ returns-in-Ok-clause-asked c =
           asked = has;
           told = told;
           unvouched = c.in-Ok.ensures.unvouched;
-          judged = λ s read. rw (same_text sig t s (opened (key_for c.args.self.now sig) sig t opens).0 read) at (judged pk_text);
+          judged =
+              λ s read. rw (same_text sig t s (opened (key_for c.args.self.now sig) sig t opens).0 read) at
+              (judged pk_text);
         },
       );
     }
@@ -39,4 +43,8 @@ returns-in-Err-Refused-clause-refused c =
     let r = c.reject.ensures in
     let same = c.in-Err-Refused.ensures.kept.0 in
     let is = ask_due c.args.self.now c.args.due c.args.kept c.requires.due c.requires.asking in
-    rw r.refusal ((rw c.requires.due (tt, r.due), rw same at r.rest), (c.args.kept, is), rw c.in-Err-Refused.field-0-is at c.in-Err-Refused.ensures.refused)
+    rw r.refusal (
+      (rw c.requires.due (tt, r.due), rw same at r.rest),
+      (c.args.kept, is),
+      rw c.in-Err-Refused.field-0-is at c.in-Err-Refused.ensures.refused,
+    )

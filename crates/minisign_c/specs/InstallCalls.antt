@@ -1,0 +1,42 @@
+-- What the calls of an installation answer and are told, by numbers.
+use Rattle.std.specs.Prelude.{◌≡◌, ◌⊎◌, ◌==◌, ℕ, List, IfSome, Err}
+use Rattle.minisign.specs.Acceptance.{Verifier}
+use Rattle.minisign_external.specs.Numbers.{IsAnswer, answer_yes, misuse_number, refusal_number}
+use Rattle.minisign_external.specs.declared.state.Misuse.TheVariants.{BadAnswer, NotDue}
+use Rattle.minisign_external.specs.declared.state.Refusal.{Refusal}
+use Rattle.minisign_external.specs.declared.public_keys.PublicKeyValue.{PublicKeyValue}
+use Rattle.minisign_install.specs.Faults.{install_number}
+use Rattle.minisign_install.specs.Hosted.{AnswersJudgeComment, IsNumberOf, IsAnswerRefusal, IsWorth}
+use Rattle.minisign_install.specs.Hosted.{TextsAreRead, due_of}
+use Rattle.minisign_install.specs.Comments.{Terms}
+use Rattle.minisign_install.specs.declared.faults.InstallFault.{InstallFault}
+use Rattle.minisign_install.specs.declared.hosted.Installation.{Installation}
+use Rattle.minisign_install.specs.declared.order.Due.{Due}
+
+-- the number is that of a rejection that is as P says
+abbrev pub IsRejectionNumber : (Refusal InstallFault → Type 0) → ℕ → Type 0
+IsRejectionNumber P n = (r : Refusal InstallFault) × (n ≡ refusal_number install_number r) × P r
+
+-- the number is that of a call that is not due: nothing is due, or a call that is as P says, and nothing
+-- changes
+abbrev pub IsNotDueNumber : (Due ℕ → Type 0) → Installation → Installation → ℕ → Type 0
+IsNotDueNumber P old new n = (n ≡ misuse_number NotDue) × (new ≡ old) × IfSome (due_of old) P
+
+-- the number is that of what the answers decide of the comment
+abbrev pub IsCommentNumber : Verifier → PublicKeyValue → Terms → ℕ → ℕ → Installation → Installation → ℕ
+    → Type 0
+IsCommentNumber accepts key terms kept first old new n =
+    IsNumberOf (AnswersJudgeComment accepts key terms kept (first == answer_yes) old new) n
+
+-- the number is that of a rejection: a number is no answer, and nothing changes; or what the answers reject
+abbrev pub IsAnswerNumber : ℕ → ℕ → Installation → Installation → ℕ → Type 0
+IsAnswerNumber first second old new n =
+    ((n ≡ misuse_number BadAnswer) × (¬ (IsAnswer first) ⊎ ¬ (IsAnswer second)) × (new ≡ old))
+    ⊎ (IsAnswer first × IsAnswer second
+    × IsRejectionNumber (IsAnswerRefusal (first == answer_yes) (second == answer_yes) old new) n)
+
+-- the number is that of what the comment is rejected for by itself: the two texts are not UTF-8, or this is
+-- the first reason
+abbrev pub IsJudgedNumber : List ℕ → List ℕ → Terms → ℕ → ℕ → Type 0
+IsJudgedNumber comment file terms kept n = (e : InstallFault) × (n ≡ install_number e)
+    × TextsAreRead comment file (IsWorth terms kept comment) (Err e)

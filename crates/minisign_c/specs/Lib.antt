@@ -1,0 +1,3 @@
+pub mod InstallCalls
+pub mod KeyTexts
+pub mod StateCalls
