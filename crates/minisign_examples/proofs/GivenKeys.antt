@@ -13,23 +13,28 @@ use Rattle.minisign.specs.SecretKeyText.{read_secret_key}
 use Rattle.minisign.specs.Texts.{and_then, require}
 
 -- a text that opens is that of a sealed key
-sealed_text : (text password : List ℕ) (key : SecretKeyRecord) → open_key text password None ≡ Ok key → is_sealed_text text ≡ true
+sealed_text : (text password : List ℕ) (key : SecretKeyRecord) → open_key text password None ≡ Ok key
+    → is_sealed_text text ≡ true
 unfolding open_key is_sealed_text
 sealed_text text password key h = of (read_secret_key text) h
   where
     of_kdf : (k : SecretKeyRecord) (b : Bool)
-        → and_then (require (not b) KeyNotEncrypted (require (bytes_eq k.kdf scrypt_kdf) UnsupportedEncryptionAlgorithm (Ok k))) (λ l. open_sealed l password None) ≡ Ok key
+        → and_then (require (not b) KeyNotEncrypted
+        (require (bytes_eq k.kdf scrypt_kdf) UnsupportedEncryptionAlgorithm (Ok k)))
+        (λ l. open_sealed l password None) ≡ Ok key
         → not b ≡ true
     of_kdf k true h = cc h
     of_kdf k false h = refl
 
-    of : (r : Result SecretKeyRecord Fault) → and_then (and_then r sealed_by_scrypt) (λ l. open_sealed l password None) ≡ Ok key
+    of : (r : Result SecretKeyRecord Fault)
+        → and_then (and_then r sealed_by_scrypt) (λ l. open_sealed l password None) ≡ Ok key
         → option_map_or wants_password (result_ok r) false ≡ true
     of (Ok k) h = of_kdf k (bytes_eq k.kdf no_kdf) h
     of (Err e) h = cc h
 
 -- what is given is the key that the text opens to
-pub same_key : (text password : List ℕ) (k key : SecretKeyRecord) → IsOpenedOrNoMemory text None (Ok k) (key_with_password text password)
+pub same_key : (text password : List ℕ) (k key : SecretKeyRecord)
+    → IsOpenedOrNoMemory text None (Ok k) (key_with_password text password)
     → open_key text password None ≡ Ok key → k ≡ key
 same_key text password k key (inl given) opens =
     let sealed = sealed_text text password key opens in
@@ -40,7 +45,8 @@ same_key text password k key (inr memory) opens = cc memory.0
 
 -- and where none is given an allocation failed
 pub refused_memory : (text password : List ℕ) (e : Fault) (key : SecretKeyRecord)
-    → IsOpenedOrNoMemory text None (Err e) (key_with_password text password) → open_key text password None ≡ Ok key → e ≡ Named OutOfMemory
+    → IsOpenedOrNoMemory text None (Err e) (key_with_password text password)
+    → open_key text password None ≡ Ok key → e ≡ Named OutOfMemory
 refused_memory text password e key (inl refused) opens =
     let sealed = sealed_text text password key opens in
     let opened : key_with_password text password ≡ Ok key = rw sealed opens in

@@ -1,4 +1,4 @@
--- How opening a key ends that asks for the password again where it was wrong.
+-- How opening a key ends if the caller asks again after a wrong password.
 use Rattle.std.specs.Prelude.{◌≡◌, ◌≢◌, ◌⊎◌, ℕ, zero, suc, List, None, Result, Err}
 use Rattle.minisign.specs.Fault.{Fault, Named}
 use Rattle.minisign.specs.Members.{SinkOf, SourceOf}

@@ -1,18 +1,11 @@
 -- A new public key that an old one vouches for.
-use Rattle.std.specs.Prelude.{◌≡◌, ◌⊎◌, ℕ, false, List, Ok, Err}
+use Rattle.std.specs.Prelude.{ℕ, false, List, Result}
 use Rattle.minisign.specs.Fault.{Fault}
 use Rattle.minisign.specs.Acceptance.{Verifier}
 use Rattle.minisign.specs.Headline.{verdict}
+use Rattle.minisign.specs.Texts.{and_then}
 
--- the old key vouches for the text of the new one, and the new one for the update
-abbrev pub VouchThroughNewKey : Verifier → List ℕ → List ℕ → List ℕ → List ℕ → List ℕ → Type 0
-VouchThroughNewKey accepts old key_sig key sig update =
-    ((comment : List ℕ) × (verdict accepts old key_sig key false ≡ Ok comment))
-    × ((comment : List ℕ) × (verdict accepts key sig update false ≡ Ok comment))
-
--- why not: the first reason, of the new key before the update
-abbrev pub RefuseThroughNewKey : Verifier → List ℕ → List ℕ → List ℕ → List ℕ → List ℕ → Fault → Type 0
-RefuseThroughNewKey accepts old key_sig key sig update e =
-    (verdict accepts old key_sig key false ≡ Err e)
-    ⊎ (((comment : List ℕ) × (verdict accepts old key_sig key false ≡ Ok comment))
-    × (verdict accepts key sig update false ≡ Err e))
+-- the verdict of the old key on the text of the new one, and then that of the new key on the update
+abbrev pub verdict_by_new_key : Verifier → List ℕ → List ℕ → List ℕ → List ℕ → List ℕ → Result (List ℕ) Fault
+verdict_by_new_key accepts old key_sig key sig update =
+    and_then (verdict accepts old key_sig key false) (λ _. verdict accepts key sig update false)

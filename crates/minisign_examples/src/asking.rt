@@ -1,4 +1,4 @@
-//! A caller that asks for a password again where it was wrong.
+//! A caller that asks for the password again if it was wrong.
 
 ghost use Rattle.std.specs.Prelude.{◌≡◌, ◌≢◌, Err, true, false};
 ghost use Rattle.minisign.specs.Fault.{Named};

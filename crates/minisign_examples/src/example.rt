@@ -30,10 +30,9 @@ pub fn sign_and_verify<S: Scheme, Z: RandomSource>(
     moment: u64,
 ) -> Result<String>
     // The text is that of the box that signing makes of the message.
-    ensures signed { IfOk result
-        (λ t. IsSignedText (S.signature_of scheme.now) secret_key.now message.now
-        (given_comments None None moment)
-        (random_call Z.RandomSource random.old random.new) (string_bytes t)) }
+    ensures signed { IfOk result (λ t. IsSignedText (S.signature_of scheme.now) secret_key.now message.now
+        (given_comments None None moment) (random_call Z.RandomSource random.old random.new)
+        (string_bytes t)) }
 
     // It vouches for the message under the public key.
     ensures accepted { IfOk result

@@ -1,5 +1,4 @@
-//! A signing tool in small: keys are made and kept as texts, and what they signed is published with
-//! a text of the signature.
+//! A small signing tool: it makes keys as texts, and signs a release.
 
 ghost use Rattle.std.specs.Prelude.{◌≡◌, Ok, false, string_bytes, MatchResult, IfOk, IfErr};
 ghost use Rattle.minisign.specs.Records.{PublicKeyRecord, SecretKeyRecord, SignatureBoxRecord};
@@ -72,8 +71,8 @@ pub fn make_keys<S: Scheme, Z: RandomSource>(
 ) -> Result<KeyTexts>
     // The texts are those of a pair whose secret key is sealed under the password.
     ensures made { IfOk result (λ t. (pk : PublicKeyRecord) × (sk : SecretKeyRecord)
-        × ArePairTexts (S.public_of scheme.now) password.now (string_bytes t.pk_text) (string_bytes t.sk_text)
-        pk sk) }
+        × ArePairTexts (S.public_of scheme.now) password.now (string_bytes t.pk_text)
+        (string_bytes t.sk_text) pk sk) }
 
     // The only errors are a failed allocation, a failing random source, and a password of more
     // than 1024 bytes.
@@ -97,8 +96,7 @@ pub fn sign_update<S: Scheme, Z: RandomSource>(
 ) -> Result<String>
     // With the key of a genuine pair the text is that of a box that vouches for the update, and the
     // only errors are a failed allocation and a failing random source.
-    ensures { (pk : PublicKeyRecord) → IsGenuinePair (S.public_of scheme.now) pk sk.now
-        → MatchResult result
+    ensures { (pk : PublicKeyRecord) → IsGenuinePair (S.public_of scheme.now) pk sk.now → MatchResult result
         (λ t. (x : SignatureBoxRecord) × (read_signature_box (string_bytes t) ≡ Ok x)
         × Vouches (S.accepts scheme.now) pk x update.now false) IsMemoryOrRandomFault }
 {

@@ -1,10 +1,8 @@
 //! A caller that knows an old public key and learns a new one: the old key vouches for the text of
 //! the new one.
 
-ghost use Rattle.std.specs.Prelude.{◌≡◌, ◌⊎◌, MatchResult};
-ghost use Rattle.minisign.specs.Fault.{Named};
-ghost use Rattle.minisign.specs.NamedFaults.{OutOfMemory};
-ghost use Rattle.minisign_examples.specs.NewKeys.{RefuseThroughNewKey, VouchThroughNewKey};
+ghost use Rattle.minisign.specs.Texts.{IsGivenOrNoMemory, map_ok};
+ghost use Rattle.minisign_examples.specs.NewKeys.{verdict_by_new_key};
 
 use minisign::{Result, Scheme, verify_bytes};
 use std::alloc::Global;
@@ -28,11 +26,8 @@ pub fn check_with_new_key<S: Scheme>(
     sig_text: &str,
     update: &[u8],
 ) -> Result<()>
-    ensures { MatchResult result
-        (λ _. VouchThroughNewKey (S.accepts scheme.now) old_text.now new_key.entry.sig_text.now
-        new_key.entry.pk_text.now sig_text.now update.now)
-        (λ e. (e ≡ Named OutOfMemory) ⊎ RefuseThroughNewKey (S.accepts scheme.now) old_text.now
-        new_key.entry.sig_text.now new_key.entry.pk_text.now sig_text.now update.now e) }
+    ensures { IsGivenOrNoMemory result (map_ok (λ _. tt) (verdict_by_new_key (S.accepts scheme.now)
+        old_text.now new_key.entry.sig_text.now new_key.entry.pk_text.now sig_text.now update.now)) }
 {
     verify_bytes(
         alloc,

@@ -1,10 +1,7 @@
 //! A caller that installs what two texts vouch for under its name, and nothing else.
 
-ghost use Rattle.std.specs.Prelude.{◌≡◌, ◌⊎◌, false, Ok, MatchResult};
-ghost use Rattle.minisign.specs.Fault.{Named};
-ghost use Rattle.minisign.specs.NamedFaults.{OutOfMemory};
-ghost use Rattle.minisign.specs.Headline.{verdict};
-ghost use Rattle.minisign_examples.specs.Updating.{RefusesUpdate};
+ghost use Rattle.minisign.specs.Texts.{IsGivenOrNoMemory};
+ghost use Rattle.minisign_examples.specs.Updating.{named_verdict};
 
 use minisign::{ErrorKind, PError, Result, Scheme, verify_bytes};
 use std::alloc::Global;
@@ -20,10 +17,8 @@ pub fn check_update<S: Scheme>(
     update: &[u8],
     name: &str,
 ) -> Result<()>
-    ensures { MatchResult result
-        (λ _. verdict (S.accepts scheme.now) pk_text.now sig_text.now update.now false ≡ Ok name.now)
-        (λ e. (e ≡ Named OutOfMemory)
-        ⊎ RefusesUpdate (S.accepts scheme.now) pk_text.now sig_text.now update.now name.now e) }
+    ensures { IsGivenOrNoMemory result (named_verdict (S.accepts scheme.now) pk_text.now sig_text.now
+        update.now name.now) }
 {
     let comment = verify_bytes(alloc, scheme, pk_text, sig_text, update)?;
     if comment.as_str() != name {

@@ -12,25 +12,32 @@ use Rattle.minisign_examples.proofs.releasing.sign_release.Goals as goal
 pub returns-in_err-sk-clause-refused : goal.returns-in_err-sk-clause-refused
 returns-in_err-sk-clause-refused g c =
     let (pk, sk, texts) = c.in_ok-pk_text.ensures.made in
-    let only = subst (λ text. OpensTo text c.args.password.now 1 sk) (sym c.as_str.ensures.value) texts.secret in
+    let only = subst (λ text. OpensTo text c.args.password.now 1 sk) (sym c.as_str.ensures.value) texts.secret
+    in
     passed_up c.from_residual-in_err-sk.result c.in_err-sk.field-0.0 _ c.from_residual-in_err-sk.ensures.1
     (inl (inl (refused_memory _ _ _ sk c.in_err-sk.ensures (only None))))
 
 pub returns-in_err-sig_text-clause-refused : goal.returns-in_err-sig_text-clause-refused
 returns-in_err-sig_text-clause-refused g c =
     let (pk, sk, texts) = c.in_ok-pk_text.ensures.made in
-    let only = subst (λ text. OpensTo text c.args.password.now 1 sk) (sym c.as_str.ensures.value) texts.secret in
+    let only = subst (λ text. OpensTo text c.args.password.now 1 sk) (sym c.as_str.ensures.value) texts.secret
+    in
     let same = same_key _ _ c.in_ok-sk.sk sk c.in_ok-sk.ensures (only None) in
-    passed_up c.from_residual-in_err-sig_text.result c.in_err-sig_text.field-0.0 _ c.from_residual-in_err-sig_text.ensures.1
-    (inl (c.in_err-sig_text.ensures pk (subst (λ k. IsGenuinePair (g.S.Scheme.public_of c.args.scheme.now) pk k) (sym same) texts.pair)))
+    passed_up c.from_residual-in_err-sig_text.result c.in_err-sig_text.field-0.0 _
+    c.from_residual-in_err-sig_text.ensures.1
+    (inl (c.in_err-sig_text.ensures pk
+    (subst (λ k. IsGenuinePair (g.S.Scheme.public_of c.args.scheme.now) pk k) (sym same) texts.pair)))
 
 pub returns-in_err-verify_bytes-clause-refused : goal.returns-in_err-verify_bytes-clause-refused
 returns-in_err-verify_bytes-clause-refused g c =
     let (pk, sk, texts) = c.in_ok-pk_text.ensures.made in
-    let only = subst (λ text. OpensTo text c.args.password.now 1 sk) (sym c.as_str.ensures.value) texts.secret in
+    let only = subst (λ text. OpensTo text c.args.password.now 1 sk) (sym c.as_str.ensures.value) texts.secret
+    in
     let same = same_key _ _ c.in_ok-sk.sk sk c.in_ok-sk.ensures (only None) in
-    let (x, read, vouches) = c.in_ok-sig_text.ensures pk (subst (λ k. IsGenuinePair (g.S.Scheme.public_of c.args.scheme.now) pk k) (sym same) texts.pair) in
-    passed_up c.from_residual-in_err-verify_bytes.result c.in_err-verify_bytes.field-0.0 _ c.from_residual-in_err-verify_bytes.ensures.1
+    let (x, read, vouches) = c.in_ok-sig_text.ensures pk
+    (subst (λ k. IsGenuinePair (g.S.Scheme.public_of c.args.scheme.now) pk k) (sym same) texts.pair) in
+    passed_up c.from_residual-in_err-verify_bytes.result c.in_err-verify_bytes.field-0.0 _
+    c.from_residual-in_err-verify_bytes.ensures.1
     (inl (inl (only_memory _ _ _ _ _ _ (record {
       key = pk;
       box = x;
@@ -42,6 +49,9 @@ returns-in_err-verify_bytes-clause-refused g c =
 pub returns-clause-vouches : goal.returns-clause-vouches
 returns-clause-vouches g c =
     let accepts = g.S.Scheme.accepts c.args.scheme.now in
-    subst (λ sig_text. TextsVouchFor accepts (string_bytes c.in_ok-pk_text.field-0.pk_text) sig_text c.args.update.now false) c.as_str-3.ensures.value
-    (subst (λ pk_text. TextsVouchFor accepts pk_text c.as_str-3.result.now c.args.update.now false) c.as_str-2.ensures.value
-    (accepted_vouches accepts c.as_str-2.result.now c.as_str-3.result.now c.args.update.now false _ c.in_ok-verify_bytes.ensures))
+    subst (λ sig_text. TextsVouchFor accepts (string_bytes c.in_ok-pk_text.field-0.pk_text) sig_text
+    c.args.update.now false) c.as_str-3.ensures.value
+    (subst (λ pk_text. TextsVouchFor accepts pk_text c.as_str-3.result.now c.args.update.now false)
+    c.as_str-2.ensures.value
+    (accepted_vouches accepts c.as_str-2.result.now c.as_str-3.result.now c.args.update.now false _
+    c.in_ok-verify_bytes.ensures))
