@@ -1,5 +1,5 @@
-//! The job `scrypt`: derives a key of 64 bytes, prints it in hexadecimal, and on the error stream the
-//! time of the call in microseconds.
+//! The job `scrypt`: derives a key of 64 bytes and prints it in hexadecimal, and on the error
+//! stream the time of the call in microseconds.
 
 ghost use Rattle.std.specs.Prelude.{◌≤◌};
 

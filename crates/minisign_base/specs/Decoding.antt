@@ -1,4 +1,4 @@
--- What the errors of decoding base64 become: a secret key's line is what they are named for.
+-- What the errors of decoding base64 become. They are named for a secret key's line.
 use Rattle.base64.specs.declared.decode.DecodeAllocError.{DecodeAllocError}
 use Rattle.base64.specs.declared.decode.DecodeAllocError.TheVariants.{DecodeError, OutOfMemory}
 use Rattle.minisign_base.specs.Fault.{Fault, Named}

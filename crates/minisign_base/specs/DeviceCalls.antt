@@ -1,5 +1,5 @@
 -- A device over one call, as one value: what contracts see of it, how it was at the call (old) and how it is
--- at the return (new); and what is said of that.
+-- at the return (new). Relations over such values.
 use Rattle.std.specs.Prelude.{◌≡◌, ⊤, ℕ, List, None, Result, MatchResult}
 use Rattle.std.specs.Io.KnownBytes.{Appends}
 use Rattle.minisign_base.specs.Devices.{AppendsFront, HasFlushed, HasGiven, HasGoneBack, HasMarked, Rose}

@@ -1,4 +1,4 @@
--- The named errors: of each the number by which a program in another language knows it, the kind, and the
+-- The named errors: the number of each, by which a program in another language knows it, its kind, and its
 -- text.
 use Rattle.std.specs.Prelude.{ℕ, List, ◌++◌, codes}
 use Rattle.minisign_base.specs.KeyIds.{key_id_text}

@@ -1,4 +1,4 @@
--- Which password is in a line that is typed.
+-- The password of a typed line.
 use Rattle.std.specs.Prelude.{ℕ, ◌+◌, min, nat_lt, ◌==◌, not, List, [], length, take, Result, Ok, Err}
 use Rattle.std.specs.Prelude.{if◌then◌else◌}
 use Rattle.std.specs.List.{position_or_len}

@@ -1,6 +1,6 @@
--- How far a call came that does one thing after another, and how it ended. What its steps are is up to the
--- call: Ends says of a step what became of the devices (old at its begin, new at its end) and how it ended,
--- with Ok where it was done, and otherwise with the error for which the call ended.
+-- How a call that takes several steps ends, and how far it came. What its steps are is up to the call: Ends
+-- says of a step what became of the devices (old at its begin, new at its end) and how it ended, with Ok
+-- where it was done, and otherwise with the error for which the call ended.
 use Rattle.std.specs.Prelude.{◌≡◌, ◌⊎◌, ⊤, List, [], ◌∷◌, Result, Ok, Err, MatchResult}
 use Rattle.minisign_base.specs.Fault.{Fault, Named}
 use Rattle.minisign_base.specs.declared.faults.NamedFault.{NamedFault}

@@ -1,5 +1,4 @@
--- A scheme for tests that meets the laws of a scheme and protects nothing: whoever knows the public
--- key can sign.
+-- A scheme for tests that meets the laws of a scheme and protects nothing: with the public key you can sign.
 use Rattle.std.specs.Prelude.{ℕ, ◌+◌, ◌%◌, ◌==◌, ◌&&◌, ◌||◌, Bool, Option, Some, None, List, [], ◌∷◌, ◌++◌}
 use Rattle.std.specs.Prelude.{map, take, drop, replicate, bit_xor, if◌then◌else◌}
 use Rattle.std.specs.List.{list_any, range_with_len}

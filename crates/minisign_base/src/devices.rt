@@ -1,4 +1,4 @@
-//! The devices that bytes come from and go to. A contract sees of each the bytes, where they are
+//! Devices: sources, sinks and random sources. A contract sees of each the bytes, where they are
 //! known, and a count of its errors, which stays at its greatest value once it is there.
 
 pub mod random_sources;

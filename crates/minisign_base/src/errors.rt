@@ -1,5 +1,4 @@
-//! What can go wrong: a kind and a text, and what the errors of std, of key derivation and of
-//! base64 become.
+//! Errors: a kind and a text, and what the errors of std, of key derivation and of base64 become.
 
 ghost use Rattle.std.specs.Prelude.{◌≡◌, Some, string_bytes};
 ghost use Rattle.minisign_base.specs.Fault.{Named, Worded, kind_of, name_of, text_of};

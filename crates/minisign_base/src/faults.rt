@@ -1,5 +1,5 @@
-//! The errors that calls of Minisign return, one enum of them all: of each the number, the kind and the text.
-//! None takes memory.
+//! The named errors of all calls of Minisign, as one enum, with their numbers, kinds and texts.
+//! None allocates.
 
 ghost use Rattle.std.specs.Prelude.{◌≡◌, Some};
 ghost use Rattle.minisign_base.specs.Faults.{fault_row, named_text};

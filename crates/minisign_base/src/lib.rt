@@ -1,5 +1,5 @@
-//! What keys, boxes and signatures stand on: errors, the devices that bytes come from and go to,
-//! the interface of a signature scheme, and the limits of key derivation.
+//! What keys, boxes and signatures stand on: errors, devices, the interface of a signature scheme,
+//! and the limits of key derivation.
 
 #![tactic(auto)]
 

@@ -1,4 +1,4 @@
-//! Where a person is asked: texts are written, and lines are read.
+//! A prompt asks a person: it writes texts and reads lines.
 
 ghost use Rattle.std.specs.Prelude.{◌≡◌, ◌⊎◌, ℕ, ◌+◌, ◌≤◌, List, [], ◌∷◌, length, take, Ok, Err, IfOk, IfErr};
 ghost use Rattle.std.specs.Prelude.{OnOk, OnErr, MatchOption, MatchResult, string_bytes};

@@ -1,4 +1,4 @@
-//! The interface of a signature scheme, in whose place a crate with a proved Ed25519 can be put.
+//! The interface of a signature scheme. A crate with a proved Ed25519 can implement it.
 
 ghost use Rattle.std.specs.Prelude.{◌≡◌, ℕ, List, ◌++◌, Option, Bool, true, length};
 ghost use Rattle.std.specs.Option.{option_map};

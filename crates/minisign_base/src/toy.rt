@@ -1,4 +1,4 @@
-//! A scheme for tests. It is insecure: whoever knows the public key can sign.
+//! A scheme for tests. It is insecure: with the public key you can sign.
 
 ghost use Rattle.std.specs.Prelude.{◌≡◌, ℕ, List, ◌++◌, Option, take, drop, bit_xor};
 ghost use Rattle.std.specs.Simd.Lanes.{zip2};

@@ -1,6 +1,6 @@
 //! The program `minisign_compare`: it reads requests from standard input, one a line, calls the
 //! library and prints one line for each. A program over the Rust crate answers the same requests in
-//! the same words, so that the two can be compared; `compare/README.md` has the requests.
+//! the same words; `compare/README.md` has both.
 #![tactic(auto)]
 
 mod building_blocks;

@@ -1,4 +1,4 @@
-//! Why a request gets no fields for an answer.
+//! Why a request is rejected.
 
 ghost use Rattle.std.specs.Prelude.{◌≡◌};
 ghost use Rattle.minisign_base.specs.Fault.{Named};

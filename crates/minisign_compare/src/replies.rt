@@ -1,4 +1,4 @@
-//! The answer to a request: what the call returned, and what it wrote, read and drew meanwhile.
+//! The answer to a request: what the call returned, wrote, read and drew.
 
 ghost use Rattle.std.specs.Prelude.{◌≡◌, [], ◌++◌, OnOk, codes, if◌then◌else◌, string_bytes};
 ghost use Rattle.hex.specs.Hex.{encode_lower};

@@ -6,7 +6,7 @@ use Rattle.minisign_base.specs.Fault.{Fault, Named}
 use Rattle.minisign_base.specs.declared.faults.NamedFault.TheVariants.{KeyNotEncrypted, OutOfMemory}
 use Rattle.minisign_base.specs.declared.faults.NamedFault.TheVariants.{UnsupportedEncryptionAlgorithm}
 use Rattle.minisign.specs.Records.{SecretKeyRecord}
-use Rattle.minisign.specs.Sealing.{allowed_rows, allowed_work, no_kdf, open_sealed, open_within_rows}
+use Rattle.minisign.specs.Sealing.{allowed_rows, allowed_work, no_kdf, open_sealed}
 use Rattle.minisign.specs.Sealing.{restored_key, scrypt_kdf, sealed_by_scrypt, xored_key}
 use Rattle.minisign.specs.Texts.{and_then, require}
 use Rattle.minisign_external.specs.PublicKeys.{read_utf8}
@@ -28,7 +28,7 @@ opens_within k password times most same = of (not (bytes_eq k.kdf no_kdf)) (byte
         → and_then (require a KeyNotEncrypted (require b UnsupportedEncryptionAlgorithm (Ok k)))
         (λ s. open_sealed s password (Some times))
         ≡ and_then (require a KeyNotEncrypted (require b UnsupportedEncryptionAlgorithm (Ok k)))
-        (λ s. open_within_rows s password most)
+        (λ s. and_then (allowed_rows s most) (λ _. restored_key (xored_key s password)))
     of true true = ap (λ w. and_then w (λ _. restored_key (xored_key k password))) same
     of true false = refl
     of false b = refl

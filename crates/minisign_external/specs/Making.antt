@@ -5,10 +5,9 @@ use Rattle.std.specs.Str.{IsUtf8}
 use Rattle.std.specs.Str.Iter.{LacksByte}
 use Rattle.minisign_base.specs.Fault.{Fault, Named}
 use Rattle.minisign_base.specs.declared.faults.NamedFault.TheVariants.{OutOfMemory, NotUtf8}
-use Rattle.minisign.specs.Making.{GivesParts, IsOfParts, made_key, making_fault}
 use Rattle.minisign.specs.PublicKeyText.{read_public_key, commented_public_key_text}
-use Rattle.minisign.specs.Generation.{unsealed_key}
-use Rattle.minisign.specs.Records.{SecretKeyRecord, own_public_key}
+use Rattle.minisign.specs.Generation.{GivesParts, made_key, making_fault, unsealed_key}
+use Rattle.minisign.specs.Records.{own_public_key}
 use Rattle.minisign.specs.SecretKeyText.{secret_key_text}
 use Rattle.minisign.specs.declared.making.Sealing.{Sealing}
 use Rattle.minisign_external.specs.Numbers.{fault_number, misuse_number, refusal_number}
@@ -40,14 +39,13 @@ pub record HoldsSecretKey (keynum secret : List ℕ) (password : Option (List �
   pub written : take len bytes ≡ secret_key_text (Some comment) (made_key keynum secret password s)
   pub gives : GivesParts (take len bytes) password keynum secret s
 
--- the text of their public key stands there: it reads as the one of each secret key of these parts
+-- the text of their public key stands there, which it reads as
 pub record HoldsPublicKey (keynum secret comment bytes : List ℕ) (len : ℕ) : Type 0 where
   pub fits : len ≤ length bytes
   pub size : len ≡ length comment + 77
   pub written : take len bytes
       ≡ commented_public_key_text comment (own_public_key (unsealed_key keynum secret))
-  pub reads : (key : SecretKeyRecord) → IsOfParts keynum secret key
-      → read_public_key (take len bytes) ≡ Ok (own_public_key key)
+  pub reads : read_public_key (take len bytes) ≡ Ok (own_public_key (unsealed_key keynum secret))
 
 -- a text with a comment, longer by so many bytes, was not written to a buffer: the comment is not on one
 -- line, or else none that Minisign reads, or else there is no room

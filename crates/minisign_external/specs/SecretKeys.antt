@@ -6,8 +6,8 @@ use Rattle.std.specs.Str.{IsUtf8}
 use Rattle.minisign_base.specs.Fault.{Fault, Named}
 use Rattle.minisign_base.specs.declared.faults.NamedFault.TheVariants.{OutOfMemory}
 use Rattle.minisign.specs.Records.{SecretKeyRecord}
-use Rattle.minisign.specs.Sealing.{allowed_rows, no_kdf, open_within_rows, opening_memory, opening_work}
-use Rattle.minisign.specs.Sealing.{sealed_by_scrypt, unencrypted_key, wants_password}
+use Rattle.minisign.specs.Sealing.{allowed_rows, no_kdf, opening_memory, opening_work, restored_key}
+use Rattle.minisign.specs.Sealing.{sealed_by_scrypt, unencrypted_key, wants_password, xored_key}
 use Rattle.minisign.specs.SecretKeyText.{read_secret_key, secret_key_of_bytes}
 use Rattle.minisign.specs.Texts.{and_then}
 use Rattle.minisign_external.specs.Numbers.{fault_number, misuse_number, refusal_number}
@@ -86,7 +86,8 @@ open_unsealed k = if lacks_checksum k then Ok k else unencrypted_key k
 
 -- what a sealed key that was read gives: the one that the password opens, where at most so many rows are made
 abbrev pub open_within : SecretKeyRecord → List ℕ → ℕ → Result SecretKeyRecord Fault
-open_within k password most_rows = and_then (sealed_by_scrypt k) (λ s. open_within_rows s password most_rows)
+open_within k password most_rows = and_then (sealed_by_scrypt k)
+    (λ s. and_then (allowed_rows s most_rows) (λ _. restored_key (xored_key s password)))
 
 -- opening the value gives what its text gives: without a password, and under each one, within each number of
 -- rows

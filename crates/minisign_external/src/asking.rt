@@ -1,4 +1,4 @@
-//! Asking, and the verdict, over the state that a program in another language holds.
+//! The questions and the verdict, over the state that a program in another language holds.
 
 ghost use Rattle.std.specs.Prelude.{◌≡◌, ◌<◌, ◌≤◌, ◌+◌, ℕ, Bool, List, Ok, Err, true, OnOk};
 ghost use Rattle.std.specs.Prelude.{OnErr, IfOk, IfErr, MatchResult, ◌++◌, length, drop, take};
@@ -30,7 +30,7 @@ impl State {
     /// trusted comment is taken alone. The message of the second question is written to the start of
     /// `message`: 64 bytes more than the trusted comment are room enough.
     ///
-    /// What is rejected, and in which order, its clause `value` says. Does not allocate.
+    /// Its clause `value` says what is rejected, and in which order. Does not allocate.
     pub fn ask(
         &mut self,
         key: &PublicKeyValue,
@@ -40,14 +40,14 @@ impl State {
         questions: &mut Questions,
         message: &mut [u8],
     ) -> Result<(), Refusal>
-        // What is answered is a function of the state, the key, the signature, the text, the flag and the
-        // room. The rejections come in one order: a state that was asked before, has told its digest or was
+        // The answer is a function of the state, the key, the signature, the text, the flag and the room.
+        // The rejections come in one order: a state that was asked before, has told its digest or was
         // never begun; a signature that was not read, or whose text is another one; a key ID that differs,
         // and a signature over the data itself where that will not do; and too short a buffer.
         ensures value { result ≡ asking_result self.old key.now signature.now sig_text.now allow_legacy
             (length message.old) }
 
-        // Of a signature that was read from this text, what is answered is that of the text under the key.
+        // For a signature that was read from this text, the answer is that of the text under the key.
         ensures text { (t : SignatureTextRecord) → IsReadFrom signature.now sig_text.now t
             → result ≡ asking_under self.old key.now sig_text.now allow_legacy (length message.old) }
 
@@ -163,7 +163,7 @@ impl State {
         Ok(comment)
     }
 
-    /// What the answer to the second question is worth by itself: success where the comment signature has its
+    /// What the answer to the second question decides by itself: success where the comment signature has its
     /// 64 bytes and the scheme accepts it. Nothing is said of any data. A state that has not asked, or was
     /// ended, is rejected. Does not allocate.
     pub fn comment_verdict(&self, second: bool) -> Result<(), Refusal>
@@ -173,9 +173,9 @@ impl State {
             → HasAsked self.now v sig_text legacy → AnswersComment accepts v sig_text second → is_begun
             self.now ≡ true → result ≡ given_verdict (comment_verdict_under accepts v sig_text legacy) }
 
-        // What is answered is a function of the state and the answer: a state that has not asked, or was
-        // ended, is rejected, and otherwise the comment signature has its 64 bytes and is accepted, or else
-        // is rejected.
+        // The result is a function of the state and the answer: a state that has not asked, or was ended, is
+        // rejected; otherwise it is success exactly where the comment signature has its 64 bytes and is
+        // accepted.
         ensures value { result ≡ comment_result self.now second }
     {
         if !self.is_begun() || !self.is_asked() {
@@ -204,9 +204,9 @@ impl State {
             → HasAsked self.old v sig legacy → IsMarkedTold self.old → IsKeyText pk v
             → Answers accepts v sig message first second → GivesVerdict accepts pk sig message legacy result }
 
-        // What is answered, and the state after it, are a function of the state and the answers. One that has
+        // The result, and the state after it, are a function of the state and the answers. A state that has
         // not asked or not told its digest is rejected, and stays as it was; otherwise the state is ended,
-        // and what the answers decide is told.
+        // and the result is what the answers decide.
         ensures value { (result, self.new) ≡ told_verdict self.old first second }
     {
         if self.mark != TOLD || !self.is_asked() {

@@ -1,5 +1,5 @@
-//! Verifying and signing with a signature scheme that stands outside: what it has to be asked, and
-//! what its answers decide.
+//! Verifying and signing with a signature scheme outside of the library: the questions to the
+//! scheme, and what its answers decide.
 
 #![tactic(auto)]
 

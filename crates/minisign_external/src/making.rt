@@ -1,5 +1,5 @@
-//! The texts of keys that were opened or taken in, written to a buffer: so a key gets another
-//! password, or its public key is written again.
+//! Writes the texts of an open key to a buffer, to change its password or to get its public key
+//! back.
 
 ghost use Rattle.std.specs.Prelude.{◌≡◌, ◌<◌, ◌≤◌, ◌+◌, Some, drop, true, false, OnOk};
 ghost use Rattle.std.specs.Prelude.{OnErr, IfOk, IfErr};
@@ -31,7 +31,7 @@ const PUBLIC_KEY_BYTES: usize = 77;
 /// `keep_every` is k, where every k-th of scrypt's rows is kept, 1 KiB each, of at most 2^20; 0 and
 /// 1 keep them all. The text is the same for every k.
 ///
-/// What is rejected, and in which order, its clause `refused` says.
+/// Its clause `refused` says what is rejected, and in which order.
 pub fn write_secret_key(
     alloc: Global,
     key: &SecretKeyValue,

@@ -1,4 +1,4 @@
-//! The numbers by which a program in another language knows rejections, and what they mean. None of it
+//! The numbers by which a program in another language knows errors, and what they mean. None of it
 //! allocates.
 
 ghost use Rattle.std.specs.Prelude.{◌≡◌, ◌==◌, ◌<◌, List, ℕ, find, length};

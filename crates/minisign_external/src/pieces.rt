@@ -1,5 +1,5 @@
-//! Verifying and signing data that comes in pieces, by the calls that a host of another language makes, in
-//! its order: what they come to together, whatever the pieces are.
+//! What the calls of verifying and signing come to together, where a host of another language makes
+//! them in their order, whatever the pieces of the data are.
 
 ghost use Rattle.std.specs.Prelude.{◌≡◌, ◌≤◌, ◌+◌, ◌++◌, ℕ, List, [], Bool, None, Ok, true, false};
 ghost use Rattle.std.specs.Prelude.{length, take, drop, OnErr, IfOk, IfErr, MatchResult};
@@ -226,7 +226,7 @@ fn sign_both<S: Scheme>(
     Ok((first, second))
 }
 
-/// A law, for which nothing is done: what the calls of a host come to, whoever makes them.
+/// A law, for which nothing is done: what the calls of any host come to.
 #[tactic(auto, using(crate::proofs::GivenAnswers::given, crate::proofs::OwnTexts::own_verdict))]
 pub fn answers_decide()
     // What a scheme answers to the questions that were asked, with the digest of a message, it answers to

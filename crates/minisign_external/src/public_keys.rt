@@ -17,24 +17,24 @@ pub struct PublicKeyValue {
     pub key_id: [u8; 8],
 }
 
-/// Tells the value of the key that a text of two lines reads as.
+/// Writes the value of the key that a text of two lines reads as.
 ///
 /// Rejected are, in this order: a text that is not UTF-8; what `minisign::read_public_key` rejects. Then the
 /// value stays as it was.
 pub fn tell_public_key(text: &[u8], value: &mut PublicKeyValue) -> Result<()>
-    // The value is told of the public key that a text of two lines reads as: a function of the bytes, which
-    // have to be UTF-8. Otherwise the first case that fails is told, and the value stays.
+    // The value is that of the public key that a text of two lines reads as: a function of the bytes, which
+    // have to be UTF-8. Otherwise the error is the first case that fails, and the value stays.
     ensures { (result, value.new) ≡ told_key (read_utf8 read_public_key text.now) value.old }
 {
     tell(read(text), value)
 }
 
-/// Tells the value of the key that a bare base64 reads as, 56 bytes.
+/// Writes the value of the key that a bare base64 reads as, 56 bytes.
 ///
 /// Rejected are, in this order: a text that is not UTF-8; what `minisign::read_bare_public_key` rejects. Then
 /// the value stays as it was.
 pub fn tell_bare_public_key(text: &[u8], value: &mut PublicKeyValue) -> Result<()>
-    // The same is told of the base64 of a public key alone.
+    // The same of the base64 of a public key alone.
     ensures { (result, value.new) ≡ told_key (read_utf8 read_bare_public_key text.now) value.old }
 {
     tell(read_bare(text), value)
@@ -60,7 +60,7 @@ fn read_bare(text: &[u8]) -> Result<PublicKey>
     }
 }
 
-// Tells of a key that was read.
+// Writes the value of a key that was read.
 fn tell(read: Result<PublicKey>, value: &mut PublicKeyValue) -> Result<()>
     ensures { (result, value.new) ≡ told_key read value.old }
 {

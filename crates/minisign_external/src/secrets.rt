@@ -1,5 +1,4 @@
-//! A secret key as a value, which was opened or taken in. The secret leaves the library here. None of it
-//! allocates.
+//! An open secret key as a value. The secret leaves the library here. None of it allocates.
 
 ghost use Rattle.std.specs.Prelude.{◌≡◌};
 ghost use Rattle.minisign_external.specs.SecretKeys.{is_opened, public_value_of, taken_key};

@@ -1,5 +1,5 @@
-//! A signature as a value, read once from its text: all that asking takes but the trusted comment, which
-//! stays in the text. None of it allocates.
+//! A signature as a value, read once from its text. It has all that asking takes but the trusted
+//! comment, which stays in the text. None of it allocates.
 
 ghost use Rattle.std.specs.Prelude.{◌≡◌, ◌+◌, ◌≤◌, Bool, Ok, Err, false, true, IfOk, IfErr};
 ghost use Rattle.std.specs.Prelude.{MatchOption, MatchResult, if◌then◌else◌, bytes_eq, nat_le, length, take};
@@ -58,14 +58,14 @@ pub struct SignatureValue {
 }
 
 impl SignatureValue {
-    /// Reads the signature of a text, which is then asked about by `State::ask`.
+    /// Reads the signature of a text, for `State::ask`.
     ///
     /// Rejected are, in this order: a text that is not UTF-8, `NotUtf8`; what `minisign::read_signature`
     /// rejects. Does not allocate.
     pub fn read(sig_text: &[u8]) -> Result<SignatureValue>
         // A text is read as the value of what it reads as, a function of the bytes, which have to be UTF-8:
         // the key ID, the algorithm, both signatures, where the trusted comment stands in it, and its digest;
-        // otherwise the first case that fails is told.
+        // otherwise the error is the first case that fails.
         ensures value { result ≡ read_signature_value sig_text.now }
 
         // The trusted comment stands there.

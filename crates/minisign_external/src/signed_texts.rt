@@ -44,7 +44,7 @@ pub fn signed_text(
     // with a carriage return at its end, a trusted one with white space at either end. Then those that
     // Minisign 0.11 would not read back: an untrusted one of 1,004 bytes or more, a trusted one of 8,174 or
     // more, one with a zero byte or a carriage return. For all others there is a text, unless an allocation
-    // fails: no comment that is rejected is called out of memory.
+    // fails: a rejected comment is never reported as out of memory.
     ensures refused { IfErr result (λ r. ((r ≡ Refused (Named OutOfMemory)) × AreChosenReadBack
         (comments_of trusted.now untrusted.now) × AreReadByMinisign (comments_of trusted.now untrusted.now))
         ⊎ ((m : Misuse) × (r ≡ WrongUse m) × IsCommentMisuse (comments_of trusted.now untrusted.now) m)) }

@@ -1,5 +1,5 @@
-//! A state of fixed size that a program in another language holds: it is asked about a key and a signature,
-//! is fed the data in pieces, tells the digest, and gives the verdict.
+//! A state of fixed size that a program in another language holds. You ask it about a key and a
+//! signature, feed it the data in pieces, and get the digest and the verdict.
 
 ghost use Rattle.std.specs.Prelude.{◌≡◌, ◌++◌, ℕ, List, [], false, Ok, OnOk, IfOk, IfErr, MatchResult};
 ghost use Rattle.std.specs.Prelude.{length};

@@ -1,5 +1,5 @@
-//! A secret key as its text has it: read once into a value, which tells what opening takes, and opened from
-//! that.
+//! A secret key as its text has it: a value that is read once, tells what opening takes, and can be
+//! opened.
 
 ghost use Rattle.std.specs.Prelude.{◌≡◌, ◌⊎◌, if◌then◌else◌, true, false, None, Some, MatchResult, Ok, Err};
 ghost use Rattle.std.specs.Prelude.{OnOk, OnErr, IfErr, IsOk, length, replicate};
@@ -74,7 +74,7 @@ impl<'a> KeyText<'a> {
     /// Reads the key and opens it, as `read_unopened_key` and the calls that open do.
     pub fn open(&self, alloc: Global) -> std::result::Result<SecretKeyValue, Refusal>
         // The key is the one that the text opens to, with the mark of one that was opened; otherwise the
-        // first case that fails is told, or, where opening derives, a failed allocation.
+        // error is the first case that fails or, where opening derives, a failed allocation.
         ensures { MatchResult result (λ v. (k : SecretKeyRecord) × (opened_text self.now.text.now
             (option_copied self.now.password) self.now.most_rows ≡ Ok k) × (v ≡ taken_key k.keynum k.secret))
             (IsTextOpeningRefusal self.now.text.now (option_copied self.now.password) self.now.most_rows) }
@@ -194,13 +194,13 @@ fn told_by(key: &SecretKey) -> (u8, u8, u32)
     }
 }
 
-/// Reads the text of a secret key into a value, which is opened then.
+/// Reads the text of a secret key into a value, which can then be opened.
 ///
 /// Rejected are, in this order: a text that is not UTF-8; what `minisign::read_secret_key` rejects. Then the
 /// value stays as it was. Does not allocate.
 pub fn read_unopened_key(sk_text: &[u8], value: &mut UnopenedKeyValue) -> Result<()>
-    // Whether a text is read is a function of the bytes, which have to be UTF-8: otherwise the first case
-    // that fails is told, and the value stays.
+    // Whether a text is read is a function of the bytes, which have to be UTF-8: otherwise the error is the
+    // first case that fails, and the value stays.
     ensures result { result ≡ without_value (read_utf8 read_secret_key sk_text.now) }
     ensures kept { OnErr result (value.new ≡ value.old) }
 
@@ -238,8 +238,8 @@ pub fn open_unsealed_key(
     unopened: &UnopenedKeyValue,
     value: &mut SecretKeyValue,
 ) -> std::result::Result<(), Refusal>
-    // What is answered, and the key: a key that was read and was never sealed is the one opened, with the
-    // mark of one that was; otherwise it is the first reason, and the key as it was.
+    // The result, and the key: a key that was read and was never sealed is the one opened, with the mark of
+    // one that was; otherwise the result is the first reason, and the key as it was.
     ensures { (result, value.new) ≡ opened_or_kept (opened_unsealed unopened.now) value.old }
 {
     if unopened.is_read() {
@@ -269,9 +269,9 @@ pub fn open_sealed_key(
     most_rows: u64,
     value: &mut SecretKeyValue,
 ) -> std::result::Result<(), Refusal>
-    // What is answered, and the key, whatever number of rows is kept: a key that was read and that the
-    // password opens is the one opened, with the mark of one that was; otherwise it is the first reason, and
-    // the key as it was. Only where opening derives is it possibly out of memory instead.
+    // The result, and the key, whatever number of rows is kept: a key that was read and that the password
+    // opens is the one opened, with the mark of one that was; otherwise the result is the first reason, and
+    // the key as it was. Only where opening derives may it be out of memory instead.
     ensures { ((result, value.new) ≡ opened_or_kept (opened_sealed unopened.now password.now most_rows)
         value.old) ⊎ (((result, value.new) ≡ opened_or_kept (Err (Refused (Named OutOfMemory))) value.old)
         × DerivesWithin unopened.now password.now most_rows) }

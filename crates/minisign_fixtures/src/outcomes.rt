@@ -1,4 +1,4 @@
-//! What comes of a call, and how bytes are shown and compared; prefixes of texts and bytes.
+//! The outcomes of calls, and bytes as they are shown and compared; prefixes of texts and bytes.
 
 use minisign_base::errors::Result;
 use minisign_base::faults::NamedFault;

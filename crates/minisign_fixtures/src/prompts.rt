@@ -1,4 +1,4 @@
-//! Prompts over slices and buffers, and passwords that are passed in.
+//! Prompts over slices and buffers, and passwords that are passed.
 
 use crate::devices::sources::OneByOne;
 use minisign_base::devices::sinks::VecSink;

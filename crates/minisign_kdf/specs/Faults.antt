@@ -1,4 +1,4 @@
--- What the errors of key derivation are called.
+-- The errors of key derivation.
 use Rattle.std.specs.Prelude.{ℕ, List, codes}
 use Rattle.minisign_kdf.specs.declared.errors.KdfError.{KdfError}
 use Rattle.minisign_kdf.specs.declared.errors.KdfError.TheVariants.{OutOfMemory, InvalidOutputLen}

@@ -1,4 +1,4 @@
--- scryptROMix (RFC 7914, section 5) of which only every k-th row is kept, and each other one is made again.
+-- scryptROMix (RFC 7914, section 5) that keeps every k-th row alone, and makes the others again.
 use Rattle.std.specs.Prelude.{ℕ, ◌-◌, ◌*◌, ◌/◌, ◌%◌, List, [], length, map, slice_index_or}
 use Rattle.std.specs.Int.{div_ceil}
 use Rattle.std.specs.List.{range_with_len}

@@ -1,5 +1,5 @@
--- The parameters of scrypt that are accepted: the cost N = 2 ^ n_log2, the block size r and the
--- parallelization p (RFC 7914, section 2).
+-- The parameters that scrypt takes: the cost N = 2 ^ n_log2, the block size r and the parallelization p (RFC
+-- 7914, section 2).
 use Rattle.std.specs.Prelude.{ℕ, ◌*◌, ◌^◌, ◌<◌, ◌≤◌, Bool, ◌&&◌, nat_lt, nat_le}
 
 -- the cost N as its logarithm to base 2, the block size and the parallelization

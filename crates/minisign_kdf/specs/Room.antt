@@ -1,4 +1,4 @@
--- The memory that a derivation works in, where it is passed in: words of 32 bits, and bytes.
+-- The memory of the caller that a derivation works in: words of 32 bits, and bytes.
 use Rattle.std.specs.Prelude.{ℕ, ◌+◌, ◌*◌, ◌^◌}
 use Rattle.std.specs.Int.{div_ceil}
 use Rattle.minisign_kdf.specs.Params.{Numbers}

@@ -1,4 +1,4 @@
-//! What key derivation rejects, and which of its errors a rejection further down becomes.
+//! The errors of key derivation, and which of them an error further down becomes.
 
 ghost use Rattle.std.specs.Prelude.{◌≡◌, Some, codes};
 

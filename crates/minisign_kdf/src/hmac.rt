@@ -1,4 +1,4 @@
-//! HMAC with SHA-256 (RFC 2104), of a text that is handed over in parts.
+//! HMAC with SHA-256 (RFC 2104), of a text in parts.
 
 ghost use Rattle.std.specs.Prelude.{◌≡◌, ◌++◌, ◌-◌, ◌≤◌, length, map, replicate, bit_xor};
 ghost use Rattle.std.specs.List.{flat_map};

@@ -1,5 +1,5 @@
-//! The rows of scryptROMix (RFC 7914, section 5) of which every k-th is kept, in one vector of
-//! words: the words of each block stand in diagonal order.
+//! Every k-th row of scryptROMix (RFC 7914, section 5), kept in one vector of words. The words of
+//! each block stand in diagonal order.
 
 ghost use Rattle.std.specs.Prelude.{◌≡◌, ℕ, ◌+◌, ◌*◌, ◌%◌, ◌/◌, ◌^◌, ◌<◌, ◌≤◌, IfErr, IfOk, OnOk, length};
 ghost use Rattle.std.specs.Prelude.{vec_capacity, vec_len};

@@ -1,6 +1,5 @@
-//! scryptROMix (RFC 7914, section 5) over rows of which every k-th is kept, in one slice of words:
-//! the words of each block stand in diagonal order, and each other row is made again from the kept
-//! one before it.
+//! scryptROMix (RFC 7914, section 5) over every k-th row, kept in one slice of words; the others
+//! are made again from the kept row before them. The words of each block stand in diagonal order.
 
 ghost use Rattle.std.specs.Prelude.{◌≡◌, ℕ, ◌+◌, ◌-◌, ◌*◌, ◌/◌, ◌%◌, ◌^◌, ◌<◌, ◌≤◌, List, length, bit_xor};
 ghost use Rattle.std.specs.Int.{div_ceil};

@@ -1,4 +1,4 @@
-//! Where the kept rows of a part are put: a vector that was given room, or memory that was passed in.
+//! Memory for the kept rows of a part: a vector, or memory that the caller passes in.
 
 ghost use Rattle.std.specs.Prelude.{◌≡◌, ℕ, ◌+◌, ◌≤◌, ◌++◌, List, [], length, take, vec_capacity};
 

@@ -1,6 +1,6 @@
-//! What the page that verifies a download calls, built for WebAssembly: the calls of `minisign_c` that
-//! verify, under their contracts and with their numbers. `bindings/javascript/calls.js` calls them, and says
-//! what a caller owes. None of it allocates.
+//! The calls of the page that verifies a download, built for WebAssembly: those of `minisign_c`
+//! that verify, under their contracts and with their numbers. `bindings/javascript/calls.js` calls
+//! them, and says what a caller has to do. None of it allocates.
 
 #![tactic(auto)]
 

@@ -1,4 +1,4 @@
--- The permissions of a new file that takes the place of an older one.
+-- The permissions of a new file that replaces an older one.
 use Rattle.std.specs.Prelude.{◌≡◌, ◌/◌, ◌%◌, ◌<◌, ◌^◌, ℕ, bit_and}
 
 -- the three permission bits of the owner in a file's mode, those of its group, and those of all others

@@ -1,5 +1,5 @@
-//! What the programs share: their arguments as words, calls of the system that a signal interrupts, and the
-//! permissions of the files that they put in the place of older ones.
+//! What programs share: their arguments as words, calls of the system that a signal interrupts, and
+//! the permissions of replaced files.
 
 #![tactic(auto)]
 

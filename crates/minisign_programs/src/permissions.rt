@@ -1,4 +1,4 @@
-//! The permissions of a new file that takes the place of an older one.
+//! The permissions of a new file that replaces an older one.
 
 ghost use Rattle.std.specs.Prelude.{◌≡◌};
 ghost use Rattle.minisign_programs.specs.Permissions.{KeepsPermissions, LosesGroup, group_bits, other_bits};

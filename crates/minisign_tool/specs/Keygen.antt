@@ -1,13 +1,20 @@
 -- What `keygen` makes.
 use Rattle.std.specs.Prelude.{ℕ, List, None, Ok}
 use Rattle.minisign.specs.DeviceCalls.{PromptCall, RandomCall, SinkCall, TakesPart}
-use Rattle.minisign.specs.Generation.{IsGenuinePair, IsSealedPair}
-use Rattle.minisign.specs.NewPassword.{IsSealing}
+use Rattle.minisign.specs.Generation.{IsGenuinePair, IsSealedPair, IsSealing, SealedTextsFail}
+use Rattle.minisign.specs.Members.{SinkOf}
 use Rattle.minisign.specs.Opening.{OpensTo}
 use Rattle.minisign.specs.PublicKeyText.{public_key_text}
 use Rattle.minisign.specs.Records.{PublicKeyRecord, SecretKeyRecord}
 use Rattle.minisign.specs.Sealing.{xored_key}
 use Rattle.minisign.specs.SecretKeyText.{secret_key_text}
+use Rattle.minisign_tool.specs.Report.{ShowsOnlyFault}
+
+-- no keys were made, and all that is said is why
+abbrev pub ShowsNoKeys : {E Z R W P K : Type 0} → SinkOf E → E → E → (List ℕ → List ℕ) → RandomCall Z
+    → PromptCall R W → SinkCall P → SinkCall K → Type 0
+ShowsNoKeys sink old new public_of z p pk_sink sk_sink =
+    ShowsOnlyFault sink old new (SealedTextsFail public_of z p None pk_sink sk_sink None)
 
 -- a pair was made of the random bytes that were drawn, under a password that was typed twice; one sink took
 -- the text of its public key, the other that of its secret key with the default comment, and this text

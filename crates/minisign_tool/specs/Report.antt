@@ -1,4 +1,4 @@
--- What the program says on the error stream.
+-- What the program writes to the error stream.
 use Rattle.std.specs.Prelude.{◌≡◌, ℕ, ◌⊎◌, List, ◌++◌, codes}
 use Rattle.std.specs.Io.KnownBytes.{Appends}
 use Rattle.minisign.specs.Devices.{Rose, AppendsFront}

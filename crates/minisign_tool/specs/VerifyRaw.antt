@@ -1,4 +1,4 @@
--- What it means that `verify-raw` accepts, and why it ends otherwise.
+-- When `verify-raw` accepts, and why it ends otherwise.
 use Rattle.std.specs.Prelude.{◌≡◌, ℕ, ◌<◌, ◌≤◌, ◌⊎◌, false, List, length, take, None}
 use Rattle.minisign.specs.Fault.{Fault, Named}
 use Rattle.minisign.specs.NamedFaults.{RecordTooShort, UnsupportedSignatureAlgorithm}

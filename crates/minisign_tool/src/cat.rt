@@ -1,4 +1,4 @@
-//! The command `cat`: as `verify`, and what was verified is copied out.
+//! The command `cat`: it verifies as `verify` does, and copies out what was verified.
 
 ghost use Rattle.std.specs.Prelude.{◌≡◌, ◌≤◌, false, true, OnOk, IfErr};
 ghost use Rattle.minisign.specs.DeviceCalls.{Takes, sink_call};
@@ -28,9 +28,9 @@ pub fn run_cat<S: Scheme, P: Source, Q: Source, R: Rereader, O: Sink, W: Sink>(
     // The exit status is 0 or 1.
     ensures status { result ≤ 1 }
 
-    // The exit status is 0 only if the two texts that were read whole vouch for all of the data,
+    // **The exit status is 0 only if the two texts that were read whole vouch for all of the data,
     // with the warning and the status lines written, and with the data copied, as a copy that the
-    // two texts vouch for.
+    // two texts vouch for.**
     ensures accepted { result ≡ 0 → FilesVouchForCopy (S.accepts scheme.now)
         (verifying_call P.Source Q.Source R.Source R.steady devices.old devices.new)
         (sink_call O.Sink out.old out.new) (SaysAfterWarning W.Sink errors.old errors.new) }

@@ -1,6 +1,6 @@
-//! The commands over the files that the arguments name: opens the files, runs a command's body over
-//! them and the standard streams, and returns the exit status. What fails before the body has begun
-//! is returned as an error, with nothing said.
+//! Opens the files that a command names, runs its body over them and the standard streams, and
+//! returns the exit status. What fails before the body has begun is returned as an error, and not
+//! reported.
 
 ghost use Rattle.std.specs.Prelude.{◌≡◌, ◌≤◌, ◌⊎◌, ℕ, List, Some, Err, IsOk, IfOk, IfErr};
 ghost use Rattle.minisign.specs.Fault.{Fault, Named};

@@ -1,10 +1,9 @@
 //! The command `keygen`: a sealed pair under a password that is typed twice, as two texts.
 
-ghost use Rattle.std.specs.Prelude.{◌≡◌, ◌≤◌, None};
+ghost use Rattle.std.specs.Prelude.{◌≡◌, ◌≤◌};
 ghost use Rattle.minisign.specs.DeviceCalls.{prompt_call, random_call, sink_call};
-ghost use Rattle.minisign.specs.Generation.{SealedTextsFail};
-ghost use Rattle.minisign_tool.specs.Keygen.{MakesKeys};
-ghost use Rattle.minisign_tool.specs.Report.{ShowsOnlyFault, TakesOrFails, warning_line};
+ghost use Rattle.minisign_tool.specs.Keygen.{MakesKeys, ShowsNoKeys};
+ghost use Rattle.minisign_tool.specs.Report.{TakesOrFails, warning_line};
 
 use crate::report::{report, warn};
 use minisign::KeyPair;
@@ -35,9 +34,9 @@ pub fn run_keygen<S: Scheme, Z: RandomSource, R: Source, W: Sink, P: Sink, K: Si
     // The exit status is 0 or 1.
     ensures status { result ≤ 1 }
 
-    // The exit status is 0 only if a pair was made from the random bytes that were drawn, under a
+    // **The exit status is 0 only if a pair was made from the random bytes that were drawn, under a
     // password that was typed twice, and both texts were written; the secret key's text opens under
-    // that password, to the key of the public one. The warning is said before.
+    // that password, to the key of the public one.** The warning is said before.
     ensures made { result ≡ 0 → MakesKeys (S.public_of scheme.now)
         (random_call Z.RandomSource random.old random.new) (prompt_call R.Source W.Sink prompt.old prompt.new)
         (sink_call P.Sink pk_sink.old pk_sink.new) (sink_call K.Sink sk_sink.old sk_sink.new) }
@@ -45,10 +44,9 @@ pub fn run_keygen<S: Scheme, Z: RandomSource, R: Source, W: Sink, P: Sink, K: Si
 
     // The exit status is 1 only because no pair was made, with neither sink touched, or as
     // `KeyPair::generate_and_write_encrypted_keypair` says.
-    ensures refused { result ≡ 1 → ShowsOnlyFault E.Sink errors.old errors.new
-        (SealedTextsFail (S.public_of scheme.now) (random_call Z.RandomSource random.old random.new)
-        (prompt_call R.Source W.Sink prompt.old prompt.new) None (sink_call P.Sink pk_sink.old pk_sink.new)
-        (sink_call K.Sink sk_sink.old sk_sink.new) None) }
+    ensures refused { result ≡ 1 → ShowsNoKeys E.Sink errors.old errors.new (S.public_of scheme.now)
+        (random_call Z.RandomSource random.old random.new) (prompt_call R.Source W.Sink prompt.old prompt.new)
+        (sink_call P.Sink pk_sink.old pk_sink.new) (sink_call K.Sink sk_sink.old sk_sink.new) }
 {
     warn(errors);
     let (password, comment) = (None, None);

@@ -57,9 +57,9 @@ fn run<S: Scheme, W: Sink>(
     // There is an exit status only of arguments that were read.
     ensures read { OnOk result (IsOk arguments) }
 
-    // A run of `verify` or `cat` exits with status 0 only where two texts and data are there for which they
+    // **A run of `verify` or `cat` exits with status 0 only where two texts and data are there for which they
     // vouch, and one of `verify-raw` only where the bytes of a key, of a bare signature and data
-    // are; the usage exits with status 2. What is said is what the command says that ends so, or the usage
+    // are; the usage exits with status 2.** What is said is what the command says that ends so, or the usage
     // after the warning.
     //
     // Arguments of which one is not UTF-8 ask for the usage.
@@ -84,9 +84,9 @@ fn run_arguments<S: Scheme, W: Sink>(
     ensures status { IfOk result (λ s. s ≤ 2) }
     ensures unsaid { OnErr result (errors.new ≡ errors.old) }
 
-    // A run of `verify` or `cat` exits with status 0 only where two texts and data are there for which they
+    // **A run of `verify` or `cat` exits with status 0 only where two texts and data are there for which they
     // vouch, and one of `verify-raw` only where the bytes of a key, of a bare signature and data
-    // are; the usage exits with status 2. What is said is what the command says that ends so, or the usage
+    // are; the usage exits with status 2.** What is said is what the command says that ends so, or the usage
     // after the warning.
     ensures ended { IfOk result (λ s. (command : Command) × AsksFor (map (λ a. string_bytes a)
         (drop 1 arguments.now)) command × ShowsCommand (S.accepts scheme.now) command s
@@ -107,9 +107,9 @@ fn run_command<S: Scheme, W: Sink>(
     ensures status { IfOk result (λ s. s ≤ 2) }
     ensures unsaid { OnErr result (errors.new ≡ errors.old) }
 
-    // A run of `verify` or `cat` exits with status 0 only where two texts and data are there for which they
+    // **A run of `verify` or `cat` exits with status 0 only where two texts and data are there for which they
     // vouch, and one of `verify-raw` only where the bytes of a key, of a bare signature and data
-    // are; the usage exits with status 2. What is said is what the command says that ends so, or the usage
+    // are; the usage exits with status 2.** What is said is what the command says that ends so, or the usage
     // after the warning.
     ensures ended { IfOk result (ShowsCommand (S.accepts scheme.now) command.entry) }
     ensures said { IfOk result (SaysCommand W.Sink command.entry errors.old errors.new) }

@@ -1,5 +1,5 @@
-//! Files that are replaced in one step: whoever looks, also after a kill or a full disk, finds the
-//! older file or the new one, whole.
+//! Replaces files in one step: after a kill or on a full disk, too, the older file or the new one
+//! is there, whole.
 
 ghost use Rattle.std.specs.Prelude.{IfErr};
 ghost use Rattle.minisign_tool.specs.Replacing.{IsWriteFault};

@@ -1,5 +1,5 @@
-//! What the program says on the error stream, each line in one write. A line that cannot be written
-//! there changes no exit status.
+//! What the program writes to the error stream, each line in one write. A line that cannot be
+//! written there changes no exit status.
 
 ghost use Rattle.std.specs.Prelude.{◌≡◌, ◌++◌, codes, MatchResult, OnOk, OnErr};
 ghost use Rattle.std.specs.Io.KnownBytes.{Appends};

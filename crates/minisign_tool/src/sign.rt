@@ -58,8 +58,8 @@ pub fn run_sign<
     // The exit status is 0 or 1.
     ensures status { result ≤ 1 }
 
-    // The exit status is 0 only if a text was written whole that, of a genuine key, is read back as
-    // a box that its public key vouches with.
+    // **The exit status is 0 only if a text was written whole that, of a genuine key, is read back as
+    // a box that its public key vouches with.**
     ensures headline { result ≡ 0 → HasWrittenVouched (S.accepts scheme.now) (S.public_of scheme.now)
         (signing_call K.Source R.Source Z.RandomSource A.Source B.Sink devices.old devices.new)
         (sink_call G.Sink signature.old signature.new) }

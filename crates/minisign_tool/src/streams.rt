@@ -1,4 +1,4 @@
-//! The numbers of the standard streams, which no other file may get.
+//! Holds the numbers of the standard streams, so that no other file gets one.
 
 use std::fs::File;
 use std::os::fd::AsFd;

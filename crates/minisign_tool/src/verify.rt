@@ -39,8 +39,8 @@ pub fn run_verify<S: Scheme, P: Source, Q: Source, R: Rereader, W: Sink>(
     // The exit status is 0 or 1.
     ensures status { result ≤ 1 }
 
-    // The exit status is 0 only if the two texts that were read whole vouch for all of the data,
-    // with the warning and the status lines written.
+    // **The exit status is 0 only if the two texts that were read whole vouch for all of the data,
+    // with the warning and the status lines written.**
     ensures accepted { result ≡ 0 → FilesVouch (S.accepts scheme.now)
         (verifying_call P.Source Q.Source R.Source R.steady devices.old devices.new)
         (SaysAfterWarning W.Sink errors.old errors.new) }

@@ -36,9 +36,9 @@ pub fn run_verify_raw<S: Scheme, P: Source, Q: Source, R: Rereader, W: Sink>(
     // The exit status is 0 or 1.
     ensures status { result ≤ 1 }
 
-    // The exit status is 0 only if the two files and the data were read whole, without an error, and
+    // **The exit status is 0 only if the two files and the data were read whole, without an error, and
     // what the files held vouches for the data, with the warning written, or the prefix that the
-    // error stream took, and then the status line, and nothing else.
+    // error stream took, and then the status line, and nothing else.**
     ensures accepted { result ≡ 0 → RawFilesVouch (S.accepts scheme.now) (source_call P.Source pk_file.old
         pk_file.new) (source_call Q.Source sig_file.old sig_file.new) (rereader_call R.Source R.steady
         data_reader.old data_reader.new) (SaysAfterWarning W.Sink errors.old errors.new) }

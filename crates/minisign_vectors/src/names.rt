@@ -1,6 +1,6 @@
-//! The names at the roots of the crates, which a caller of `minisign` writes: its own, those of the devices,
-//! the scheme and the parameters, and `minisign_base` through it. Each is called, and gives the worked
-//! values. `hash` has those of `minisign_hash`.
+//! The names at the roots of the crates that a caller of `minisign` writes: its own, the devices,
+//! the scheme and the parameters, and `minisign_base` through it. Each is called, and gives the
+//! worked values. `hash` has those of `minisign_hash`.
 
 use minisign::minisign_base::{
     KeyId, fill_from, get_password, load_u64_le, put_and_flush, put_line, raw_scrypt_params,

@@ -1,4 +1,4 @@
-//! The signing tool in small, run: the texts of a pair sealed under a password, and what its key
+//! Runs the small signing tool: the texts of a pair sealed under a password, and what its key
 //! signed.
 
 use minisign::{Result, SignatureBox};

@@ -1,4 +1,4 @@
-//! Calls for callers that ask nobody: files and readers that are signed, pairs made under a password,
+//! Calls for callers that prompt nobody: signing files and readers, making pairs under a password,
 //! and the silent prompt.
 
 use minisign::{

@@ -1,4 +1,4 @@
-//! What random bytes are drawn from.
+//! Sources of random bytes.
 
 ghost use Rattle.std.specs.Prelude.{Option, ◌≡◌, ℕ, ◌≤◌, ◌↔◌, List, length, Some, IsSomeAnd, IsOk, OnOk};
 ghost use Rattle.std.specs.Prelude.{OnErr, ◌⊎◌};

@@ -1,4 +1,4 @@
-//! What bytes are read from.
+//! Sources, from which bytes are read.
 
 ghost use Rattle.std.specs.Prelude.{Bool, true, false, IsTrue, Option, ◌≡◌, ◌==◌, ℕ, ◌+◌, ◌-◌, ◌<◌, ◌≤◌, ◌^◌};
 ghost use Rattle.std.specs.Prelude.{◌↔◌, min, List, [], length, take, drop, Some, None, IsOk, IsErr, IsOkAnd};

@@ -1,5 +1,5 @@
-//! Passwords that are asked for where no line feed ends them, and lines that are not UTF-8.
-//! `tests/rows/passwords.py` has all other lines.
+//! Passwords that no line feed ends, and lines that are not UTF-8. `tests/rows/passwords.py` has
+//! all other lines.
 
 use minisign_base::devices::sinks::{Sink, VecSink};
 use minisign_base::devices::sources::{SliceSource, Source};

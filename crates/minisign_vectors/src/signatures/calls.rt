@@ -1,4 +1,4 @@
-//! Signing and verifying, called here for all tests: what is returned, and what the sinks took.
+//! Signs and verifies for all tests, and tells what the call returned and what the sinks took.
 
 use minisign::{
     PublicKey, Result, SecretKey, SignatureBox, VerifyOptions, sign, sign_texts, verify,

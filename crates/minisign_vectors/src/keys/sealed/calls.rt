@@ -1,4 +1,4 @@
-//! Opening sealed keys, called here for all tests: what is returned, and what becomes of the prompt.
+//! Opens sealed keys for all tests, and tells what the call returned and what became of the prompt.
 
 use minisign::{Result, SecretKey, SecretKeyBox};
 use minisign_base::devices::sinks::Sink;

@@ -1,4 +1,4 @@
-//! A sealed key, opened in memory that is passed in.
+//! Opening a sealed key in memory of the caller.
 
 ghost use Rattle.std.specs.Prelude.{◌≡◌, IfOk, vec_len};
 

@@ -1,5 +1,5 @@
-//! Boxes of keys, asked for their texts. What is read from a text, and written to it, is asked by
-//! `tests/rows/public_keys.py` and `tests/rows/secret_keys.py`.
+//! The texts of boxes of keys. `tests/rows/public_keys.py` and `tests/rows/secret_keys.py` have
+//! what is read from a text, and written to it.
 
 use minisign::{PublicKeyBox, Result, SecretKeyBox};
 use minisign_fixtures::outcomes::{gives_record, gives_text};

@@ -1,5 +1,5 @@
-//! The signature of zeros, and how keys with a key ID are compared. What else is said of records is
-//! asked by `tests/rows/records.py`.
+//! The signature of zeros, and how keys with a key ID are compared. `tests/rows/records.py` has the
+//! rest.
 
 use minisign::keynum::{KeynumPK, KeynumSK};
 use minisign::{Signature, SignatureBones};
