@@ -1,67 +1,14 @@
 /* SPDX-License-Identifier: MIT */
 /* The command line of minisign-install. */
-#define _POSIX_C_SOURCE 200809L
-
 #include "options.h"
-
-#include <errno.h>
-#include <stdio.h>
-#include <stdlib.h>
-#include <string.h>
 
 #include "messages.h"
 #include "shared/text.h"
-
-#define USAGE "usage: minisign-install [OPTION ..] PK DATA SIG TARGET"
-
-#define HELP \
-    "Installs DATA at TARGET if the texts of the public key PK and of the signature\n" \
-    "SIG vouch for it as the update that is wanted.\n" \
-    "\n" \
-    "  --again            install also where another update of the number was\n" \
-    "                     installed\n" \
-    "  --check            do not install, but tell by SIG and what stands there what a\n" \
-    "                     run would do, and show the number of the update and its\n" \
-    "                     signed comment: DATA is not named, and nothing is written\n" \
-    "  --first            take the update also where no number of FIELD is kept\n" \
-    "                     beside TARGET, or another key has vouched for that number\n" \
-    "  --key KEY          the public key itself, in base64: PK is not named then;\n" \
-    "                     given twice, either will do, by its key ID\n" \
-    "  --numbering FIELD  the update's number is the field `timestamp` of the signed\n" \
-    "                     comment, as without this option, or `version`\n" \
-    "  --name NAME        the name that the signed comment has to have for the file;\n" \
-    "                     without this option it is the last part of TARGET\n" \
-    "  --mode MODE        the permissions of the file, as 755; without this option it\n" \
-    "                     gets those of the file at TARGET, with its access control\n" \
-    "                     list, and a new file is for its owner alone\n" \
-    "  --most BYTES       reject data that is longer; after the number K, M, G or T\n" \
-    "                     may stand, for units of 1024 bytes, 1024 of these, ..\n" \
-    "  --max-size BYTES   the same\n" \
-    "  --must-expire      reject an update whose signed comment does not say when it\n" \
-    "                     expires\n" \
-    "  --wait SECONDS     wait so long at most where another installation is at work\n" \
-    "                     at TARGET, without this option not at all\n" \
-    "  --                 what follows are paths\n" \
-    "  -h, --help         show this\n" \
-    "  --version          show the version of the program\n" \
-    "\n" \
-    "Each option comes at most once, but `--key` twice, anywhere before `--`. Exit\n" \
-    "status:\n" \
-    "  0  the update was installed, or would be, or what was asked for was shown\n" \
-    "  1  a file could not be used, an allocation failed, or no random bytes came\n" \
-    "  2  usage error\n" \
-    "  3  the update is rejected\n" \
-    "  4  the update is older than what was installed\n" \
-    "  5  another installation is at work at this target\n" \
-    "  6  the update stands there, but a crash may bring back what stood there before\n" \
-    "  7  no number of FIELD is kept beside TARGET, and `--first` was not given\n" \
-    "  8  another update of this number was installed, and `--again` was not given\n" \
-    "  9  the update has expired\n" \
-    "  10 the update stands there already\n"
+#include "usage.h"
 
 enum { PATHS = 4 };
 
-/* The options: those that stand alone, and those that a value follows. From IS_AGAIN to WAIT none goes with a check. */
+/* The options: from MODE on they have a value, and from IS_AGAIN to WAIT none goes with a check. */
 enum option { IS_CHECK, IS_FIRST, MUST_EXPIRE, IS_AGAIN, MODE, MOST, WAIT, NUMBERING, NAME, KEY, OPTIONS };
 
 static const struct {
@@ -73,13 +20,13 @@ static const struct {
     { "--name", NAME }, { "--key", KEY },
 };
 
-/* What was read: of each option the word that gave it and its value, or NULL. */
+/* What was read: the word and the value of each option, or NULL. */
 struct command_line {
     const char *words[OPTIONS];
     const char *values[OPTIONS];
     const char *keys[MAX_KEYS];
     int key_count;
-    /* One more than there may be, if so many are named. */
+    /* (with room for one too many) */
     const char *paths[PATHS + 1];
     int count;
 };
@@ -100,36 +47,23 @@ static _Noreturn void misuse(const char *word, const char *what)
     exit(USAGE_ERROR);
 }
 
-static void add_path(struct command_line *line, const char *word)
-{
-    if (line->count <= PATHS) {
-        line->paths[line->count++] = word;
-    }
-}
-
-/* Keeps an option, which comes at most once, but for that of a key. */
+/* Keeps an option. It comes at most once, and that of a key twice. */
 static void add_option(struct command_line *line, enum option option, const char *word, const char *value)
 {
     if (option == KEY) {
         if (line->key_count == MAX_KEYS) {
-            misuse(word, "it came twice before");
+            misuse(word, "this option was given twice before");
         }
         line->keys[line->key_count++] = value;
     } else if (line->words[option] != NULL) {
-        misuse(word, "it came before");
+        misuse(word, "this option was given before");
     }
     line->words[option] = word;
     line->values[option] = value;
 }
 
-/* How many paths there have to be: a check has no data, and where keys are named themselves there is no file of one. */
-static int paths_of(const struct command_line *line)
-{
-    return PATHS - (line->words[IS_CHECK] != NULL ? 1 : 0) - (line->words[KEY] != NULL ? 1 : 0);
-}
-
-/* Ends the program where there are more or fewer paths than there have to be, or what goes with an installation
- * alone. */
+/* Ends the program if there are too many or too few paths, or a check has an option of installations. A check has no
+ * data, and with --key there is no file of a key. */
 static void judge_line(const struct command_line *line)
 {
     static const char *const fewer[] = { "there are fewer than two paths", "there are fewer than three paths",
@@ -137,7 +71,7 @@ static void judge_line(const struct command_line *line)
     static const char *const more[] = { "there are two paths, and this is a third",
                                         "there are three paths, and this is a fourth",
                                         "there are four paths, and this is a fifth" };
-    int wanted = paths_of(line);
+    int wanted = PATHS - (line->words[IS_CHECK] != NULL ? 1 : 0) - (line->words[KEY] != NULL ? 1 : 0);
 
     if (line->count > wanted) {
         misuse(line->paths[wanted], more[wanted - 2]);
@@ -172,13 +106,15 @@ static struct command_line read_command_line(int argc, char *argv[])
         enum option option = option_of(word);
 
         if (is_ended || word[0] != '-' || word[1] == 0) {
-            add_path(&line, word);
+            if (line.count <= PATHS) {
+                line.paths[line.count++] = word;
+            }
         } else if (strcmp(word, "--") == 0) {
             is_ended = true;
         } else if (option == OPTIONS) {
             misuse(word, "there is no such option");
         } else if (option >= MODE && ++i == argc) {
-            misuse(NULL, "a value has to follow the last word");
+            misuse(NULL, "the last option has no value");
         } else {
             add_option(&line, option, word, argv[i]);
         }
@@ -187,7 +123,7 @@ static struct command_line read_command_line(int argc, char *argv[])
     return line;
 }
 
-/* Ends the program as an option has no such value. */
+/* Ends the program because an option has no such value. */
 static _Noreturn void reject_value(const char *option, const char *kind, const char *value)
 {
     fprintf(stderr, "error: %s: bad %s %s\n" USAGE " (--help shows the options)\n", option, kind, visible(value));
@@ -205,7 +141,7 @@ static enum minisign_numbering numbering_of(const char *text)
     return MINISIGN_NUMBERING_VERSION;
 }
 
-/* The permissions that three octal digits write, before which a 0 may stand. */
+/* The permissions in three octal digits, before which a 0 may stand. */
 static mode_t mode_of(const char *text)
 {
     size_t len = strlen(text);
@@ -216,7 +152,7 @@ static mode_t mode_of(const char *text)
     return (mode_t) strtoul(text, NULL, 8);
 }
 
-/* How many bytes the letter of a unit stands for, or 1 where there is none. */
+/* How many bytes the letter of a unit stands for, or 1 if there is none. */
 static uint64_t unit_of(const char *text)
 {
     switch (text[0]) {
@@ -228,7 +164,7 @@ static uint64_t unit_of(const char *text)
     }
 }
 
-/* How many bytes decimal digits write, after which the letter of a unit may stand. */
+/* The number of bytes in decimal digits, after which the letter of a unit may stand. */
 static uint64_t bytes_of(const char *option, const char *text)
 {
     size_t len = strspn(text, "0123456789");
@@ -243,7 +179,7 @@ static uint64_t bytes_of(const char *option, const char *text)
     return number * unit;
 }
 
-/* How many seconds decimal digits write, up to a day. */
+/* The seconds in decimal digits, up to a day. */
 static uint32_t seconds_of(const char *text)
 {
     size_t len = strlen(text);
@@ -267,7 +203,7 @@ struct request read_request(int argc, char *argv[])
         }
     }
     if (argc == 2 && (strcmp(argv[1], "--help") == 0 || strcmp(argv[1], "-h") == 0)) {
-        show(USAGE "\n", HELP);
+        show(USAGE "\n" OPTIONS_HELP, STATUS_HELP);
     }
     if (argc == 2 && strcmp(argv[1], "--version") == 0) {
         show("minisign-install " MINISIGN_VERSION_TEXT "\n", "");
