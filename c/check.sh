@@ -1,8 +1,8 @@
 #!/bin/sh
 # SPDX-License-Identifier: MIT
 #
-# Has a program verify the keys and signatures that Minisign's own program made (tests/corpus): it accepts what that
-# accepts and rejects what that rejects, but for the few texts of which docs/DIFFERENCES.md tells.
+# Has a program verify the keys and signatures that Minisign's own program made (tests/corpus). It has to accept what that
+# accepts and reject what that rejects, but for a few texts, which docs/DIFFERENCES.md lists.
 #
 #     check.sh PROGRAM
 #

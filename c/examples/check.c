@@ -1,6 +1,6 @@
 // SPDX-License-Identifier: MIT
-// check DATA SIGNATURE: exits with status 0 exactly where the key that is built in vouches for the data, as an updater
-// checks what it has fetched; with 1 where it does not; with 2 where a file cannot be read, or is longer than the room.
+// check DATA SIGNATURE: exits with status 0 if the built-in key vouches for the data, as an updater checks what it has
+// fetched; with 1 if it does not; with 2 if a file cannot be read, or is longer than its room.
 #include <stdio.h>
 
 #include <sodium.h>
@@ -10,7 +10,7 @@
 static const char KEY[] = "RWQf6LRCGA9i53mlYecO4IzT51TGPpvWucNSCh1CBM0QTaLn73Y7GFO3";
 static uint8_t data[1 << 24], signature[1 << 16], message[sizeof signature];
 
-// Reads a file that is shorter than the room for it. What was not read whole is never taken for an empty file.
+// Reads a file that is shorter than its room. A file that cannot be read is never taken for an empty one.
 static int read_file(const char *name, uint8_t *to, size_t room, size_t *len)
 {
     FILE *file = fopen(name, "rb");

@@ -1,9 +1,9 @@
 // SPDX-License-Identifier: MIT
-// sign SECRET_KEY DATA SIGNATURE COMMENT [PASSWORD_FILE]: signs the data with a key that `minisign -G` made, with
-// -W where there is no file of its password, and writes the text of the signature once both were verified.
+// sign SECRET_KEY DATA SIGNATURE COMMENT [PASSWORD_FILE]: signs the data with a key that `minisign -G` made, or with -W
+// if there is no file of its password, and writes the text of the signature once both signatures are verified.
 //
-// The secret key leaves the library here, into your memory and your Ed25519: what you hold, and what your Ed25519 leaves
-// behind, is yours to clear. The library leaves nothing: see "No secret stays behind" in minisign.h.
+// Here the secret key leaves the library, for your memory and your Ed25519. You clear what you hold, and what your
+// Ed25519 leaves behind. The library leaves nothing: see "No secret stays behind" in minisign.h.
 #include <stdio.h>
 #include <stdlib.h>
 #include <string.h>
@@ -65,8 +65,8 @@ static size_t read_piece(FILE *file, uint8_t *to)
     return len;
 }
 
-// Signs, and verifies the signature under the public half of the key, as others will. Where the halves do not
-// belong together, as in a damaged key, no signature verifies, and one that others see gives the secret away.
+// Signs, and verifies the signature under the public half of the key, as others will. If the halves do not belong
+// together, as in a damaged key, no signature verifies, and each gives the secret away to whoever sees it.
 static void sign(uint8_t *signature, const uint8_t *bytes, size_t len)
 {
     if (crypto_sign_detached(signature, NULL, bytes, len, key.secret) != 0

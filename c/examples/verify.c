@@ -1,6 +1,6 @@
 // SPDX-License-Identifier: MIT
-// verify PUBLIC_KEY DATA SIGNATURE: exits with status 0, and prints the trusted comment, exactly where
-// the texts vouch for the data.
+// verify PUBLIC_KEY DATA SIGNATURE: prints the trusted comment and exits with status 0 if the texts vouch for the
+// data, and otherwise exits with 1.
 #include <stdio.h>
 #include <stdlib.h>
 

@@ -1,20 +1,9 @@
 /* SPDX-License-Identifier: MIT */
 /* The directory of a target, and the calls of the system that an installation makes there. */
-#define _DEFAULT_SOURCE
-
 #include "directory.h"
 
-#include <errno.h>
-#include <fcntl.h>
 #include <limits.h>
-#include <stdio.h>
-#include <stdlib.h>
-#include <string.h>
-#include <sys/file.h>
-#include <sys/stat.h>
-#include <unistd.h>
 
-#include "shared/again.h"
 #include "shared/handles.h"
 #include "shared/permissions.h"
 #include "shared/stages.h"
@@ -29,15 +18,14 @@
 /* How many random bytes the name of a stage has, as hexadecimal digits. */
 #define DRAWN_BYTES 16
 
-/* After so many bytes that were read back the system is asked to begin to sync them, so that less is left
- * to wait for. */
+/* After so many bytes that were read back the system is asked to begin to sync them, so that fsync takes less time. */
 #define BEGUN_BYTES (8 << 20)
 
-/* How many names of a directory are made, and how many bytes each may have beyond those of the target's path. */
+/* How many names a directory has, and how many bytes each may have beyond the target's path. */
 #define NAMES 6
 #define MORE_BYTES 64
 
-/* Neither a link nor a pipe at the end of a name is followed or waited for. */
+/* No link at the end of a name is followed, and no pipe waited for. */
 #define SAFELY (O_NOFOLLOW | O_NONBLOCK | O_CLOEXEC)
 
 /* ---- Names ---- */
@@ -68,8 +56,8 @@ bool name_directory(struct directory *directory, const char *target)
         snprintf(names, room, "%.*s/.%s.%s", length, front, name, after[i]);
         *beside[i] = (struct part) { names, names + length + 1 };
     }
-    directory->update = (struct stage) { &directory->stages, strcpy(names + room, directory->stages.name), .fd = -1 };
-    directory->number = (struct stage) { &directory->stages, strcpy(names + 2 * room, directory->stages.name), .fd = -1 };
+    directory->update = (struct stage) { &directory->stages, strcpy(names + room, beside[2]->name), .fd = -1 };
+    directory->number = (struct stage) { &directory->stages, strcpy(names + 2 * room, beside[2]->name), .fd = -1 };
     directory->there = (struct stage) { &directory->target, .fd = -1 };
     return true;
 }
@@ -85,7 +73,7 @@ void close_directory(struct directory *directory)
 
 /* ---- Troubles ---- */
 
-/* Remembers what could not be used, if it is the first, and why: by errno where no cause is given. Answers `why`. */
+/* Remembers what could not be used first, and the cause, or errno if that is NULL. Returns `why`. */
 static enum minisign_error fails(struct directory *directory, const struct part *part, const char *cause,
                                  enum minisign_error why)
 {
@@ -95,40 +83,44 @@ static enum minisign_error fails(struct directory *directory, const struct part 
     return why;
 }
 
+/* Remembers what could not be written. */
+static enum minisign_error wrote(struct directory *directory, const struct part *part, bool is_written)
+{
+    return is_written ? MINISIGN_OK : fails(directory, part, NULL, MINISIGN_WRITING_FAILED);
+}
+
 /* ---- What stands there ---- */
 
-/* What was looked for: it is there, it is not, or it cannot be used, which is remembered. */
+/* What was looked for is there, or is not, or cannot be used, which is remembered. */
 enum found { THERE, NOT_THERE, UNUSABLE };
 
 /* Looks for a regular file of this name. */
 static enum found find(struct directory *directory, const struct part *part, struct stat *found)
 {
-    if (AGAIN(fstatat(directory->fd, part->name, found, AT_SYMLINK_NOFOLLOW)) != 0) {
-        if (errno == ENOENT) {
-            return NOT_THERE;
+    const char *cause = NULL;
+
+    if (AGAIN(fstatat(directory->fd, part->name, found, AT_SYMLINK_NOFOLLOW)) == 0) {
+        if (S_ISREG(found->st_mode)) {
+            return THERE;
         }
-        fails(directory, part, NULL, MINISIGN_OK);
-        return UNUSABLE;
-    }
-    if (!S_ISREG(found->st_mode)) {
         errno = EINVAL;
-        fails(directory, part,
-              S_ISLNK(found->st_mode)   ? "a link stands there, which is not followed"
-              : S_ISDIR(found->st_mode) ? "a directory stands there"
-                                        : "what stands there is no regular file",
-              MINISIGN_OK);
-        return UNUSABLE;
+        cause = S_ISLNK(found->st_mode)   ? "a link stands there, which is not followed"
+                : S_ISDIR(found->st_mode) ? "a directory stands there"
+                                          : "what stands there is no regular file";
+    } else if (errno == ENOENT) {
+        return NOT_THERE;
     }
-    return THERE;
+    fails(directory, part, cause, MINISIGN_OK);
+    return UNUSABLE;
 }
 
-/* What an open file is: false where the system does not tell, which is remembered. */
+/* What an open file is. False if the system does not tell, which is remembered. */
 static bool look_at(struct directory *directory, const struct part *part, int fd, struct stat *found)
 {
     return AGAIN(fstat(fd, found)) == 0 || fails(directory, part, NULL, MINISIGN_READING_FAILED) == MINISIGN_OK;
 }
 
-/* Whether the name of a part leads to this open file, and through no link. */
+/* Whether the name of a part leads to this open file, without a link. */
 static enum found leads_to(struct directory *directory, const struct part *part, int fd)
 {
     struct stat named, opened;
@@ -141,20 +133,18 @@ static enum found leads_to(struct directory *directory, const struct part *part,
     return found == THERE && !is_same_file(&named, &opened) ? NOT_THERE : found;
 }
 
-/* Whose the lock file and the record have to be: the owner and the group of the file at the target, or where that is
+/* The keeper, who has to own the lock file and the record: owner and group of the file at the target, or, if that is
  * root's or there is none, of the directory. So a run by root locks nobody out who may go on. */
 static bool find_keeper(struct directory *directory, struct stat *keeper)
 {
     enum found found = find(directory, &directory->target, keeper);
 
-    if (found == THERE && keeper->st_uid != 0) {
-        return true;
-    }
-    return found != UNUSABLE && look_at(directory, &directory->itself, directory->fd, keeper);
+    return (found == THERE && keeper->st_uid != 0)
+           || (found != UNUSABLE && look_at(directory, &directory->itself, directory->fd, keeper));
 }
 
-/* Gives a file the owner and the group of the keeper, as far as that is allowed. It has to be one that this run has
- * made: whoever may write the directory could have given the name of another to a file of somebody else. */
+/* Gives a file to the keeper, as far as that is allowed. This run has to have made it: whoever may write the directory
+ * could have renamed somebody else's file. */
 static bool give_to_keeper(struct directory *directory, const struct part *part, int fd)
 {
     struct stat keeper, own;
@@ -170,38 +160,32 @@ static bool give_to_keeper(struct directory *directory, const struct part *part,
 
 /* ---- What is opened ---- */
 
-/* Remembers why a file could not be opened: all but the target are for their owner alone. */
-static enum minisign_error fails_to_open(struct directory *directory, const struct part *part)
-{
-    bool is_others = errno == EACCES && part != &directory->target;
-
-    return fails(directory, part, is_others ? "it is for its owner alone: give it the owner of the target" : NULL,
-                 MINISIGN_READING_FAILED);
-}
-
-/* Remembers of what was opened again and again that it was another one each time. */
+/* Remembers that a file was another one each time that it was opened. */
 static enum minisign_error keeps_changing(struct directory *directory, const struct part *part)
 {
     errno = EBUSY;
-    return fails(directory, part, "others remove it again and again", MINISIGN_READING_FAILED);
+    return fails(directory, part, "others replace it again and again", MINISIGN_READING_FAILED);
 }
 
-/* Opens a file, to which its name has to lead still once it is open, and again where others replaced it meanwhile; -1 where
- * there is none. */
+/* Opens a file, and again if others replaced it meanwhile, until its name leads to the open file. -1: there is none. */
 static enum minisign_error open_part(struct directory *directory, const struct part *part, int how, int *fd)
 {
     for (int i = 0; i < MAX_OPENINGS; i++) {
         struct stat named;
         enum found found = find(directory, part, &named);
+        bool is_others;
 
         *fd = -1;
         if (found != THERE) {
             return found == NOT_THERE ? MINISIGN_OK : MINISIGN_READING_FAILED;
         }
         *fd = AGAIN(openat(directory->fd, part->name, how | SAFELY));
-        /* (others may have removed it meanwhile, or put a link there) */
+        /* (others may have removed it, or put a link there) */
         if (*fd < 0 && errno != ENOENT && errno != ELOOP) {
-            return fails_to_open(directory, part);
+            is_others = errno == EACCES && part != &directory->target;
+            return fails(directory, part,
+                         is_others ? "it is for its owner alone: give it the owner of the target" : NULL,
+                         MINISIGN_READING_FAILED);
         }
         found = *fd < 0 ? NOT_THERE : leads_to(directory, part, *fd);
         if (found == THERE) {
@@ -222,12 +206,13 @@ enum minisign_error open_directory(struct directory *directory)
     if (directory->fd < 0) {
         directory->fd = AGAIN(open(directory->itself.shown, O_RDONLY | O_DIRECTORY | O_CLOEXEC));
     }
-    return directory->fd >= 0 ? MINISIGN_OK
-                              : fails(directory, &directory->itself, errno == ENOENT ? "there is no such directory" : NULL,
-                                      MINISIGN_READING_FAILED);
+    return directory->fd >= 0
+               ? MINISIGN_OK
+               : fails(directory, &directory->itself, errno == ENOENT ? "there is no such directory" : NULL,
+                       MINISIGN_READING_FAILED);
 }
 
-/* Opens the lock file, or makes it; -1 where others made one meanwhile. */
+/* Opens the lock file, or makes it. -1: others made one meanwhile. */
 static enum minisign_error open_lock(struct directory *directory, int *fd, bool *is_made)
 {
     enum minisign_error error = open_part(directory, &directory->lock, O_RDWR, fd);
@@ -235,13 +220,14 @@ static enum minisign_error open_lock(struct directory *directory, int *fd, bool 
     *is_made = error == MINISIGN_OK && *fd < 0;
     if (*is_made) {
         *fd = AGAIN(openat(directory->fd, directory->lock.name, O_RDWR | O_CREAT | O_EXCL | SAFELY, FOR_THE_OWNER));
-        error = *fd >= 0 || errno == EEXIST ? MINISIGN_OK : fails(directory, &directory->lock, NULL, MINISIGN_READING_FAILED);
+        if (*fd < 0 && errno != EEXIST) {
+            error = fails(directory, &directory->lock, NULL, MINISIGN_READING_FAILED);
+        }
     }
     return error;
 }
 
-/* Locks the file that was opened, which has to be there still: who held the lock before may have removed it. Otherwise it is
- * closed. */
+/* Locks the open file, if it is still there: who held the lock before may have removed it. Otherwise closes it. */
 static enum minisign_error lock_file(struct directory *directory, int fd, bool is_made)
 {
     enum minisign_error error = MINISIGN_OK;
@@ -282,7 +268,7 @@ static enum minisign_error lock_found(struct directory *directory)
     return keeps_changing(directory, &directory->lock);
 }
 
-/* Whether the lock is held still, by the file that its name leads to. */
+/* Whether the lock is still held, by the file that its name leads to. */
 static bool is_locked(struct directory *directory)
 {
     enum found found = leads_to(directory, &directory->lock, directory->locked);
@@ -294,9 +280,10 @@ static bool is_locked(struct directory *directory)
     return found == THERE;
 }
 
-/* Where a file that runs make is another's than the keeper's, as after a run by root or where the target was given away, and
- * root runs this, makes the one that is to take its place: one that was found is never given away. */
-static enum minisign_error begin_renewal(struct directory *directory, const struct part *part, bool is_lock, struct stage *fresh)
+/* If root runs this, and a lock file or record is another's than the keeper's, as after an earlier run by root, makes
+ * the file that is to replace it: one that was found is never given away. */
+static enum minisign_error begin_renewal(struct directory *directory, const struct part *part, bool is_lock,
+                                         struct stage *fresh)
 {
     struct stat keeper, own;
     enum found found = find(directory, part, &own);
@@ -304,13 +291,13 @@ static enum minisign_error begin_renewal(struct directory *directory, const stru
     if (found == UNUSABLE || !find_keeper(directory, &keeper)) {
         return MINISIGN_READING_FAILED;
     }
-    /* (a lock that holds anything is none that a run has made) */
+    /* (no run makes a lock file that holds anything) */
     return found == NOT_THERE || own.st_uid == keeper.st_uid || (is_lock && own.st_size > 0) || geteuid() != 0
                ? MINISIGN_OK
                : create_stage(directory, fresh);
 }
 
-/* The new lock is locked before it gets the name. */
+/* Replaces the lock file if it has to be. The new one is locked before it gets the name. */
 static enum minisign_error renew_lock(struct directory *directory)
 {
     struct stage fresh = directory->number;
@@ -348,7 +335,7 @@ void unlock_target(struct directory *directory)
 
 /* ---- Leftovers and the record ---- */
 
-/* What cannot be removed, as a directory of such a name, stays. */
+/* What cannot be removed, such as a directory of this name, stays. */
 static void remove_name(int directory, const char *name)
 {
     (void) AGAIN(unlinkat(directory, name, 0));
@@ -363,9 +350,7 @@ enum minisign_error remove_leftovers(struct directory *directory)
         return MINISIGN_WRITING_FAILED;
     }
     snprintf(front, sizeof front, "%.*s", (int) strlen(directory->stages.name) - 1, directory->stages.name);
-    return remove_drawn_names(directory->fd, front, DRAWN_BYTES, remove_name)
-               ? MINISIGN_OK
-               : fails(directory, &directory->itself, NULL, MINISIGN_WRITING_FAILED);
+    return wrote(directory, &directory->itself, remove_drawn_names(directory->fd, front, DRAWN_BYTES, remove_name));
 }
 
 enum minisign_error read_record(struct directory *directory, struct record *record)
@@ -383,9 +368,11 @@ enum minisign_error read_record(struct directory *directory, struct record *reco
     close_open(&fd);
     if (n < 0 || n == sizeof bytes) {
         errno = n < 0 ? errno : EFBIG;
-        return fails(directory, &directory->record, n < 0 ? NULL : "it is too long for a record", MINISIGN_READING_FAILED);
+        return fails(directory, &directory->record, n < 0 ? NULL : "it is too long for a record",
+                     MINISIGN_READING_FAILED);
     }
-    *record = (struct record) { true, .len = (size_t) n, .written = found.st_mtime < 0 ? 0 : (uint64_t) found.st_mtime };
+    *record = (struct record) { .is_there = true, .len = (size_t) n };
+    record->written = found.st_mtime < 0 ? 0 : (uint64_t) found.st_mtime;
     memcpy(record->text, bytes, record->len);
     return MINISIGN_OK;
 }
@@ -427,7 +414,7 @@ static enum minisign_error make_file(struct directory *directory, struct stage *
         return MINISIGN_RANDOM_SOURCE_FAILED;
     }
     stage->fd = open_named(directory->fd, stage->name, FOR_THE_OWNER);
-    return stage->fd >= 0 ? MINISIGN_OK : fails(directory, &directory->stages, NULL, MINISIGN_WRITING_FAILED);
+    return wrote(directory, &directory->stages, stage->fd >= 0);
 }
 
 enum minisign_error create_stage(struct directory *directory, struct stage *stage)
@@ -450,16 +437,14 @@ enum minisign_error create_nameless(struct directory *directory, struct stage *s
 enum minisign_error write_stage(struct directory *directory, const struct stage *stage, const uint8_t *bytes,
                                 size_t len)
 {
-    return write_whole(stage->fd, bytes, len) ? MINISIGN_OK
-                                               : fails(directory, &directory->stages, NULL, MINISIGN_WRITING_FAILED);
+    return wrote(directory, &directory->stages, write_whole(stage->fd, bytes, len));
 }
 
-enum minisign_error date_stage(struct directory *directory, const struct stage *stage, uint64_t written)
+enum minisign_error date_stage(struct directory *directory, const struct stage *stage, uint64_t seconds)
 {
-    struct timespec times[] = { { .tv_nsec = UTIME_OMIT }, { .tv_sec = (time_t) written } };
+    struct timespec times[] = { { .tv_nsec = UTIME_OMIT }, { .tv_sec = (time_t) seconds } };
 
-    return AGAIN(futimens(stage->fd, times)) == 0 ? MINISIGN_OK
-                                                  : fails(directory, &directory->stages, NULL, MINISIGN_WRITING_FAILED);
+    return wrote(directory, &directory->stages, AGAIN(futimens(stage->fd, times)) == 0);
 }
 
 enum minisign_error read_stage(struct directory *directory, struct stage *stage, uint8_t *bytes, size_t room,
@@ -479,26 +464,21 @@ enum minisign_error read_stage(struct directory *directory, struct stage *stage,
     return MINISIGN_OK;
 }
 
-/* Remembers why these permissions could not be given to the stage. */
-static enum minisign_error fails_to_give(struct directory *directory, mode_t mode)
-{
-    bool is_denied = errno == EPERM || errno == EACCES;
-
-    snprintf(directory->words, sizeof directory->words, "the mode %03o is not allowed here", (unsigned) mode);
-    return fails(directory, &directory->stages, is_denied ? directory->words : NULL, MINISIGN_WRITING_FAILED);
-}
-
 /* Gives the stage the permissions of an older file, if there is one, or the mode that is given. */
 static enum minisign_error give(struct directory *directory, struct permissions *older)
 {
     mode_t mode = directory->has_mode ? directory->mode : older != NULL ? older->mode : FOR_THE_OWNER;
-    bool is_given;
+    bool is_denied;
 
     if (older != NULL && directory->has_mode) {
         replace_mode(older, mode);
     }
-    is_given = older != NULL ? give_permissions(directory->update.fd, older) : give_mode(directory->update.fd, mode);
-    return is_given ? MINISIGN_OK : fails_to_give(directory, mode);
+    if (older != NULL ? give_permissions(directory->update.fd, older) : give_mode(directory->update.fd, mode)) {
+        return MINISIGN_OK;
+    }
+    is_denied = errno == EPERM || errno == EACCES;
+    snprintf(directory->words, sizeof directory->words, "the mode %03o is not allowed here", (unsigned) mode);
+    return fails(directory, &directory->stages, is_denied ? directory->words : NULL, MINISIGN_WRITING_FAILED);
 }
 
 enum minisign_error take_permissions(struct directory *directory)
@@ -524,12 +504,14 @@ enum minisign_error take_permissions(struct directory *directory)
 
 enum minisign_error sync_stage(struct directory *directory, const struct stage *stage)
 {
-    return AGAIN(fsync(stage->fd)) == 0 ? MINISIGN_OK : fails(directory, stage->shown, NULL, MINISIGN_WRITING_FAILED);
+    return wrote(directory, stage->shown, AGAIN(fsync(stage->fd)) == 0);
 }
 
 enum minisign_error sync_record(struct directory *directory, const struct stage *stage)
 {
-    return give_to_keeper(directory, &directory->stages, stage->fd) ? sync_stage(directory, stage) : MINISIGN_WRITING_FAILED;
+    bool is_given = give_to_keeper(directory, &directory->stages, stage->fd);
+
+    return is_given ? sync_stage(directory, stage) : MINISIGN_WRITING_FAILED;
 }
 
 /* ---- Names that last ---- */
@@ -539,23 +521,17 @@ enum minisign_error rename_stage(struct directory *directory, const struct stage
     if (!is_locked(directory)) {
         return MINISIGN_WRITING_FAILED;
     }
-    return AGAIN(renameat(directory->fd, stage->name, directory->fd, to->name)) == 0
-               ? MINISIGN_OK
-               : fails(directory, to, NULL, MINISIGN_WRITING_FAILED);
+    return wrote(directory, to, AGAIN(renameat(directory->fd, stage->name, directory->fd, to->name)) == 0);
 }
 
 enum minisign_error sync_names(struct directory *directory)
 {
     /* (a file system that syncs no directories says so) */
-    return AGAIN(fsync(directory->fd)) == 0 || errno == EINVAL
-               ? MINISIGN_OK
-               : fails(directory, &directory->itself, NULL, MINISIGN_WRITING_FAILED);
+    return wrote(directory, &directory->itself, AGAIN(fsync(directory->fd)) == 0 || errno == EINVAL);
 }
 
 enum minisign_error remove_stage(struct directory *directory, const struct stage *stage)
 {
-    /* (a run that has the lock removes what seems to be left over) */
-    return AGAIN(unlinkat(directory->fd, stage->name, 0)) == 0 || errno == ENOENT
-               ? MINISIGN_OK
-               : fails(directory, &directory->stages, NULL, MINISIGN_WRITING_FAILED);
+    /* (a run that has the lock removes the stages of others) */
+    return wrote(directory, &directory->stages, AGAIN(unlinkat(directory->fd, stage->name, 0)) == 0 || errno == ENOENT);
 }

@@ -1,18 +1,14 @@
 /* SPDX-License-Identifier: MIT */
 /*
- * The directory of a target, and the calls of the system that an installation makes there: one function for each call of
- * the machine of minisign_install.h, which is told what the function answers. All names are looked up in the directory, which
- * is opened once, and no link at the end of one is followed. A call that a signal interrupts is made again. What could
- * not be used first, and why, is remembered.
+ * The directory of a target, and the calls of the system that an installation makes there: one function for each call
+ * of the machine of minisign_install.h, which is told what the function returns. The directory is opened once, and
+ * names are looked up in it; no link at the end of a name is followed. A call that a signal interrupts is made again.
+ * The first trouble is remembered.
  */
 #ifndef DIRECTORY_H
 #define DIRECTORY_H
 
-#include <stdbool.h>
-#include <stddef.h>
-#include <stdint.h>
-#include <sys/types.h>
-
+#include "shared/system.h"
 #include "minisign_install.h"
 
 /* A file or a directory: its path, as it is shown, and its name in the directory. */
@@ -21,12 +17,12 @@ struct part {
     const char *name;
 };
 
-/* A file that is read back: what is shown of it; and of a new one, which is to get a lasting name, its own, which is drawn. */
+/* A file that is read back: what is shown of it; and the own, drawn name of a new file that is to get a lasting one. */
 struct stage {
     const struct part *shown;
     char *name;
     int fd;
-    /* How many bytes were read back, and of how many the system was asked to begin the sync. */
+    /* How many bytes were read back, and how many of them the system was asked to begin to sync. */
     uint64_t read;
     uint64_t begun;
 };
@@ -39,7 +35,7 @@ struct record {
     uint64_t written;
 };
 
-/* What could not be used: why, in words where there are some that say more than the number of errno, and by that. */
+/* What could not be used, and why: in words, or, where the cause is NULL, by the number of errno. */
 struct trouble {
     const char *shown;
     const char *cause;
@@ -66,67 +62,64 @@ struct directory {
     char words[80];
     int fd;
     int locked;
-    /* Memory of malloc, in which the names stand. */
+    /* Memory of malloc that has the names. */
     char *names;
 };
 
-/* The directory of the target at this path, which has to stay. False with errno EINVAL where the path does not end with
- * the name of a file, and ENOMEM where an allocation fails. */
+/* The directory of the target at this path, which has to stay. False with errno EINVAL if the path does not end with
+ * the name of a file, and ENOMEM if an allocation fails. */
 bool name_directory(struct directory *directory, const char *target);
 
-/* Closes all that is open of it, the lock too, and gives the memory of the names back. */
+/* Closes all that is open of it, the lock too, and frees the names. */
 void close_directory(struct directory *directory);
 
-/*
- * Each answers MINISIGN_OK where it was done, and else why it failed.
- */
+/* Each returns MINISIGN_OK if it was done, and else why it failed. */
 
-/* Opens the directory, where it is not open yet. */
+/* Opens the directory, if it is not open yet. */
 enum minisign_error open_directory(struct directory *directory);
 
-/* Locks the target by the lock file: MINISIGN_TARGET_IN_USE where another run holds the lock. A target that this run has
- * locked stays so. The lock file becomes that of whoever may go on after this run, as far as that is allowed, but none
- * that was found is given away. */
+/* Locks the target by the lock file, if it is not locked yet: MINISIGN_TARGET_IN_USE if another run holds the lock. A
+ * lock file that is made gets the owner who may go on after this run, as far as that is allowed. One that was found is
+ * never given away. */
 enum minisign_error lock_target(struct directory *directory);
 
-/* Lets the lock go, if it is held, and the file at the target, if it is open. */
+/* Unlocks the target, and closes the file there, if it is open. */
 void unlock_target(struct directory *directory);
 
-/* Removes the stages that killed runs have left, as far as they can be removed. */
+/* Removes the stages that killed runs left, as far as that is possible. */
 enum minisign_error remove_leftovers(struct directory *directory);
 
 enum minisign_error read_record(struct directory *directory, struct record *record);
 
-/* Where the record is another's than the keeper's, as after a run by root, and root runs this, the record becomes a new
- * file of the keeper's, which holds the same and was written when the older one was: one that was found is never given
- * away. */
+/* If root runs this, and the record is another's than the keeper's, as after an earlier run by root, replaces it by a
+ * new file of the keeper's with the same text and time. The older file is never given away. */
 enum minisign_error renew_record(struct directory *directory, const struct record *record);
 
-/* Has the file system say that the stage was written at this moment. */
-enum minisign_error date_stage(struct directory *directory, const struct stage *stage, uint64_t written);
+/* Sets the time at which the stage was written. */
+enum minisign_error date_stage(struct directory *directory, const struct stage *stage, uint64_t seconds);
 
-/* Opens the file at the target for reading, where there is one: its descriptor is -1 otherwise. */
+/* Opens the file at the target for reading. Its descriptor is -1 if there is none. */
 enum minisign_error open_target(struct directory *directory);
 
 /* Draws a name, and makes the stage under it, for its owner alone. */
 enum minisign_error create_stage(struct directory *directory, struct stage *stage);
 
-/* Makes a file that has no name, for its owner alone. The lock need not be held. */
+/* Makes a file without a name, for its owner alone. The lock need not be held. */
 enum minisign_error create_nameless(struct directory *directory, struct stage *stage);
 
 /* Writes all of these bytes after what the stage holds. */
 enum minisign_error write_stage(struct directory *directory, const struct stage *stage, const uint8_t *bytes,
                                 size_t len);
 
-/* Reads the next bytes of what the stage, or the file at the target, holds, none at its end. */
+/* Reads the next bytes of the stage, or of the file at the target; none at its end. */
 enum minisign_error read_stage(struct directory *directory, struct stage *stage, uint8_t *bytes, size_t room,
                                size_t *len);
 
 /* Gives the stage of the update the permissions of the file at the target, or those that are given. */
 enum minisign_error take_permissions(struct directory *directory);
 
-/* Syncs what the stage, or the file at the target, holds; and of a record, which becomes that of whoever may go on after this run, as far as that is
- * allowed. */
+/* Syncs the stage, or the file at the target. A record first gets the owner who may go on after this run, as far as
+ * that is allowed. */
 enum minisign_error sync_stage(struct directory *directory, const struct stage *stage);
 enum minisign_error sync_record(struct directory *directory, const struct stage *stage);
 

@@ -1,27 +1,16 @@
 /* SPDX-License-Identifier: MIT */
 /* The installing host. */
-#define _POSIX_C_SOURCE 200809L
-
 #include "installing.h"
 
-#include <errno.h>
-#include <signal.h>
-#include <stdlib.h>
-#include <string.h>
-#include <sys/stat.h>
-#include <time.h>
-#include <unistd.h>
-
-#include "shared/again.h"
 #include "shared/handles.h"
 
-/* How often in a second the lock is asked for. */
+/* How often in a second the lock is tried. */
 #define WAITS 10
 
 static bool make_due_call(struct installing *run);
 
-/* The machine is told of the call that is due alone: so it answers nothing else, but that there is more or less data than
- * was signed, after which it says what comes of that. */
+/* As the machine is only told about the call that is due, it returns no error but that there is more or less data than
+ * was signed, after which it says what is due then. */
 static void must(enum minisign_error error)
 {
     if (error != MINISIGN_OK && error != MINISIGN_OTHER_SIZE) {
@@ -48,7 +37,7 @@ void end_installing(struct installing *run)
 {
     if (minisign_install_failed(&run->machine, MINISIGN_WRITING_FAILED) == MINISIGN_OK) {
         while (make_due_call(run)) {
-            /* What was made is removed. */
+            /* (this removes what was made) */
         }
     }
     close_open(&run->held.fd);
@@ -56,7 +45,7 @@ void end_installing(struct installing *run)
     free(run);
 }
 
-/* Tells how a call went. */
+/* Tells the machine how a call went. */
 static void tell(struct installing *run, enum minisign_error error)
 {
     must(error == MINISIGN_OK ? minisign_install_done(&run->machine) : minisign_install_failed(&run->machine, error));
@@ -75,9 +64,9 @@ const uint8_t *vouched_comment(const struct installing *run, size_t *len)
     return minisign_install_is_vouched(&run->machine) == 1 ? run->message + run->questions.comment_offset : NULL;
 }
 
-/* The moment that the clock shows, in seconds since the beginning of 1970. A clock that shows an earlier one is wrong,
- * and counts as the last moment that there is: so what expires has expired. One that shows less than the time at which the
- * record was written is wrong as well, which the machine judges. */
+/* What the clock shows, in seconds since the beginning of 1970. If it shows an earlier time, it is wrong, and what
+ * expires counts as expired. If it shows less than the time at which the record was written, it is wrong too, which the
+ * machine judges. */
 static uint64_t now(struct installing *run)
 {
     time_t shown = time(NULL);
@@ -87,7 +76,7 @@ static uint64_t now(struct installing *run)
     return shown < 0 ? UINT64_MAX : (uint64_t) shown;
 }
 
-/* Remembers by which time the clock is taken for wrong: that at which the record was written. */
+/* Remembers why the clock is taken for wrong: by the time at which the record was written. */
 static void blame_clock(struct installing *run)
 {
     struct directory *directory = &run->directory;
@@ -120,7 +109,7 @@ static void answer_questions(struct installing *run)
             blame_clock(run);
         }
     }
-    /* (what could not be asked or answered is still due) */
+    /* (a call that could not be made is still due) */
     if (minisign_install_due(&run->machine) == run->call) {
         tell(run, MINISIGN_READING_FAILED);
     }
@@ -128,14 +117,14 @@ static void answer_questions(struct installing *run)
 
 /* ---- The data ---- */
 
-/* Remembers why the data could not be read to its end: by errno where no cause is given. */
+/* Remembers why the data could not be read to its end: the cause, or errno if that is NULL. */
 static enum minisign_error data_fails(struct installing *run, const char *cause)
 {
     run->directory.trouble = (struct trouble) { run->wanted->shown, cause, errno };
     return MINISIGN_READING_FAILED;
 }
 
-/* Has the machine begin with these keys. Data that may stand still, as that of a pipe, is no regular file. */
+/* Begins with these keys. Data is slow that is no regular file, such as a pipe, until it is received. */
 static void begin_with(struct installing *run, const minisign_public_key *key, const minisign_public_key *other)
 {
     const struct wanted *wanted = run->wanted;
@@ -145,8 +134,8 @@ static void begin_with(struct installing *run, const minisign_public_key *key, c
                                wanted->must_expire, wanted->numbering));
 }
 
-/* Whether the second key is asked, in a run of its own, as it has the key ID of the first, which has not signed the comment:
- * of two keys of one ID the machine asks the first alone. Nothing was made then. */
+/* Whether the second key is tried, from the beginning: if it has the key ID of the first, which has not signed the
+ * comment. Of two keys with one ID the machine asks the first alone. Nothing was made then. */
 static bool asks_second_key(struct installing *run)
 {
     const minisign_public_key *keys = run->wanted->keys;
@@ -176,7 +165,7 @@ static void begin(struct installing *run)
     }
 }
 
-/* Reads the next piece of the data, and writes it after what a stage holds; none at the end. */
+/* Reads the next piece of the data, none at its end, and writes it after what a stage holds. */
 static enum minisign_error move_piece(struct installing *run, struct stage *to, size_t *len)
 {
     ssize_t n = AGAIN(read(run->data, run->piece, PIECE_BYTES));
@@ -193,7 +182,7 @@ static enum minisign_error move_piece(struct installing *run, struct stage *to, 
     return write_stage(&run->directory, to, run->piece, *len);
 }
 
-/* Tells of a piece that was moved, or of the end. */
+/* Tells the machine about a piece that was moved, or the end. */
 static void tell_moved(struct installing *run, size_t len, enum minisign_error error)
 {
     if (error == MINISIGN_OK && len > 0) {
@@ -203,7 +192,7 @@ static void tell_moved(struct installing *run, size_t len, enum minisign_error e
     }
 }
 
-/* Receives a piece into a file of its own, from whose beginning all is copied then. */
+/* Receives a piece into a file of its own, which is then copied. */
 static void receive_piece(struct installing *run)
 {
     size_t len = 0;
@@ -228,8 +217,7 @@ static void copy_piece(struct installing *run)
 
 /* ---- What is read back ---- */
 
-/* Hands over the record. One that whoever may go on after this run could not read is renewed; what does not read as a
- * record with its field may be something else, and stays. */
+/* Hands over the record. One that is another's than the keeper's is renewed, if it reads as a record. */
 static void read_record_whole(struct installing *run)
 {
     const struct wanted *wanted = run->wanted;
@@ -242,8 +230,8 @@ static void read_record_whole(struct installing *run)
         must(record->is_there ? minisign_install_record(&run->machine, record->text, record->len, record->written)
                               : minisign_install_no_record(&run->machine));
     }
-    if (record->is_there && minisign_install_due(&run->machine) == MINISIGN_DUE_JUDGE && !wanted->is_first && !wanted->is_check
-        && memchr(record->text, ':', record->len) != NULL) {
+    if (record->is_there && minisign_install_due(&run->machine) == MINISIGN_DUE_JUDGE && !wanted->is_first
+        && !wanted->is_check && memchr(record->text, ':', record->len) != NULL) {
         error = renew_record(&run->directory, record);
     }
     if (error != MINISIGN_OK) {
@@ -251,7 +239,7 @@ static void read_record_whole(struct installing *run)
     }
 }
 
-/* Hands over the next piece of what the stage or the file at the target holds, or tells that none could be read. */
+/* Hands over the next piece of the stage or of the file at the target. */
 static void read_piece(struct installing *run, struct stage *from)
 {
     size_t len = 0;
@@ -262,25 +250,24 @@ static void read_piece(struct installing *run, struct stage *from)
                               : minisign_install_failed(&run->machine, error));
 }
 
-/* Looks at the next piece of what stands at the target, which is opened before the first. */
+/* Hands over the next piece of the file at the target, which it opens first, or tells that there is none. */
 static void look(struct installing *run)
 {
     struct directory *directory = &run->directory;
     enum minisign_error error = directory->there.fd < 0 ? open_target(directory) : MINISIGN_OK;
 
-    if (error != MINISIGN_OK) {
-        must(minisign_install_failed(&run->machine, error));
-    } else if (directory->there.fd < 0) {
-        must(minisign_install_no_target(&run->machine));
-    } else {
+    if (error == MINISIGN_OK && directory->there.fd >= 0) {
         read_piece(run, &directory->there);
+    } else {
+        must(error == MINISIGN_OK ? minisign_install_no_target(&run->machine)
+                                  : minisign_install_failed(&run->machine, error));
     }
 }
 
 /* ---- The calls that are due ---- */
 
-/* Locks the target. Where another run holds the lock it is waited for as long as may be, a moment at each call; but
- * before data is received that may stand still nobody waits. */
+/* Locks the target. If another run holds the lock, each call waits for a moment, up to the given time. Nobody waits
+ * before slow data is received. */
 static void lock(struct installing *run)
 {
     static const struct timespec moment = { .tv_nsec = 1000000000 / WAITS };
@@ -295,7 +282,7 @@ static void lock(struct installing *run)
     tell(run, error);
 }
 
-/* Writes the record. A clock that shows less than when the older one was written dates none back. */
+/* Writes the record, which a wrong clock does not date back. */
 static enum minisign_error write_record(struct installing *run)
 {
     uint8_t text[MINISIGN_RECORD_TEXT_BYTES];
@@ -303,10 +290,11 @@ static enum minisign_error write_record(struct installing *run)
     struct stage *number = &run->directory.number;
     enum minisign_error error = write_stage(&run->directory, number, text, len);
 
-    return error == MINISIGN_OK && run->is_clock_behind ? date_stage(&run->directory, number, run->record.written) : error;
+    return error == MINISIGN_OK && run->is_clock_behind ? date_stage(&run->directory, number, run->record.written)
+                                                        : error;
 }
 
-/* Remembers which call is made; with another one the bytes are counted anew. */
+/* Remembers which call is made, and counts its bytes. */
 static void begin_call(struct installing *run)
 {
     enum minisign_due due = minisign_install_due(&run->machine);
@@ -318,7 +306,7 @@ static void begin_call(struct installing *run)
     }
 }
 
-/* Makes the call that is due: false where none is any more. */
+/* Makes the call that is due. False if none is any more. */
 static bool make_due_call(struct installing *run)
 {
     struct directory *directory = &run->directory;
@@ -356,7 +344,7 @@ static bool make_due_call(struct installing *run)
     return true;
 }
 
-/* Holds back the signals that ask for the end, and tells which were held back before. */
+/* Blocks the signals that ask for the end, and tells which were blocked before. */
 static void hold_ends_back(sigset_t *before)
 {
     static const int asking[] = { SIGHUP, SIGINT, SIGQUIT, SIGTERM };
@@ -369,8 +357,8 @@ static void hold_ends_back(sigset_t *before)
     pthread_sigmask(SIG_BLOCK, &ends, before);
 }
 
-/* From the renaming of the record until the target has its name, or that has failed, all calls are made at once: so
- * nobody who asks for the end meanwhile leaves the new number beside the older data. */
+/* From the renaming of the record until the target has its name, or that failed, all calls are made at once, so that no
+ * signal in between leaves the new number beside the older data. */
 bool make_call(struct installing *run)
 {
     sigset_t before;

@@ -1,11 +1,6 @@
 /* SPDX-License-Identifier: MIT */
 /* What minisign-install says. */
-#define _POSIX_C_SOURCE 200809L
-
 #include "messages.h"
-
-#include <stdio.h>
-#include <string.h>
 
 #include "shared/text.h"
 

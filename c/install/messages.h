@@ -1,6 +1,7 @@
 /* SPDX-License-Identifier: MIT */
 /*
- * What minisign-install says, each line in one write, and its exit statuses. What cannot be written changes no status.
+ * What minisign-install says, each line in one write, and its exit statuses. No status changes if a line cannot be
+ * written.
  */
 #ifndef INSTALL_MESSAGES_H
 #define INSTALL_MESSAGES_H
@@ -10,7 +11,7 @@ enum status {
     INSTALLED = 0,
     /* A file could not be used, an allocation failed, or no random bytes came. */
     FAILED = 1,
-    /* The words ask for nothing. */
+    /* The command line makes no sense. */
     USAGE_ERROR = 2,
     REJECTED = 3,
     OLDER = 4,
@@ -19,21 +20,20 @@ enum status {
     NOT_SYNCED = 6,
     /* No number of the field is kept beside the target. */
     UNRECORDED = 7,
-    /* The update has the number that is kept, and where it was to be installed, other data stands at the target. */
+    /* The update has the number that is kept. Without --check, other data stands at the target. */
     SAME = 8,
-    /* The update has expired. */
     EXPIRED = 9,
     /* The update stands at the target already. */
     THERE_ALREADY = 10
 };
 
-/* Says of a file what is wrong with it. */
+/* Prints what is wrong with a file. */
 void say(const char *file, const char *what);
 
-/* Says in a second line what is to be done about it: a name, which may be empty, and what comes after that. */
+/* Prints the remedy in a second line: a name, which may be empty, and what follows it. */
 void advise(const char *name, const char *rest);
 
-/* Says of a file what the system answered, by the number of errno. */
+/* Prints what the system answered about a file, by the number of errno. */
 void say_answer(const char *file, int number);
 
 #endif

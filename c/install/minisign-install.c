@@ -1,37 +1,23 @@
 /* SPDX-License-Identifier: MIT */
 /*
- * minisign-install PK DATA SIG TARGET: installs an update that two texts vouch for, and nothing else. With --check it
+ * minisign-install PK DATA SIG TARGET: installs an update that a public key and a signature vouch for. With --check it
  * only tells, by the signature alone, whether there is a newer one.
  *
- * The host of installing.h does that. This program reads the texts, has libsodium answer for Ed25519, and says what
+ * The host of installing.h does that. This program reads the texts, has libsodium answer for Ed25519, and prints what
  * came of it.
  */
-#define _POSIX_C_SOURCE 200809L
-
-#include <errno.h>
-#include <fcntl.h>
-#include <inttypes.h>
-#include <signal.h>
-#include <stdbool.h>
-#include <stdio.h>
-#include <stdlib.h>
-#include <string.h>
-#include <sys/stat.h>
-#include <unistd.h>
+#include "installing.h"
 
 #include <sodium.h>
 
-#include "installing.h"
-#include "minisign.h"
 #include "messages.h"
 #include "options.h"
-#include "shared/again.h"
 #include "shared/diagnosis.h"
 #include "shared/progress.h"
 #include "shared/streams.h"
 #include "shared/text.h"
 
-/* The text of a key or a signature, and one byte more, which none may have. */
+/* The text of a key or a signature, with room for one byte more than it may have. */
 struct long_text {
     uint8_t bytes[TEXT_BYTES + 1];
     size_t len;
@@ -53,16 +39,11 @@ static int open_update(const char *file)
     return fd;
 }
 
-static _Noreturn void reject_file(const char *file, const char *what)
-{
-    say(file, what);
-    exit(REJECTED);
-}
-
 static void read_long_text(struct long_text *text, const char *file)
 {
     int fd = open_update(file);
     ssize_t n = read_whole(fd, text->bytes, sizeof text->bytes);
+    const char *why;
 
     if (n < 0) {
         say_answer(file, errno);
@@ -70,15 +51,16 @@ static void read_long_text(struct long_text *text, const char *file)
     }
     text->len = (size_t) n;
     close(fd);
-    if (text->len == sizeof text->bytes) {
-        reject_file(file, TOO_LONG);
-    }
-    if (!is_utf8(text->bytes, text->len)) {
-        reject_file(file, "it is no text in UTF-8");
+    why = text->len == sizeof text->bytes    ? TOO_LONG
+          : !is_utf8(text->bytes, text->len) ? "it is no text in UTF-8"
+                                             : NULL;
+    if (why != NULL) {
+        say(file, why);
+        exit(REJECTED);
     }
 }
 
-/* Says of a file what an error of the library means. */
+/* Prints what an error of the library means for a file. */
 static void say_error(const char *file, enum minisign_error error)
 {
     char text[MINISIGN_ERROR_TEXT_BYTES];
@@ -87,15 +69,15 @@ static void say_error(const char *file, enum minisign_error error)
     say(file, text);
 }
 
-/* Says where a text should stand that is another one than was wanted. */
+/* Prints the order of the files if a text is another one than was wanted. */
 static void advise_on_text(const char *file, const struct long_text *text, enum text_kind wanted)
 {
-    if (say_if_other(file, text->bytes, text->len, wanted)) {
-        advise("", "PK DATA SIG TARGET is the order");
+    if (text->len > 0 && say_if_other(file, text->bytes, text->len, wanted, NULL)) {
+        advise("", "the order is PK DATA SIG TARGET");
     }
 }
 
-/* Ends the program where what should be a public key is none: why, is the library's to name. */
+/* Ends the program if the library found no public key. */
 static void must_be_key(const char *shown, const struct long_text *text, enum minisign_error error)
 {
     if (error != MINISIGN_OK) {
@@ -105,7 +87,7 @@ static void must_be_key(const char *shown, const struct long_text *text, enum mi
     }
 }
 
-/* Reads the public key of a file, or those that are named themselves, and the signature. */
+/* Reads the public key of a file, or those that are given, and the signature. */
 static void read_texts(struct request *request)
 {
     static struct long_text text;
@@ -136,7 +118,7 @@ static enum minisign_answer answer_of(const uint8_t signed_by[64], const uint8_t
     return crypto_sign_verify_detached(signed_by, bytes, len, by) == 0 ? MINISIGN_ANSWER_YES : MINISIGN_ANSWER_NO;
 }
 
-/* What is done with bytes by a call, or NULL. */
+/* What a call does with bytes, or NULL. */
 static const char *work_of(enum minisign_due call)
 {
     switch (call) {
@@ -176,8 +158,8 @@ static void make_run(struct request *request, struct installing *run)
 
 /* ---- What came of it ---- */
 
-/* How a run ends for an error: with which status, of which file the error is told, and what is said to be done then, of
- * nothing, of the record or of the name that the update has to have. */
+/* How a run ends with an error: the status, the file that the error is about, and the remedy, which may begin with the
+ * name of the record or with the name that the update has to have. */
 struct ending {
     enum minisign_error error;
     enum status status;
@@ -202,24 +184,23 @@ static const struct ending endings[] = {
     { MINISIGN_SIGNATURE_REFUSED, REJECTED, THE_DATA, NOTHING, NULL },
     { MINISIGN_OTHER_SIZE, REJECTED, THE_DATA, NOTHING, NULL },
     { MINISIGN_EXPIRED, EXPIRED, THE_SIGNATURE, NOTHING, NULL },
-    { MINISIGN_NO_NUMBER, REJECTED, THE_SIGNATURE, NOTHING, "its timestamp is wanted: --numbering version has it numbered by its version" },
-    { MINISIGN_OTHER_FILE, REJECTED, THE_SIGNATURE, THE_NAME, " is wanted: --name wants another name than that of the target" },
+    { MINISIGN_NO_NUMBER, REJECTED, THE_SIGNATURE, NOTHING, "--numbering version takes the number from its version" },
+    { MINISIGN_OTHER_FILE, REJECTED, THE_SIGNATURE, THE_NAME, " is wanted: --name gives another name" },
+    /* Any other error is about the text of the signature. */
+    { .status = REJECTED, .blamed = THE_SIGNATURE },
 };
-
-/* That of any other error: the text of the signature is to blame. */
-static const struct ending rejection = { .status = REJECTED };
 
 static const struct ending *ending_for(enum minisign_error error)
 {
-    for (size_t i = 0; i < sizeof endings / sizeof endings[0]; i++) {
-        if (endings[i].error == error) {
-            return &endings[i];
-        }
+    const struct ending *ending = endings;
+
+    while (ending->error != error && ending->error != MINISIGN_OK) {
+        ending++;
     }
-    return &rejection;
+    return ending;
 }
 
-/* Says what could not be used first: false where nothing was. */
+/* Prints what could not be used first, if anything. */
 static bool say_trouble(const struct trouble *trouble)
 {
     if (trouble->shown == NULL) {
@@ -233,21 +214,21 @@ static bool say_trouble(const struct trouble *trouble)
     return true;
 }
 
-/* Says what to type where an update is rejected for this. */
+/* Prints what to type after an error. */
 static void advise_on(const struct request *request, const struct installing *run, const struct ending *ending)
 {
     const char *const named[] = { "", run->directory.record.shown, wanted_name(run) };
 
     if (ending->error == MINISIGN_NO_NUMBER && request->wanted.numbering == MINISIGN_NUMBERING_VERSION) {
-        advise("", "its version is wanted: without --numbering version its timestamp is");
+        advise("", "without --numbering version the number is its timestamp");
     } else if (ending->advice != NULL) {
         advise(named[ending->named], ending->advice);
-    } else if (ending == &rejection) {
+    } else if (ending->error == MINISIGN_OK) {
         advise_on_text(request->signature, &signature_text, SIGNATURE_TEXT);
     }
 }
 
-/* Says why the update is not installed, or not for good: the exit status. */
+/* Prints why the update is not installed, or not for good: the exit status. */
 static enum status report(const struct request *request, const struct installing *run)
 {
     const struct ending *ending = ending_for(run->error);
@@ -267,8 +248,7 @@ static enum status report(const struct request *request, const struct installing
     return status == FAILED && run->is_too_long ? REJECTED : status;
 }
 
-/* Shows what a check has learnt of the update where a key has vouched for that, for programs to read: its number, and the
- * signed comment. */
+/* Prints, for programs to read, the number and the signed comment of an update, if a key has vouched for them. */
 static bool show_update(const struct installing *run)
 {
     size_t len;
@@ -282,17 +262,17 @@ static bool show_update(const struct installing *run)
     return fflush(stdout) == 0 && ferror(stdout) == 0;
 }
 
-/* Says of a file that it keeps its permissions, where others were asked for. */
+/* Prints that a file keeps its permissions, if others were asked for. */
 static void compare_mode(const struct wanted *wanted)
 {
     struct stat found;
 
     if (wanted->has_mode && lstat(wanted->target, &found) == 0 && (found.st_mode & 0777) != wanted->mode) {
-        advise(wanted->target, " stands there already and keeps its permissions: chmod gives it others");
+        advise(wanted->target, " stands there already and keeps its permissions: chmod changes them");
     }
 }
 
-/* Says what came of the run: the exit status. */
+/* Prints what came of the run: the exit status. */
 static enum status tell_end(const struct request *request, const struct installing *run)
 {
     if (request->wanted.is_check && !show_update(run)) {
@@ -307,7 +287,7 @@ static enum status tell_end(const struct request *request, const struct installi
 
 /* ---- The program ---- */
 
-/* Begins the run, or ends the program where that is not possible. */
+/* Begins the run, or ends the program. */
 static struct installing *begin(const struct wanted *wanted)
 {
     struct installing *run = begin_installing(wanted);
@@ -332,7 +312,7 @@ int main(int argc, char *argv[])
     if (!hold_streams()) {
         return FAILED;
     }
-    /* A write that nobody reads, or beyond the system's bound on files, is a failed write and no signal. */
+    /* (a write that nobody reads, or beyond the system's bound on files, fails and is no signal) */
     signal(SIGPIPE, SIG_IGN);
     signal(SIGXFSZ, SIG_IGN);
     request = read_request(argc, argv);

@@ -1,26 +1,22 @@
 /* SPDX-License-Identifier: MIT */
-/*
- * What minisign-install is asked to do: its command line.
- */
+/* The command line of minisign-install. */
 #ifndef INSTALL_OPTIONS_H
 #define INSTALL_OPTIONS_H
-
-#include <stdbool.h>
 
 #include "installing.h"
 
 /* An installation that is asked for. */
 struct request {
-    /* What the words say of it: the texts and the data are not read yet. */
+    /* What the command line says about it. The texts and the data are not read yet. */
     struct wanted wanted;
-    /* The file of the public key, or NULL where keys are named themselves: each in base64. */
+    /* The file of the public key, or NULL if keys are given: each in base64. */
     const char *key;
     const char *keys[MAX_KEYS];
     const char *signature;
 };
 
-/* Reads the command line. Ends the program where it asks for the help or the version, which it shows, and where it
- * asks for nothing, which it says. */
+/* Reads the command line. Ends the program with the help or the version, if one is asked for, and with an error if it
+ * makes no sense. */
 struct request read_request(int argc, char *argv[]);
 
 #endif

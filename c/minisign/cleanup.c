@@ -1,16 +1,10 @@
 /* SPDX-License-Identifier: MIT */
-/* What is to be done however the program ends, also where a signal ends it. */
-#define _DEFAULT_SOURCE
-
+/* What is done however the program ends, also by a signal. */
 #include "cleanup.h"
 
-#include <signal.h>
-#include <stddef.h>
-#include <stdlib.h>
+#include "messages.h"
 
-#include "files.h"
-
-/* Secrets, and files beside their places. */
+/* One clears secrets, and one removes files beside their places. */
 enum { MAX_CLEANERS = 2 };
 
 static void (*volatile cleaners[MAX_CLEANERS])(void);
@@ -24,7 +18,7 @@ static void clean(void)
     }
 }
 
-/* The signal that is raised here ends the program when this returns: until then all are held back. */
+/* The signal that is raised here ends the program when this returns: all are blocked until then. */
 static void clean_and_end(int number)
 {
     clean();
@@ -32,33 +26,21 @@ static void clean_and_end(int number)
     raise(number);
 }
 
-static bool is_among(int number, const int *numbers, size_t count)
-{
-    for (size_t i = 0; i < count; i++) {
-        if (numbers[i] == number) {
-            return true;
-        }
-    }
-    return false;
-}
-
+/* The others stop or continue a program, are ignored by default, or cannot be handled. */
 bool ends_program(int number)
 {
-    /* Those that stop a program or let it go on, those that nobody minds, and those that cannot be handled. */
-    static const int others[] = { SIGKILL, SIGSTOP, SIGTSTP, SIGTTIN, SIGTTOU, SIGCONT, SIGCHLD, SIGURG, SIGWINCH };
-
-    return !is_among(number, others, sizeof others / sizeof others[0]);
+    return number != SIGKILL && number != SIGSTOP && number != SIGTSTP && number != SIGTTIN && number != SIGTTOU
+           && number != SIGCONT && number != SIGCHLD && number != SIGURG && number != SIGWINCH;
 }
 
 bool is_crash(int number)
 {
-    static const int crashes[] = { SIGILL, SIGTRAP, SIGABRT, SIGBUS, SIGFPE, SIGSEGV, SIGSYS };
-
-    return is_among(number, crashes, sizeof crashes / sizeof crashes[0]);
+    return number == SIGILL || number == SIGTRAP || number == SIGABRT || number == SIGBUS || number == SIGFPE
+           || number == SIGSEGV || number == SIGSYS;
 }
 
-/* The signals that end a program; those that it was started to ignore stay ignored. The C library keeps two for
- * itself. */
+/* Handles the signals that end a program. One that it was started to ignore stays ignored, and the C library keeps two
+ * for itself. */
 static void watch_signals(void)
 {
     struct sigaction action = { 0 }, before;

@@ -1,15 +1,14 @@
 /* SPDX-License-Identifier: MIT */
 /*
- * What is to be done however the program ends, also where a signal ends it: secrets are cleared, and what is not in its
- * place yet is taken away.
+ * What is done however the program ends, also by a signal: secrets are cleared, and files without a place are removed.
  */
 #ifndef CLEANUP_H
 #define CLEANUP_H
 
-#include <stdbool.h>
+#include "shared/system.h"
 
-/* Has `clean` called once when the program ends. A signal may come at any moment, so it makes calls of the system and
- * writes memory, and nothing else. */
+/* Has `clean` called once when the program ends. As a signal may come at any moment, it may only make calls of the
+ * system and write memory. */
 void clean_at_end(void (*clean)(void));
 
 /* Whether a signal of this number ends a program that does nothing about it. */

@@ -3,19 +3,9 @@
  * Secret keys. The library reads and writes their texts and derives keys from passwords; libsodium makes a pair of
  * Ed25519 and draws random bytes.
  */
-#define _POSIX_C_SOURCE 200809L
-
 #include "keys.h"
 
-#include <errno.h>
-#include <inttypes.h>
-#include <stdbool.h>
-#include <stdio.h>
-#include <stdlib.h>
-#include <string.h>
 #include <sys/resource.h>
-#include <sys/stat.h>
-#include <unistd.h>
 
 #include <sodium.h>
 
@@ -30,12 +20,12 @@
 #define COMMENT_LABEL "untrusted comment: "
 #define PUBLIC_COMMENT_BYTES 64
 
-/* Where memory is short, at least one of so many rows of a key derivation is kept. */
+/* If memory is short, at least one of so many rows of a key derivation is kept. */
 #define MAX_ROWS_APART 256
 
 struct secrets *secrets;
 
-/* Whose the file is that the secret key was read from. */
+/* The owner of the file that the secret key was read from. */
 static uid_t key_owner;
 
 /* May be called while a signal is handled. The system takes the pages back. */
@@ -57,7 +47,7 @@ void begin_secrets(void)
     clean_at_end(clear_secrets);
 }
 
-/* Whether fewer rows of a key derivation may do where memory did not: then one of so many is kept. */
+/* Whether a key derivation that lacked memory is tried with fewer rows: then one of so many is kept. */
 static bool keep_fewer(enum minisign_error error, uint32_t *rows)
 {
     if (error != MINISIGN_OUT_OF_MEMORY || *rows > MAX_ROWS_APART / MINISIGN_KEEP_FEW_ROWS) {
@@ -67,27 +57,20 @@ static bool keep_fewer(enum minisign_error error, uint32_t *rows)
     return true;
 }
 
-/* ---- The work of opening ---- */
+/* ---- Opening ---- */
 
-/* How many rows of a key derivation may be made in all: so many times those of a usual key. */
-static uint64_t most_rows(const struct options *options)
-{
-    return (uint64_t) options->work * MINISIGN_USUAL_ROWS;
-}
-
-/* Says what would allow a key that asks for more work. */
+/* Says how to open a key that takes more work than is allowed. */
 static void say_work(const struct options *options)
 {
     const minisign_unopened_key *key = &secrets->unopened;
     uint64_t times = (((uint64_t) key->work << key->log2_rows) + MINISIGN_USUAL_ROWS - 1) / MINISIGN_USUAL_ROWS;
 
-    fprintf(stderr, "%s: opening this key takes %" PRIu64 " times the work of a usual one: -K %" PRIu64 " allows that\n",
+    fprintf(stderr,
+            "%s: opening this key takes %" PRIu64 " times the work of a usual one: -K %" PRIu64 " allows that\n",
             visible(options->secret_file), times, times);
 }
 
-/* ---- Opening ---- */
-
-/* While a key is derived from a password, which may take long, somebody sees that it goes on. */
+/* Shows that a key is derived from a password, which may take long. */
 static void begin_derivation(const char *purpose)
 {
     printf("Deriving a key from the password %s... ", purpose);
@@ -95,41 +78,29 @@ static void begin_derivation(const char *purpose)
     begin_dots();
 }
 
+/* The passwords are needed no more. */
 static void end_derivation(void)
 {
+    sodium_memzero(&secrets->password, sizeof secrets->password);
+    sodium_memzero(&secrets->again, sizeof secrets->again);
     end_dots();
     puts("done\n");
     flush_file(stdout);
 }
 
-/* What was typed is needed no more. */
-static void clear_passwords(void)
-{
-    sodium_memzero(&secrets->password, sizeof secrets->password);
-    sodium_memzero(&secrets->again, sizeof secrets->again);
-}
-
-/* Opens the key that was read with the password that was typed. */
-static enum minisign_error open_with_password(const struct options *options)
-{
-    uint32_t rows = options->rows;
-    enum minisign_error error;
-
-    do {
-        error = minisign_open_sealed_key(&secrets->unopened, secrets->password.bytes, secrets->password.len, rows,
-                                         most_rows(options), &secrets->open);
-    } while (keep_fewer(error, &rows));
-    return error;
-}
-
+/* Asks for the password, and opens the key that was read. */
 static enum minisign_error open_sealed(const struct options *options)
 {
+    uint64_t most = (uint64_t) options->work * MINISIGN_USUAL_ROWS;
+    uint32_t rows = options->rows;
     enum minisign_error error;
 
     ask_password(&secrets->password, "Password: ");
     begin_derivation("and decrypting the secret key");
-    error = open_with_password(options);
-    clear_passwords();
+    do {
+        error = minisign_open_sealed_key(&secrets->unopened, secrets->password.bytes, secrets->password.len, rows, most,
+                                         &secrets->open);
+    } while (keep_fewer(error, &rows));
     end_derivation();
     if (error == MINISIGN_NOT_UTF8) {
         fail("The password is not UTF-8");
@@ -141,7 +112,8 @@ void open_key(const struct options *options)
 {
     enum minisign_error error;
 
-    key_owner = read_text(secrets->text, sizeof secrets->text, &secrets->text_len, options->secret_file, SECRET_KEY_TEXT);
+    key_owner = read_text(secrets->text, sizeof secrets->text, &secrets->text_len, options->secret_file,
+                          SECRET_KEY_TEXT);
     error = minisign_read_secret_key(secrets->text, secrets->text_len, &secrets->unopened);
     if (error == MINISIGN_OK) {
         error = secrets->unopened.is_sealed ? open_sealed(options)
@@ -154,7 +126,8 @@ void open_key(const struct options *options)
     if (error == MINISIGN_WORK_TOO_HIGH) {
         say_work(options);
     } else if (error != MINISIGN_WRONG_PASSWORD && error != MINISIGN_OUT_OF_MEMORY) {
-        say_kind(options->secret_file, secrets->text, secrets->text_len, SECRET_KEY_TEXT, error, remedy_of(SECRET_KEY_TEXT));
+        say_kind(options->secret_file, secrets->text, secrets->text_len, SECRET_KEY_TEXT, error,
+                 remedy_of(SECRET_KEY_TEXT));
     }
     exit(TROUBLE);
 }
@@ -198,33 +171,29 @@ static void make_text(const struct options *options, const uint8_t *comment, siz
                                          secrets->password.len, &sealing, rows, comment, comment_len, secrets->text,
                                          sizeof secrets->text, &secrets->text_len);
     } while (keep_fewer(error, &rows));
-    clear_passwords();
     if (!options->unsealed) {
         end_derivation();
     }
-    if (error != MINISIGN_OK) {
-        fail(error != MINISIGN_NOT_UTF8 ? message_of(error)
-             : options->unsealed        ? "The comment is not UTF-8"
-                                        : "The password or the comment is not UTF-8");
+    if (error == MINISIGN_NOT_UTF8 && !options->unsealed) {
+        fail("The password or the comment is not UTF-8");
     }
+    expect_done(error);
 }
 
 /* Makes the text of the public key that belongs to the open one. */
 static void make_public_text(struct text *text)
 {
     char comment[PUBLIC_COMMENT_BYTES];
-    int len = snprintf(comment, sizeof comment, MINISIGN_PUBLIC_KEY_COMMENT "%" PRIX64, number_of_id(secrets->open.key_id));
-    enum minisign_error error =
-        minisign_public_key_text(&secrets->open, (const uint8_t *) comment, (size_t) len, text->bytes, sizeof text->bytes,
-                                 &text->len);
-    if (error != MINISIGN_OK) {
-        fail(message_of(error));
-    }
+    int len = snprintf(comment, sizeof comment, MINISIGN_PUBLIC_KEY_COMMENT "%" PRIX64,
+                       number_of_id(secrets->open.key_id));
+
+    expect_done(minisign_public_key_text(&secrets->open, (const uint8_t *) comment, (size_t) len, text->bytes,
+                                         sizeof text->bytes, &text->len));
 }
 
 /* ---- Files of keys ---- */
 
-/* Ends the program as a file is there and -f was not given. */
+/* Ends the program because a file is there and -f was not given. */
 static _Noreturn void reject_existing(const char *file)
 {
     fprintf(stderr,
@@ -234,7 +203,7 @@ static _Noreturn void reject_existing(const char *file)
     exit(BAD);
 }
 
-/* Looks at once for what would be rejected later, so that nothing is asked or derived in vain. */
+/* Rejects at once what would be rejected later, before a password is asked for and a key derived. */
 static void look_for_existing(const struct options *options, const char *file, enum kind kind)
 {
     struct stat found;
@@ -245,8 +214,9 @@ static void look_for_existing(const struct options *options, const char *file, e
     expect_no_stranger(file, kind);
 }
 
-/* Stages a key, also over an older one where -f was given. */
-static struct replacement *stage_key(const struct options *options, const char *file, enum kind kind, const uint8_t *text, size_t len)
+/* Stages a key, with -f also over an older one. */
+static struct replacement *stage_key(const struct options *options, const char *file, enum kind kind,
+                                     const uint8_t *text, size_t len)
 {
     struct replacement *stage = stage_file(file, kind, options->force, text, len);
 
@@ -272,7 +242,7 @@ void reject_over_key(const struct options *options, const char *file)
     }
 }
 
-/* Makes the directory of the secret key, for its owner alone, where its own directory is there. */
+/* Makes the directory of the secret key, for its owner alone, if its parent is there. */
 static void make_directory(const char *file)
 {
     char *directory = strdup(file);
@@ -287,14 +257,14 @@ static void make_directory(const char *file)
     free(directory);
 }
 
-/* Puts the pair in its places, of which one would take the other's away where they are the same. */
+/* Puts the pair in its places, which have to be two. */
 static void put_pair(const struct options *options, const struct text *public)
 {
-    struct replacement *secret_stage, *public_stage;
+    struct replacement *secret_stage =
+        stage_key(options, options->secret_file, NEW_SECRET_KEY, secrets->text, secrets->text_len);
+    struct replacement *public_stage = stage_key(options, options->public_file, PUBLIC_KEY, public->bytes, public->len);
     const char *taken;
 
-    secret_stage = stage_key(options, options->secret_file, NEW_SECRET_KEY, secrets->text, secrets->text_len);
-    public_stage = stage_key(options, options->public_file, PUBLIC_KEY, public->bytes, public->len);
     if (is_one_place(secret_stage, public_stage)) {
         reject_one_file(options->secret_file, options->public_file);
     }
@@ -306,7 +276,7 @@ static void put_pair(const struct options *options, const struct text *public)
 
 /* ---- Commands ---- */
 
-/* Draws a new key, which is open then. */
+/* Draws a new key, and opens it. */
 static void draw_key(void)
 {
     uint8_t public_key[crypto_sign_PUBLICKEYBYTES], key_id[sizeof secrets->open.key_id];
@@ -327,9 +297,7 @@ int generate_keys(const struct options *options)
     }
     look_for_existing(options, options->public_file, PUBLIC_KEY);
     look_for_existing(options, options->secret_file, NEW_SECRET_KEY);
-    if (strpbrk(comment, "\r\n") != NULL) {
-        fail("A comment is one line");
-    }
+    expect_one_line(comment);
     draw_key();
     if (!options->unsealed) {
         ask_new_password();
@@ -361,7 +329,7 @@ int recreate_public_key(const struct options *options)
     return GOOD;
 }
 
-/* The comment of the text in `secrets`: its first line, without the label where that stands there. */
+/* The comment of the text in `secrets`: its first line, without the label if that stands there. */
 static size_t copy_comment(uint8_t *comment)
 {
     size_t label = strlen(COMMENT_LABEL), from, to;

@@ -1,20 +1,11 @@
 /* SPDX-License-Identifier: MIT */
-/* The names of stages, and what killed runs have left of them. */
-#define _DEFAULT_SOURCE
-
+/* The names of stages, and the stages that killed runs left there. */
 #include "leftovers.h"
-
-#include <errno.h>
-#include <fcntl.h>
-#include <string.h>
-#include <sys/file.h>
-#include <sys/stat.h>
-#include <unistd.h>
 
 #include "shared/handles.h"
 #include "shared/stages.h"
 
-/* Of so many directories it is remembered that they were looked through. */
+/* So many directories are remembered. */
 #define MAX_DIRECTORIES 32
 
 bool draw_stage_name(char name[STAGE_NAME_BYTES])
@@ -28,7 +19,7 @@ bool lock_stage(int fd)
     return flock(fd, LOCK_EX | LOCK_NB) == 0 || errno != EWOULDBLOCK;
 }
 
-/* Removes a stage where it is a regular file that no run has locked. */
+/* Removes a stage if it is a regular file that no run has locked. */
 static void remove_unlocked(int directory, const char *name)
 {
     int fd = openat(directory, name, O_RDWR | O_NOFOLLOW | O_NONBLOCK | O_CLOEXEC);
@@ -44,7 +35,7 @@ static void remove_unlocked(int directory, const char *name)
     close(fd);
 }
 
-/* Whether this directory was looked through before, which is remembered. */
+/* Whether this directory was cleaned before; now it is remembered. */
 static bool is_known(int directory)
 {
     static struct stat known[MAX_DIRECTORIES];

@@ -1,13 +1,6 @@
 /* SPDX-License-Identifier: MIT */
 /* What minisign says. */
-#define _POSIX_C_SOURCE 200809L
-
 #include "messages.h"
-
-#include <errno.h>
-#include <stdio.h>
-#include <stdlib.h>
-#include <string.h>
 
 #include "shared/text.h"
 
@@ -43,7 +36,14 @@ void blame(const char *file, const char *why)
     exit(TROUBLE);
 }
 
-/* What Minisign says of an error. */
+void expect_one_line(const char *comment)
+{
+    if (comment != NULL && strpbrk(comment, "\r\n") != NULL) {
+        fail("A comment is one line");
+    }
+}
+
+/* What Minisign says about an error. */
 static const struct {
     enum minisign_error error;
     const char *text;
@@ -86,6 +86,13 @@ const char *message_of(enum minisign_error error)
     return text;
 }
 
+void expect_done(enum minisign_error error)
+{
+    if (error != MINISIGN_OK) {
+        fail(error == MINISIGN_NOT_UTF8 ? "The comment is not UTF-8" : message_of(error));
+    }
+}
+
 const char *remedy_of(enum text_kind wanted)
 {
     return wanted == PUBLIC_KEY_TEXT   ? "-p names the file of the public key, and -P gives the key itself"
@@ -96,6 +103,7 @@ const char *remedy_of(enum text_kind wanted)
 uint64_t number_of_id(const uint8_t id[8])
 {
     uint64_t number = 0;
+
     for (int i = 7; i >= 0; i--) {
         number = number << 8 | id[i];
     }

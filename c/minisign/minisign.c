@@ -2,23 +2,21 @@
 /*
  * minisign: what Minisign 0.11 does, with its flags, questions, messages, files and exit statuses.
  *
- * The library behind minisign.h reads and writes the texts of keys and signatures, hashes the data, derives keys from
+ * The library of minisign.h reads and writes the texts of keys and signatures, hashes the data, derives keys from
  * passwords and gives the verdict. libsodium has Ed25519, random bytes and memory for secrets. The files beside this
  * one read the command line (options), ask for passwords (terminal), open, make and change keys (keys), sign (signing),
- * verify (verifying), read data (reading), say what a text is where it is a wrong one (diagnosis), find the places of
- * files (places) and replace files in one step (replacing).
+ * verify (verifying), read data (reading), find the places of files (places) and replace files in one step (replacing).
  */
+#include "keys.h"
+
 #include <sodium.h>
 
-#include "files.h"
-#include "keys.h"
-#include "options.h"
 #include "shared/progress.h"
 #include "shared/streams.h"
 #include "signing.h"
 #include "verifying.h"
 
-/* Each command sees to it that what it printed was written. */
+/* Each command makes sure that what it printed was written. */
 static int run(const struct options *options)
 {
     if (options->command == VERIFY) {

@@ -1,18 +1,10 @@
 /* SPDX-License-Identifier: MIT */
 /* The command line of minisign, and the default files. */
-#define _DEFAULT_SOURCE
-
 #include "options.h"
 
-#include <errno.h>
-#include <stdio.h>
-#include <stdlib.h>
-#include <unistd.h>
-
 #include "files.h"
-#include "minisign.h"
 
-/* The version of Minisign whose flags, questions, files and exit statuses these are, and this implementation. */
+/* The version of Minisign that this program is like, and its own. */
 #define VERSION "minisign 0.11\nMinisign in Rattle " MINISIGN_VERSION_TEXT
 
 #define MAX_ROWS 1048576
@@ -21,52 +13,51 @@
 #define MAX_WORK 1073741824
 #define USUAL_WORK 16
 
+static _Noreturn void print_and_end(const char *text, int status)
+{
+    puts(text);
+    flush_file(stdout);
+    exit(status);
+}
+
 static _Noreturn void usage(void)
 {
-    puts("Usage:\n"
-         "minisign -G [-f] [-p pubkey_file] [-s seckey_file] [-W]\n"
-         "minisign -R [-s seckey_file] [-p pubkey_file]\n"
-         "minisign -C [-s seckey_file] [-W]\n"
-         "minisign -S [-l] [-x sig_file] [-s seckey_file] [-c untrusted_comment]\n"
-         "            [-t trusted_comment] -m file [file ...]\n"
-         "minisign -V [-H] [-x sig_file] [-p pubkey_file | -P pubkey] [-o] [-q] -m file\n"
-         "\n"
-         "-G                generate a new key pair\n"
-         "-R                recreate a public key file from a secret key file\n"
-         "-C                change/remove the password of the secret key\n"
-         "-S                sign files\n"
-         "-V                verify that a signature is valid for a given file\n"
-         "-H                require input to be prehashed\n"
-         "-l                sign using the legacy format\n"
-         "-m <file>         file to sign/verify\n"
-         "-o                combined with -V, output the file content after verification\n"
-         "-p <pubkey_file>  public key file (default: ./minisign.pub)\n"
-         "-P <pubkey>       public key, as a base64 string\n"
-         "-s <seckey_file>  secret key file (default: ~/.minisign/minisign.key)\n"
-         "-W                do not encrypt/decrypt the secret key with a password\n"
-         "-k <rows>         keep one of so many rows of the key derivation: 16 takes 66 MiB\n"
-         "                  in place of 1 GiB, and more time\n"
-         "-K <work>         open keys of up to so many times the work of a usual one\n"
-         "                  (default: 16)\n"
-         "-x <sigfile>      signature file (default: <file>.minisig)\n"
-         "-c <comment>      add a one-line untrusted comment\n"
-         "-t <comment>      add a one-line trusted comment\n"
-         "-q                quiet mode, suppress output\n"
-         "-Q                pretty quiet mode, only print the trusted comment\n"
-         "-f                force. Combined with -G, overwrite a previous key pair\n"
-         "-v                display version number\n");
-    flush_file(stdout);
-    exit(TROUBLE);
+    print_and_end("Usage:\n"
+                  "minisign -G [-f] [-p pubkey_file] [-s seckey_file] [-W]\n"
+                  "minisign -R [-s seckey_file] [-p pubkey_file]\n"
+                  "minisign -C [-s seckey_file] [-W]\n"
+                  "minisign -S [-l] [-x sig_file] [-s seckey_file] [-c untrusted_comment]\n"
+                  "            [-t trusted_comment] -m file [file ...]\n"
+                  "minisign -V [-H] [-x sig_file] [-p pubkey_file | -P pubkey] [-o] [-q] -m file\n"
+                  "\n"
+                  "-G                generate a new key pair\n"
+                  "-R                recreate a public key file from a secret key file\n"
+                  "-C                change/remove the password of the secret key\n"
+                  "-S                sign files\n"
+                  "-V                verify that a signature is valid for a given file\n"
+                  "-H                require input to be prehashed\n"
+                  "-l                sign using the legacy format\n"
+                  "-m <file>         file to sign/verify\n"
+                  "-o                combined with -V, output the file content after verification\n"
+                  "-p <pubkey_file>  public key file (default: ./minisign.pub)\n"
+                  "-P <pubkey>       public key, as a base64 string\n"
+                  "-s <seckey_file>  secret key file (default: ~/.minisign/minisign.key)\n"
+                  "-W                do not encrypt/decrypt the secret key with a password\n"
+                  "-k <rows>         keep one of so many rows of the key derivation: 16 takes 66 MiB\n"
+                  "                  in place of 1 GiB, and more time\n"
+                  "-K <work>         open keys of up to so many times the work of a usual one\n"
+                  "                  (default: 16)\n"
+                  "-x <sigfile>      signature file (default: <file>.minisig)\n"
+                  "-c <comment>      add a one-line untrusted comment\n"
+                  "-t <comment>      add a one-line trusted comment\n"
+                  "-q                quiet mode, suppress output\n"
+                  "-Q                pretty quiet mode, only print the trusted comment\n"
+                  "-f                force. Combined with -G, overwrite a previous key pair\n"
+                  "-v                display version number\n",
+                  TROUBLE);
 }
 
-static _Noreturn void show_version(void)
-{
-    puts(VERSION);
-    flush_file(stdout);
-    exit(GOOD);
-}
-
-/* The default secret key, in the directory of the user's settings. */
+/* The default file of the secret key, in the directory of the user's settings. */
 static const char *default_secret_file(void)
 {
     const char *directory = getenv("MINISIGN_CONFIG_DIR");
@@ -126,7 +117,7 @@ static struct options read_flags(int argc, char *argv[])
         case 'Q': options.quiet = SAY_COMMENT; break;
         case 's': options.secret_file = optarg; break;
         case 't': options.trusted_comment = optarg; break;
-        case 'v': show_version();
+        case 'v': print_and_end(VERSION, GOOD);
         case 'W': options.unsealed = true; break;
         case 'x': options.signature_file = optarg; break;
         default: usage();
@@ -136,7 +127,7 @@ static struct options read_flags(int argc, char *argv[])
     return options;
 }
 
-/* An empty text among the options is as good as none. */
+/* An empty text counts as none. */
 static const char *unless_empty(const char *text)
 {
     return text == NULL || *text == 0 ? NULL : text;

@@ -1,16 +1,14 @@
 /* SPDX-License-Identifier: MIT */
 /*
- * Tags of the pieces of data that is read twice. Blake2b of the first reading says that the data is what was signed;
- * that the second reading gave the same needs less. A tag takes less than a tenth of its time.
+ * Tags of the pieces of data that is read twice. Blake2b of the first reading shows that the data is what was signed.
+ * To show that the second reading gave the same, a tag does, which takes less than a tenth of that time.
  *
- * NH is the hash of the same name inside UMAC (Black, Halevi, Krawczyk, Krovetz and Rogaway, "UMAC: Fast and Secure
- * Message Authentication", 1999), with words of 64 bits: under a random key two messages of one length that differ have
- * the same sum with a probability of at most 2 to the -64. Here it is taken of each block of a piece, and then, under a
- * key of its own, of these sums, so that the key stays short.
+ * NH is the hash of that name inside UMAC (Black, Halevi, Krawczyk, Krovetz and Rogaway, "UMAC: Fast and Secure Message
+ * Authentication", 1999), with words of 64 bits: under a random key two different messages of one length have the same
+ * sum with a probability of at most 2 to the -64. Here it is taken of each block of a piece, and then, under another
+ * key, of these sums, so that the keys stay short.
  */
 #include "piece_tags.h"
-
-#include <string.h>
 
 #include <sodium.h>
 
@@ -44,7 +42,8 @@ static inline void add_product(struct sum *made, uint64_t one, uint64_t other)
     made->high = (uint64_t) (added >> 64);
 #else
     const uint64_t half = UINT64_C(0xffffffff), low = (one & half) * (other & half);
-    const uint64_t first = (one >> 32) * (other & half) + (low >> 32), second = (one & half) * (other >> 32) + (first & half);
+    const uint64_t first = (one >> 32) * (other & half) + (low >> 32);
+    const uint64_t second = (one & half) * (other >> 32) + (first & half);
     const uint64_t product = second << 32 | (low & half);
 
     made->low += product;
@@ -52,8 +51,7 @@ static inline void add_product(struct sum *made, uint64_t one, uint64_t other)
 #endif
 }
 
-/* The sum over pairs of words, to each of which its word of the key is added; a last part of a pair is filled with
- * zeros. */
+/* The sum of the products of pairs of words, after the key's word was added to each. Zeros fill the last pair. */
 static struct sum nh(const uint64_t *key, const uint8_t *bytes, size_t len)
 {
     struct sum made = { 0, 0 };

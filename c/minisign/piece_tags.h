@@ -1,17 +1,15 @@
 /* SPDX-License-Identifier: MIT */
 /*
- * Tags of the pieces of data that is read twice. Two readings of a piece have the same tag where they are the same, and
- * else with a probability of at most 2 to the -63, whoever chose them: the key of the tags is drawn at random, and
- * neither it nor a tag leaves the process.
+ * Tags of the pieces of data that is read twice. If two readings of a piece differ, their tags are the same with a
+ * probability of at most 2 to the -63, whoever chose them: the key of the tags is random, and neither it nor a tag
+ * leaves the process.
  */
 #ifndef PIECE_TAGS_H
 #define PIECE_TAGS_H
 
-#include <stdbool.h>
-#include <stddef.h>
-#include <stdint.h>
+#include "shared/system.h"
 
-/* A piece has at most so many bytes. */
+/* The most bytes of a piece. */
 #define TAGGED_BYTES 131072
 
 struct tag {

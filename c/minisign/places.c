@@ -1,24 +1,14 @@
 /* SPDX-License-Identifier: MIT */
 /* Where a file goes. */
-#define _DEFAULT_SOURCE
-
 #include "places.h"
-
-#include <errno.h>
-#include <fcntl.h>
-#include <stdio.h>
-#include <stdlib.h>
-#include <string.h>
-#include <unistd.h>
 
 #include "files.h"
 #include "shared/streams.h"
-#include "shared/text.h"
 
 /* As many links as the system follows. */
 #define MAX_LINKS 40
 #define TARGET_BYTES 4096
-/* How often a place is looked for that others change meanwhile. */
+/* How often a place is looked for while others change it. */
 #define MAX_TRIES 100
 
 bool is_written_in_place(const struct place *place)
@@ -47,21 +37,22 @@ void leave_place(struct place *place)
 
 /* ---- Strangers ---- */
 
-/* Whether this is somebody's whom the user need not trust. */
+/* Whether this belongs to somebody whom the user need not trust. */
 static bool is_strangers(const struct stat *file)
 {
     return file->st_uid != geteuid() && file->st_uid != 0;
 }
 
-/* Whether it is a stranger's and was put into a directory where these may write, and only owners may remove. The owner
- * of the directory is no stranger there, but to a secret. */
-static bool is_put_by_stranger(const struct place *place, const struct stat *file, const struct stat *around, mode_t writers)
+/* Whether a stranger put this into a directory where these may write, and only owners may remove. The owner of the
+ * directory is a stranger only to a secret. */
+static bool is_put_by_stranger(const struct place *place, const struct stat *file, const struct stat *around,
+                               mode_t writers)
 {
     return (around->st_mode & S_ISVTX) != 0 && (around->st_mode & writers) != 0 && is_strangers(file)
            && (place->is_secret || file->st_uid != around->st_uid);
 }
 
-/* Whether it is what the program was started with as a standard stream. */
+/* Whether this is a standard stream that the program was started with. */
 static bool is_stream(const struct stat *file)
 {
     struct stat stream;
@@ -74,8 +65,8 @@ static bool is_stream(const struct stat *file)
     return false;
 }
 
-/* Ends the program where a stranger's file or pipe has this name, as the system does by its settings protected_regular
- * and protected_fifos for a file that may be made. */
+/* Ends the program if a stranger's file or pipe has this name, as the system does by its settings protected_regular and
+ * protected_fifos for a file that may be made. */
 static void expect_no_strangers(const struct place *place)
 {
     struct stat around;
@@ -88,7 +79,7 @@ static void expect_no_strangers(const struct place *place)
 
 /* ---- Links ---- */
 
-/* Whether the system would follow this link of the directory; errno says why not. Ends the program where it is a
+/* Whether the system would follow this link of the directory. On false errno says why. Ends the program if it is a
  * stranger's, which the system does not follow either by its setting protected_symlinks. */
 static bool may_follow(const struct place *place, const struct stat *link)
 {
@@ -107,8 +98,7 @@ static bool may_follow(const struct place *place, const struct stat *link)
     return true;
 }
 
-/* What a name in the directory is: a link, of which the text is copied to the target, or none; or errno says why it is
- * not known. */
+/* What a name in the directory is: a link, whose text is copied, or none; or errno says why that is not known. */
 enum step { IS_LINK, IS_NO_LINK, IS_UNKNOWN };
 
 static enum step read_link(const struct place *place, const char *name, char target[TARGET_BYTES])
@@ -135,8 +125,8 @@ static enum step read_link(const struct place *place, const char *name, char tar
     return step;
 }
 
-/* Goes from the directory of the place, or first from the one that the program runs in, to a directory in it. Links to
- * directories in /proc lead where the system knows, whatever their text says. */
+/* Goes from the directory of the place, or first from the current one, to a directory in it. The system follows a link
+ * in /proc, whatever its text says. */
 static bool enter(struct place *place, const char *name, bool by_system)
 {
     int directory = enter_directory(place->directory < 0 ? AT_FDCWD : place->directory, name, by_system);
@@ -149,52 +139,43 @@ static bool enter(struct place *place, const char *name, bool by_system)
     return true;
 }
 
-/* Goes along the path, which is in memory of malloc, name by name, and follows each link. */
+/* Goes along the path, which is in memory of malloc, name by name, and follows each link. On false errno says why. */
 static bool go_along(struct place *place, char **path)
 {
     static char target[TARGET_BYTES];
     char *rest = *path;
-    int links = 0;
 
     if (!enter(place, *rest == '/' ? "/" : ".", false)) {
         return false;
     }
-    for (;;) {
+    for (int links = 0; links <= MAX_LINKS;) {
         char *name = strsep(&rest, "/"), *longer;
         bool by_system = rest != NULL && is_in_proc(place->directory);
+        enum step step = *name == 0 || by_system ? IS_NO_LINK : read_link(place, name, target);
 
         if (*name == 0 && rest != NULL) {
             continue;
         }
-        switch (*name == 0 || by_system ? IS_NO_LINK : read_link(place, name, target)) {
-        case IS_LINK:
-            if (++links > MAX_LINKS) {
-                errno = ELOOP;
-                return false;
-            }
+        if (step == IS_NO_LINK && rest == NULL) {
+            place->name = joined(name, "", "");
+            return true;
+        }
+        if (step == IS_LINK) {
             longer = rest == NULL ? joined(target, "", "") : joined(target, "/", rest);
             free(*path);
             *path = rest = longer;
-            if (*rest == '/' && !enter(place, "/", false)) {
-                return false;
-            }
-            break;
-        case IS_NO_LINK:
-            if (rest == NULL) {
-                place->name = joined(name, "", "");
-                return true;
-            }
-            if (!enter(place, name, by_system)) {
-                return false;
-            }
-            break;
-        case IS_UNKNOWN:
+            links++;
+        }
+        if (step == IS_UNKNOWN || (step == IS_NO_LINK && !enter(place, name, by_system))
+            || (step == IS_LINK && *rest == '/' && !enter(place, "/", false))) {
             return false;
         }
     }
+    errno = ELOOP;
+    return false;
 }
 
-/* Finds the directory and the name, with all links followed, or errno says why not. */
+/* Finds the directory and the name, with all links followed. On false errno says why. */
 static bool follow_links(struct place *place)
 {
     char *path = joined(place->file, "", "");
@@ -212,7 +193,7 @@ static bool follow_links(struct place *place)
 
 /* ---- Descriptors ---- */
 
-/* The number of the descriptor that a name is of, or -1. */
+/* The descriptor that a name stands for, or -1. */
 static int descriptor_of(const char *file)
 {
     static const char *const streams[] = { "/dev/stdin", "/dev/stdout", "/dev/stderr" };
@@ -239,7 +220,7 @@ bool may_keep_secret(const struct stat *found)
     return !is_strangers(found) && (found->st_mode & (S_IRWXG | S_IRWXO)) == 0;
 }
 
-/* Whether the name is that of a descriptor by which a regular file is open for writing: then that is written through it. */
+/* Whether the name stands for a descriptor by which a regular file is open for writing: then that is used. */
 static bool is_descriptor(struct place *place)
 {
     int fd = descriptor_of(place->file), flags;
@@ -256,7 +237,7 @@ static bool is_descriptor(struct place *place)
         return false;
     }
     if (place->is_secret && !may_keep_secret(&place->older.found)) {
-        blame(place->file, "others may read this file, into which no secret key is written");
+        blame(place->file, "others may read this file: no secret key is written there");
     }
     place->opened = fcntl(fd, F_DUPFD_CLOEXEC, 0);
     need(place->opened >= 0, place->file);
@@ -266,14 +247,14 @@ static bool is_descriptor(struct place *place)
 
 /* ---- Places ---- */
 
-/* Whether what stands there has to have a name: a regular file, and a pipe that was made by one. */
+/* Whether what stands there has to have a name: a regular file, and a pipe that was made with one. */
 static bool has_name(const struct handle *older)
 {
     return older->found.st_nlink > 0
            && (S_ISREG(older->found.st_mode) || (S_ISFIFO(older->found.st_mode) && !is_nameless_pipe(older)));
 }
 
-/* Whether the name that was found is that of what the system has found, or of nothing where it has found nothing. */
+/* Whether the name that was found leads to what the system found, or to nothing, as the system did. */
 static bool is_found(const struct place *place)
 {
     struct stat named;
@@ -284,20 +265,19 @@ static bool is_found(const struct place *place)
     return place->has_older && is_same_file(&named, &place->older.found);
 }
 
-/* The place of what is written where it is, which no secret is where it is a stranger's. */
+/* The place of a file that is written where it is, but no secret if it is a stranger's. */
 static struct place in_place(struct place place)
 {
     const struct stat *found = &place.older.found;
 
     forget_name(&place);
     if (place.is_secret && is_strangers(found) && !S_ISDIR(found->st_mode) && !is_stream(found)) {
-        blame(place.file, "this is another user's, to whom no secret key is written");
+        blame(place.file, "this is another user's: no secret key is written there");
     }
     return place;
 }
 
-/* Ends the program where the system finds nothing, as errno says, and says so of a stranger's link that it does not
- * follow. */
+/* Ends the program because the system finds nothing, as errno says, or because it does not follow a stranger's link. */
 static _Noreturn void fail_to_find(struct place *place)
 {
     int number = errno;
@@ -334,7 +314,7 @@ struct place find_place(const char *file, bool is_secret)
             return is_pipe ? in_place(place) : place;
         }
         if (is_pipe && (is_stream(&place.older.found) || descriptor_of(file) >= 0)) {
-            /* (it has no name, or whoever started the program may know its name elsewhere) */
+            /* (it has no name, or one that only who started the program knows) */
             return in_place(place);
         }
         need(is_there, file);
@@ -344,7 +324,7 @@ struct place find_place(const char *file, bool is_secret)
     fail_at(file);
 }
 
-/* Ends the program where the older file is another's in a directory where only owners may remove. */
+/* Ends the program if the older file is another's in a directory where only owners may remove. */
 static void expect_replaceable(const struct place *place)
 {
     struct stat around;
@@ -362,7 +342,7 @@ void open_older(struct place *place)
     for (int i = 0; place->has_older && place->opened < 0; i++) {
         place->opened = open_handle(&place->older, place->file, O_WRONLY | O_NOCTTY | O_CLOEXEC);
         if (place->opened < 0 && errno == EBUSY && i < MAX_TRIES) {
-            /* (another run has replaced it meanwhile) */
+            /* (another run replaced it meanwhile) */
             leave_place(place);
             *place = find_place(place->file, place->is_secret);
         } else if (place->opened < 0) {
@@ -389,6 +369,6 @@ bool is_same_place(const struct place *one, const struct place *other)
     if (one->has_older && other->has_older) {
         return is_same_file(&one->older.found, &other->older.found);
     }
-    return strcmp(one->name, other->name) == 0
-           && fstat(one->directory, &around) == 0 && fstat(other->directory, &others) == 0 && is_same_file(&around, &others);
+    return strcmp(one->name, other->name) == 0 && fstat(one->directory, &around) == 0
+           && fstat(other->directory, &others) == 0 && is_same_file(&around, &others);
 }

@@ -1,28 +1,44 @@
 /* SPDX-License-Identifier: MIT */
-/* Data that is hashed while it is read, and copied out once it was verified. */
-#define _POSIX_C_SOURCE 200809L
-
+/* Data that is hashed while it is read, and copied out once it is verified. */
 #include "reading.h"
-
-#include <errno.h>
-#include <stdlib.h>
-#include <sys/stat.h>
-#include <unistd.h>
 
 #include "shared/progress.h"
 #include "shared/text.h"
 
-/* So many bytes are read at a time; more of data that is read twice, as something is remembered of each piece. */
+/* So many bytes are read at a time. Data that is read twice has larger pieces, as each has a tag. */
 #define READ_BYTES 32768
+/* Data that is held gets this room first. */
+#define FIRST_BYTES 65536
 
 static uint8_t piece[TAGGED_BYTES];
 
 struct data open_data(const char *file)
 {
-    return (struct data) { .file = file, .fd = open_file(file) };
+    return (struct data) { .file = file, .fd = open_file(file, NULL) };
 }
 
-/* Remembers the piece that was read. The room for tags doubles whenever their number is a power of two. */
+static void feed(minisign_state *state, const uint8_t *bytes, size_t len)
+{
+    if (minisign_update(state, bytes, len) != MINISIGN_OK) {
+        fail("The data could not be fed");
+    }
+}
+
+/* Reads the data to its end, and holds it. */
+static void hold(struct data *data)
+{
+    struct held *held = &data->held;
+    size_t room = 0;
+
+    do {
+        room = room == 0 ? FIRST_BYTES : 2 * room;
+        held->bytes = realloc(held->bytes, room);
+        need(held->bytes != NULL, data->file);
+        held->len += read_full(data->fd, data->file, held->bytes + held->len, room - held->len);
+    } while (held->len == room);
+}
+
+/* Keeps the tag of the piece that was read. The room for tags doubles when their number is a power of two. */
 static void remember(struct data *data, size_t len)
 {
     if ((data->tagged & (data->tagged - 1)) == 0) {
@@ -48,7 +64,7 @@ void feed_data(struct data *data, minisign_state *state, enum wanted wanted)
     size_t room = wanted == A_COPY_LATER ? TAGGED_BYTES : READ_BYTES, len;
 
     if (wanted == ALL_BYTES || (wanted == A_COPY_LATER && !can_be_read_again(data))) {
-        data->held = hold_file(data->fd, data->file);
+        hold(data);
         feed(state, data->held.bytes, data->held.len);
     } else {
         if (wanted == A_COPY_LATER) {

@@ -1,22 +1,18 @@
 /* SPDX-License-Identifier: MIT */
-/*
- * Data that is hashed while it is read, and copied out once it was verified.
- */
+/* Data that is hashed while it is read, and copied out once it is verified. */
 #ifndef READING_H
 #define READING_H
 
-#include <stdbool.h>
-#include <stddef.h>
-#include <stdint.h>
-
 #include "files.h"
-#include "minisign.h"
 #include "piece_tags.h"
 
-/*
- * A file of data: all of its bytes where they are held, or, where it is to be read a second time, how many there were
- * and a tag of each piece.
- */
+/* Data that is in memory of malloc as a whole. */
+struct held {
+    uint8_t *bytes;
+    size_t len;
+};
+
+/* A file of data: its bytes if they are held, or, if it is to be read again, its size and a tag of each piece. */
 struct data {
     const char *file;
     int fd;
@@ -34,8 +30,8 @@ struct data open_data(const char *file);
 /* Feeds the data to the state, from where its file stands to the end. */
 void feed_data(struct data *data, minisign_state *state, enum wanted wanted);
 
-/* Writes to the standard output what was read, and nothing else: each piece of a file that was not held is read once
- * more, and is written only where its tag is what it was. False where the file has changed. */
+/* Writes what was read, and nothing else, to the standard output. Data that was not held is read again, and a piece is
+ * written only if its tag is the same. False if the file has changed. */
 bool copy_data(const struct data *data);
 
 void close_data(struct data *data);

@@ -1,17 +1,6 @@
 /* SPDX-License-Identifier: MIT */
 /* Files that are replaced in one step. */
-#define _DEFAULT_SOURCE
-
 #include "replacing.h"
-
-#include <errno.h>
-#include <fcntl.h>
-#include <signal.h>
-#include <stdio.h>
-#include <stdlib.h>
-#include <string.h>
-#include <sys/stat.h>
-#include <unistd.h>
 
 #include <sodium.h>
 
@@ -22,23 +11,22 @@
 #include "shared/permissions.h"
 #include "shared/stages.h"
 #include "shared/streams.h"
-#include "shared/text.h"
 
-/* How often a stage is made anew that other runs remove before it is locked. */
+/* How often a stage is made again if other runs remove it before it is locked. */
 #define MAX_TRIES 100
-/* So many bytes are read at once, as far as a person can tell. */
+/* A person does not notice how long it takes to read so many bytes. */
 #define QUICK_BYTES (1 << 20)
-/* A file that waits has two descriptors open; so many are left for all else. */
+/* A file that waits has two descriptors open. Ten of the first 256 descriptors are left for all else. */
 #define WAITING_DESCRIPTORS 2
 #define SPARE_DESCRIPTORS 10
 #define COUNTED_DESCRIPTORS 256
 
 struct replacement {
-    /* Where it goes; no file's where the stage is free. */
+    /* Where it goes. Without a file the stage is free. */
     struct place place;
-    /* Open and locked until it is in its place; -1 where that itself was written. */
+    /* Open and locked until it is in its place. -1: it was written in place. */
     int fd;
-    /* Its name beside its place, and whether it has one or is about to get it. */
+    /* Its name beside its place, and whether it has it or is about to get it. */
     char name[STAGE_NAME_BYTES];
     volatile sig_atomic_t is_named;
     bool is_key;
@@ -48,13 +36,13 @@ struct replacement {
     bool is_synced;
     /* Whether it is whole and waits for others. */
     bool waits;
-    /* The one that has to get its place as well, or else this one loses its own; and how it loses that. */
+    /* If its partner does not get its place, this one loses its own; and how. */
     struct replacement *volatile partner;
     volatile sig_atomic_t is_exchanged;
 };
 
-/* So many files wait for each other, as all are synced in little more time than one. One is staged beside
- * them; a pair of keys has two stages, and none waits then. */
+/* So many files wait for each other, as it takes little more time to sync all than one. One more is staged beside them.
+ * A pair of keys has two stages, and then none waits. */
 enum { MAX_WAITING = 32, MAX_STAGES = MAX_WAITING + 1 };
 static struct replacement stages[MAX_STAGES];
 static int waiting;
@@ -71,7 +59,7 @@ static bool name_stage(struct replacement *stage)
     return stage->is_named;
 }
 
-/* Whether what stands in its place is this stage, or it was written there. May be called while a signal is handled. */
+/* Whether this stage is in its place. May be called while a signal is handled. */
 static bool is_placed(const struct replacement *stage)
 {
     struct stat own, named;
@@ -84,7 +72,7 @@ static bool is_placed(const struct replacement *stage)
 
 /* ---- Stages go with the program ---- */
 
-/* Takes a stage out of its place where its partner has not got its own. May be called while a signal is handled. */
+/* Takes a stage out of its place if its partner has not got its own. May be called while a signal is handled. */
 static void undo_stage(struct replacement *stage)
 {
     const struct place *place = &stage->place;
@@ -93,7 +81,7 @@ static void undo_stage(struct replacement *stage)
         return;
     }
     if (stage->is_exchanged) {
-        /* Where that fails, the older file keeps the stage's name. */
+        /* (if that fails, the older file keeps the stage's name) */
         stage->is_named = exchange_names(place->directory, stage->name, place->name);
     } else {
         unlinkat(place->directory, place->name, 0);
@@ -139,8 +127,8 @@ static struct replacement *free_stage(void)
     fail("too many files at once");
 }
 
-/* Closes what a stage has open; where it has a name beside its place still, it loses that, or else when the program
- * ends. */
+/* Closes what a stage has open, and removes the name beside its place if it still has it, or leaves that to the end of
+ * the program. */
 static void forget(struct replacement *stage)
 {
     stage->partner = NULL;
@@ -154,8 +142,8 @@ static void forget(struct replacement *stage)
 
 /* ---- Writing ---- */
 
-/* Opens and locks a new file without a name, or where there is none one beside the place, of a name that nothing has.
- * Another run may remove that before it is locked. */
+/* Opens and locks a new file without a name, or if that is not possible one of a new name beside the place. Another run
+ * may remove that before it is locked. */
 static bool open_stage(struct replacement *stage, mode_t mode)
 {
     stage->fd = open_unnamed(stage->place.directory, mode);
@@ -181,7 +169,7 @@ static bool open_stage(struct replacement *stage, mode_t mode)
     return false;
 }
 
-/* Gives a stage the owner, the mode and the access list of the older file, or of its mode what its owner may do. */
+/* Gives a stage the owner, the mode and the access list of the older file, or only what its owner may do. */
 static void take_over(const struct replacement *stage, bool for_owner_alone)
 {
     static struct permissions older;
@@ -193,7 +181,7 @@ static void take_over(const struct replacement *stage, bool for_owner_alone)
     need(give_permissions(stage->fd, &older), stage->place.file);
 }
 
-/* Writes what is no regular file, has no name or is written through a descriptor: another file is emptied first. */
+/* Writes what is no regular file, has no name or is named as a descriptor. A file without a name is emptied first. */
 static void write_in_place(struct place *place, const uint8_t *bytes, size_t len)
 {
     int fd = place->opened;
@@ -202,14 +190,6 @@ static void write_in_place(struct place *place, const uint8_t *bytes, size_t len
     need((!is_emptied || ftruncate(fd, 0) == 0) && write_whole(fd, bytes, len), place->file);
     place->opened = -1;
     need(close(fd) == 0, place->file);
-}
-
-/* Has the system say whether what was written can be kept, as it does where a file is closed. */
-static void flush_stage(const struct replacement *stage)
-{
-    int fd = dup(stage->fd);
-
-    need(fd < 0 || close(fd) == 0, stage->place.file);
 }
 
 static bool is_secret(enum kind kind)
@@ -228,7 +208,7 @@ void expect_no_stranger(const char *file, enum kind kind)
     }
 }
 
-/* A stage for a file, with the older one open, or NULL where that is to stay. */
+/* A stage for a file, with the older one open, or NULL if that is to stay. */
 static struct replacement *begin_stage(const char *file, enum kind kind, bool over_older)
 {
     struct replacement *stage = free_stage();
@@ -244,10 +224,11 @@ static struct replacement *begin_stage(const char *file, enum kind kind, bool ov
     return stage;
 }
 
-/* Writes it whole, beside its place or in that itself. */
+/* Writes a stage whole, beside its place or in place. */
 static void write_replacement(struct replacement *stage, enum kind kind, const uint8_t *bytes, size_t len)
 {
     mode_t mode;
+    int fd;
 
     if (is_written_in_place(&stage->place)) {
         write_in_place(&stage->place, bytes, len);
@@ -263,9 +244,11 @@ static void write_replacement(struct replacement *stage, enum kind kind, const u
     }
     need(write_whole(stage->fd, bytes, len), stage->place.file);
     if (stage->is_synced) {
-        flush_stage(stage);
+        /* (when a file is closed, the system says whether what was written can be kept) */
+        fd = dup(stage->fd);
+        need(fd < 0 || close(fd) == 0, stage->place.file);
     } else {
-        /* The disk begins, so that less is left to wait for. */
+        /* (the disk begins now, so that fsync takes less time) */
         begin_sync(stage->fd, 0, 0);
     }
 }
@@ -285,14 +268,14 @@ bool is_one_place(const struct replacement *one, const struct replacement *other
     return is_same_place(&one->place, &other->place);
 }
 
-/* Waits until all stages are synced that have to be. */
+/* Syncs all stages that have to be. */
 static void sync_stages(void)
 {
     for (struct replacement *stage = stages; stage < stages + MAX_STAGES; stage++) {
         if (stage->place.file != NULL && stage->fd >= 0 && !stage->is_synced) {
             bool waits = stage->waits;
 
-            /* One that cannot be synced is not put in its place when the program ends. */
+            /* (one that cannot be synced is not put in its place when the program ends) */
             stage->waits = false;
             need(fsync(stage->fd) == 0, stage->place.file);
             stage->is_synced = true;
@@ -303,27 +286,24 @@ static void sync_stages(void)
 
 /* ---- Putting in place ---- */
 
-/* A stage was put in its place, or an older file is there that is to stay, or it cannot be put there: errno says
- * why. */
+/* A stage was put in its place, or an older file is there that is to stay, or errno says why it cannot be put there. */
 enum put { PUT, TAKEN, NOT_PUT };
 
-/* Writes what stage holds over the older file, which has to stay where it is as it is mounted by itself. A secret key is not
- * written into one that others may read. */
+/* Writes what a stage holds over the older file, which has to stay where it is because it is a mount of its own. No
+ * secret key is written into a file that others may read. */
 static bool write_over(struct replacement *stage)
 {
-    struct stat *found = &stage->place.older.found;
-    struct handle handle = { .fd = -1, .found = *found };
     uint8_t bytes[TEXT_ROOM];
     bool is_written;
     ssize_t len;
     int fd;
 
-    if (stage->place.is_secret && !may_keep_secret(found)) {
+    if (stage->place.is_secret && !may_keep_secret(&stage->place.older.found)) {
         errno = EBUSY;
         return false;
     }
     if (stage->place.opened < 0) {
-        stage->place.opened = open_by_path(&handle, stage->place.file, O_WRONLY | O_CLOEXEC);
+        stage->place.opened = open_by_path(&stage->place.older, stage->place.file, O_WRONLY | O_CLOEXEC);
     }
     fd = stage->place.opened;
     len = fd >= 0 && lseek(stage->fd, 0, SEEK_SET) == 0 ? read_whole(stage->fd, bytes, sizeof bytes) : -1;
@@ -353,23 +333,25 @@ static enum put put_stage(struct replacement *stage)
     if (stage->fd < 0) {
         return PUT;
     }
-    if (!stage->is_named) {
-        if (!stage->place.has_older) {
-            if (link_unnamed(stage->fd, stage->place.directory, stage->place.name)) {
-                return PUT;
-            }
-            if (errno != EEXIST || !stage->over_older) {
-                return errno == EEXIST ? TAKEN : NOT_PUT;
-            }
+    if (!stage->is_named && !stage->place.has_older) {
+        if (link_unnamed(stage->fd, stage->place.directory, stage->place.name)) {
+            return PUT;
         }
-        if (!name_stage(stage)) {
-            return NOT_PUT;
+        if (errno != EEXIST || !stage->over_older) {
+            return errno == EEXIST ? TAKEN : NOT_PUT;
         }
     }
-    return rename_replacement(stage);
+    return stage->is_named || name_stage(stage) ? rename_replacement(stage) : NOT_PUT;
 }
 
-/* Syncs the new name of a file, where the system can do that for a directory. */
+/* Whether it was put there. Ends the program if that is not possible. */
+static bool is_put(const struct replacement *stage, enum put put)
+{
+    need(put != NOT_PUT, stage->place.file);
+    return put == PUT;
+}
+
+/* Syncs the new name of a file, if the system can do that for a directory. */
 static void keep_name(const struct replacement *stage)
 {
     int fd;
@@ -377,7 +359,7 @@ static void keep_name(const struct replacement *stage)
     if (stage->fd < 0) {
         return;
     }
-    /* A file that was brought there without a name has one now. */
+    /* (a file that had no name has one now) */
     need(fsync(stage->fd) == 0, stage->place.file);
     fd = openat(stage->place.directory, ".", O_RDONLY | O_DIRECTORY | O_CLOEXEC);
     need(fd < 0 || fsync(fd) == 0 || errno == EINVAL, stage->place.file);
@@ -386,18 +368,17 @@ static void keep_name(const struct replacement *stage)
 
 bool put_in_place(struct replacement *stage)
 {
-    enum put put;
+    bool is_in_place;
 
     if (stage->fd >= 0 && !stage->is_synced) {
         sync_stages();
     }
-    put = put_stage(stage);
-    need(put != NOT_PUT, stage->place.file);
-    if (put == PUT && stage->is_key) {
+    is_in_place = is_put(stage, put_stage(stage));
+    if (is_in_place && stage->is_key) {
         keep_name(stage);
     }
     forget(stage);
-    return put == PUT;
+    return is_in_place;
 }
 
 void replace_key(const char *file, enum kind kind, uid_t owner, const uint8_t *bytes, size_t len)
@@ -413,8 +394,8 @@ void replace_key(const char *file, enum kind kind, uid_t owner, const uint8_t *b
 
 /* ---- Two that belong together ---- */
 
-/* Puts a stage in the place of an older file, which gets the stage's name until its partner is in its own place. It is
- * locked as stages are. False where the file system does not exchange names. */
+/* Exchanges a stage with the older file in its place, which keeps the stage's name until the partner is in its own
+ * place, and is locked as stages are. False if the file system does not exchange names. */
 static bool exchange_stage(struct replacement *stage)
 {
     const struct place *place = &stage->place;
@@ -424,50 +405,36 @@ static bool exchange_stage(struct replacement *stage)
     }
     lock_stage(place->opened);
     stage->is_exchanged = 1;
-    if (exchange_names(place->directory, stage->name, place->name)) {
-        return true;
-    }
-    stage->is_exchanged = 0;
-    return false;
+    stage->is_exchanged = exchange_names(place->directory, stage->name, place->name);
+    return stage->is_exchanged;
 }
 
-/* Puts a stage in its place in such a way that it loses that again where the program ends before its partner has its
- * own. */
+/* Puts a stage in its place so that it loses that again if the program ends before its partner has its own. */
 static enum put put_with_partner(struct replacement *stage, struct replacement *partner)
 {
-    if (stage->fd < 0) {
+    stage->partner = partner;
+    if (stage->fd < 0 || (stage->place.has_older && exchange_stage(stage))) {
         return PUT;
     }
-    stage->partner = partner;
-    if (stage->place.has_older) {
-        if (exchange_stage(stage)) {
-            return PUT;
-        }
-        stage->partner = NULL;
-    }
+    stage->partner = stage->place.has_older ? NULL : partner;
     return put_stage(stage);
 }
 
 const char *put_both_in_place(struct replacement *first, struct replacement *last)
 {
     const char *taken = NULL;
-    enum put put;
 
     sync_stages();
-    put = put_with_partner(first, last);
-    need(put != NOT_PUT, first->place.file);
-    if (put == TAKEN) {
+    if (!is_put(first, put_with_partner(first, last))) {
         taken = first->place.file;
     } else {
         keep_name(first);
-        put = put_stage(last);
-        need(put != NOT_PUT, last->place.file);
-        if (put == TAKEN) {
-            taken = last->place.file;
-            undo_stage(first);
-        } else {
+        if (is_put(last, put_stage(last))) {
             first->partner = NULL;
             keep_name(last);
+        } else {
+            taken = last->place.file;
+            undo_stage(first);
         }
     }
     forget(first);
@@ -477,7 +444,7 @@ const char *put_both_in_place(struct replacement *first, struct replacement *las
 
 /* ---- Many files ---- */
 
-/* Where the program ends early, what was whole before still gets its place. */
+/* If the program ends early, the stages that are whole still get their places. */
 static void finish_stages(void)
 {
     for (struct replacement *stage = stages; stage < stages + MAX_STAGES; stage++) {
@@ -487,7 +454,7 @@ static void finish_stages(void)
     }
 }
 
-/* How many files may wait, so that descriptors are left for all else: counted once. */
+/* How many files may wait: as many as there are descriptors for. Counted once. */
 static int most_waiting(void)
 {
     static int most;

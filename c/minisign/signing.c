@@ -1,25 +1,15 @@
 /* SPDX-License-Identifier: MIT */
 /*
- * minisign -S. The library hashes the data, says what has to be signed and writes the text of the signature; libsodium
- * signs with Ed25519, and nothing else. The key is opened once, and the first text that it makes is verified as others
- * will verify it. Each is written in one step, so that an older signature stays whole until then.
+ * minisign -S. The library hashes the data, says what to sign and writes the text of the signature; libsodium signs
+ * with Ed25519. The key is opened once, and the first signature is verified as others will verify it. Each file is
+ * written in one step, so that an older signature stays whole until then.
  */
-#define _POSIX_C_SOURCE 200809L
-
 #include "signing.h"
-
-#include <inttypes.h>
-#include <stdio.h>
-#include <stdlib.h>
-#include <string.h>
-#include <time.h>
 
 #include <sodium.h>
 
 #include "library/clearing.h"
-#include "files.h"
 #include "keys.h"
-#include "reading.h"
 #include "replacing.h"
 #include "verifying.h"
 #include "shared/text.h"
@@ -44,8 +34,7 @@ static const char *default_comment(const char *data_file, bool legacy)
     return comment;
 }
 
-/* Ends the program where the last part of the file's name cannot stand in the default trusted comment: it is no
- * comment that the user has given. */
+/* Ends the program if the last part of the file's name cannot stand in the default trusted comment. */
 static void expect_comment(const char *data_file, bool legacy)
 {
     const char *name = last_part(data_file);
@@ -57,7 +46,8 @@ static void expect_comment(const char *data_file, bool legacy)
                                                              : NULL;
 
     if (why != NULL) {
-        fprintf(stderr, "%s: a name that %s cannot stand in the trusted comment: choose one by -t\n", visible(data_file), why);
+        fprintf(stderr, "%s: a name that %s cannot stand in the trusted comment: choose one by -t\n",
+                visible(data_file), why);
         exit(TROUBLE);
     }
 }
@@ -74,55 +64,46 @@ static minisign_signed_parts comments_of(const struct options *options, const ch
     };
 }
 
-static void stop_at(enum minisign_error error)
-{
-    if (error != MINISIGN_OK) {
-        fail(error == MINISIGN_NOT_UTF8 ? "The comment is not UTF-8" : message_of(error));
-    }
-}
-
-/* The signature of Ed25519 on bytes that the library asked about. */
+/* The signature of Ed25519 on bytes that the library names. */
 static void sign(uint8_t signature[64], const uint8_t *bytes, size_t len)
 {
     crypto_sign_detached(signature, NULL, bytes, len, secrets->open.secret);
     minisign_clear_used();
 }
 
-/*
- * Makes the text of a legacy signature of one that is not: they differ in the second letter of the algorithm, and so in
- * the second letter of the second line. The library makes none, so that no promise on what it signs has to except them;
- * it verifies such a text.
- */
+/* Turns the text into that of a legacy signature, which has another second letter of the algorithm, and so of the
+ * second line. The library only verifies such a text, so that what it promises about signing has no exception. */
 static void turn_legacy(struct text *made)
 {
     uint8_t *end = memchr(made->bytes, '\n', made->len);
+
     end[2] = 'W';
 }
 
 /* Signs the data that the state was fed, and makes the text of the signature. */
-static void make_signature(struct text *made, minisign_state *state, const struct data *data, const struct options *options,
-                           minisign_signed_parts *parts)
+static void make_signature(struct text *made, minisign_state *state, const struct data *data,
+                           const struct options *options, minisign_signed_parts *parts)
 {
     static uint8_t message[64 + TEXT_ROOM];
     uint8_t digest[64];
 
-    stop_at(minisign_digest(state, digest));
+    expect_done(minisign_digest(state, digest));
     if (options->legacy) {
         sign(parts->signature, data->held.bytes, data->held.len);
     } else {
         sign(parts->signature, digest, sizeof digest);
     }
-    stop_at(minisign_comment_message(parts->signature, parts->trusted_comment, parts->trusted_comment_len, message,
-                                     sizeof message));
+    expect_done(minisign_comment_message(parts->signature, parts->trusted_comment, parts->trusted_comment_len, message,
+                                         sizeof message));
     sign(parts->comment_signature, message, 64 + parts->trusted_comment_len);
-    stop_at(minisign_signed_text(&secrets->open, parts, made->bytes, sizeof made->bytes, &made->len));
+    expect_done(minisign_signed_text(&secrets->open, parts, made->bytes, sizeof made->bytes, &made->len));
     if (options->legacy) {
         turn_legacy(made);
     }
 }
 
-/* Ends the program where the text does not vouch under the public key for the data that the state was fed, and says
- * which key is to blame. */
+/* Ends the program if the text does not vouch under the public key for the data that the state was fed, and says which
+ * key is to blame. */
 static void verify_signature(const struct options *options, const minisign_state *fed, const struct text *made,
                              const struct data *data, const minisign_public_key *public)
 {
@@ -144,7 +125,7 @@ static void verify_signature(const struct options *options, const minisign_state
     exit(TROUBLE);
 }
 
-/* Signs a file, and verifies the signature with a public key where there is one. */
+/* Signs a file, and verifies the signature, unless the public key is NULL. */
 static void sign_file(const struct options *options, const char *data_file, const char *signature_file,
                       const minisign_public_key *public)
 {
@@ -170,30 +151,20 @@ static void sign_file(const struct options *options, const char *data_file, cons
     close_data(&data);
 }
 
-/* The public key with which the first signature is verified: the one among the options, or else the secret key's
- * own. */
-static minisign_public_key public_key_for(const struct options *options)
-{
-    minisign_public_key public;
-
-    if (options->public_key != NULL || options->public_file != NULL) {
-        return load_public_key(options);
-    }
-    stop_at(minisign_public_key_of(&secrets->open, &public));
-    return public;
-}
-
 int sign_files(const struct options *options)
 {
     const char *first = options->signature_file;
     minisign_public_key public;
 
-    if ((options->trusted_comment != NULL && strpbrk(options->trusted_comment, "\r\n") != NULL)
-        || (options->comment != NULL && strpbrk(options->comment, "\r\n") != NULL)) {
-        fail("A comment is one line");
-    }
+    expect_one_line(options->trusted_comment);
+    expect_one_line(options->comment);
     open_key(options);
-    public = public_key_for(options);
+    /* The first signature is verified with the public key of the options, or else the secret key's own. */
+    if (name_of_public_key(options) != NULL) {
+        public = load_public_key(options);
+    } else {
+        expect_done(minisign_public_key_of(&secrets->open, &public));
+    }
     sign_file(options, options->data_file, first != NULL ? first : joined(options->data_file, ".minisig", ""), &public);
     for (char *const *file = options->further_files; *file != NULL; file++) {
         sign_file(options, *file, joined(*file, ".minisig", ""), NULL);

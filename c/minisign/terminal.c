@@ -1,16 +1,9 @@
 /* SPDX-License-Identifier: MIT */
 /* Talking to a person: passwords that are typed, and comments that are shown. */
-#define _DEFAULT_SOURCE
-
 #include "terminal.h"
 
-#include <errno.h>
-#include <signal.h>
-#include <stdbool.h>
-#include <string.h>
 #include <sys/select.h>
 #include <termios.h>
-#include <unistd.h>
 
 #include "cleanup.h"
 #include "files.h"
@@ -21,7 +14,7 @@
 /* The signal that came while a password was typed, or 0. */
 static volatile sig_atomic_t came;
 
-/* What was before a question: how signals were treated, by their numbers, and how the terminal was. */
+/* What was before a question: the action for each signal, the blocked signals, and the terminal. */
 struct before {
     struct sigaction actions[NSIG];
     sigset_t mask;
@@ -39,20 +32,13 @@ static bool is_stop(int number)
     return number == SIGTSTP || number == SIGTTIN || number == SIGTTOU;
 }
 
-/* Whether a signal ends or stops a program at which somebody types. */
+/* Whether a signal ends or stops the program while somebody types. */
 static bool is_awaited(int number)
 {
     return is_stop(number) || (ends_program(number) && !is_crash(number));
 }
 
-/* In the background the system stops the program here (SIGTTOU), until it is in the foreground: the terminal is
- * another's until then, and so are its modes. */
-static void wait_for_foreground(void)
-{
-    tcflush(STDIN_FILENO, TCIFLUSH);
-}
-
-/* From here on this signal comes only while a byte is waited for. */
+/* Blocks a signal, which then comes only while `read_byte` waits. */
 static void hold_signal(struct before *before, int number)
 {
     struct sigaction action = { 0 };
@@ -68,10 +54,11 @@ static void hold_signal(struct before *before, int number)
     }
 }
 
-/* From here on signals come only while a byte is waited for, and nothing that is typed is shown. */
+/* Blocks the signals, and has the terminal not show what is typed. */
 static void hide_typed(struct before *before)
 {
-    wait_for_foreground();
+    /* (in the background the system stops the program here, as the terminal is another program's until then) */
+    tcflush(STDIN_FILENO, TCIFLUSH);
     sigprocmask(SIG_BLOCK, NULL, &before->mask);
     for (int number = 1; number < NSIG; number++) {
         if (is_awaited(number) && number != SIGTTOU) {
@@ -85,7 +72,7 @@ static void hide_typed(struct before *before)
         modes.c_lflag &= ~(tcflag_t) ECHO;
         tcsetattr(STDIN_FILENO, TCSAFLUSH, &modes);
     }
-    /* Until here it has stopped a program that was moved to the background meanwhile. */
+    /* (until here it stops a program that was moved to the background meanwhile) */
     hold_signal(before, SIGTTOU);
 }
 
@@ -102,31 +89,26 @@ static void show_typed(const struct before *before)
     sigprocmask(SIG_SETMASK, &before->mask, NULL);
 }
 
-/* One byte of the standard input: 1, or 0 at its end, or -1 where a signal came or it cannot be read. */
+/* Reads one byte of the standard input: 1, or 0 at its end, or -1 if a signal came or it cannot be read. */
 static ssize_t read_byte(const struct before *before, char *byte)
 {
     fd_set ready;
     ssize_t n;
 
-    for (;;) {
+    do {
         FD_ZERO(&ready);
         FD_SET(STDIN_FILENO, &ready);
-        if (came == 0 && pselect(STDIN_FILENO + 1, &ready, NULL, NULL, NULL, &before->mask) >= 0) {
-            n = read(STDIN_FILENO, byte, 1);
-        } else {
-            n = -1;
-        }
-        if (n >= 0 || came != 0 || errno != EINTR) {
-            return n;
-        }
-    }
+        n = came == 0 ? pselect(STDIN_FILENO + 1, &ready, NULL, NULL, NULL, &before->mask) : -1;
+        n = n < 0 ? -1 : read(STDIN_FILENO, byte, 1);
+    } while (n < 0 && came == 0 && errno == EINTR);
+    return n;
 }
 
 /* How a line ended. */
 enum line { WHOLE, LINE_TOO_LONG, NONE };
 
-/* Reads one line, which ends for a password at its first carriage return, line feed or zero. Nothing after its line
- * feed is read. */
+/* Reads one line, and nothing after its line feed. The password ends at the first carriage return, line feed or
+ * zero. */
 static enum line read_password_line(const struct before *before, struct password *password)
 {
     bool ended = false, any = false, fits = true;
@@ -156,7 +138,7 @@ void ask_password(struct password *password, const char *question)
     do {
         came = 0;
         hide_typed(&before);
-        /* (Minisign too asks nobody whom it cannot reach) */
+        /* (without an error stream Minisign asks nothing either) */
         line = fputs(question, stderr) < 0 ? NONE : read_password_line(&before, password);
         show_typed(&before);
         if (came != 0) {

@@ -1,32 +1,26 @@
 /* SPDX-License-Identifier: MIT */
-/*
- * minisign -V: what a public key and a signature say of a file.
- */
+/* minisign -V: whether a signature vouches for a file under a public key. */
 #ifndef VERIFYING_H
 #define VERIFYING_H
 
-#include <stdbool.h>
-
-#include "files.h"
-#include "minisign.h"
 #include "options.h"
+#include "reading.h"
 
-/* The public key that the options name: that of a file, or the one among the options. Ends the program where it is
- * none. */
+/* The public key that the options name or give. Ends the program if it is none. */
 minisign_public_key load_public_key(const struct options *options);
 
 /* What names it: its file, or the flag. */
 const char *name_of_public_key(const struct options *options);
 
-/* Reads the text of a signature, and has the library ask what Ed25519 has to answer of it and of the data of a state,
- * which may be fed before or later. */
-enum minisign_error ask(minisign_state *state, const minisign_public_key *key, const struct text *text, bool allow_legacy);
+/* Reads the text of a signature, and has the library say what to ask Ed25519 about it. The data may be fed to the state
+ * before or later. */
+enum minisign_error ask(minisign_state *state, const minisign_public_key *key, const struct text *text,
+                        bool allow_legacy);
 
-/* The verdict, once the state was fed all of the data and libsodium has answered what was asked of it last; legacy data
- * is asked about itself. */
+/* The verdict, once all of the data is fed: Ed25519 answers what was asked last, about legacy data by these bytes. */
 enum minisign_error judge(minisign_state *state, const struct held *legacy_data);
 
-/* Verifies, says what was verified, copies the data where that is wished, and answers the exit status. */
+/* Verifies, prints what was verified, copies the data if that is wanted, and returns the exit status. */
 int verify_file(const struct options *options);
 
 #endif

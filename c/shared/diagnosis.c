@@ -1,17 +1,14 @@
 /* SPDX-License-Identifier: MIT */
-/* What a text is that was taken for that of a key or a signature. */
+/* What a text is that was given as a key or a signature and is none. */
 #include "diagnosis.h"
 
-#include <stdbool.h>
-#include <stdio.h>
-#include <string.h>
 #include <strings.h>
 
 #include <sodium.h>
 
 #include "text.h"
 
-/* How many bytes the second lines hold. */
+/* How many bytes the base64 of the second lines stands for. */
 enum { PUBLIC_KEY_RECORD = 42, SIGNATURE_RECORD = 74, SIGNIFY_SECRET_KEY_RECORD = 104, SECRET_KEY_RECORD = 158 };
 #define RECORD_ROOM 192
 
@@ -19,12 +16,12 @@ enum { PUBLIC_KEY_RECORD = 42, SIGNATURE_RECORD = 74, SIGNIFY_SECRET_KEY_RECORD 
 #define BARE_KEY_LETTERS 56
 #define MAX_LINES 4
 #define TRUSTED_LABEL "trusted comment: "
-/* Room for what is said of a text, and for what to type. */
+/* Room for what is printed about a text, with a remedy. */
 #define WHAT_BYTES 160
 
 /* ---- Texts of others ---- */
 
-/* What begins so, and what it is. */
+/* How a text begins, and what it is then. */
 struct front {
     const char *bytes;
     size_t len;
@@ -58,11 +55,12 @@ static const struct front fronts[] = {
     FRONT("-----BEGIN ", "this is a text of PEM, as OpenSSL writes them"),
 };
 
-/* What binary OpenPGP is, by its first packet (RFC 9580, section 4.2): its header, of the old format or the new one,
- * then its length, and after that the version. */
+/* What binary OpenPGP is, by its first packet (RFC 9580, section 4.2): a header in the old format or the new one, the
+ * length, and the version. */
 static const char *what_of_openpgp(const uint8_t *text, size_t len)
 {
-    bool is_new = len > 1 && (text[0] & 0xc0) == 0xc0, is_old = len > 1 && (text[0] & 0xc0) == 0x80 && (text[0] & 3) != 3;
+    bool is_new = len > 1 && (text[0] & 0xc0) == 0xc0;
+    bool is_old = len > 1 && (text[0] & 0xc0) == 0x80 && (text[0] & 3) != 3;
     int tag = is_new ? text[0] & 63 : text[0] >> 2 & 15;
     size_t at = is_old ? 1 + ((size_t) 1 << (text[0] & 3)) : len > 1 && text[1] < 192 ? 2 : 3;
 
@@ -84,7 +82,7 @@ static bool begins_with(const uint8_t *text, size_t len, const char *front)
     return len >= own && strncasecmp((const char *) text, front, own) == 0;
 }
 
-/* Whether this is a page of the web, with white space before it or not. */
+/* Whether this is a page of the web, perhaps after white space. */
 static bool is_page(const uint8_t *text, size_t len)
 {
     while (len > 0 && strchr(" \t\r\n", *text) != NULL && *text != 0) {
@@ -95,7 +93,7 @@ static bool is_page(const uint8_t *text, size_t len)
            || begins_with(text, len, "<?xml");
 }
 
-/* Whether each second byte of the front is zero, and no other is. */
+/* Whether every second byte at the front is zero, and no other is. */
 static bool is_utf16(const uint8_t *text, size_t len)
 {
     size_t zero = len > 0 && text[0] == 0 ? 0 : 1;
@@ -134,7 +132,7 @@ struct line {
     size_t len;
 };
 
-/* The lines of a text, and how many it has; what comes after the fourth is left out. */
+/* The first four lines of a text, and how many of them it has. */
 struct lines {
     struct line line[MAX_LINES];
     size_t count;
@@ -155,21 +153,19 @@ static struct lines lines_of(const uint8_t *text, size_t len)
     return lines;
 }
 
-/* The bytes of a line of base64, and how many there are: 0 where it is not base64. */
+/* The bytes of a line of base64, and how many there are: 0 if it is not base64. */
 static size_t decode(uint8_t record[RECORD_ROOM], const struct line *line)
 {
+    const char *base64 = (const char *) line->bytes;
     size_t made = 0;
+    int answer = sodium_base642bin(record, RECORD_ROOM, base64, line->len, NULL, &made, NULL,
+                                   sodium_base64_VARIANT_ORIGINAL);
 
-    if (sodium_base642bin(record, RECORD_ROOM, (const char *) line->bytes, line->len, NULL, &made, NULL,
-                          sodium_base64_VARIANT_ORIGINAL)
-        != 0) {
-        return 0;
-    }
-    return made;
+    return answer == 0 ? made : 0;
 }
 
-/* The kinds of texts: the name of each, what its first line says of itself where a program wrote it, and how many lines
- * it has. */
+/* The kinds that have several lines: the name of each, what the first line says if a program wrote it, and how many
+ * lines there are. */
 static const struct {
     const char *name, *words;
     size_t lines;
@@ -177,10 +173,7 @@ static const struct {
               { "secret key", "minisign encrypted secret key", 2 },
               { "signature", "signature from minisign secret key", 4 } };
 
-/* What a text is: one of these kinds, in the order of enum text_kind, or another. */
-enum text_type { IS_PUBLIC_KEY, IS_SECRET_KEY, IS_SIGNATURE, IS_SIGNIFY_SIGNATURE, IS_SIGNIFY_SECRET_KEY, IS_BARE_KEY, UNKNOWN };
-
-/* Whether words are found in a line. */
+/* Whether a line contains these words. */
 static bool has_words(const struct line *line, const char *words)
 {
     size_t len = strlen(words);
@@ -193,55 +186,52 @@ static bool has_words(const struct line *line, const char *words)
     return false;
 }
 
-static enum text_type kind_of(const struct lines *lines)
+/* Whether a signature is of signify, which writes two lines. */
+static bool is_of_signify(const struct lines *lines)
+{
+    return lines->count == 2 && (has_words(&lines->line[0], "verify with ") || has_words(&lines->line[0], "signify"));
+}
+
+static enum text_kind kind_of(const struct lines *lines)
 {
     static uint8_t record[RECORD_ROOM];
-    enum text_type found = UNKNOWN;
+    enum text_kind found = OTHER_TEXT;
 
     if (lines->count == 1 && lines->line[0].len == BARE_KEY_LETTERS
         && decode(record, &lines->line[0]) == PUBLIC_KEY_RECORD) {
-        return IS_BARE_KEY;
+        return BARE_KEY_TEXT;
     }
-    if (lines->count < 2) {
-        return UNKNOWN;
-    }
-    switch (decode(record, &lines->line[1])) {
-    case PUBLIC_KEY_RECORD: found = IS_PUBLIC_KEY; break;
-    case SECRET_KEY_RECORD: found = IS_SECRET_KEY; break;
-    case SIGNATURE_RECORD:
-        found = lines->count == 2 && (has_words(&lines->line[0], "verify with ") || has_words(&lines->line[0], "signify"))
-                    ? IS_SIGNIFY_SIGNATURE
-                    : IS_SIGNATURE;
-        break;
-    case SIGNIFY_SECRET_KEY_RECORD: found = memcmp(record, "EdBK", 4) == 0 ? IS_SIGNIFY_SECRET_KEY : UNKNOWN; break;
-    default: break;
+    switch (lines->count < 2 ? 0 : decode(record, &lines->line[1])) {
+    case PUBLIC_KEY_RECORD: found = PUBLIC_KEY_TEXT; break;
+    case SECRET_KEY_RECORD: found = SECRET_KEY_TEXT; break;
+    case SIGNATURE_RECORD: found = is_of_signify(lines) ? SIGNIFY_SIGNATURE : SIGNATURE_TEXT; break;
+    case SIGNIFY_SECRET_KEY_RECORD: found = memcmp(record, "EdBK", 4) == 0 ? SIGNIFY_SECRET_KEY : OTHER_TEXT; break;
     }
     sodium_memzero(record, sizeof record);
     return found;
 }
 
-/* What a text is, where it is another one than was wanted, and after a kind of ours the remedy, where there is one; NULL:
- * it may be what was wanted. */
+/* What a text of Minisign or signify is, with the remedy, if it is not what was wanted. NULL: it may be that. */
 static const char *what_of_ours(const struct lines *lines, enum text_kind wanted, const char *remedy)
 {
     static char what[WHAT_BYTES];
-    enum text_type found = kind_of(lines);
+    enum text_kind found = kind_of(lines);
 
     switch (found) {
-    case IS_SIGNIFY_SIGNATURE: return "this is a signature of signify, which has no trusted comment";
-    case IS_SIGNIFY_SECRET_KEY: return "this is a secret key of signify";
-    case IS_BARE_KEY: return "this is the line of a public key alone, as -P takes it";
-    case UNKNOWN: return NULL;
+    case SIGNIFY_SIGNATURE: return "this is a signature of signify, which has no trusted comment";
+    case SIGNIFY_SECRET_KEY: return "this is a secret key of signify";
+    case BARE_KEY_TEXT: return "this is the line of a public key alone, as -P takes it";
+    case OTHER_TEXT: return NULL;
     default: break;
     }
     snprintf(what, sizeof what, "this is a %s, not a %s%s%s", kinds[found].name, kinds[wanted].name,
              remedy == NULL ? "" : ": ", remedy == NULL ? "" : remedy);
-    return (int) found == (int) wanted ? NULL : what;
+    return found == wanted ? NULL : what;
 }
 
 /* ---- What is said ---- */
 
-/* Whether the text says of itself that it is what was wanted, so that it is damaged. */
+/* Whether the text says that it is what was wanted, so that it is damaged. */
 static bool says_so(const struct lines *lines, enum text_kind wanted)
 {
     return lines->count > 0
@@ -250,7 +240,7 @@ static bool says_so(const struct lines *lines, enum text_kind wanted)
                    && begins_with(lines->line[2].bytes, lines->line[2].len, TRUSTED_LABEL)));
 }
 
-/* Why the base64 of a public key alone is none. */
+/* Says why the base64 of a public key alone is none. */
 static void say_bare(const char *name, size_t len, enum minisign_error error)
 {
     if (error == MINISIGN_BARE_PUBLIC_KEY_LENGTH) {
@@ -263,8 +253,7 @@ static void say_bare(const char *name, size_t len, enum minisign_error error)
     }
 }
 
-/* Why a text is not the one that was wanted, in words that say where to look; NULL where the error says no more of
- * it. */
+/* Where an error is in a text. NULL if the error does not tell. */
 static const char *why_of(enum minisign_error error)
 {
     switch (error) {
@@ -285,35 +274,30 @@ static const char *why_of(enum minisign_error error)
     }
 }
 
-/* What a text is that is known to be something else than was wanted; NULL: it may be what was wanted. */
-static const char *what_else(const uint8_t *text, size_t len, const struct lines *lines, enum text_kind wanted, const char *remedy)
-{
-    const char *what = what_of_others(text, len);
-
-    return what != NULL ? what : what_of_ours(lines, wanted, remedy);
-}
-
-bool say_if_other(const char *name, const uint8_t *text, size_t len, enum text_kind wanted)
+bool say_if_other(const char *name, const uint8_t *text, size_t len, enum text_kind wanted, const char *remedy)
 {
     struct lines lines = lines_of(text, len);
-    const char *what = len == 0 ? NULL : what_else(text, len, &lines, wanted, NULL);
+    const char *what = what_of_others(text, len);
 
+    what = what != NULL ? what : what_of_ours(&lines, wanted, remedy);
     if (what != NULL) {
         fprintf(stderr, "%s: %s\n", visible(name), what);
     }
     return what != NULL;
 }
 
-/* Says why a text that may be what was wanted is rejected. */
+/* Says why a text is rejected that may be what was wanted. */
 static void say_rejected(const char *name, const struct lines *lines, enum text_kind wanted, enum minisign_error error)
 {
     const char *kind = kinds[wanted].name, *why = why_of(error);
     bool is_meant = says_so(lines, wanted) || error == MINISIGN_KEY_CORRUPTED;
 
-    if (error != MINISIGN_NOT_UTF8 && lines->count < kinds[wanted].lines) {
+    if (error == MINISIGN_PARAMETERS_TOO_HIGH) {
+        fprintf(stderr, "%s: %s\n", name, why);
+    } else if (error != MINISIGN_NOT_UTF8 && lines->count < kinds[wanted].lines) {
         fprintf(stderr,
-                is_meant || kind_of(lines) != UNKNOWN ? "%s: this %s is cut: it has %zu of %zu lines\n"
-                                                      : "%s: this is no %s: it has %zu of %zu lines\n",
+                is_meant || kind_of(lines) != OTHER_TEXT ? "%s: this %s is cut: it has %zu of %zu lines\n"
+                                                         : "%s: this is no %s: it has %zu of %zu lines\n",
                 name, kind, lines->count, kinds[wanted].lines);
     } else if (why != NULL) {
         fprintf(stderr, is_meant ? "%s: this %s is damaged: %s\n" : "%s: this is no %s: %s\n", name, kind, why);
@@ -322,20 +306,14 @@ static void say_rejected(const char *name, const struct lines *lines, enum text_
     }
 }
 
-void say_kind(const char *name, const uint8_t *text, size_t len, enum text_kind wanted, enum minisign_error error, const char *remedy)
+void say_kind(const char *name, const uint8_t *text, size_t len, enum text_kind wanted, enum minisign_error error,
+              const char *remedy)
 {
     struct lines lines = lines_of(text, len);
-    const char *what = wanted == BARE_KEY_TEXT ? NULL : what_else(text, len, &lines, wanted, remedy);
 
-    name = visible(name);
-    if (what == NULL && error == MINISIGN_PARAMETERS_TOO_HIGH) {
-        what = why_of(error);
-    }
     if (wanted == BARE_KEY_TEXT) {
-        say_bare(name, len, error);
-    } else if (what != NULL) {
-        fprintf(stderr, "%s: %s\n", name, what);
-    } else {
-        say_rejected(name, &lines, wanted, error);
+        say_bare(visible(name), len, error);
+    } else if (!say_if_other(name, text, len, wanted, remedy)) {
+        say_rejected(visible(name), &lines, wanted, error);
     }
 }

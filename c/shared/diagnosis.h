@@ -1,27 +1,25 @@
 /* SPDX-License-Identifier: MIT */
-/*
- * What a text is that was taken for that of a key or a signature.
- */
+/* What a text is that was given as a key or a signature and is none. */
 #ifndef DIAGNOSIS_H
 #define DIAGNOSIS_H
 
-#include <stdbool.h>
-#include <stddef.h>
-#include <stdint.h>
-
+#include "system.h"
 #include "minisign.h"
 
-/* The last one is the base64 of a public key alone. */
-enum text_kind { PUBLIC_KEY_TEXT, SECRET_KEY_TEXT, SIGNATURE_TEXT, BARE_KEY_TEXT };
+/* What a text is. Callers want one of the first four, of which the last is the base64 of a public key alone. */
+enum text_kind {
+    PUBLIC_KEY_TEXT, SECRET_KEY_TEXT, SIGNATURE_TEXT, BARE_KEY_TEXT, SIGNIFY_SIGNATURE, SIGNIFY_SECRET_KEY, OTHER_TEXT
+};
 
 /*
- * Says on the error stream which text is meant where the library rejects one for this error: a line of the file's name,
- * or of the flag that gave it, and what the text is, as far as that can be known, or else what the library says of it.
- * After a key or a signature that was given in place of another one comes what to type.
+ * Prints a line on the error stream about a text that the library rejected for this error: the name of its file, or the
+ * flag that gave it, and what it is, or else what is wrong with it. If a key or a signature was given in place of
+ * another one, the remedy follows, unless it is NULL.
  */
-void say_kind(const char *name, const uint8_t *text, size_t len, enum text_kind wanted, enum minisign_error error, const char *remedy);
+void say_kind(const char *name, const uint8_t *text, size_t len, enum text_kind wanted, enum minisign_error error,
+              const char *remedy);
 
-/* Says what a text is where that is known to be something else than was wanted: whether it said anything. */
-bool say_if_other(const char *name, const uint8_t *text, size_t len, enum text_kind wanted);
+/* Prints that line only if the text is known to be something else than was wanted: whether it did. */
+bool say_if_other(const char *name, const uint8_t *text, size_t len, enum text_kind wanted, const char *remedy);
 
 #endif

@@ -1,37 +1,16 @@
 /* SPDX-License-Identifier: MIT */
-/* Files that are looked at and not opened: by O_PATH and /proc of Linux, or by lstat. */
-#if defined __linux__ && !defined POSIX_ONLY
+/* Files that are looked at without being opened: by O_PATH and /proc of Linux, or by lstat. */
 #define _GNU_SOURCE
-#define HAS_PATHS 1
-#define TO_LOOK O_PATH
-#include <sys/statvfs.h>
-#include <sys/vfs.h>
-#else
-#define _DEFAULT_SOURCE
-#define HAS_PATHS 0
-#define TO_LOOK O_RDONLY
-#endif
 
 #include "handles.h"
 
-#include <errno.h>
-#include <fcntl.h>
 #include <poll.h>
-#include <stdio.h>
-#include <unistd.h>
-
-#include "again.h"
-
-/* A mount of which no link is followed: an older C library has no name for it. */
-#ifndef ST_NOSYMFOLLOW
-#define ST_NOSYMFOLLOW 8192
-#endif
 
 /* The file systems of /proc and of pipes without names, as Linux numbers them. */
 #define PROC_FILE_SYSTEM 0x9fa0
 #define PIPE_FILE_SYSTEM 0x50495045
 
-/* How many milliseconds later it is looked again whether somebody reads a pipe. */
+/* How many milliseconds pass between two looks whether a pipe has a reader. */
 #define PIPE_PAUSE 20
 
 bool is_same_file(const struct stat *one, const struct stat *other)
@@ -50,61 +29,19 @@ void close_open(int *fd)
     errno = number;
 }
 
-int open_by_path(const struct handle *handle, const char *path, int how)
-{
-    struct stat opened;
-    int fd;
+/* ---- What Linux has ---- */
 
-    while ((fd = open(path, how | O_NONBLOCK)) < 0 && errno == ENXIO) {
-        if (stat(path, &opened) != 0 || !is_same_file(&opened, &handle->found)) {
-            errno = EBUSY;
-            return -1;
-        }
-        if (!S_ISFIFO(opened.st_mode)) {
-            errno = ENXIO;
-            return -1;
-        }
-        poll(NULL, 0, PIPE_PAUSE);
-    }
-    if (fd < 0) {
-        return -1;
-    }
-    if (fstat(fd, &opened) != 0 || !is_same_file(&opened, &handle->found)
-        || fcntl(fd, F_SETFL, fcntl(fd, F_GETFL) & ~O_NONBLOCK) != 0) {
-        close(fd);
-        errno = EBUSY;
-        return -1;
-    }
-    return fd;
-}
+#if defined __linux__ && !defined POSIX_ONLY
 
-struct own_path own_path_of(int fd)
-{
-    struct own_path path;
+#include <sys/statvfs.h>
+#include <sys/vfs.h>
 
-    snprintf(path.bytes, sizeof path.bytes, "/proc/self/fd/%d", fd);
-    return path;
-}
+/* A mount where no link is followed: an older C library has no name for it. */
+#ifndef ST_NOSYMFOLLOW
+#define ST_NOSYMFOLLOW 8192
+#endif
 
-int open_handle(const struct handle *handle, const char *path, int how)
-{
-    int fd = handle->fd < 0 ? -1 : open(own_path_of(handle->fd).bytes, how);
-
-    /* (where there is no /proc) */
-    return handle->fd < 0 || (fd < 0 && errno == ENOENT) ? open_by_path(handle, path, how) : fd;
-}
-
-ssize_t read_handle(const struct handle *handle, int directory, const char *name, char *text, size_t room)
-{
-    return handle->fd < 0 ? readlinkat(directory, name, text, room) : readlinkat(handle->fd, "", text, room);
-}
-
-int enter_directory(int from, const char *name, bool follows)
-{
-    return openat(from, name, TO_LOOK | O_DIRECTORY | O_CLOEXEC | (follows ? 0 : O_NOFOLLOW));
-}
-
-#if HAS_PATHS
+#define TO_LOOK O_PATH
 
 bool look_up(struct handle *handle, int directory, const char *path, bool follows)
 {
@@ -131,13 +68,14 @@ bool forbids_links(int directory)
 
 #else
 
+#define TO_LOOK O_RDONLY
+#define is_on(fd, file_system) ((void) (fd), false)
+
 bool look_up(struct handle *handle, int directory, const char *path, bool follows)
 {
     handle->fd = -1;
     return AGAIN(fstatat(directory, path, &handle->found, follows ? 0 : AT_SYMLINK_NOFOLLOW)) == 0;
 }
-
-#define is_on(fd, file_system) ((void) (fd), false)
 
 bool forbids_links(int directory)
 {
@@ -154,4 +92,54 @@ bool is_in_proc(int directory)
 bool is_nameless_pipe(const struct handle *handle)
 {
     return S_ISFIFO(handle->found.st_mode) && is_on(handle->fd, PIPE_FILE_SYSTEM);
+}
+
+/* ---- What is opened ---- */
+
+int enter_directory(int from, const char *name, bool follows)
+{
+    return openat(from, name, TO_LOOK | O_DIRECTORY | O_CLOEXEC | (follows ? 0 : O_NOFOLLOW));
+}
+
+struct own_path own_path_of(int fd)
+{
+    struct own_path path;
+
+    snprintf(path.bytes, sizeof path.bytes, "/proc/self/fd/%d", fd);
+    return path;
+}
+
+ssize_t read_handle(const struct handle *handle, int directory, const char *name, char *text, size_t room)
+{
+    return handle->fd < 0 ? readlinkat(directory, name, text, room) : readlinkat(handle->fd, "", text, room);
+}
+
+int open_by_path(const struct handle *handle, const char *path, int how)
+{
+    struct stat opened;
+    int fd;
+
+    while ((fd = open(path, how | O_NONBLOCK)) < 0 && errno == ENXIO) {
+        bool is_same = stat(path, &opened) == 0 && is_same_file(&opened, &handle->found);
+
+        if (!is_same || !S_ISFIFO(opened.st_mode)) {
+            errno = is_same ? ENXIO : EBUSY;
+            return -1;
+        }
+        poll(NULL, 0, PIPE_PAUSE);
+    }
+    if (fd >= 0 && (fstat(fd, &opened) != 0 || !is_same_file(&opened, &handle->found)
+                    || fcntl(fd, F_SETFL, fcntl(fd, F_GETFL) & ~O_NONBLOCK) != 0)) {
+        close_open(&fd);
+        errno = EBUSY;
+    }
+    return fd;
+}
+
+int open_handle(const struct handle *handle, const char *path, int how)
+{
+    int fd = handle->fd < 0 ? -1 : open(own_path_of(handle->fd).bytes, how);
+
+    /* (where there is no /proc) */
+    return handle->fd < 0 || (fd < 0 && errno == ENOENT) ? open_by_path(handle, path, how) : fd;
 }

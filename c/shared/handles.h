@@ -1,19 +1,17 @@
 /* SPDX-License-Identifier: MIT */
 /*
- * Files that are looked at and not opened, since a pipe would wait for its reader, and a stranger may have put it there.
- * Linux has O_PATH for that, and /proc, by which the very same is opened later. On other systems, and with -DPOSIX_ONLY,
- * it is looked at by lstat and opened by its name, without waiting, and closed again where it is another one by then:
- * what is done with it is the same, but whoever reads a pipe may see that it was opened, a directory has to be readable,
- * and links in /proc lead where their text says.
+ * Files that are looked at without being opened: opening a pipe waits for its reader, and a stranger may have put it
+ * there. Linux has O_PATH for that, and /proc to open the same file later. Other systems, and -DPOSIX_ONLY, look by
+ * lstat, open by name without waiting, and close the file again if it is another one by then. The result is the same,
+ * but the reader of a pipe may see that it was opened, a directory has to be readable, and links in /proc lead where
+ * their text says.
  */
 #ifndef HANDLES_H
 #define HANDLES_H
 
-#include <stdbool.h>
-#include <sys/stat.h>
-#include <sys/types.h>
+#include "system.h"
 
-/* What was looked at, open as a path where the system can do that, and else -1; and what it is. */
+/* What was looked at: open as a path where the system can do that, else -1; and what it is. */
 struct handle {
     int fd;
     struct stat found;
@@ -21,11 +19,11 @@ struct handle {
 
 bool is_same_file(const struct stat *one, const struct stat *other);
 
-/* Looks at what a path leads to from a directory, or at a link at its end itself: false, as errno says. */
+/* Looks at what a path leads to from a directory, or at a link at its end itself. On false errno says why. */
 bool look_up(struct handle *handle, int directory, const char *path, bool follows);
 
-/* Opens what was looked at by its path: waits for whoever reads a pipe as long as it is the same one. -1, with errno EBUSY
- * where the path leads to another one by now. */
+/* Opens by its path what was looked at, and waits for the reader of a pipe while it is the same one. -1, with errno
+ * EBUSY if the path leads to another file by now. */
 int open_by_path(const struct handle *handle, const char *path, int how);
 
 /* The same, but by the handle where there is one. */
@@ -34,18 +32,18 @@ int open_handle(const struct handle *handle, const char *path, int how);
 /* The text of a link that was looked at, as readlinkat. */
 ssize_t read_handle(const struct handle *handle, int directory, const char *name, char *text, size_t room);
 
-/* Closes what is open, where it is, of which -1 is left. errno stays. */
+/* Closes a descriptor that is open, and makes it -1. errno stays. */
 void close_open(int *fd);
 
-/* Opens a directory for looking names up in it: -1, as errno says. */
+/* Opens a directory to look names up in it. On -1 errno says why. */
 int enter_directory(int from, const char *name, bool follows);
 
-/* Whether it is a directory of /proc; a pipe without a name; and of a directory whether no link in it is followed. */
+/* Whether a directory is in /proc; whether a pipe has no name; whether the system follows no link in a directory. */
 bool is_in_proc(int directory);
 bool is_nameless_pipe(const struct handle *handle);
 bool forbids_links(int directory);
 
-/* The path of what is open in /proc of Linux. */
+/* The path of an open file in /proc of Linux. */
 struct own_path {
     char bytes[32];
 };

@@ -1,15 +1,7 @@
 /* SPDX-License-Identifier: MIT */
-/* The permissions of a file that takes the place of an older one. */
-#define _DEFAULT_SOURCE
-
+/* The permissions of a file that replaces an older one. */
 #include "permissions.h"
 
-#include <errno.h>
-#include <fcntl.h>
-#include <sys/stat.h>
-#include <unistd.h>
-
-#include "again.h"
 #include "handles.h"
 
 #define ALL_BITS (S_IRWXU | S_IRWXG | S_IRWXO)
@@ -37,12 +29,12 @@ enum { NO_LIST = EOPNOTSUPP };
 
 #define ACCESS_LIST "system.posix_acl_access"
 
-/* A list begins with its version, and each of its entries has whom it is for, what they may do, and which user or group
- * they are: in 2, 2 and 4 bytes, of which the lowest comes first. */
+/* A list begins with its version. Each entry says whom it is for, what they may do, and which user or group they are:
+ * in 2, 2 and 4 bytes, of which the lowest comes first. */
 #define VERSION_BYTES 4
 #define ENTRY_BYTES 8
 
-/* Whom an entry is for. The other ones are for the owner and all others, whose bits the mode has, and the mask. */
+/* Whom an entry is for. Other entries are for the owner and all others, whose bits the mode has, and the mask. */
 enum { NAMED_USER = 0x02, OWNING_GROUP = 0x04, NAMED_GROUP = 0x08 };
 
 /* Whether the system says that there is no list, or that the file system has none. */
@@ -51,7 +43,7 @@ static bool is_none(int number)
     return number == NO_LIST || number == EOPNOTSUPP;
 }
 
-/* Reads the list of a file, which may be open as a path alone: whether that is known now, or errno says why not. */
+/* Reads the list of a file, which may be open as a path alone. On false errno says why. */
 static bool read_list(struct permissions *older, int fd)
 {
     ssize_t n = AGAIN(fgetxattr(fd, ACCESS_LIST, older->list, sizeof older->list));
@@ -64,20 +56,12 @@ static bool read_list(struct permissions *older, int fd)
     return n >= 0 || is_none(errno) || !older->is_list_known;
 }
 
-static bool give_list(int fd, const struct permissions *older)
+/* What everybody may do but the owner: the group, all others, and those in the list, which gives no more than the
+ * group's bits. */
+static mode_t common_permissions(const struct permissions *older)
 {
-    return AGAIN(fsetxattr(fd, ACCESS_LIST, older->list, older->list_length, 0)) == 0;
-}
+    mode_t common = older->mode & (older->mode >> 3) & S_IRWXO;
 
-/* Takes the list off that a file has inherited. */
-static bool remove_list(int fd)
-{
-    return AGAIN(fremovexattr(fd, ACCESS_LIST)) == 0 || is_none(errno);
-}
-
-/* What of these bits each may do who is named in the list, and the owning group. */
-static mode_t common_in_list(const struct permissions *older, mode_t common)
-{
     for (size_t at = VERSION_BYTES; at + ENTRY_BYTES <= older->list_length; at += ENTRY_BYTES) {
         const uint8_t *entry = older->list + at;
         int whom = entry[0] | entry[1] << 8;
@@ -91,7 +75,14 @@ static mode_t common_in_list(const struct permissions *older, mode_t common)
 
 /* ---- Those of an older file ---- */
 
-/* Takes what the system says of a file: false where it is no regular one. */
+void replace_mode(struct permissions *older, mode_t mode)
+{
+    older->mode = mode & ALL_BITS;
+    older->is_list_known = true;
+    older->list_length = 0;
+}
+
+/* Takes what the system says about a file. False if it is no regular one. */
 static bool take_found(struct permissions *older, const struct stat *found)
 {
     if (!S_ISREG(found->st_mode)) {
@@ -100,9 +91,7 @@ static bool take_found(struct permissions *older, const struct stat *found)
     }
     older->owner = found->st_uid;
     older->group = found->st_gid;
-    older->mode = found->st_mode & ALL_BITS;
-    older->is_list_known = true;
-    older->list_length = 0;
+    replace_mode(older, found->st_mode);
     return true;
 }
 
@@ -113,45 +102,18 @@ bool read_permissions_of(struct permissions *older, int fd)
     return AGAIN(fstat(fd, &found)) == 0 && take_found(older, &found) && read_list(older, fd);
 }
 
-/* Reads those of a file that may not be opened. */
-static bool read_unopened(struct permissions *older, int directory, const char *name)
-{
-    struct handle handle;
-    bool is_read;
-
-    if (!look_up(&handle, directory, name, false)) {
-        return false;
-    }
-    is_read = take_found(older, &handle.found) && (handle.fd < 0 || read_list(older, handle.fd));
-    close_open(&handle.fd);
-    return is_read;
-}
-
 bool read_permissions(struct permissions *older, int directory, const char *name)
 {
-    int fd = AGAIN(openat(directory, name, O_RDONLY | O_NONBLOCK | O_NOFOLLOW | O_CLOEXEC));
-    bool is_read;
+    struct handle handle = { .fd = AGAIN(openat(directory, name, O_RDONLY | O_NONBLOCK | O_NOFOLLOW | O_CLOEXEC)) };
+    bool is_read = false;
 
-    if (fd < 0) {
-        return errno == EACCES && read_unopened(older, directory, name);
+    if (handle.fd >= 0) {
+        is_read = read_permissions_of(older, handle.fd);
+    } else if (errno == EACCES && look_up(&handle, directory, name, false)) {
+        is_read = take_found(older, &handle.found) && (handle.fd < 0 || read_list(older, handle.fd));
     }
-    is_read = read_permissions_of(older, fd);
-    close_open(&fd);
+    close_open(&handle.fd);
     return is_read;
-}
-
-void replace_mode(struct permissions *older, mode_t mode)
-{
-    older->mode = mode & ALL_BITS;
-    older->is_list_known = true;
-    older->list_length = 0;
-}
-
-/* What each may do whom the older file does not hold for its owner: the group, all others, and those in the list. The
- * group's bits are an upper bound on what a list gives. */
-static mode_t common_permissions(const struct permissions *older)
-{
-    return common_in_list(older, older->mode & (older->mode >> 3) & S_IRWXO);
 }
 
 /* ---- Those of a new file ---- */
@@ -159,11 +121,11 @@ static mode_t common_permissions(const struct permissions *older)
 bool give_owner(int fd, uid_t owner, gid_t group, bool *is_given)
 {
     *is_given = AGAIN(fchown(fd, owner, group)) == 0;
-    /* (an owner that the system does not have is one that it does not allow) */
+    /* (EINVAL: the system does not have such an owner) */
     return *is_given || errno == EPERM || errno == EINVAL;
 }
 
-/* Gives a file an owner and a group, as far as that is allowed, and tells whether it has the group now. */
+/* Gives a file owner and group as far as the system allows it, and tells whether it has the group now. */
 static bool give_group(int fd, const struct stat *own, const struct permissions *older, bool *has_group)
 {
     *has_group = own->st_uid == older->owner && own->st_gid == older->group;
@@ -173,11 +135,12 @@ static bool give_group(int fd, const struct stat *own, const struct permissions 
 
 bool give_mode(int fd, mode_t mode)
 {
-    return remove_list(fd) && AGAIN(fchmod(fd, mode)) == 0;
+    return (AGAIN(fremovexattr(fd, ACCESS_LIST)) == 0 || is_none(errno)) && AGAIN(fchmod(fd, mode)) == 0;
 }
 
 bool give_permissions(int fd, const struct permissions *older)
 {
+    mode_t common = (older->mode & S_IRWXU) | common_permissions(older);
     struct stat own;
     bool has_group;
 
@@ -185,11 +148,11 @@ bool give_permissions(int fd, const struct permissions *older)
         return false;
     }
     if (!has_group || !older->is_list_known) {
-        return give_mode(fd, (older->mode & S_IRWXU) | common_permissions(older));
+        return give_mode(fd, common);
     }
     /* The list has the bits of the mode. */
     if (older->list_length > 0) {
-        return give_list(fd, older) || give_mode(fd, (older->mode & S_IRWXU) | common_permissions(older));
+        return AGAIN(fsetxattr(fd, ACCESS_LIST, older->list, older->list_length, 0)) == 0 || give_mode(fd, common);
     }
     return give_mode(fd, older->mode);
 }

@@ -1,14 +1,6 @@
 /* SPDX-License-Identifier: MIT */
-/* Signs of life on the error stream, where it is a terminal. */
-#define _DEFAULT_SOURCE
-
+/* Progress on the error stream, if it is a terminal. */
 #include "progress.h"
-
-#include <inttypes.h>
-#include <signal.h>
-#include <stdio.h>
-#include <time.h>
-#include <unistd.h>
 
 static bool is_quiet;
 
@@ -17,7 +9,7 @@ void be_quiet(void)
     is_quiet = true;
 }
 
-/* Whether somebody looks on. */
+/* Whether there is somebody to see it. */
 static bool is_shown(void)
 {
     return !is_quiet && isatty(STDERR_FILENO);
@@ -25,8 +17,7 @@ static bool is_shown(void)
 
 /* ---- Dots ---- */
 
-/* The timer has a signal of its own, as that of alarm may be somebody else's. Where the system has neither, no dot is
- * shown. */
+/* The timer has a signal of its own, as somebody else may use that of alarm. A system without both shows no dots. */
 #if defined _POSIX_TIMERS && _POSIX_TIMERS > 0 && defined SIGRTMIN
 
 static timer_t timer;
@@ -68,7 +59,7 @@ void end_dots(void)
     if (has_timer) {
         has_timer = false;
         timer_delete(timer);
-        /* What was sent and has not come yet is dropped so. */
+        /* This drops a signal that was sent and has not come yet. */
         ignored.sa_handler = SIG_IGN;
         sigaction(SIGRTMIN, &ignored, NULL);
         sigaction(SIGRTMIN, &before, NULL);
@@ -100,7 +91,7 @@ static int64_t seconds_now(void)
 
 struct progress begin_progress(const char *what, uint64_t size, bool stays)
 {
-    return (struct progress) { .what = what, .size = size, .stays = stays, .is_seen = is_shown(), .shown_at = seconds_now() };
+    return (struct progress) { what, size, .stays = stays, .is_seen = is_shown(), .shown_at = seconds_now() };
 }
 
 void show_progress(struct progress *progress, uint64_t bytes)

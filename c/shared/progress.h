@@ -1,12 +1,9 @@
 /* SPDX-License-Identifier: MIT */
-/*
- * Signs of life on the error stream, where it is a terminal, for what takes longer than a second.
- */
+/* Progress on the error stream, if it is a terminal, of work that takes longer than a second. */
 #ifndef PROGRESS_H
 #define PROGRESS_H
 
-#include <stdbool.h>
-#include <stdint.h>
+#include "system.h"
 
 /* From here on nothing is shown. */
 void be_quiet(void);
@@ -15,8 +12,7 @@ void be_quiet(void);
 void begin_dots(void);
 void end_dots(void);
 
-/* How far a work on bytes is: what is said of it, how many bytes there are, where that is known and else 0, and on how
- * many it was done. */
+/* Work on bytes: what is done, on how many bytes, or 0 if that is not known, and on how many it was done. */
 struct progress {
     const char *what;
     uint64_t size;
@@ -30,10 +26,10 @@ struct progress {
 
 struct progress begin_progress(const char *what, uint64_t size, bool stays);
 
-/* It was done on so many bytes more: shows how far it is. */
+/* So many bytes more are done. */
 void show_progress(struct progress *progress, uint64_t bytes);
 
-/* All is done, or no more will be: what was shown stays, or is taken away. */
+/* The work ends: what was shown stays, or is removed. */
 void end_progress(struct progress *progress);
 
 #endif

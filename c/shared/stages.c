@@ -1,29 +1,21 @@
 /* SPDX-License-Identifier: MIT */
-/* Stages: what Linux has for them, and plain POSIX. */
-#if defined __linux__ && !defined POSIX_ONLY
+/* Stages, by what Linux has for them or by POSIX alone. */
 #define _GNU_SOURCE
-#else
-#define _DEFAULT_SOURCE
-#endif
 
 #include "stages.h"
 
 #include <dirent.h>
-#include <errno.h>
-#include <fcntl.h>
-#include <stdio.h>
-#include <string.h>
-#include <sys/stat.h>
-#include <unistd.h>
 
-#include "again.h"
+#if defined __linux__ || defined __APPLE__
+#include <sys/random.h>
+#endif
+
 #include "handles.h"
 
 #define MAX_DRAWN 256
 
 #if defined __linux__ && !defined POSIX_ONLY
 
-#include <sys/random.h>
 #include <sys/syscall.h>
 
 /* (an older C library has no name for this call of the system) */
@@ -40,10 +32,6 @@ static bool draw_bytes(uint8_t *bytes, size_t len)
 
 #else
 
-#ifdef __APPLE__
-#include <sys/random.h>
-#endif
-
 /* (no directory is opened for writing) */
 #undef O_TMPFILE
 #define O_TMPFILE 0
@@ -55,7 +43,7 @@ static bool draw_bytes(uint8_t *bytes, size_t len)
 
 /* ---- Files without a name ---- */
 
-/* Whether a file without a name can get one here, by its path in /proc. */
+/* Whether a file without a name can get one by its path in /proc. */
 static bool can_link(int fd)
 {
     struct stat own, named;
@@ -148,7 +136,7 @@ bool rename_to_free(int directory, const char *from, const char *to)
     if (errno != EPERM && errno != ENOTSUP && errno != EOPNOTSUPP) {
         return false;
     }
-    /* (where the file system has no links: what gets the name in between is replaced) */
+    /* (a file system without links: a file that gets the name in between is replaced) */
     if (fstatat(directory, to, &found, AT_SYMLINK_NOFOLLOW) == 0) {
         errno = EEXIST;
         return false;

@@ -1,14 +1,6 @@
 /* SPDX-License-Identifier: MIT */
 /* Standard streams, and bytes that are read and written whole. */
-#define _DEFAULT_SOURCE
-
 #include "streams.h"
-
-#include <errno.h>
-#include <fcntl.h>
-#include <unistd.h>
-
-#include "again.h"
 
 static bool held[STDERR_FILENO + 1];
 

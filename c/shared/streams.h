@@ -1,17 +1,12 @@
 /* SPDX-License-Identifier: MIT */
-/*
- * Standard streams, and bytes that are read and written whole. A call that a signal interrupts is made again.
- */
+/* Standard streams, and bytes that are read and written whole. A call that a signal interrupts is made again. */
 #ifndef STREAMS_H
 #define STREAMS_H
 
-#include <stdbool.h>
-#include <stddef.h>
-#include <stdint.h>
-#include <sys/types.h>
+#include "system.h"
 
-/* Has to be called before anything is opened: no file may get the number of a standard stream that is closed, into
- * which what is said would go. Such a stream can be neither read nor written still. False where that cannot be done. */
+/* Opens each standard stream that is closed, so that it can be neither read nor written, and no file gets its number:
+ * what is printed would go there. Has to be called before anything is opened. False if that is not possible. */
 bool hold_streams(void);
 
 /* Whether this is a standard stream that was closed then. */
@@ -20,7 +15,7 @@ bool is_held(int fd);
 /* Reads so many bytes, and fewer only at the end of the file: how many, or -1 as errno says. */
 ssize_t read_whole(int fd, uint8_t *bytes, size_t room);
 
-/* Writes all bytes: false, as errno says. */
+/* Writes all bytes. On false errno says why. */
 bool write_whole(int fd, const uint8_t *bytes, size_t len);
 
 #endif

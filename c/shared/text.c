@@ -2,16 +2,13 @@
 /* Texts as they are shown to a person, and which of them are UTF-8. */
 #include "text.h"
 
-#include <stdlib.h>
-#include <string.h>
-
-/* How many bytes a character of UTF-8 has that begins with this one, or 0 where none does. */
+/* How many bytes a character of UTF-8 has whose first byte this is, or 0 if there is none. */
 static size_t length_of(uint8_t first)
 {
     return first < 0x80 ? 1 : first < 0xc2 ? 0 : first < 0xe0 ? 2 : first < 0xf0 ? 3 : first < 0xf5 ? 4 : 0;
 }
 
-/* The character at the front of a text, and how many bytes it has: none where they are no UTF-8. */
+/* The character at the front of a text, and how many bytes it has: 0 if they are no UTF-8. */
 static uint32_t character_at(const uint8_t *text, size_t len, size_t *bytes)
 {
     static const uint32_t least[] = { 0, 0, 0x80, 0x800, 0x10000 };
@@ -65,7 +62,7 @@ bool ends_with_space(const uint8_t *text, size_t len)
            || last == 0x3000;
 }
 
-/* Whether a terminal might do something else with a character than show it. */
+/* Whether a terminal might do something with a character besides showing it. */
 static bool is_control(uint32_t character)
 {
     return (character < 0x20 && character != '\t') || (character >= 0x7f && character < 0xa0) || character == 0x61c

@@ -1,22 +1,17 @@
 /* SPDX-License-Identifier: MIT */
-/*
- * Texts as they are shown to a person, and which of them are UTF-8.
- */
+/* Texts as they are shown to a person, and which of them are UTF-8. */
 #ifndef TEXT_H
 #define TEXT_H
 
-#include <stdbool.h>
-#include <stddef.h>
-#include <stdint.h>
-#include <stdio.h>
+#include "system.h"
 
 /* Room for a character as it is shown. */
 #define SHOWN_BYTES 12
 
 /*
- * Writes the first character of a text as it is shown: control characters other than a tab, and those that turn the
- * direction of writing, as \u{1b}, and a byte that is no UTF-8 as \xff. Answers how many bytes that takes, and how many
- * of the text were shown.
+ * Writes the first character of a text as it is shown: a control character other than a tab, and one that turns the
+ * direction of writing, as \u{1b}, and a byte that is no UTF-8 as \xff. Returns how many bytes it wrote, and in `bytes`
+ * how many of the text it showed.
  */
 size_t show_character(char shown[SHOWN_BYTES], const uint8_t *text, size_t len, size_t *bytes);
 
@@ -24,11 +19,10 @@ size_t show_character(char shown[SHOWN_BYTES], const uint8_t *text, size_t len, 
 bool is_utf8(const uint8_t *text, size_t len);
 bool ends_with_space(const uint8_t *text, size_t len);
 
-/* Writes a text as it is shown so. */
+/* Writes a text as it is shown. */
 void write_visible(FILE *to, const uint8_t *text, size_t len);
 
-/* The name of a file as it is shown so, a tab too: itself where there is nothing to be made visible, or in memory of
- * malloc. */
+/* The name of a file as it is shown, with a tab as \u{9}: the name itself if that is the same, or memory of malloc. */
 const char *visible(const char *name);
 
 #endif

@@ -9,7 +9,8 @@ more than 50 lines, and what is written by hand no more than it may have. The ma
 built needs nothing that glibc 2.31 has not. Without libsodium's header make says so in one sentence. It prints a line for each failure;
 the last line is `N passed, M failed`.
 
-Needs Python 3.9 or later, make, gcc, binutils, mandoc and libsodium with its header, and installs what is not there where it may.
+Needs Python 3.9 or later, make, gcc, binutils, mandoc and libsodium with its header. It installs what is missing if
+it may.
 """
 
 import collections
@@ -27,9 +28,10 @@ import needs
 import static_library
 
 C = static_library.DIRECTORY
-# All but boundary.c, which is made, and what the calls as C need besides.
+# All but boundary.c and usage.h, which are made, and what the calls as C need besides.
+MADE = "install/usage.h"
 BY_HAND = ("minisign/*.[ch]", "install/*.[ch]", "shared/*.[ch]", "library/allocation.[ch]", "library/clearing.[ch]")
-MAX_LINES, MAX_FUNCTION = 7098, 50
+MAX_LINES, MAX_FUNCTION = 6583, 50
 # Of which rooms each room takes headers besides its own.
 TAKES = {"minisign": {"shared", "library"}, "install": {"shared"}, "shared": set(), "library": set()}
 # What only Linux has, in which file alone, and with which words the names of a place that is written through.
@@ -92,7 +94,8 @@ def check_sources(checks):
         for found in re.finditer(r"^[a-z_].*\n(?:.*\n)??\{\n((?:.*\n)*?)\}\n", text, re.M):
             length = found[0].count("\n")
             checks.check(length <= MAX_FUNCTION or path.endswith("boundary.c"), f"{path}: {found[0].splitlines()[0]} has {length} lines")
-    count = sum(read(path).count("\n") for pattern in BY_HAND for path in glob.glob(f"{C}/{pattern}"))
+    by_hand = {path for pattern in BY_HAND for path in glob.glob(f"{C}/{pattern}")} - {f"{C}/{MADE}"}
+    count = sum(read(path).count("\n") for path in by_hand)
     print(f"lines of C that are written by hand: {count}")
     checks.check(count <= MAX_LINES, f"{count} lines of C are written by hand, of at most {MAX_LINES}")
 
