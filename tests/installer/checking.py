@@ -1,158 +1,119 @@
-"""Whether there is a newer update, by the signature, the record and the target alone; and keys that are named themselves."""
+"""Checks whether there is a newer update, by the signature, the record and the target alone; keys given on the
+command line.
+"""
 
 import os
 import re
 import shutil
-import subprocess
-import tempfile
-import threading
-from functools import partial
 
-from disturbed import content
 from installers import EXPIRED, FAILED, LATER, LOCK, MISUSED, NEW, OLD, OLDER, PLACE, RECORD, REJECTED, SAME, THERE, UNRECORDED
+from process import run_program
 import proved
-from running import SECONDS, expect, read
-from runs import BY_VERSION, CHECK, KEPT_BY_TIMESTAMP, NO_RECORD, OTHER_DATA, OTHER_KEY, OTHER_NAME, PAST, PK, SOON, USAGE
+from running import expect, read
+from runs import BY_VERSION, CHECK, KEPT_BY_TIMESTAMP, NO_RECORD, OTHER_DATA, OTHER_KEY, OTHER_NAME, PAST, PK, SOON, USAGE, repeating
 from updates import rejects
 from words import says, takes
 
 
-def checks(installing, status, *options, said=b"", record=b"timestamp:5", number=6, words=(PK, "new.sig", PLACE), place=OLD, **how):
+def checks(directory, status, *options, said=b"", record=b"timestamp:5", number=6, words=(PK, "new.sig", PLACE), place=OLD, **how):
     """By the signature, the record and what stands there: nothing is written, and the lock may be held by another."""
-    with installing.standing() as directory:
-        for name, data in ((RECORD, record), (PLACE, place)):
-            os.remove(directory.at(name))
-            if data is not None:
-                directory.put(name, data)
-        directory.offer("new", NEW, number, **how)
-        os.remove(directory.at("new"))
-        before = directory.everything()
-        ended, text = directory.run([*options, "--check", *words])
-        expect(ended == status and (said is None or text == said),
-               f"it ended with status {ended} in place of {status}, and said {text}")
-        expect(directory.everything() == before, f"the directory has {os.listdir(directory.path)}")
+    for name, data in ((RECORD, record), (PLACE, place)):
+        os.remove(directory.at(name))
+        if data is not None:
+            directory.put(name, data)
+    directory.offer("new", NEW, number, **how)
+    os.remove(directory.at("new"))
+    before = directory.everything()
+    ran = directory.run([*options, "--check", *words])
+    expect(ran.status == status and (said is None or ran.said == said), ran, f"in place of {status}")
+    expect(directory.everything() == before, f"the directory has {os.listdir(directory.path)}")
 
 
-def shows_checked(installing):
+def shows_checked(directory):
     """A check shows the number and the signed comment, a line each, and no control character as it is: where the key has signed it."""
     line = b"timestamp:6\tfile:place\tnote:\\u{1b}[31m\\u{9b}\tprehashed\n"
-    with installing.standing() as directory:
-        directory.offer("new", NEW, 6, more="\tnote:\x1b[31m\x9b")
-        directory.put("bad.sig", directory.holds("new.sig").replace(b"timestamp:6", b"timestamp:7"))
-        for before, name, status, shown in ((OLD, "new", 0, b"6\n" + line), (OLD, "bad", REJECTED, b""), (NEW, "new", THERE, b"6\n" + line)):
-            directory.put(PLACE, before)
-            directory.put(RECORD, b"5" if before == OLD else b"6")
-            with tempfile.TemporaryFile() as output:
-                ended, said = directory.run(["--check", PK, name + ".sig", PLACE], stdout=output)
-                output.seek(0)
-                found = output.read()
-            expect((ended, found, bool(said)) == (status, shown, status == REJECTED),
-                   f"it ended with status {ended}, showed {found}, and said {said}")
-        with open("/dev/full", "wb") as full:
-            directory.ends(directory.run(CHECK, stdout=full), FAILED)
+    directory.offer("new", NEW, 6, more="\tnote:\x1b[31m\x9b")
+    directory.put("bad.sig", directory.holds("new.sig").replace(b"timestamp:6", b"timestamp:7"))
+    for before, name, status, shown in ((OLD, "new", 0, b"6\n" + line), (OLD, "bad", REJECTED, b""), (NEW, "new", THERE, b"6\n" + line)):
+        directory.put(PLACE, before)
+        directory.put(RECORD, b"5" if before == OLD else b"6")
+        ran = directory.run(["--check", PK, name + ".sig", PLACE])
+        expect((ran.status, ran.output, bool(ran.said)) == (status, shown, status == REJECTED), ran)
+    with open("/dev/full", "wb") as full:
+        directory.ends(directory.run(CHECK, stdout=full), FAILED)
 
 
-def tells_of_mode(installing):
+def tells_of_mode(directory):
     """What is there already keeps its permissions, and where others were asked for this is said."""
-    with installing.installed() as directory:
-        directory.check("new", 0, "--mode", "640")
-        directory.check_words(["--mode", "640", *directory.arguments("new")], THERE)
-        directory.check_words(["--mode", "755", *directory.arguments("new")], THERE,
-                              b"place stands there already and keeps its permissions: chmod gives it others\n")
-        directory.has_mode(0o640)
+    directory.check("new", 0, "--mode", "640")
+    directory.check_words(["--mode", "640", *directory.arguments("new")], THERE)
+    directory.check_words(["--mode", "755", *directory.arguments("new")], THERE,
+                          b"place stands there already and keeps its permissions: chmod changes them\n")
+    directory.has_mode(0o640)
 
 
-def checks_changed_comment(installing):
-    """A greater number in the comment of an older update is no newer one."""
-    with installing.standing() as directory:
-        directory.offer("bad", NEW, 4)
-        directory.put("bad.sig", directory.holds("bad.sig").replace(b"timestamp:4", b"timestamp:9"))
-        directory.check_words(["--check", PK, "bad.sig", PLACE], REJECTED,
-                              b"error: bad.sig: Comment signature verification failed\n")
-
-
-def checks_where(installing, away, status, said):
+def checks_where(directory, away, status, said):
     """Without a directory, and where the record is no regular file."""
-    with installing.installed() as directory:
-        os.remove(directory.at(RECORD))
-        os.mkdir(directory.at(RECORD))
-        directory.check_words(["--check", PK, "new.sig", away], status, said)
+    os.remove(directory.at(RECORD))
+    os.mkdir(directory.at(RECORD))
+    directory.check_words(["--check", PK, "new.sig", away], status, said)
 
 
-def checks_unlocked(installing):
-    """While another run holds the lock."""
-    with installing.installed() as directory:
-        with directory.locked():
-            directory.check_words(CHECK, 0)
-
-
-def checks_beside_installations(installing):
+def checks_beside_installations(directory):
     """While installations rename new records into their place, a slow check reads an older one or a newer one, whole."""
-    with installing.installed() as directory:
-        is_over = threading.Event()
 
-        def rename():
-            while not is_over.wait(0.02):
-                directory.put("made", b"timestamp:5")
-                os.replace(directory.at("made"), directory.at(RECORD))
+    def rename(_):
+        directory.put("made", b"timestamp:5")
+        os.replace(directory.at("made"), directory.at(RECORD))
 
-        renaming = threading.Thread(target=rename)
-        renaming.start()
-        try:
-            for _ in range(20):
-                ended, text = directory.run(CHECK, {"LD_PRELOAD": installing.preload, "SLOW": "5000"})
-                expect(ended == 0 and not text, f"it ended with status {ended}, and said {text}")
-        finally:
-            is_over.set()
-            renaming.join()
+    with repeating(rename, 0.02):
+        for _ in range(20):
+            directory.check_words(CHECK, 0, environment=directory.preloading(SLOW="5000"))
 
 
-def runs_script(installing):
+def runs_script(directory):
     """The script of the document, over a directory in place of what curl fetches: it ends well where there is nothing newer and where
     there is, and with the status of what was rejected otherwise."""
     lines = re.search(rb"^    #!/bin/sh\n(?:    .*\n)+", read(proved.ROOT, "docs", "INSTALLING.md"), re.M)[0].splitlines()
-    with installing.installed(is_installed=False) as directory:
-        for name in ("there", "url", "bin"):
-            os.mkdir(directory.at(name))
-        directory.put("release.pub", installing.kind.public_text())
-        directory.put("update", b"".join(line[4:] + b"\n" for line in lines))
-        directory.put("bin/curl", b'#!/bin/sh\nexec cp "$6" "$5"\n')
-        shutil.copy(installing.program, directory.at("bin/minisign-install"))
-        os.chmod(directory.at("bin/curl"), 0o755)
+    directory.take_away()
+    for name in ("there", "url", "bin"):
+        os.mkdir(directory.at(name))
+    directory.put("release.pub", directory.kind.public_text())
+    directory.put("update", b"".join(line[4:] + b"\n" for line in lines))
+    directory.put("bin/curl", b'#!/bin/sh\nexec cp "$6" "$5"\n')
+    shutil.copy(directory.installing.program, directory.at("bin/minisign-install"))
+    os.chmod(directory.at("bin/curl"), 0o755)
 
-        def offer(data, number, signed=None):
-            directory.offer("offered", data, number, signed, label="version", names="app")
-            os.replace(directory.at("offered"), directory.at("url/app"))
-            os.replace(directory.at("offered.sig"), directory.at("url/app.minisig"))
+    def offer(data, number, signed=None):
+        directory.offer("offered", data, number, signed, label="version", names="app")
+        os.replace(directory.at("offered"), directory.at("url/app"))
+        os.replace(directory.at("offered.sig"), directory.at("url/app.minisig"))
 
-        offer(OLD, 1)
-        directory.check_words(["--first", "--numbering", "version", "release.pub", "url/app", "url/app.minisig", "there/app"], 0)
-        for data, number, signed, status in ((OLD, 1, None, 0), (NEW, 2, None, 0), (NEW, 2, None, 0), (OLD, 1, None, OLDER), (LATER, 3, OLD, REJECTED)):
-            offer(data, number, signed)
-            ran = subprocess.run(["sh", "update", "url"], cwd=directory.path, env={"PATH": f"{directory.path}/bin:{os.environ['PATH']}"}, stdin=subprocess.DEVNULL,
-                                 stdout=subprocess.PIPE, stderr=subprocess.PIPE, timeout=SECONDS)
-            expect(ran.returncode == status and not ran.stdout and content(directory.path, "there/app") == (OLD if (number, status) == (1, 0) else NEW),
-                   f"of version {number} it ended with status {ran.returncode}, showed {ran.stdout}, and said {ran.stderr}")
+    offer(OLD, 1)
+    directory.check_words(["--first", "--numbering", "version", "release.pub", "url/app", "url/app.minisig", "there/app"], 0)
+    for data, number, signed, status in ((OLD, 1, None, 0), (NEW, 2, None, 0), (NEW, 2, None, 0), (OLD, 1, None, OLDER), (LATER, 3, OLD, REJECTED)):
+        offer(data, number, signed)
+        ran = run_program(["sh", "update", "url"], directory.path, env={"PATH": f"{directory.path}/bin:{os.environ['PATH']}"})
+        there = directory.holds("there/app")
+        expect((ran.status, ran.output, there) == (status, b"", OLD if (number, status) == (1, 0) else NEW), f"of version {number}", ran)
 
 
-def names_keys(installing):
+def names_keys(directory):
     """One key, two of which the second or the first has signed, and two that have not."""
-    with installing.installed() as directory:
-        key, other = installing.kind.public_text().split()[-1].decode(), OTHER_KEY
-        directory.check_words(["--key", other, "new", "new.sig", PLACE], REJECTED,
-                              b"error: new.sig: Signature key id is different from public key\n")
-        for words in (["--key", key], ["--key", key, "--key", other], ["--key", other, "--key", key]):
-            directory.put_older()
-            directory.check_words([*words, "--check", "new.sig", PLACE], 0)
-            directory.check_words([*words, "new", "new.sig", PLACE], 0)
-            directory.expect(NEW, b"6")
-            directory.check_words([*words, "--check", "new.sig", PLACE], THERE)
+    key, other = directory.kind.public_text().split()[-1].decode(), OTHER_KEY
+    directory.check_words(["--key", other, "new", "new.sig", PLACE], REJECTED,
+                          b"error: new.sig: Signature key id is different from public key\n")
+    for words in (["--key", key], ["--key", key, "--key", other], ["--key", other, "--key", key]):
+        directory.put_older()
+        directory.check_words([*words, "--check", "new.sig", PLACE], 0)
+        directory.check_words([*words, "new", "new.sig", PLACE], 0)
+        directory.expect(NEW, b"6")
+        directory.check_words([*words, "--check", "new.sig", PLACE], THERE)
 
 
-def rejects_key(installing, key, said):
-    with installing.installed() as directory:
-        directory.check_words(["--key", key, "new", "new.sig", PLACE], REJECTED, said)
-        expect(directory.holds(LOCK) is None, "the directory was touched")
+def rejects_key(directory, key, said):
+    directory.check_words(["--key", key, "new", "new.sig", PLACE], REJECTED, said)
+    expect(directory.holds(LOCK) is None, "the directory was touched")
 
 
 def expiry_cases(installing):
@@ -163,8 +124,8 @@ def expiry_cases(installing):
         ("expires twice", REJECTED, past + soon, b"error: bad.sig: the signed comment does not say once, in a number, when it expires\n"),
         ("expires at no moment", REJECTED, "\texpires:soon", b"error: bad.sig: the signed comment does not say once, in a number, when it expires\n"),
     ]:
-        yield f"an update that {what}", partial(rejects, installing, said, status=status, more=more)
-    yield "an update that expires later", partial(takes, installing, [PK, "new", "new.sig", PLACE], more=soon)
+        yield f"an update that {what}", rejects, said, dict(status=status, more=more)
+    yield "an update that expires later", takes, [PK, "new", "new.sig", PLACE], dict(more=soon)
 
 
 def check_cases(installing):
@@ -189,7 +150,7 @@ def check_cases(installing):
         ("a record of the other field", UNRECORDED, version,
          {"label": "version", "said": KEPT_BY_TIMESTAMP}),
         ("another file", REJECTED, (), {"names": "app", "said": b"error: new.sig: " + OTHER_NAME}),
-        ("no number of the field", REJECTED, version, {"record": b"version:5", "said": b"error: new.sig: the signed comment has no such number\nits version is wanted: without --numbering version its timestamp is\n"}),
+        ("no number of the field", REJECTED, version, {"record": b"version:5", "said": b"error: new.sig: the signed comment has no such number\nwithout --numbering version the number is its timestamp\n"}),
         ("one that has expired", EXPIRED, (), {"more": past, "said": b"error: new.sig: the update has expired\n"}),
         ("an older one that has expired", EXPIRED, (), {"number": 4, "more": past, "said": b"error: new.sig: the update has expired\n"}),
         ("one that expires twice", REJECTED, (), {"more": soon + soon, "said": b"error: new.sig: the signed comment does not say once, in a number, when it expires\n"}),
@@ -198,32 +159,30 @@ def check_cases(installing):
         ("a text that is no signature", REJECTED, (), {"words": (PK, PK, PLACE), "said": None}),
     ]
     for what, status, options, how in rows:
-        yield f"a check: {what}", partial(checks, installing, status, *options, **how)
-    yield "a check: a changed comment", partial(checks_changed_comment, installing)
-    yield "what a check shows", partial(shows_checked, installing)
-    yield "the script of the document", partial(runs_script, installing)
-    yield "a mode that is asked for, of what is there already", partial(tells_of_mode, installing)
-    yield "a check: no directory", partial(checks_where, installing, "none/place", FAILED, b"error: none: there is no such directory\n")
-    yield "a check: a record that is a directory", partial(checks_where, installing, PLACE, FAILED, b"error: ./.place.number: a directory stands there\n")
-    yield "a check: while the place is locked", partial(checks_unlocked, installing)
-    yield "a check: beside installations", partial(checks_beside_installations, installing)
-    yield "keys that are named themselves", partial(names_keys, installing)
-    yield "a key that is too short", partial(rejects_key, installing, "RWQ", b"error: RWQ: base64 conversion failed - was an actual public key given?\n")
-    yield "a key that is no base64", partial(rejects_key, installing, "*" * 56, b"error: " + b"*" * 56 + b": base64 conversion failed - was an actual public key given?: invalid base64\n")
+        yield f"a check: {what}", checks, status, *options, how
+    yield "what a check shows", shows_checked
+    yield "the script of the document", runs_script
+    yield "a mode that is asked for, of what is there already", tells_of_mode
+    yield "a check: no directory", checks_where, "none/place", FAILED, b"error: none: there is no such directory\n"
+    yield "a check: a record that is a directory", checks_where, PLACE, FAILED, b"error: ./.place.number: a directory stands there\n"
+    yield "a check: beside installations", checks_beside_installations
+    yield "keys that are named themselves", names_keys
+    yield "a key that is too short", rejects_key, "RWQ", b"error: RWQ: base64 conversion failed - was an actual public key given?\n"
+    yield "a key that is no base64", rejects_key, "*" * 56, b"error: " + b"*" * 56 + b": base64 conversion failed - was an actual public key given?: invalid base64\n"
     paths = [PK, "new.sig", PLACE]
     for what, words, said in [
         ("a check of four paths", ["--check", PK, "new", "new.sig", PLACE], b"error: place: there are three paths, and this is a fourth\n"),
         ("a check of two paths", ["--check", *paths[1:]], b"error: there are fewer than three paths\n"),
-        ("a check twice", ["--check", *paths, "--check"], b"error: --check: it came before\n"),
+        ("a check twice", ["--check", *paths, "--check"], b"error: --check: this option was given before\n"),
         ("a check with a mode", ["--check", "--mode", "755", *paths], b"error: --mode: it does not go with `--check`\n"),
         ("a check that waits", ["--wait", "1", "--check", *paths], b"error: --wait: it does not go with `--check`\n"),
         ("a check with a bound", ["--most", "1M", "--check", *paths], b"error: --most: it does not go with `--check`\n"),
-        ("what must expire twice", ["--must-expire", *paths, "new", "--must-expire"], b"error: --must-expire: it came before\n"),
-        ("three keys", [*["--key", OTHER_KEY] * 3, "new", "new.sig", PLACE], b"error: --key: it came twice before\n"),
+        ("what must expire twice", ["--must-expire", *paths, "new", "--must-expire"], b"error: --must-expire: this option was given before\n"),
+        ("three keys", [*["--key", OTHER_KEY] * 3, "new", "new.sig", PLACE], b"error: --key: this option was given twice before\n"),
         ("a key and a file of one", ["--key", OTHER_KEY, PK, "new", "new.sig", PLACE], b"error: place: there are three paths, and this is a fourth\n"),
         ("a key without data", ["--key", OTHER_KEY, "new.sig", PLACE], b"error: there are fewer than three paths\n"),
         ("a check with a key and three paths", ["--check", "--key", OTHER_KEY, *paths], b"error: place: there are two paths, and this is a third\n"),
         ("a check with a key and one path", ["--check", "--key", OTHER_KEY, PLACE], b"error: there are fewer than two paths\n"),
-        ("a key without its value", [*paths, "--key"], b"error: a value has to follow the last word\n"),
+        ("a key without its value", [*paths, "--key"], b"error: the last option has no value\n"),
     ]:
-        yield what, partial(says, installing, words, MISUSED, said + USAGE)
+        yield what, says, words, MISUSED, said + USAGE

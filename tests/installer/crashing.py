@@ -1,14 +1,15 @@
-"""A disk that crashes: a file system in a file, which is copied as it is on the disk at some moment of a run. The copy is what
-a machine that loses its power then finds, with all that the system had not yet synced lost.
+"""A disk that crashes: a file system in a file, which is copied as it is on the disk at some moment of a run. The
+copy is what a machine finds that lost its power, without all that the system had not yet synced.
 
-Needs Python 3.9 or later, and a run as root to mount.
+Needs Python 3.9 or later, and root to mount.
 """
 
+import contextlib
 import os
-import shutil
 import subprocess
 import tempfile
 
+from disturbed import Mounted
 from running import SECONDS, Skip, expect
 
 SIZE = 8 << 20
@@ -26,24 +27,11 @@ def ran(*command):
         return False
 
 
-class Disk:
-    """A file system in a file, mounted for as long as this is entered."""
-
-    def __init__(self, image):
-        self.image = image
-        self.path = None
-
-    def __enter__(self):
-        self.path = tempfile.mkdtemp(prefix="disk-")
-        if not ran("mount", "-o", OPTIONS, self.image, self.path):
-            os.rmdir(self.path)
-            raise Skip("this machine mounts no file system in a file")
-        return self.path
-
-    def __exit__(self, *_):
-        if not ran("umount", self.path):
-            ran("umount", "-l", self.path)
-        os.rmdir(self.path)
+@contextlib.contextmanager
+def disk(image):
+    """A file system in a file, mounted for as long as this is entered: its path."""
+    with tempfile.TemporaryDirectory(prefix="disk-") as path, Mounted(path, "-o", OPTIONS, image):
+        yield path
 
 
 def make_image(image):
@@ -54,11 +42,6 @@ def make_image(image):
         file.truncate(SIZE)
     if not ran("mkfs.ext4", "-q", "-F", image):
         raise Skip("no file system was made: mkfs.ext4 of the package e2fsprogs is needed")
-
-
-def crash(image, crashed):
-    """Copies what is on the disk now."""
-    shutil.copyfile(image, crashed)
 
 
 def check_image(image):

@@ -1,15 +1,15 @@
-"""Runs that are cut off between each two calls, by a kill, a sync that fails or a renaming that fails; then the same command again,
-which ends with the update at the target, and says so; and then a check, which finds it there. `installing.py` runs these cases.
+"""Cuts runs off between each two calls, by a kill, a failing sync or a failing renaming. The same command again then
+ends with the update at the target, and says so; a check finds it there. `installing.py` runs these cases.
 
-Needs Python 3.9 or later; the disk that crashes needs root, who mounts it.
+Needs Python 3.9 or later; the disk that crashes needs root, to mount it.
 """
 
 import errno
 import os
+import shutil
 import tempfile
-from functools import partial
 
-from crashing import Disk, check_image, crash, make_image
+from crashing import check_image, disk, make_image
 from disturbed import in_turn
 from installers import LATER, NEW, NOT_ON_DISK, OLD, PLACE, RECORD, THERE
 from running import expect
@@ -52,17 +52,16 @@ CUTS = (("a kill", {}), ("a sync that fails", {"CALLS": "fsync", "ERRNO": errno.
         ("a renaming that fails", {"CALLS": "renameat", "ERRNO": errno.EIO}))
 
 
-def recovers(installing, begin, options, how):
+def recovers(installing, begin, options, **how):
     """Whatever call a run is cut off at, the next one ends with the update there, and a check finds it."""
 
     def attempt(number, path):
         directory = begin(installing, path)
-        _, _, came = directory.run_broken(directory.arguments("new", *options), AT=number, **how)
-        ended, said = directory.run(directory.arguments("new", *options))
-        expect(ended in (0, THERE) and not said, f"the next run ended with status {ended}, and said {said}")
+        ran, after = directory.broken(*options, AT=number, **how), directory.install("new", *options)
+        expect(after.status in (0, THERE) and not after.said, "the next run", after)
         directory.check_words([*(word for word in options if word != "--again"), *CHECK], THERE)
         directory.expect(NEW, b"6")
-        return came
+        return ran.came
 
     in_turn(installing.place, attempt)
 
@@ -72,9 +71,8 @@ def fails_to_sync(installing):
     for number, error, status in ((1, errno.EIO, NOT_ON_DISK), (2, errno.EIO, NOT_ON_DISK), (1, errno.EINVAL, NOT_ON_DISK), (2, errno.EINVAL, THERE)):
         with tempfile.TemporaryDirectory(dir=installing.place) as path:
             directory = over_itself(installing, path)
-            ended, said, _ = directory.run_broken(directory.arguments("new"), CALLS="fsync", AT=number, ERRNO=error)
-            expect(ended == status and bool(said) == (status != THERE),
-                   f"at sync {number} it ended with status {ended} in place of {status}, and said {said}")
+            ran = directory.broken(CALLS="fsync", AT=number, ERRNO=error)
+            expect(ran.status == status and bool(ran.said) == (status != THERE), f"at sync {number}", ran, f"in place of {status}")
             directory.expect(NEW, b"6")
 
 
@@ -83,13 +81,13 @@ def syncs_what_is_there(installing):
     with tempfile.TemporaryDirectory(dir=installing.room) as room:
         image, crashed = (os.path.join(room, name) for name in ("image", "crashed"))
         make_image(image)
-        with Disk(image) as path:
+        with disk(image) as path:
             directory = over_older(installing, path)
             os.sync()
-            expect(directory.run_broken(directory.arguments("new"), CALLS="fsync", AT=4)[-1], "it syncs too little")
+            expect(directory.broken(CALLS="fsync", AT=4).came, "it syncs too little")
             directory.check("new", THERE)
-            crash(image, crashed)
-        with Disk(crashed) as path:
+            shutil.copyfile(image, crashed)
+        with disk(crashed) as path:
             Directory(path, installing).expect(NEW, b"6")
         check_image(crashed)
 
@@ -98,6 +96,6 @@ def cut_off_cases(installing):
     """Names of cases, and what runs each."""
     for what, begin, options in BEGINNINGS:
         for name, how in CUTS:
-            yield f"cut off by {name}, over {what}", partial(recovers, installing, begin, options, how)
-    yield "there already, and not synced", partial(fails_to_sync, installing)
-    yield "a disk that crashes once the update was found there", partial(syncs_what_is_there, installing)
+            yield f"cut off by {name}, over {what}", recovers, begin, options, how
+    yield "there already, and not synced", fails_to_sync
+    yield "a disk that crashes once the update was found there", syncs_what_is_there

@@ -1,7 +1,7 @@
-"""What comes between the calls of an installation: signals that ask for the end, calls that fail in ways of their own, others who
-replace the target or lose the lock, reads that bring little, a clock that is wrong. `installing.py` runs these cases.
+"""Disturbs an installation between its calls: signals that ask for the end, calls that fail in ways of their own,
+others who replace the target or lose the lock, short reads, a wrong clock. `installing.py` runs these cases.
 
-Needs Python 3.9 or later, and setfacl, which it installs where it may; some cases need root, who gives files to others.
+Needs Python 3.9 or later, and setfacl, which it installs if it may; some cases need root, to give files to others.
 """
 
 import errno
@@ -9,12 +9,12 @@ import os
 import resource
 import signal
 import subprocess
-from functools import partial
 
 from disturbed import in_turn
 from installers import EXPIRED, FAILED, IN_USE, LATER, LOCK, NEW, OLD, OLDER, PLACE, RECORD, REJECTED, THERE
 import needs
 from permissions import OTHER_USER, list_of
+from process import run_program
 from running import NOBODY, SECONDS, Failure, expect
 from runs import SOON, only_root
 
@@ -25,39 +25,31 @@ HELD_BACK = (("rename", 1), ("sync", 3), ("rename", 2))
 
 def expect_ended(directory, ran, status, said=None):
     """A run that ended so; and the directory has the older update or the newer one."""
-    directory.ends(ran[:2], status, said)
-    expect(b"Success" not in ran[1], f"it said {ran[1]}")
+    directory.ends(ran, status, said)
+    expect(b"Success" not in ran.said, ran)
     directory.expect(*((NEW, b"6") if status in (0, THERE) else (OLD, b"5")))
-
-
-def run_new(directory, *options, **how):
-    """A run for the update, of which a call is broken."""
-    return directory.run_broken(directory.arguments("new", *options), **how)
 
 
 # == Signals ==
 
 def is_asked_to_end(directory, number, call, at):
     """A run that gets a signal before this call, and ends by it. (What runs behind a shell's back is started to ignore some.)"""
-    environment = {"LD_PRELOAD": directory.installing.preload, "BREAK_CALLS": directory.kind.called[call], "BREAK_AT": str(at),
-                   "BREAK_SIGNAL": str(int(number)), "BREAK_GOES_ON": "1"}
-    directory.ends(directory.run(directory.arguments("new"), environment, preexec_fn=lambda: signal.signal(number, signal.SIG_DFL)), -number)
+    environment = directory.preloading(BREAK_CALLS=directory.kind.called[call], BREAK_AT=str(at), BREAK_SIGNAL=str(int(number)), BREAK_GOES_ON="1")
+    directory.ends(directory.install(environment=environment, preexec_fn=lambda: signal.signal(number, signal.SIG_DFL)), -number)
 
 
-def holds_back(installing, number, call, at):
+def holds_back(directory, number, call, at):
     """A signal that comes once the record is being renamed ends the run where the target has its name."""
-    with installing.installed() as directory:
-        is_asked_to_end(directory, number, call, at)
-        directory.expect(NEW, b"6")
-        directory.check("new", THERE, said=b"")
+    is_asked_to_end(directory, number, call, at)
+    directory.expect(NEW, b"6")
+    directory.check("new", THERE, said=b"")
 
 
-def ends_before(installing, number):
+def ends_before(directory, number):
     """A signal that comes before that ends the run there, and the next one finishes."""
-    with installing.installed() as directory:
-        is_asked_to_end(directory, number, "sync", 2)
-        expect(directory.state() == (OLD, b"5"), "it went on")
-        expect_ended(directory, directory.run(directory.arguments("new")), 0)
+    is_asked_to_end(directory, number, "sync", 2)
+    expect(directory.state() == (OLD, b"5"), "it went on")
+    expect_ended(directory, directory.install(), 0)
 
 
 # == Calls that fail in ways of their own ==
@@ -66,7 +58,7 @@ def syncs_no_directory(installing):
     """A file system that syncs no directories says so, which is no failure; of a file it is one."""
     for at, status in ((1, FAILED), (2, FAILED), (3, 0), (4, 0)):
         with installing.installed() as directory:
-            expect_ended(directory, run_new(directory, CALLS=installing.kind.called["sync"], AT=at, ERRNO=errno.EINVAL), status)
+            expect_ended(directory, directory.broken(CALLS=installing.kind.called["sync"], AT=at, ERRNO=errno.EINVAL), status)
 
 
 def gives_no_owner(installing, number, status):
@@ -76,7 +68,7 @@ def gives_no_owner(installing, number, status):
     for at in (1, 2, 3):
         with installing.installed() as directory:
             os.chown(directory.at(PLACE), NOBODY, NOBODY)
-            expect_ended(directory, run_new(directory, CALLS="fchown", AT=at, ERRNO=number), status)
+            expect_ended(directory, directory.broken(CALLS="fchown", AT=at, ERRNO=number), status)
 
 
 def names_mode(installing):
@@ -84,7 +76,7 @@ def names_mode(installing):
     for number, options, said in ((errno.EPERM, (), b"the mode 751 is not allowed here"), (errno.EPERM, ("--mode", "640"), b"the mode 640 is not allowed here"),
                                   (errno.EIO, (), b"Input/output error (os error 5)")):
         with installing.installed() as directory:
-            ran = run_new(directory, *options, CALLS="fchmod", AT=1, ERRNO=number)
+            ran = directory.broken(*options, CALLS="fchmod", AT=1, ERRNO=number)
             expect_ended(directory, ran, FAILED, b"error: ./.place.stage-*: " + said + b"\n")
 
 
@@ -94,39 +86,35 @@ def reads_little(installing):
     def attempt(number, path):
         directory = installing.offered(path, 130)
         directory.put(RECORD, b"1234")
-        status, said, came = run_new(directory, CALLS="read", AT=number, SHORT=1)
-        directory.ends((status, said), OLDER)
-        return came
+        ran = directory.broken(CALLS="read", AT=number, SHORT=1)
+        directory.ends(ran, OLDER)
+        return ran.came
 
     in_turn(installing.place, attempt)
 
 
-def grows_too_large(installing):
+def grows_too_large(directory):
     """A write beyond the bound that the system has for files is a failed write, and no signal."""
-    with installing.installed() as directory:
-        ran = directory.run(directory.arguments("new"), preexec_fn=lambda: resource.setrlimit(resource.RLIMIT_FSIZE, (1000, 1000)))
-        expect_ended(directory, ran, FAILED, b"error: ./.place.stage-*: File too large (os error 27)\n")
+    ran = directory.install(preexec_fn=lambda: resource.setrlimit(resource.RLIMIT_FSIZE, (1000, 1000)))
+    expect_ended(directory, ran, FAILED, b"error: ./.place.stage-*: File too large (os error 27)\n")
 
 
-def says_to_nobody(installing):
+def says_to_nobody(directory):
     """Where nobody reads what is said, the exit status is the same."""
-    with installing.installed() as directory:
-        directory.put("new", LATER)
-        reads, writes = os.pipe()
-        os.close(reads)
-        directory.ends(directory.run(directory.arguments("new"), stderr=writes), REJECTED)
-        os.close(writes)
-        directory.expect(OLD, b"5")
+    directory.put("new", LATER)
+    reads, writes = os.pipe()
+    os.close(reads)
+    directory.ends(directory.install(stderr=writes), REJECTED)
+    os.close(writes)
+    directory.expect(OLD, b"5")
 
 
 def closes_streams(installing):
     """No file gets the number of a standard stream that is closed."""
     for closed in ("<&-", ">&-", "<&- >&-"):
         with installing.installed() as directory:
-            ran = subprocess.run(["sh", "-c", f'exec "$@" {closed}', "sh", installing.program, *directory.arguments("new")], cwd=directory.path, env={},
-                                 stderr=subprocess.PIPE, timeout=SECONDS)
-            expect(not ran.returncode and not ran.stderr,
-                   f"with {closed} it ended with status {ran.returncode}, and said {ran.stderr}")
+            ran = run_program(["sh", "-c", f'exec "$@" {closed}', "sh", installing.program, *directory.arguments("new")], directory.path, env={})
+            expect(ran.status == 0 and not ran.said, f"with {closed}", ran)
             directory.expect(NEW, b"6")
 
 
@@ -139,8 +127,7 @@ def has_wrong_clock(installing):
         for options in ((), ("--first",)):
             with installing.installed() as directory:
                 directory.offer("new", NEW, 6, more=more)
-                wrong = {"LD_PRELOAD": installing.preload, "SHOWN_TIME": "-1"}
-                expect_ended(directory, directory.run(directory.arguments("new", *options), wrong), status)
+                expect_ended(directory, directory.install("new", *options, environment=directory.preloading(SHOWN_TIME="-1")), status)
 
 
 # == Others at the target ==
@@ -153,45 +140,41 @@ def replaces(installing, is_there):
         if is_there:
             directory.check("new", 0)
         directory.put("same", directory.holds())
-        stopped, ended, said = directory.while_stopped("fstat fstatat openat", number, lambda at: os.replace(at.at("same"), at.at(PLACE)))
-        expect(ended == (THERE if is_there else 0) and not said, f"it ended with status {ended}, and said {said}")
+        ran = directory.while_stopped("fstat fstatat openat", number, lambda at: os.replace(at.at("same"), at.at(PLACE)))
+        expect(ran.status == (THERE if is_there else 0) and not ran.said, ran)
         directory.expect(NEW, b"6")
-        return stopped
+        return ran.came
 
     in_turn(installing.place, attempt)
 
 
-def loses_lock_later(installing, call, at, left):
-    """A run whose lock file is removed once it has staged its record gives no name any more."""
-    with installing.installed() as directory:
-        directory.offer("later", LATER, 7)
+def loses_lock(directory, call, at):
+    """A run whose lock file is removed, once it has staged its data or its record, changes nothing once another one went past it."""
+    directory.offer("later", LATER, 7)
 
-        def overtake(at):
-            os.remove(directory.at(LOCK))
-            directory.check("later", 0)
+    def overtake(at):
+        os.remove(directory.at(LOCK))
+        directory.check("later", 0)
 
-        stopped, ended, said = directory.while_stopped(installing.kind.called[call], at, overtake)
-        expect(stopped and ended == FAILED and b".place.lock: it was removed or replaced while it was locked" in said,
-               f"it ended with status {ended}, and said {said}")
-        expect(directory.state() == (LATER, left), f"the record holds {directory.holds(RECORD)}")
+    ran = directory.while_stopped(directory.kind.called[call], at, overtake)
+    expect(ran.came and ran.status == FAILED and b".place.lock: it was removed or replaced while it was locked" in ran.said, ran)
+    expect(directory.state() == (LATER, b"7"), f"the record holds {directory.holds(RECORD)}")
 
 
-def keeps_renewed_lock(installing):
+def keeps_renewed_lock(directory):
     """The new lock file of a run by root, where the older one is another's, is locked too."""
     only_root()
-    with installing.installed() as directory:
-        directory.put(LOCK, b"")
-        os.chown(directory.at(PLACE), NOBODY, NOBODY)
-        before = os.stat(directory.at(LOCK))
+    directory.put(LOCK, b"")
+    os.chown(directory.at(PLACE), NOBODY, NOBODY)
+    before = os.stat(directory.at(LOCK))
 
-        def come_too(at):
-            after = os.stat(directory.at(LOCK))
-            expect(after.st_ino != before.st_ino and after.st_uid == NOBODY, "the lock file is the older one")
-            directory.check("new", IN_USE)
+    def come_too(at):
+        after = os.stat(directory.at(LOCK))
+        expect(after.st_ino != before.st_ino and after.st_uid == NOBODY, "the lock file is the older one")
+        directory.check("new", IN_USE)
 
-        ended, said = directory.while_staged(come_too)
-        expect(ended == 0, f"it ended with status {ended}, and said {said}")
-        directory.expect(NEW, b"6")
+    directory.ends(directory.while_staged(come_too), 0)
+    directory.expect(NEW, b"6")
 
 
 # == What a directory gives ==
@@ -201,7 +184,7 @@ def takes_list_off(installing):
     for options, mode in ((("--first",), 0o600), (("--first", "--mode", "640"), 0o640)):
         with installing.installed(is_installed=False) as directory:
             subprocess.run([needs.program("setfacl", "acl"), "-d", "-m", f"u:{OTHER_USER}:rwx", directory.path], check=True, timeout=SECONDS)
-            expect_ended(directory, directory.run(directory.arguments("new", *options)), 0)
+            expect_ended(directory, directory.install("new", *options), 0)
             if list_of(directory.at(PLACE)) is not None or directory.mode() != mode:
                 raise Failure(f"the file has the mode {directory.mode():o}, and the list {list_of(directory.at(PLACE))}")
 
@@ -210,20 +193,21 @@ def disturbing_cases(installing):
     """Names of cases, and what runs each."""
     for number in ENDING:
         for call, at in HELD_BACK:
-            yield f"{number.name} at {call} {at}", partial(holds_back, installing, number, call, at)
-        yield f"{number.name} before the names", partial(ends_before, installing, number)
-    yield "a directory that is not synced", partial(syncs_no_directory, installing)
-    yield "an owner that is not allowed", partial(gives_no_owner, installing, errno.EPERM, 0)
-    yield "an owner that cannot be given", partial(gives_no_owner, installing, errno.EIO, FAILED)
-    yield "a mode that is not allowed", partial(names_mode, installing)
-    yield "reads that bring little", partial(reads_little, installing)
-    yield "a file that grows too large", partial(grows_too_large, installing)
-    yield "an error stream that nobody reads", partial(says_to_nobody, installing)
-    yield "closed standard streams", partial(closes_streams, installing)
-    yield "a clock before 1970", partial(has_wrong_clock, installing)
-    yield "a target that is replaced, and stands there already", partial(replaces, installing, True)
-    yield "a target that is replaced, of a newer update", partial(replaces, installing, False)
-    yield "a lock that is lost before the record is renamed", partial(loses_lock_later, installing, "sync", 2, b"7")
-    yield "a lock that is lost before the target is renamed", partial(loses_lock_later, installing, "sync", 3, b"7")
-    yield "a lock that a run by root makes anew", partial(keeps_renewed_lock, installing)
-    yield "a list that the directory gives to a first file", partial(takes_list_off, installing)
+            yield f"{number.name} at {call} {at}", holds_back, number, call, at
+        yield f"{number.name} before the names", ends_before, number
+    yield "a directory that is not synced", syncs_no_directory
+    yield "an owner that is not allowed", gives_no_owner, errno.EPERM, 0
+    yield "an owner that cannot be given", gives_no_owner, errno.EIO, FAILED
+    yield "a mode that is not allowed", names_mode
+    yield "reads that bring little", reads_little
+    yield "a file that grows too large", grows_too_large
+    yield "an error stream that nobody reads", says_to_nobody
+    yield "closed standard streams", closes_streams
+    yield "a clock before 1970", has_wrong_clock
+    yield "a target that is replaced, and stands there already", replaces, True
+    yield "a target that is replaced, of a newer update", replaces, False
+    yield "a lock file that is removed", loses_lock, "read-back", 1
+    yield "a lock that is lost before the record is renamed", loses_lock, "sync", 2
+    yield "a lock that is lost before the target is renamed", loses_lock, "sync", 3
+    yield "a lock that a run by root makes anew", keeps_renewed_lock
+    yield "a list that the directory gives to a first file", takes_list_off

@@ -1,4 +1,6 @@
-"""An installer that is killed at each of its calls of the system, with each of them failing or interrupted, and a disk that crashes."""
+"""Kills an installer at each of its calls of the system, has each of them fail or be interrupted, and crashes the
+disk.
+"""
 
 import errno
 import os
@@ -6,26 +8,25 @@ import shutil
 import signal
 import subprocess
 import tempfile
-from functools import partial
 
-from crashing import Disk, check_image, crash, make_image
+from crashing import check_image, disk, make_image
 from disturbed import MAX_CALLS, in_turn, small_disk, without_room
 from installers import FAILED, LOCK, NEW, NOT_ON_DISK, OLD, OLDER, PLACE, RECORD, THERE
 from process import told
-from running import NOBODY, SECONDS, Failure, build_preload, expect
+from running import NOBODY, SECONDS, Failure, expect
 from runs import STAGE, Directory, only_root
 
 
 def break_each(installing, judge, prepare=None, **how):
-    """Breaks each call of an update in turn, and hands to `judge` what each run left: how many there were."""
+    """Breaks each call of an update in turn, and hands to `judge` each run and its directory: how many there were."""
 
     def attempt(number, path):
         directory = installing.offered(path)
         if prepare:
             prepare(directory)
-        status, said, came = directory.run_broken(directory.arguments("new"), AT=number, **how)
-        judge(directory, status, said, number if came else 0)
-        return came
+        ran = directory.broken(AT=number, **how)
+        judge(directory, ran, number)
+        return ran.came
 
     return in_turn(installing.place, attempt)
 
@@ -34,8 +35,8 @@ def killed(installing):
     """The place holds the old or the new one; the record is never behind it; the next run finishes and cleans up."""
     seen = set()
 
-    def judge(directory, status, said, came):
-        directory.ends((status, said), -signal.SIGKILL if came else 0)
+    def judge(directory, ran, number):
+        directory.ends(ran, -signal.SIGKILL if ran.came else 0)
         state = directory.state()
         expect(state in [(OLD, b"5"), (OLD, b"6"), (NEW, b"6")], "the place or the record is neither old nor new")
         seen.add(state)
@@ -65,40 +66,35 @@ def is_spared(calls, number):
 def failing(installing, calls, number=errno.EIO):
     """Each of these calls fails in turn."""
 
-    def judge(directory, status, said, came):
+    def judge(directory, ran, at):
         state = directory.state()
-        if calls == "getrandom" and status == -signal.SIGABRT and state == (OLD, b"5") and directory.holds(LOCK) is None:
+        if calls == "getrandom" and ran.status == -signal.SIGABRT and state == (OLD, b"5") and directory.holds(LOCK) is None:
             # (libsodium ends a program that it can draw nothing for, before anything was touched)
             return
-        expect(not came or status != 0 or is_spared(calls, came), "it ended with status 0 although a call failed")
-        wanted = [(NEW, b"6")] if status == 0 else [(OLD, b"5"), (OLD, b"6")]
-        if status == NOT_ON_DISK and b"installed, but" in said:
-            wanted = [(NEW, b"6")]
-        expect(status in (0, FAILED, NOT_ON_DISK) and state in wanted and (status == 0 or said),
-               f"it ended with status {status}, said {said}, and the place or the record is wrong")
+        expect(not ran.came or ran.status != 0 or is_spared(calls, at), "it ended with status 0 although a call failed")
+        is_new = ran.status == 0 or ran.status == NOT_ON_DISK and b"installed, but" in ran.said
+        expect(ran.status in (0, FAILED, NOT_ON_DISK) and (ran.status == 0 or ran.said)
+               and state in ([(NEW, b"6")] if is_new else [(OLD, b"5"), (OLD, b"6")]), ran, "or the place or the record is wrong")
         directory.has_no_stage()
 
     expect(break_each(installing, judge, CALLS=calls, ERRNO=number), "it made no such call")
 
 
-def without_lock(installing):
+def without_lock(directory):
     """Where the system has no lock to give, the place is not locked, and nobody else has it."""
-    with installing.installed() as directory:
-        status, said, _ = directory.run_broken(directory.arguments("new"), CALLS="flock", AT=1, ERRNO=errno.ENOLCK)
-        directory.ends((status, said), FAILED, b"error: ./.place.lock: No locks available (os error 37)\n")
-        directory.expect(OLD, b"5")
+    ran = directory.broken(CALLS="flock", AT=1, ERRNO=errno.ENOLCK)
+    directory.ends(ran, FAILED, b"error: ./.place.lock: No locks available (os error 37)\n")
+    directory.expect(OLD, b"5")
 
 
 def short_writes(installing):
     """Each write takes half of its bytes at first: the rest follows, also of the number."""
 
-    def judge(directory, status, said, came):
-        directory.ends((status, said), 0)
+    def judge(directory, ran, _):
+        directory.ends(ran, 0)
         directory.expect(NEW, b"1234")
 
-    def prepare(directory):
-        directory.offer("new", NEW, 1234)
-
+    prepare = lambda directory: directory.offer("new", NEW, 1234)
     expect(break_each(installing, judge, prepare, CALLS="write", SHORT=1, GOES_ON=1) >= 2, "it made fewer than two such calls")
 
 
@@ -111,8 +107,8 @@ def interrupted(installing, calls):
         directory.put(STAGE + "0" * 32, b"left")
         os.chown(directory.at(PLACE), owner, -1)
 
-    def judge(directory, status, said, came):
-        directory.ends((status, said), 0)
+    def judge(directory, ran, _):
+        directory.ends(ran, 0)
         directory.expect(NEW, b"6")
         for name in (PLACE, RECORD, LOCK):
             expect(os.stat(directory.at(name)).st_uid == owner, f"{name} is of another owner")
@@ -124,15 +120,13 @@ def interrupted(installing, calls):
 
 def refused_memory(installing):
     """Each allocation fails in turn: nothing is installed, and nothing left."""
-    preload = build_preload(installing.room, "refuse_memory")
 
     def attempt(number, path):
         directory = installing.offered(path)
-        environment = {"LD_PRELOAD": preload, "REFUSE_AT": str(number)}
-        (status, said), came = told(lambda says: directory.run(directory.arguments("new"), {**environment, "REFUSE_SAYS": str(says)}, pass_fds=[says]))
-        expect(not came or status == FAILED and b"memory" in said, f"it ended with status {status}, and said {said}")
-        directory.expect(*((OLD, b"5") if came else (NEW, b"6")))
-        return came
+        ran = installing.run_refused(path, directory.arguments("new"), number)
+        expect(not ran.came or ran.status == FAILED and b"memory" in ran.said, ran)
+        directory.expect(*((OLD, b"5") if ran.came else (NEW, b"6")))
+        return ran.came
 
     expect(in_turn(installing.place, attempt), "it asked for no memory")
 
@@ -146,18 +140,17 @@ def on_full_disk(installing):
         directory.expect(OLD, b"5")
 
 
-def in_locked_directory(installing):
+def in_locked_directory(directory):
     only_root("become nobody")
-    with installing.installed() as directory:
-        os.chmod(directory.path, 0o755)
-        ran = directory.run(directory.arguments("new"), user=NOBODY, group=NOBODY, extra_groups=[])
-        directory.ends(ran, FAILED, b"error: ./.place.lock: Permission denied (os error 13)\n")
-        directory.expect(OLD, b"5")
+    os.chmod(directory.path, 0o755)
+    ran = directory.install(user=NOBODY, group=NOBODY, extra_groups=[])
+    directory.ends(ran, FAILED, b"error: ./.place.lock: Permission denied (os error 13)\n")
+    directory.expect(OLD, b"5")
 
 
 def stopped(directory, number):
     """A run that stops before its call of this number, and whether that call came."""
-    environment = {"LD_PRELOAD": directory.installing.preload, "BREAK_AT": str(number), "BREAK_SIGNAL": str(int(signal.SIGSTOP))}
+    environment = directory.preloading(BREAK_AT=str(number), BREAK_SIGNAL=str(int(signal.SIGSTOP)))
     return told(lambda says: directory.start(directory.arguments("new"), {**environment, "BREAK_SAYS": str(says)}, pass_fds=[says],
                                              stderr=subprocess.DEVNULL))
 
@@ -168,16 +161,16 @@ def crashes(installing):
     with tempfile.TemporaryDirectory(dir=installing.room) as room:
         fresh, image, crashed = (os.path.join(room, name) for name in ("fresh", "image", "crashed"))
         make_image(fresh)
-        with Disk(fresh) as path:
+        with disk(fresh) as path:
             installing.offered(path)
         seen = set()
         for number in range(1, MAX_CALLS):
             shutil.copyfile(fresh, image)
-            with Disk(image) as path:
+            with disk(image) as path:
                 process, came = stopped(Directory(path, installing), number)
                 try:
                     expect(came or process.wait(timeout=SECONDS) == 0, f"it ended with status {process.returncode}")
-                    crash(image, crashed)
+                    shutil.copyfile(image, crashed)
                 finally:
                     process.kill()
                     process.wait()
@@ -192,7 +185,7 @@ def crashes(installing):
 
 def after_crash(installing, crashed, may_be_old):
     """What a machine finds that crashed; the next run finishes on it."""
-    with Disk(crashed) as path:
+    with disk(crashed) as path:
         directory = Directory(path, installing)
         state = directory.state()
         if state not in ([(OLD, b"5"), (OLD, b"6"), (NEW, b"6")] if may_be_old else [(NEW, b"6")]):
@@ -207,11 +200,11 @@ def loses_without(installing, away):
     with tempfile.TemporaryDirectory(dir=installing.room) as room:
         image, crashed = (os.path.join(room, name) for name in ("image", "crashed"))
         make_image(image)
-        with Disk(image) as path:
+        with disk(image) as path:
             directory = installing.offered(path)
             os.sync()
-            directory.ends(directory.run(directory.arguments("new"), {"LD_PRELOAD": installing.preload, "TAKE_AWAY": away}), 0)
-            crash(image, crashed)
+            directory.ends(directory.install(environment=directory.preloading(TAKE_AWAY=away)), 0)
+            shutil.copyfile(image, crashed)
         try:
             after_crash(installing, crashed, False)
         except Failure:
@@ -221,17 +214,17 @@ def loses_without(installing, away):
 
 def disturbed_cases(installing):
     """What is disturbed."""
-    yield "killed at each call", partial(killed, installing)
+    yield "killed at each call", killed
     for call in installing.kind.failing:
-        yield f"{call} fails", partial(failing, installing, call)
+        yield f"{call} fails", failing, call
     for call in installing.kind.interrupted:
-        yield f"{call} is interrupted", partial(interrupted, installing, call)
-    yield "writes that take half", partial(short_writes, installing)
-    yield "a lock that the system cannot give", partial(without_lock, installing)
-    yield "write fails for want of room", partial(failing, installing, "write", errno.ENOSPC)
-    yield "a full disk", partial(on_full_disk, installing)
-    yield "a directory that may not be written", partial(in_locked_directory, installing)
-    yield "a disk that crashes before each call", partial(crashes, installing)
+        yield f"{call} is interrupted", interrupted, call
+    yield "writes that take half", short_writes
+    yield "a lock that the system cannot give", without_lock
+    yield "write fails for want of room", failing, "write", errno.ENOSPC
+    yield "a full disk", on_full_disk
+    yield "a directory that may not be written", in_locked_directory
+    yield "a disk that crashes before each call", crashes
     for away in ("sync", "directory"):
-        yield f"a disk that crashes, and {away} is taken away", partial(loses_without, installing, away)
-    yield "an allocation that fails", partial(refused_memory, installing)
+        yield f"a disk that crashes, and {away} is taken away", loses_without, away
+    yield "an allocation that fails", refused_memory

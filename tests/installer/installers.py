@@ -1,5 +1,5 @@
-"""The program that installs updates, as its tests see it: what it says, which calls of the system it makes in which order, and the
-texts of keys and signatures that it takes.
+"""The program that installs updates, as its tests see it: its messages, its calls of the system in their order, and
+the texts of keys and signatures that it takes.
 
 Needs Python 3.9 or later, and Minisign's own program.
 """
@@ -21,11 +21,12 @@ PLACE, RECORD, LOCK = "place", ".place.number", ".place.lock"
 FAILED, MISUSED, REJECTED, OLDER, IN_USE, NOT_ON_DISK, UNRECORDED, SAME, EXPIRED, THERE = range(1, 11)
 
 
+NAME, VERSION = "minisign-install", b"0.3.0"
+
+
 class RealInstaller:
     """`minisign-install`, with a key that Minisign's own program makes in this directory."""
 
-    name = "minisign-install"
-    version = b"0.3.0"
     failing = ("open", "openat", "write", "fsync", "renameat", "read", "pread", "flock", "readdir", "fchmod", "fstat", "fstatat",
                "getrandom", "close", "fgetxattr", "fremovexattr")
     interrupted = ("open", "openat", "read", "write", "fsync", "pread", "flock", "fchmod", "renameat", "readdir", "fstat", "fstatat",
@@ -57,14 +58,6 @@ sync .
 rename S {PLACE}
 sync .
 """
-
-    @staticmethod
-    def bad_value(option, value):
-        return f"error: {option}: bad {dict(numbering='field', mode='mode', wait='number of seconds').get(option[2:], 'size')} {value}\n".encode()
-
-    @staticmethod
-    def is_said(text, said):
-        return text.endswith(said)
 
     def __init__(self, room):
         self.minisign = needs.minisign()

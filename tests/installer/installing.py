@@ -1,18 +1,17 @@
-"""The cases of `minisign-install` on real files: updates that are good, bad and older, each option, words that ask for nothing, over
-what cannot be used, while it is killed at each of its calls of the system and with each of them failing or interrupted, four at
-once with a reader beside them, while stage, place and lock file are changed by others, by root over files of others, on links, on
-files with access control lists, in a directory that may not be written, on a full disk, and on a disk that crashes; data from a
-pipe that stands still, an allocation that fails. What stands at the place is always the old or a new update, whole, and after each
-run that was cut off the next one ends with the update there. `real_installing.py` runs them, and tests/bindings the package for
-Python through most of them.
+"""The cases of `minisign-install` on real files: good, bad and older updates, each option, and wrong command lines;
+files that cannot be used; kills, failures and interruptions at each call of the system; four runs at once with a
+reader beside them; others who change stage, target and lock file; runs by root over files of others, links, access
+control lists, a directory that may not be written, a full disk, a disk that crashes; data from a pipe that stands
+still, a failing allocation. Whatever comes, the old or a new update stands at the target, whole, and after a run that
+was cut off the next one ends with the update there. `real_installing.py` runs them, and tests/bindings the package
+for Python through most of them.
 
-Needs Python 3.9 or later, a C compiler, minisign and setfacl, which it installs where it may. The disk that crashes is a file system
-in a file, which root mounts: where that is not allowed, those cases are skipped.
+Needs Python 3.9 or later, a C compiler, minisign and setfacl, which it installs if it may. The disk that crashes is a
+file system in a file, which root mounts: where that is not allowed, those cases are skipped.
 """
 
 import os
 import sys
-import tempfile
 
 HERE = os.path.dirname(os.path.realpath(__file__))
 sys.path += [os.path.join(HERE, "..", name) for name in ("shared", "tool")]
@@ -26,8 +25,7 @@ from meanwhile import meanwhile_cases
 from ordered import ordered_cases
 from owners import owner_cases
 from permissions import permission_cases
-from real_runs import run_named
-from runs import Directory, Installing
+from runs import Directory
 from there import there_cases
 from updates import update_cases
 from withholding import withholding_cases
@@ -44,20 +42,15 @@ class ReplacingByUpdates:
 
     def run(self, path, asked, breaking, user):
         directory = Directory(path, self.installing)
-        options = ["--mode", asked] if asked else []
-        environment = {"LD_PRELOAD": self.installing.preload, **breaking} if breaking else {}
-        return directory.run(directory.arguments("new", *options), environment, **user)
+        environment = directory.preloading(**breaking) if breaking else {}
+        ran = directory.install("new", *(["--mode", asked] if asked else []), environment=environment, **user)
+        return ran.status, ran.said
 
 
 def cases(installing):
     """The names of all cases, and what runs each."""
     for some in (update_cases, there_cases, owner_cases, meanwhile_cases, disturbed_cases, ordered_cases, cut_off_cases, disturbing_cases,
                  expiry_cases, withholding_cases, check_cases, word_cases):
-        yield from some(installing)
+        for name, case, *given in some(installing):
+            yield name, installing.run_case, case, *given
     yield from permission_cases(ReplacingByUpdates(installing), installing.kind.permissions)
-
-
-def run_all(program, kind):
-    """Runs all cases, prints those that failed or were skipped, and answers how many passed and how many failed."""
-    with tempfile.TemporaryDirectory(prefix="installing-") as room:
-        return run_named(program, cases(Installing(program, kind, room)))

@@ -1,8 +1,7 @@
-"""The calls of an installation in their order, and each step taken away."""
+"""The calls of an installation in their order, and runs with one step taken away."""
 
 import errno
 import os
-from functools import partial
 
 from installers import FAILED, NEW, NOT_ON_DISK, PLACE
 from running import NOBODY, expect
@@ -21,7 +20,7 @@ STEPS = ("sync", "directory", "new", "mode", "permissions", "owner", "lock", "re
 
 def traced(installing, away=None, status=0, data=NEW, **how):
     """The calls that an installation made, with a step taken away or none; and what it left."""
-    with installing.standing() as directory:
+    with installing.installed() as directory:
         os.chown(directory.at(PLACE), NOBODY, NOBODY)
         directory.offer("new", data, 16)
         taken = {} if away is None else {"TAKE_AWAY": away}
@@ -71,8 +70,8 @@ def notices(installing, away):
 
 def ordered_cases(installing):
     """The calls in their order, and each step that is taken away."""
-    yield "the calls in their order", partial(in_order, installing)
+    yield "the calls in their order", in_order
     for case in FAILING:
-        yield f"the calls after {case[0]} {case[1]} failed", partial(in_order_after, installing, *case)
+        yield f"the calls after {case[0]} {case[1]} failed", in_order_after, *case
     for away in STEPS:
-        yield f"{away} is taken away", partial(notices, installing, away)
+        yield f"{away} is taken away", notices, away

@@ -1,46 +1,28 @@
 #!/usr/bin/env python3
-"""Plants bugs in `minisign-install`, one at a time, and runs the cases of `installing.py` over it that have to notice each.
+"""Plants bugs in `minisign-install`, one at a time, and runs the cases of `installing.py` that have to notice each.
 
     tests/installer/planted_bugs.py
 
-The sources are changed in a copy, which is built over the static library; that is proved before where it was not
-(`static_library.py`). It prints a line for each bug that nothing noticed; the last line is `N passed, M failed`.
+The sources are changed in a copy, which is built over the static library (`static_library.py`). It prints a line for
+each bug that nothing noticed; the last line is `N passed, M failed`.
 
 Needs what `real_installing.py` needs.
 """
 
 import os
-import shutil
-import subprocess
 import sys
-import tempfile
-from dataclasses import dataclass
-from functools import partial
 
 HERE = os.path.dirname(os.path.realpath(__file__))
-TOP = os.path.join(HERE, "..", "..")
 sys.path += [os.path.join(HERE, "..", name) for name in ("shared", "tool")]
 
 import ending
 import needs
-import static_library
-from installers import RealInstaller
+from installers import NAME, RealInstaller
 from installing import cases
-from running import SECONDS, Failure, expect, run_cases
+from planted import Bug, run_planted
 from runs import Installing
 
 REPLACED = "the permissions of a replaced file: "
-
-
-@dataclass(frozen=True)
-class Bug:
-    """What is done wrongly, in which file, which text becomes which other one, and the case that has to notice it."""
-
-    what: str
-    file: str
-    old: str
-    new: str
-    case: str
 
 
 BUGS = [
@@ -49,7 +31,7 @@ BUGS = [
         "a signed comment that was changed"),
     Bug("a check does not verify the signed comment", "install/installing.c",
         "second = wanted->answer(q->comment_signature,", "second = wanted->is_check ? MINISIGN_ANSWER_YES : wanted->answer(q->comment_signature,",
-        "a check: a changed comment"),
+        "a signed comment that was changed"),
     Bug("the data is not verified", "install/installing.c", "first = wanted->answer(q->signature, q->digest, sizeof q->digest, q->public_key)",
         "first = MINISIGN_ANSWER_YES", "other data"),
     Bug("an older update is called newer", "install/minisign-install.c", "MINISIGN_OLDER_UPDATE, OLDER,",
@@ -61,7 +43,7 @@ BUGS = [
     Bug("of two keys the second is not looked at", "install/installing.c", "&wanted->keys[wanted->key_count - 1]", "&wanted->keys[0]", "keys that are named themselves"),
     Bug("a short write is taken for whole", "shared/streams.c", "        len -= (size_t) n;\n    }\n    return true;",
         "        len = 0;\n    }\n    return true;", "writes that take half"),
-    Bug("the bit that changes the user is kept", "shared/permissions.c", "found->st_mode & ALL_BITS", "found->st_mode & 07777",
+    Bug("the bit that changes the user is kept", "shared/permissions.c", "mode & ALL_BITS", "mode & 07777",
         REPLACED + "the bit that changes the user"),
     Bug("0705 becomes 0755", "shared/permissions.c", "return give_mode(fd, older->mode);",
         "return give_mode(fd, older->mode | (older->mode & 07) << 3);", REPLACED + "permissions that all others and not the group have"),
@@ -113,14 +95,14 @@ BUGS = [
     Bug("the owning group of a list is passed over", "shared/permissions.c", "whom == NAMED_USER || whom == OWNING_GROUP ||", "whom == NAMED_USER ||",
         REPLACED + "a list that cannot be copied, whose owning group may do less"),
     Bug("a name is given without a look at the lock", "install/directory.c",
-        "    if (!is_locked(directory)) {\n        return MINISIGN_WRITING_FAILED;\n    }\n    return AGAIN(renameat(directory->fd, stage",
-        "    return AGAIN(renameat(directory->fd, stage", "a lock that is lost before the record is renamed"),
+        "    if (!is_locked(directory)) {\n        return MINISIGN_WRITING_FAILED;\n    }\n    return wrote(directory, to,",
+        "    return wrote(directory, to,", "a lock that is lost before the record is renamed"),
     Bug("a file beyond the system's bound is a signal", "install/minisign-install.c", "signal(SIGXFSZ, SIG_IGN);", "signal(SIGXFSZ, SIG_DFL);",
         "a file that grows too large"),
     Bug("an error stream that nobody reads is a signal", "install/minisign-install.c", "signal(SIGPIPE, SIG_IGN);", "signal(SIGPIPE, SIG_DFL);",
         "an error stream that nobody reads"),
     Bug("G is read as M", "install/options.c", "case 'G': return UINT64_C(1) << 30;", "case 'G': return UINT64_C(1) << 20;",
-        "a bound too great by a smaller unit"),
+        "--most '17179869184G'"),
     Bug("a target may be the directory above", "install/directory.c", ' || strcmp(name, "..") == 0', "", "the directory above as place"),
     Bug("the root directory has no name", "install/directory.c", "int length = slash == NULL || slash == target ? 1 :", "int length = slash == NULL ? 1 :",
         "a place in the root directory"),
@@ -159,7 +141,7 @@ BUGS = [
         "a record that is too long"),
     Bug("a record of root's stays root's", "install/directory.c", "|| (is_lock && own.st_size > 0) || geteuid() != 0", "|| !is_lock || own.st_size > 0 || geteuid() != 0",
         "the owner after a run by root of an older update"),
-    Bug("what is no record is copied for its new owner", "install/installing.c", "== MINISIGN_DUE_JUDGE && !wanted->is_first &&", "== MINISIGN_DUE_JUDGE &&",
+    Bug("what is no record is copied for its new owner", "install/installing.c", "== MINISIGN_DUE_JUDGE && !wanted->is_first\n", "== MINISIGN_DUE_JUDGE\n",
         "a file of root's with the name of the record, at a first installation"),
     Bug("nobody waits", "install/installing.c", "run->waited < (uint64_t) run->wanted->wait * WAITS", "false", "waiting for another that holds the lock"),
     Bug("a check shows what nobody has signed", "install/installing.c", "return minisign_install_is_vouched(&run->machine) == 1 ? ", "return true ? ",
@@ -197,56 +179,15 @@ BUGS = [
 ]
 
 
-def plant(bug, copy):
-    """Changes the copy of a file in one place."""
-    path = os.path.join(copy, bug.file)
-    with open(path, encoding="utf-8") as file:
-        text = file.read()
-    if text.count(bug.old) != 1:
-        raise Failure(f"{bug.file} has {text.count(bug.old)} times what is changed")
-    with open(path, "w", encoding="utf-8") as file:
-        file.write(text.replace(bug.old, bug.new))
-
-
-def build(room, library, name=RealInstaller.name):
-    """A fresh copy of the sources, and what builds a program of it, of this name."""
-    copy = tempfile.mkdtemp(dir=room)
-    shutil.copytree(os.path.join(TOP, "include"), os.path.join(copy, "include"))
-    shutil.copytree(os.path.join(TOP, "c"), os.path.join(copy, "c"), ignore=shutil.ignore_patterns("out"))
-
-    def make():
-        built = os.path.join(copy, "c", "out", name)
-        os.makedirs(os.path.dirname(built))
-        shutil.copy(library, os.path.dirname(built))
-        # (the library is newer than all that it is made of)
-        ran = subprocess.run(["make", "-C", os.path.join(copy, "c"), "-o", "out/libminisign.a", "CFLAGS=-O0", f"out/{name}"],
-                             stdin=subprocess.DEVNULL, stdout=subprocess.PIPE, stderr=subprocess.STDOUT, timeout=10 * SECONDS)
-        expect(ran.returncode == 0, f"it was not built: {ran.stdout.decode(errors='replace')[-500:]}")
-        return built
-
-    return os.path.join(copy, "c"), make
-
-
-def notices(bug, room, library, kind):
-    """The case that has to notice a bug fails."""
-    copy, make = build(room, library)
-    plant(bug, copy)
-    program = make()
-    with tempfile.TemporaryDirectory(dir=room) as own:
-        case = dict(cases(Installing(program, kind, own)))[bug.case]
-        try:
-            case()
-        except Failure:
-            return
-    raise Failure(f"nothing in `{bug.case}` notices it")
+def cases_of(program, room):
+    """The cases over a program, with a key of its own."""
+    return cases(Installing(program, RealInstaller(room), room))
 
 
 def run_all(room):
     """Plants all of them: the failures, and how many there were."""
-    os.chmod(room, 0o711)
     needs.libsodium()
-    library, kind = static_library.library(os.path.join(room, "built")), RealInstaller(room)
-    return run_cases((bug.what, partial(notices, bug, room, library, kind)) for bug in BUGS)
+    return run_planted(BUGS, room, NAME, cases_of)
 
 
 if __name__ == "__main__":

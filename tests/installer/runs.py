@@ -1,11 +1,12 @@
-"""How an installer is run in fresh directories, each of which has a target and what is offered for it, and what has to come of a run.
+"""Runs an installer in fresh directories, each with a target and an offered update, and compares what comes of it.
 
-Needs Python 3.9 or later and a C compiler, which it installs where it may.
+Needs Python 3.9 or later and a C compiler, which it installs if it may.
 """
 
 import array
 import contextlib
 import fcntl
+import inspect
 import os
 import shutil
 import signal
@@ -13,12 +14,13 @@ import stat
 import subprocess
 import tempfile
 import termios
+import threading
 import time
 
-from disturbed import content, place_for, while_stopped
+from disturbed import Disturbing, content, while_stopped
 from installers import NEW, OLD, PLACE, RECORD
-from process import told
-from running import SECONDS, Failure, Skip, build_preload, expect
+from process import Ran
+from running import SECONDS, Failure, Skip, expect
 
 STAGE = ".place.stage-"
 # A key that has signed nothing here.
@@ -33,7 +35,7 @@ BY_VERSION = ("--numbering", "version")
 OTHER_DATA = b"error: place: an update of this number was installed, and other data stands at the target\n--again installs all the same\n"
 NO_RECORD = b"error: place: no number is kept beside the target\n./.place.number is missing: --first installs all the same\n"
 DAMAGED_RECORD = b"error: place: what is kept beside the target is no number\n./.place.number is damaged: --first installs all the same\n"
-OTHER_NAME = b"the signed comment does not name this file\nplace is wanted: --name wants another name than that of the target\n"
+OTHER_NAME = b"the signed comment does not name this file\nplace is wanted: --name gives another name\n"
 KEPT_BY_VERSION = (b"error: place: the number that is kept beside the target is a version, and no timestamp\n"
                    b"it was installed by version: add --numbering version\n")
 KEPT_BY_TIMESTAMP = (b"error: place: the number that is kept beside the target is a timestamp, and no version\n"
@@ -60,6 +62,31 @@ def comment_of(number, names=PLACE, label="timestamp", more=""):
     return f"{label}:{number}\tfile:{names}{more}\tprehashed".encode()
 
 
+@contextlib.contextmanager
+def repeating(act, pause=0.0):
+    """Does something again and again meanwhile, which is given a number that counts up; what it raises is a `Failure`."""
+    is_over, broken = threading.Event(), []
+
+    def go_on():
+        number = 0
+        try:
+            while not is_over.wait(pause):
+                act(number)
+                number += 1
+        except Exception as why:
+            broken.append(why)
+
+    thread = threading.Thread(target=go_on)
+    thread.start()
+    try:
+        yield
+    finally:
+        is_over.set()
+        thread.join()
+    if broken:
+        raise Failure(f"what is done meanwhile ended: {broken[0]}")
+
+
 class Directory:
     """A directory with a target, and the runs of an installer in it."""
 
@@ -83,6 +110,11 @@ class Directory:
     def put(self, name, data):
         with open(self.at(name), "wb") as file:
             file.write(data)
+
+    def take_away(self):
+        """Nothing stands at the target."""
+        os.remove(self.at(PLACE))
+        os.remove(self.at(RECORD))
 
     def put_older(self):
         """What stood at the target before."""
@@ -135,16 +167,28 @@ class Directory:
         return [*options, PK, name, name + ".sig", PLACE]
 
     def run(self, words, environment=None, **how):
-        """A run of the program: its status, and what it said."""
-        streams = {"stdout": subprocess.DEVNULL, "stderr": subprocess.PIPE, **({} if "input" in how else {"stdin": subprocess.DEVNULL})}
-        ran = subprocess.run([self.installing.program, *words], cwd=self.path, env=environment or {}, umask=0o022, timeout=SECONDS,
-                             **{**streams, **how})
-        return ran.returncode, ran.stderr
+        """A run of the program."""
+        return self.installing.run(self.path, words, environment, **how)
+
+    def install(self, name="new", *options, **how):
+        """A run for the update of this name."""
+        return self.run(self.arguments(name, *options), **how)
 
     def start(self, words, environment=None, **how):
         """A run that goes on meanwhile."""
         return subprocess.Popen([self.installing.program, *words], cwd=self.path, env=environment or {},
                                 **{"stdin": subprocess.DEVNULL, "stdout": subprocess.DEVNULL, "stderr": subprocess.PIPE, **how})
+
+    def waiting(self, words, data=None):
+        """A run that waits for the lock, which another holds; with data, that is fed to it."""
+        process = self.start(["--wait", "20", *words], stdin=subprocess.DEVNULL if data is None else subprocess.PIPE)
+        if data is not None:
+            process.stdin.write(data)
+            process.stdin.close()
+            process.stdin = None
+        time.sleep(0.5)
+        expect(process.poll() is None and self.holds() == OLD, "it did not wait")
+        return process
 
     def run_unfed(self, words):
         """A run whose standard input is a pipe that nobody feeds."""
@@ -157,17 +201,19 @@ class Directory:
             os.close(reader)
             os.close(writer)
 
-    def run_broken(self, words, **how):
-        """A run with a call broken, as `disturbed_calls.c` is told: its status, what it said, and whether it came to that call."""
-        environment = {"LD_PRELOAD": self.installing.preload, **{f"BREAK_{word}": str(value) for word, value in how.items()}}
-        (status, said), came = told(lambda says: self.run(words, {**environment, "BREAK_SAYS": str(says)}, pass_fds=[says]))
-        return status, said, came
+    def broken(self, *options, **how):
+        """A run for the update with a call broken, as `disturbed_calls.c` is told."""
+        return self.installing.run_broken(self.path, self.arguments("new", *options), how)
+
+    def preloading(self, **environment):
+        """An environment in which `disturbed_calls.c` does this."""
+        return {"LD_PRELOAD": self.installing.preload, **environment}
 
     def run_traced(self, words, **environment):
         """A run and the lines of its calls, as `disturbed_calls.c` tells them."""
         reader, says = os.pipe()
         try:
-            ran = self.run(words, {"LD_PRELOAD": self.installing.preload, "TRACE_TO": str(says), **environment}, pass_fds=[says])
+            ran = self.run(words, self.preloading(TRACE_TO=str(says), **environment), pass_fds=[says])
         finally:
             os.close(says)
         with os.fdopen(reader) as pipe:
@@ -180,34 +226,36 @@ class Directory:
 
     def while_stopped(self, calls, number, meanwhile, where="."):
         """A run over the target in a directory of this directory: before its call of this number among these it stops, something is
-        done, and then it goes on. Whether it made so many; its status, and what it said."""
-        environment = {"LD_PRELOAD": self.installing.preload, "BREAK_CALLS": calls, "BREAK_AT": str(number), "BREAK_SIGNAL": str(int(signal.SIGSTOP)),
-                       "BREAK_GOES_ON": "1"}
+        done, and then it goes on."""
+        environment = self.preloading(BREAK_CALLS=calls, BREAK_AT=str(number), BREAK_SIGNAL=str(int(signal.SIGSTOP)), BREAK_GOES_ON="1")
         process = self.start([PK, "new", "new.sig", os.path.join(where, PLACE)], environment)
         return while_stopped(process, lambda: meanwhile(Directory(self.at(where), self.installing)))
 
     def while_staged(self, meanwhile, where="."):
-        """The same once it has staged all of its data: its status, and what it said."""
-        is_stopped, status, said = self.while_stopped(self.kind.called["read-back"], 1, meanwhile, where)
-        expect(is_stopped, f"it staged nothing, and said {said}")
-        return status, said
+        """The same once it has staged all of its data."""
+        ran = self.while_stopped(self.kind.called["read-back"], 1, meanwhile, where)
+        expect(ran.came, "it staged nothing", ran)
+        return ran
 
     # == What has to come of them ==
 
     def ends(self, ran, status, said=None):
         """Raises a `Failure` where a run ended otherwise, or does not say this at its end."""
-        ended, text = ran
-        expect(ended == status and (said is None or self.kind.is_said(text, said)),
-               f"it ended with status {ended} in place of {status}, and said {text}")
+        expect(ran.status == status and (said is None or ran.said.endswith(said)), ran, f"in place of {status}")
 
     def check(self, name, status, *options, said=None):
         """A run for the update of this name ends so."""
-        self.ends(self.run(self.arguments(name, *options)), status, said)
+        self.ends(self.install(name, *options), status, said)
 
-    def check_words(self, words, status, said=b""):
+    def check_words(self, words, status, said=b"", **how):
         """A run by these words ends so, and says this alone."""
-        ended, text = self.run(words)
-        expect(ended == status and text == said, f"it ended with status {ended} in place of {status}, and said {text}")
+        ran = self.run(words, **how)
+        expect(ran.status == status and ran.said == said, ran, f"in place of {status}")
+
+    def ends_later(self, process, status, said=None):
+        """A run that went on meanwhile ends so."""
+        text = process.communicate(timeout=SECONDS)[1]
+        self.ends(Ran(process.returncode, b"", text), status, said)
 
     def expect(self, data, number):
         """Raises a `Failure` where the target or the record holds anything else, or a stage is left."""
@@ -227,29 +275,34 @@ class Directory:
         expect(self.mode(name) == mode, f"{name} has the mode {self.mode(name):o}")
 
 
-class Installing:
-    """An installer that is run in fresh directories, in memory where that can be had; `kind` is one of `installers.py`."""
+class Installing(Disturbing):
+    """An installer that is run in fresh directories; `kind` is one of `installers.py`."""
+
+    seconds = SECONDS
 
     def __init__(self, program, kind, room):
-        self.kind, self.room, self.place = kind, room, place_for(room)
-        self.program = shutil.copy(program, os.path.join(room, "program"))
+        super().__init__(shutil.copy(program, os.path.join(room, "program")), room)
+        self.kind = kind
         os.chmod(room, 0o711)
-        self.preload = build_preload(room, "disturbed_calls")
-
-    @contextlib.contextmanager
-    def standing(self, **how):
-        """A fresh directory at whose target an older update stands, or nothing."""
-        with tempfile.TemporaryDirectory(dir=self.place) as path:
-            yield Directory(path, self).begin(**how)
 
     def offered(self, path, number=6, **how):
-        """A directory like that, at this path, which is offered an update of this number."""
+        """A directory at this path, at whose target an older update stands, or nothing, and which is offered one of this number."""
         directory = Directory(path, self).begin(**how)
         directory.offer("new", NEW, number)
         return directory
 
     @contextlib.contextmanager
-    def installed(self, number=6, **how):
+    def installed(self, *number, **how):
         """A fresh directory like that."""
         with tempfile.TemporaryDirectory(dir=self.place) as path:
-            yield self.offered(path, number, **how)
+            yield self.offered(path, *number, **how)
+
+    def run_case(self, case, *given):
+        """Runs a case with what it is given, at the end by names. One whose first parameter is `directory` gets a fresh one, and
+        another one this installer."""
+        *given, named = given if given and isinstance(given[-1], dict) else (*given, {})
+        if next(iter(inspect.signature(case).parameters)) != "directory":
+            case(self, *given, **named)
+            return
+        with self.installed() as directory:
+            case(directory, *given, **named)

@@ -1,16 +1,13 @@
-"""Updates of who withholds newer ones, and of who floods: that have to expire, a clock that shows less than the time at which the record
-was written, data of another size than was signed, a record of a key that was stolen, two keys of one key ID, and what a check shows.
+"""Updates of an attacker who withholds newer ones, or floods: with an expiry, a clock behind the record's date, data
+of another size than was signed, a record of a stolen key, two keys of one key ID, and what a check shows.
 `installing.py` runs these cases.
 
-Needs Python 3.9 or later; one case needs root, who gives files to others.
+Needs Python 3.9 or later; one case needs root, to give files to others.
 """
 
 import base64
 import os
-import subprocess
-import tempfile
 import time
-from functools import partial
 
 from installers import EXPIRED, NEW, OLD, OLDER, PLACE, RECORD, REJECTED, SAME, THERE
 from running import NOBODY, SECONDS, expect
@@ -21,6 +18,7 @@ from updates import rejects
 OTHER_KEY = bytes(range(32))
 # When a record was written, later than any clock shows, and how that is said.
 WRITTEN, AS_WRITTEN = 4000000000, b"2096-10-02 07:06:40 UTC"
+BAD_EXPIRY = b"the signed comment does not say once, in a number, when it expires"
 # Data of several pieces.
 LONG = b"long" * 300000
 SIZED = f"\tsize:{len(NEW)}"
@@ -55,46 +53,43 @@ def expect_written(directory, *moments):
     expect(moments[0] <= found <= moments[-1], f"the record was written at {found}, and not at {moments}")
 
 
-def is_behind(installing, shown, more, status, options=()):
+def is_behind(directory, shown, more, status, options=()):
     """At this time by the clock, an update over a record that was written at another one; and a check of it."""
     told = (said_of("new.sig", b"the update has expired")
             + said_of("./.place.number", b"it was written at " + AS_WRITTEN + b", and the clock shows less: set it"))
-    with installing.installed() as directory:
-        directory.offer("new", NEW, 6, more=more)
-        date(directory, WRITTEN)
-        for words in (CHECK, directory.arguments("new")):
-            ran = directory.run([*options, *words], {"LD_PRELOAD": installing.preload, "SHOWN_TIME": str(shown)})
-            directory.ends(ran, status, told if status else b"")
-        directory.expect(*((OLD, b"5") if status else (NEW, b"6")))
+    directory.offer("new", NEW, 6, more=more)
+    date(directory, WRITTEN)
+    for words in (CHECK, directory.arguments("new")):
+        ran = directory.run([*options, *words], directory.preloading(SHOWN_TIME=str(shown)))
+        directory.ends(ran, status, told if status else b"")
+    directory.expect(*((OLD, b"5") if status else (NEW, b"6")))
 
 
-def keeps_date(installing):
+def keeps_date(directory):
     """A run by a clock that shows less than when the record was written dates no record back, nor does one that finds the update there."""
-    with installing.installed() as directory:
-        date(directory, WRITTEN)
-        for status in (0, THERE):
-            directory.check("new", status)
-            expect_written(directory, WRITTEN)
-        directory.offer("new", NEW, 7)
-        began = int(time.time()) - 1
-        directory.check("new", 0, "--first")
-        expect_written(directory, began, began + SECONDS)
-        date(directory, began - 1000)
-        directory.check("new", THERE)
-        expect_written(directory, began - 1000)
+    date(directory, WRITTEN)
+    for status in (0, THERE):
+        directory.check("new", status)
+        expect_written(directory, WRITTEN)
+    directory.offer("new", NEW, 7)
+    began = int(time.time()) - 1
+    directory.check("new", 0, "--first")
+    expect_written(directory, began, began + SECONDS)
+    date(directory, began - 1000)
+    directory.check("new", THERE)
+    expect_written(directory, began - 1000)
 
 
-def renews_dated(installing):
+def renews_dated(directory):
     """The record that a run by root makes anew for its new owner was written when the older one was."""
     only_root()
-    with installing.installed() as directory:
-        directory.put(RECORD, b"timestamp:5")
-        os.chown(directory.at(PLACE), NOBODY, NOBODY)
-        date(directory, WRITTEN)
-        directory.offer("new", NEW, 4)
-        directory.check("new", OLDER)
-        expect_written(directory, WRITTEN)
-        expect(os.stat(directory.at(RECORD)).st_uid == NOBODY, "the record is root's")
+    directory.put(RECORD, b"timestamp:5")
+    os.chown(directory.at(PLACE), NOBODY, NOBODY)
+    date(directory, WRITTEN)
+    directory.offer("new", NEW, 4)
+    directory.check("new", OLDER)
+    expect_written(directory, WRITTEN)
+    expect(os.stat(directory.at(RECORD)).st_uid == NOBODY, "the record is root's")
 
 
 # == How long the data is ==
@@ -108,39 +103,31 @@ def is_sized(installing, data, says, status, said=None, linked=None):
                 os.remove(directory.at("new"))
                 os.symlink(linked, directory.at("new"))
             words = THROUGH_PIPE if is_piped else directory.arguments("new")
-            ran = directory.run(words, **({"input": data} if is_piped else {}))
+            ran = directory.run(words, typed=data if is_piped else None)
             directory.ends(ran, status, said and said_of(words[1], said))
             directory.expect(*((OLD, b"5") if status else (data, b"6")))
 
 
-def while_locked(installing, data, words, status, **how):
+def while_locked(directory, data, words, status, **how):
     """What comes through a pipe while another holds the lock, so that its comment is judged later."""
-    with installing.installed() as directory:
-        directory.offer("new", data, 6, **how)
-        with directory.locked():
-            process = directory.start(["--wait", "20", *words, *THROUGH_PIPE[1:]], stdin=subprocess.PIPE)
-            process.stdin.write(data)
-            process.stdin.close()
-            process.stdin = None
-            time.sleep(0.5)
-            expect(process.poll() is None, "it did not wait")
-        said = process.communicate(timeout=SECONDS)[1]
-        directory.ends((process.returncode, said), status)
-        directory.expect(*((OLD, b"5") if status else (data, b"6")))
+    directory.offer("new", data, 6, **how)
+    with directory.locked():
+        process = directory.waiting([*words, *THROUGH_PIPE[1:]], data)
+    directory.ends_later(process, status)
+    directory.expect(*((OLD, b"5") if status else (data, b"6")))
 
 
 # == Keys ==
 
-def of_stolen_key(installing, keys, record, status):
+def of_stolen_key(directory, keys, record, status):
     """The first installation over a record that names this key, with the greatest number: without `--first` it is older."""
-    with installing.installed() as directory:
-        directory.put(RECORD, record)
-        kept = directory.holds(RECORD)
-        words = [*keys, *([] if keys else [PK]), "new", "new.sig", PLACE]
-        older = said_of("new", b"the update is older than what was installed")
-        directory.check_words(words, OLDER, older)
-        directory.check_words(["--first", *words], status, older if status else b"")
-        directory.expect(*((OLD, kept) if status else (NEW, b"6")))
+    directory.put(RECORD, record)
+    kept = directory.holds(RECORD)
+    words = [*keys, *([] if keys else [PK]), "new", "new.sig", PLACE]
+    older = said_of("new", b"the update is older than what was installed")
+    directory.check_words(words, OLDER, older)
+    directory.check_words(["--first", *words], status, older if status else b"")
+    directory.expect(*((OLD, kept) if status else (NEW, b"6")))
 
 
 def record_of(key):
@@ -173,14 +160,11 @@ def shows_rejected(installing):
     """A check shows the number and the comment also of an update that is rejected for what the comment says."""
     for status, number, name, more in ((OLDER, 4, PLACE, ""), (EXPIRED, 6, PLACE, PAST), (REJECTED, 6, "other", ""),
                                        (REJECTED, 6, PLACE, "\tsize:x"), (SAME, 5, PLACE, "")):
-        with installing.installed() as directory, tempfile.TemporaryFile() as output:
+        with installing.installed() as directory:
             directory.put(RECORD, b"timestamp:5")
             directory.offer("new", NEW, number, names=name, more=more)
-            ended, said = directory.run(CHECK, stdout=output)
-            output.seek(0)
-            shown = output.read()
-            wanted = f"{number}\ntimestamp:{number}\tfile:{name}{more}\tprehashed\n".encode()
-            expect((ended, shown) == (status, wanted), f"it ended with status {ended} in place of {status}, showed {shown}, and said {said}")
+            ran, wanted = directory.run(CHECK), f"{number}\ntimestamp:{number}\tfile:{name}{more}\tprehashed\n"
+            expect((ran.status, ran.output) == (status, wanted.encode()), ran, f"in place of {status}")
 
 
 def withholding_cases(installing):
@@ -188,39 +172,39 @@ def withholding_cases(installing):
     for what, status, more, said in [
         ("says so", 0, SOON, None),
         ("does not", REJECTED, "", b"the signed comment does not say when it expires"),
-        ("says so in capitals", REJECTED, SOON.replace("expires", "Expires"), b"the signed comment does not say once, in a number, when it expires"),
-        ("says so after a blank", REJECTED, SOON.replace("expires", " expires"), b"the signed comment does not say once, in a number, when it expires"),
-        ("says so before a blank", REJECTED, SOON.replace("expires", "expires "), b"the signed comment does not say once, in a number, when it expires"),
-        ("says so once more in capitals", REJECTED, SOON + SOON.upper(), b"the signed comment does not say once, in a number, when it expires"),
+        ("says so in capitals", REJECTED, SOON.replace("expires", "Expires"), BAD_EXPIRY),
+        ("says so after a blank", REJECTED, SOON.replace("expires", " expires"), BAD_EXPIRY),
+        ("says so before a blank", REJECTED, SOON.replace("expires", "expires "), BAD_EXPIRY),
+        ("says so once more in capitals", REJECTED, SOON + SOON.upper(), BAD_EXPIRY),
     ]:
-        yield f"an update that must expire, and {what}", partial(must_expire, installing, status, more, said and said_of("new.sig", said))
-    yield "a clock behind the record", partial(is_behind, installing, WRITTEN - 1, SOON, EXPIRED)
-    yield "a clock before 1970 and the record", partial(is_behind, installing, -1, SOON, EXPIRED)
-    yield "a clock at the record", partial(is_behind, installing, WRITTEN, SOON, 0)
-    yield "a clock behind the record, and what does not expire", partial(is_behind, installing, WRITTEN - 1, "", 0)
-    yield "a clock behind the record, at a first installation", partial(is_behind, installing, WRITTEN - 1, SOON, 0, ("--first",))
-    yield "the date of the record", partial(keeps_date, installing)
-    yield "the date of a record that a run by root makes anew", partial(renews_dated, installing)
+        yield f"an update that must expire, and {what}", must_expire, status, more, said and said_of("new.sig", said)
+    yield "a clock behind the record", is_behind, WRITTEN - 1, SOON, EXPIRED
+    yield "a clock before 1970 and the record", is_behind, -1, SOON, EXPIRED
+    yield "a clock at the record", is_behind, WRITTEN, SOON, 0
+    yield "a clock behind the record, and what does not expire", is_behind, WRITTEN - 1, "", 0
+    yield "a clock behind the record, at a first installation", is_behind, WRITTEN - 1, SOON, 0, ("--first",)
+    yield "the date of the record", keeps_date
+    yield "the date of a record that a run by root makes anew", renews_dated
     other, bad = b"the data has another size than the signed comment says", b"the signed comment does not say once, in a number, how long the data is"
     for what, data, says, status, said in [
         ("of the signed size", NEW, len(NEW), 0, None), ("of the signed size, in pieces", LONG, len(LONG), 0, None),
         ("of no bytes", b"", 0, 0, None), ("of a byte more than was signed", NEW, len(NEW) - 1, REJECTED, other),
         ("of a byte less than was signed", NEW, len(NEW) + 1, REJECTED, other), ("of more than was signed, in pieces", LONG, 1, REJECTED, other),
     ]:
-        yield f"data {what}", partial(is_sized, installing, data, says, status, said)
-    yield "data without an end, whose size was signed", partial(is_sized, installing, NEW, len(NEW), REJECTED, other, "/dev/zero")
-    yield "data whose size was signed, while another holds the lock", partial(while_locked, installing, NEW, [PK], 0, more=SIZED)
-    yield "data of another size, while another holds the lock", partial(while_locked, installing, NEW + b"x", [PK], REJECTED, more=SIZED)
+        yield f"data {what}", is_sized, data, says, status, said
+    yield "data without an end, whose size was signed", is_sized, NEW, len(NEW), REJECTED, other, "/dev/zero"
+    yield "data whose size was signed, while another holds the lock", while_locked, NEW, [PK], 0, dict(more=SIZED)
+    yield "data of another size, while another holds the lock", while_locked, NEW + b"x", [PK], REJECTED, dict(more=SIZED)
     for what, more in (("twice", SIZED + SIZED), ("by a word", "\tsize:long"), ("by a plus", f"\tsize:+{len(NEW)}"), ("by nothing", "\tsize:")):
-        yield f"a size that is signed {what}", partial(rejects, installing, said_of("bad.sig", bad), more=more)
+        yield f"a size that is signed {what}", rejects, said_of("bad.sig", bad), dict(more=more)
     stolen, own = record_of(OTHER_KEY), record_of(base64.b64decode(installing.kind.public_text().split()[-1])[10:])
     named = base64.b64encode(b"Ed" + bytes(8) + OTHER_KEY).decode(), installing.kind.public_text().split()[-1].decode()
-    yield "a record of a stolen key", partial(of_stolen_key, installing, [], stolen, 0)
-    yield "a record of the key itself", partial(of_stolen_key, installing, [], own, OLDER)
-    yield "a record of the other key", partial(of_stolen_key, installing, ["--key", named[0], "--key", named[1]], stolen, OLDER)
-    yield "a record of no key", partial(of_stolen_key, installing, [], b"timestamp:7", OLDER)
+    yield "a record of a stolen key", of_stolen_key, [], stolen, 0
+    yield "a record of the key itself", of_stolen_key, [], own, OLDER
+    yield "a record of the other key", of_stolen_key, ["--key", named[0], "--key", named[1]], stolen, OLDER
+    yield "a record of no key", of_stolen_key, [], b"timestamp:7", OLDER
     key, of_its_id = keys_of_one_id(installing)
-    yield "two keys of one key ID", partial(either_signed, installing)
-    yield "a record of the other key of one key ID", partial(of_stolen_key, installing, ["--key", of_its_id, "--key", key], stolen, OLDER)
-    yield "two keys of one key ID, while another holds the lock", partial(while_locked, installing, NEW, ["--key", of_its_id, "--key", key], 0)
-    yield "what a check shows of what it rejects", partial(shows_rejected, installing)
+    yield "two keys of one key ID", either_signed
+    yield "a record of the other key of one key ID", of_stolen_key, ["--key", of_its_id, "--key", key], stolen, OLDER
+    yield "two keys of one key ID, while another holds the lock", while_locked, NEW, ["--key", of_its_id, "--key", key], 0
+    yield "what a check shows of what it rejects", shows_rejected

@@ -1,9 +1,10 @@
-"""Requests to the program `minisign_compare`, what it has to answer, and how rows of both are run.
+"""Requests to the program `minisign_compare`, the answers to expect, and how rows of both are run.
 
 compare/oracle/README.md has the requests. A word of one is given as bytes or as a text, which are spelled in
 hexadecimal, as a number, a flag or None, or as one of the devices below.
 """
 
+import base64
 import os
 import subprocess
 from dataclasses import dataclass, field
@@ -95,6 +96,23 @@ def gives(stdout=b"", stderr=b"", typed_left=0, **values):
     """The call succeeds, with these values. In `verify`, `stdout` is the data that is copied and `stderr` the status;
     elsewhere `stdout` is what a prompt was told."""
     return Answer("ok", values, stdout, stderr, typed_left)
+
+
+def public_key(record, **tail):
+    """The public key of a record is answered."""
+    return gives(raw=record, keynum=record[2:10], base64=base64.b64encode(record), **tail)
+
+
+def secret_key(record, is_encrypted=False, **tail):
+    """The secret key of a record is answered, whose secret bytes are shown without leading zeros."""
+    debug = "".join(f"{byte:x}" for byte in record[62:126])
+    return gives(raw=record, keynum=record[54:62], encrypted=is_encrypted, debug=debug, **tail)
+
+
+def signature(record, text, trusted=b"t", untrusted=b"c", **tail):
+    """A signature that holds these is answered."""
+    return gives(bones=record, keynum=record[2:10], prehashed=record[:2] == b"ED", untrusted=untrusted, trusted=trusted,
+                 text=text, **tail)
 
 
 def rejected(error, stdout=b"", stderr=b"", typed_left=0, text=None, **values):

@@ -84,8 +84,4 @@ def limits():
         yield Row(f"limits: not {memory} and {operations}", request, rejected(error))
 
 
-def rows(directory):
-    """Yields all rows; none needs a directory."""
-    yield from keys()
-    yield from rejections()
-    yield from limits()
+PARTS = (keys, rejections, limits)

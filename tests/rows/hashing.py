@@ -68,9 +68,4 @@ def moments():
     yield Row("clock: it cannot be read", ask("unix_timestamp", -1), rejected("ClockIncorrect"))
 
 
-def rows(directory):
-    """Yields all rows; none needs a directory."""
-    yield from digests()
-    yield from compared()
-    yield from numbers()
-    yield from moments()
+PARTS = (digests, compared, numbers, moments)

@@ -5,8 +5,10 @@ import base64
 import hashlib
 
 import toy
-from asking import NOTHING_TYPED, Row, ask, bones, counting, data, gives, rejected, sink, typed
-from sealed_keys import KEY_A, USUAL, Key, opening, shown, text_of
+from asking import (NOTHING_TYPED, Row, ask, bones, counting, data, gives, public_key, rejected, secret_key, signature, sink,
+                    typed)
+from sealed_keys import opening
+from toy import DEFAULT_COMMENT, KEY_A, SCRYPT, USUAL, Key, secret_text
 
 # What is drawn for a pair: 32 bytes of a seed, 8 of an identifier, and 32 of a salt where it is sealed.
 DRAWN_RAW = 40
@@ -38,7 +40,7 @@ def sealed(password):
     return PAIR.sealed(password.encode(), USUAL, SALT)
 
 
-OPENED = PAIR.opened(USUAL, SALT)
+OPENED = PAIR.record(SCRYPT, USUAL, SALT)
 
 
 def drawn_of(count):
@@ -53,8 +55,7 @@ def made(key, record, is_encrypted, **tail):
 
 def writing_raw(name, random, public, secret, answer):
     """Makes a pair that is not sealed of these random bytes, and writes its keys to two sinks."""
-    return Row(f"a pair that is not sealed, written: {name}",
-               ask("gen_write_plain", random, public, secret), answer)
+    return Row(f"a pair that is not sealed, written: {name}", ask("gen_write_plain", random, public, secret), answer)
 
 
 def failing_sinks(public, secret):
@@ -89,7 +90,7 @@ def writing_sealed(name, random, sinks, password, lines, answer, comment=None):
 def made_sealed(password, comment=None, **tail):
     """The counted pair is answered, sealed under the password, with texts that both sinks took."""
     record = sealed(password)
-    secret = text_of(record) if comment is None else text_of(record, comment)
+    secret = secret_text(record) if comment is None else secret_text(record, comment)
     return made(PAIR, record, True, drawn=DRAWN, sink1=PUBLIC_TEXT, sink2=secret, **tail)
 
 
@@ -121,7 +122,7 @@ def sealed_pairs_under_given_passwords():
 
 def sinks_that_fail():
     """The public text is written and flushed before the secret one is begun. All is shown first."""
-    for sinks, took in failing_sinks(PUBLIC_TEXT, text_of(sealed("p"))):
+    for sinks, took in failing_sinks(PUBLIC_TEXT, secret_text(sealed("p"))):
         answer = rejected(UNWRITTEN, drawn=DRAWN, sink1=took[0], sink2=took[1], stdout=SHOWN)
         yield writing_sealed(f"sinks {sinks}", COUNTED, sinks, None, typed("p", "p"), answer)
     yield writing_sealed("sinks with just the room", COUNTED, (sink(114), sink(259)), None, typed("p", "p"),
@@ -162,15 +163,13 @@ def signature_text(message):
     """The text of that signature at the moment 0, with the default comments."""
     record = signature_record(message)
     trusted = b"timestamp:0"
-    return toy.signature_text(message, record, trusted, b"signature from rsign secret key",
-                              toy_signature(64, record[10:] + trusted))
+    return toy.signature_text(message, record, trusted, DEFAULT_COMMENT, toy_signature(64, record[10:] + trusted))
 
 
 def signed(message):
     """That signature is answered."""
     record = signature_record(message)
-    return gives(bones=record, keynum=PAIR.keynum, prehashed=True, untrusted="signature from rsign secret key",
-                 trusted="timestamp:0", text=signature_text(message), drawn=128, pos=len(message))
+    return signature(record, signature_text(message), b"timestamp:0", DEFAULT_COMMENT, drawn=128, pos=len(message))
 
 
 def signing(name, record, source, answer):
@@ -211,17 +210,17 @@ def unsealed_pairs():
     text of the secret key, which is read again, and which no password opens."""
     record, public = PAIR.record(), PAIR.public_record
     line = base64.b64encode(public)
-    is_public = gives(raw=public, keynum=PAIR.keynum, base64=line)
-    text = text_of(record)
+    is_public = public_key(public)
+    text = secret_text(record)
     yield Row("a pair that is not sealed", ask("gen_plain", counting(0)), made(PAIR, record, False, drawn=DRAWN_RAW))
     yield Row("the public key of its secret key", ask("pk_from_secret_key", record), is_public)
     yield Row("its public key from its bytes", ask("pk_from_bytes", public), is_public)
     yield Row("its public key is the one of its bytes", ask("pk_eq", public, public), gives(eq=True))
     yield Row("its public key as base64", ask("pk_from_base64", line), is_public)
-    yield Row("its secret key from its bytes", ask("sk_from_bytes", record), shown(record))
+    yield Row("its secret key from its bytes", ask("sk_from_bytes", record), secret_key(record))
     yield Row("its secret key is the one of its bytes", ask("sk_eq", record, record), gives(eq=True))
     yield Row("the text of its secret key", ask("sk_to_box", record, None), gives(text=text))
-    yield Row("its secret key from its text", ask("sk_plain", text), shown(record))
+    yield Row("its secret key from its text", ask("sk_plain", text), secret_key(record))
     yield opening("no password opens the text of a pair that is not sealed", text, "", typed("typed"),
                   rejected("KeyNotEncrypted", typed_left=1))
 
@@ -231,13 +230,13 @@ def sealed_pairs():
     counted pair does."""
     for password in ("password", "", "key password"):
         record = sealed(password)
-        text = text_of(record)
+        text = secret_text(record)
         name = f"sealed under {password!r}"
         yield Row(f"a pair that is {name}", ask("gen_sealed", counting(0), password, typed("typed")),
                   made(PAIR, record, True, drawn=DRAWN, typed_left=1))
         yield does_not_sign(password)
         yield Row(f"the text of a key that is {name}", ask("sk_to_box", record, None), gives(text=text))
-        yield opening(f"opening a key that is {name}", text, password, typed("typed"), shown(OPENED, typed_left=1))
+        yield opening(f"opening a key that is {name}", text, password, typed("typed"), secret_key(OPENED, typed_left=1))
     yield Row("a pair that is sealed under a typed password", ask("gen_sealed", COUNTED, None, typed("p", "p")),
               made(PAIR, sealed("p"), True, drawn=DRAWN, stdout=SHOWN))
     nines = bytes([9]) * DRAWN
@@ -248,7 +247,7 @@ def sealed_pairs():
 
 def opened_pairs():
     """The opened key signs. Written again, it is neither a sealed key nor one that was never sealed."""
-    text = text_of(OPENED)
+    text = secret_text(OPENED)
     yield from signs("a key that was opened", OPENED)
     yield Row("the text of a key that was made and opened", ask("sk_to_box", OPENED, None), gives(text=text))
     yield Row("a key that was made and opened is not read as never sealed", ask("sk_plain", text),
@@ -264,12 +263,10 @@ def through_texts():
     record, text = signature_record(message), signature_text(message)
     public = PAIR.public_record
     yield Row("the text of a made public key", ask("pk_to_box", public), gives(text=PUBLIC_TEXT))
-    yield Row("a made public key from its text", ask("pk_from_box", PUBLIC_TEXT),
-              gives(raw=public, keynum=PAIR.keynum, base64=base64.b64encode(public)))
+    yield Row("a made public key from its text", ask("pk_from_box", PUBLIC_TEXT), public_key(public))
     yield signing("an opened key signs a text", OPENED, data(message), signed(message))
     yield Row("a made signature from its text", ask("sig_from_string", text),
-              gives(bones=record, keynum=PAIR.keynum, prehashed=True, untrusted="signature from rsign secret key",
-                    trusted="timestamp:0", text=text))
+              signature(record, text, b"timestamp:0", DEFAULT_COMMENT))
     yield from judged("a signature goes through texts", "verify_texts", PUBLIC_TEXT, text, message,
                       gives(pos=len(message)))
 
@@ -280,22 +277,15 @@ def upstream_tests():
     and the record of a new key ends with the checksum of what stands before it, made by hashlib."""
     record, plain = sealed("password"), PAIR.record()
     checksum = hashlib.blake2b(b"Ed" + plain[54:126], digest_size=32).digest()
-    restored = shown(record[:54] + plain[54:])
-    yield opening("xor_keynum: opening restores what sealing changed", text_of(record), "password", NOTHING_TYPED,
+    restored = secret_key(record[:54] + plain[54:])
+    yield opening("xor_keynum: opening restores what sealing changed", secret_text(record), "password", NOTHING_TYPED,
                   restored)
     yield Row("sk_checksum: a new key ends with its checksum", ask("gen_plain", COUNTED[:DRAWN_RAW]),
               made(PAIR, plain[:126] + checksum, False, drawn=DRAWN_RAW))
 
 
-def rows(directory):
-    yield from raw_pairs()
-    yield from sealed_pairs_under_typed_passwords()
-    yield from sealed_pairs_under_given_passwords()
-    yield from sinks_that_fail()
-    yield from too_few_random_bytes()
-    yield from unsealed_pairs()
-    yield from signatures_of_a_pair()
-    yield from sealed_pairs()
-    yield from opened_pairs()
-    yield from through_texts()
-    yield from upstream_tests()
+PARTS = (
+    raw_pairs, sealed_pairs_under_typed_passwords, sealed_pairs_under_given_passwords, sinks_that_fail,
+    too_few_random_bytes, unsealed_pairs, signatures_of_a_pair, sealed_pairs, opened_pairs, through_texts,
+    upstream_tests,
+)

@@ -1,6 +1,7 @@
-"""Every named error with its number, its kind and its text, from outside: kinds and texts are those of Minisign's Rust
-crate where it has them, and the numbers up to 60 those of include/minisign.h. docs/FORMATS.md, which is made from the
-definition that the calls are proved by, is compared. A and B stand for key IDs."""
+"""Every named error with its number, kind and text, from outside: kinds and texts are those of Minisign's Rust crate
+where it has them, and the numbers up to 60 those of include/minisign.h. They are compared with docs/FORMATS.md, which
+is made from the proved definition. A and B stand for key IDs.
+"""
 
 import os
 import re

@@ -1,4 +1,4 @@
-"""Passwords that are asked for: one line without its end, of 1024 bytes at the most."""
+"""Typed passwords: one line without its end, of at most 1024 bytes."""
 
 from asking import NOTHING_TYPED, Row, ask, gives, rejected, typed
 
@@ -6,8 +6,8 @@ ASKED = b"Password: "
 EMPTY = ASKED + b"<empty>\n"
 
 
-def rows(directory):
-    """Yields all rows; none needs a directory. Of a line that is too long the 1026th byte and what follows are left."""
+def asked():
+    """Of a line that is too long the 1026th byte and what follows are left."""
     too_long = lambda left: rejected("PasswordTooLong", stdout=ASKED, typed_left=left)
     for name, lines, answer in (
         ("a line", typed("password"), gives(out="password", stdout=ASKED)),
@@ -27,3 +27,6 @@ def rows(directory):
         ("the end of the input", NOTHING_TYPED, rejected("EndOfInput", stdout=ASKED)),
     ):
         yield Row(f"a password: {name}", ask("get_password", lines), answer)
+
+
+PARTS = (asked,)

@@ -3,9 +3,9 @@
 import base64
 
 import toy
-from asking import Row, ask, gives, rejected
+from asking import Row, ask, gives, public_key, rejected
 
-RECORD = b"Ed" + toy.KEYNUM + toy.KEY
+RECORD = toy.RECORD
 LINE = base64.b64encode(RECORD)
 # The first line of key A's text, after an empty one: it has as many letters as an encoded key.
 FED = b"\nuntrusted comment: minisign public key: 0807060504030201\n"
@@ -33,12 +33,7 @@ LETTERED_COMMENTS = {f"the character {code}": f"a{chr(code)}a".encode() for code
 COMMENTS = {**SIZED_COMMENTS, **LETTERED_COMMENTS}
 
 
-def key(record):
-    """What is answered of the public key of a record."""
-    return gives(raw=record, keynum=record[2:10], base64=base64.b64encode(record))
-
-
-KEY_A = key(RECORD)
+KEY_A = public_key(RECORD)
 
 
 def commented(comment):
@@ -53,7 +48,7 @@ def written_and_read_back():
     yield Row("public key: a text", ask("pk_from_box", toy.public_text()), KEY_A)
     yield Row("public key: a bare line", ask("pk_from_base64", LINE), KEY_A)
     upstream = base64.b64decode(UPSTREAM)
-    yield Row("public key: a bare line of the upstream tool", ask("pk_from_base64", UPSTREAM), key(upstream))
+    yield Row("public key: a bare line of the upstream tool", ask("pk_from_base64", UPSTREAM), public_key(upstream))
     yield Row("public key: the text of the upstream tool", ask("pk_to_box", upstream),
               gives(text=toy.lines(SHOWN, UPSTREAM)))
 
@@ -61,8 +56,8 @@ def written_and_read_back():
 def halves():
     """The public half of a secret key's record, whose checksum does not match, with and without a key derivation."""
     for name, derivation in (("none", bytes(2)), ("scrypt", b"Sc")):
-        secret = b"Ed" + derivation + b"B2" + bytes(48) + toy.KEYNUM + toy.SEED + toy.KEY + bytes(32)
-        yield Row(f"public half: key derivation {name}", ask("pk_from_secret_key", secret), KEY_A)
+        yield Row(f"public half: key derivation {name}",
+                  ask("pk_from_secret_key", toy.KEY_A.record(derivation, other=bytes(32))), KEY_A)
 
 
 def prefixes():
@@ -95,7 +90,7 @@ def boxes():
 def bare_keys():
     """A bare key is as long as an encoded record, and is taken as it stands."""
     bare = lambda name, text, answer: Row(f"bare key: {name}", ask("pk_from_base64", text), answer)
-    yield bare("another key", OTHER, key(base64.b64decode(OTHER)))
+    yield bare("another key", OTHER, public_key(base64.b64decode(OTHER)))
     yield bare("a blank before it", b" " + OTHER, BARE_NOT_BASE64)
     yield bare("a line feed after it", OTHER + b"\n", BARE_NOT_BASE64)
     yield bare("58 letters", LONGER, BARE_LENGTH)
@@ -111,11 +106,4 @@ def comments():
         yield Row(f"public box: a comment of {name}", ask("pk_from_box", commented(comment)), KEY_A)
 
 
-def rows(directory):
-    """Yields all rows; none needs a directory."""
-    yield from written_and_read_back()
-    yield from halves()
-    yield from prefixes()
-    yield from boxes()
-    yield from bare_keys()
-    yield from comments()
+PARTS = (written_and_read_back, halves, prefixes, boxes, bare_keys, comments)

@@ -3,8 +3,7 @@
 import public_keys
 import secret_keys
 import toy
-from asking import Row, ask, gives, rejected
-from secret_keys import CHECKSUM, record_of
+from asking import Row, ask, gives, rejected, secret_key
 
 SIGNATURE = toy.signature_record(b"abc")
 # Key A's secret as it is shown: each byte without leading zeros, so that the 32 zeros of the seed are 32 digits.
@@ -53,14 +52,14 @@ def all_compared():
 def sealed():
     """A key is sealed where it names a key derivation and its checksum does not match."""
     for name, derivation, checksum, is_sealed in (
-        ("no key derivation", bytes(2), CHECKSUM, False),
+        ("no key derivation", bytes(2), None, False),
         ("no key derivation, another checksum", bytes(2), bytes(32), False),
-        ("scrypt", b"Sc", CHECKSUM, False),
+        ("scrypt", b"Sc", None, False),
         ("scrypt, another checksum", b"Sc", bytes(32), True),
         ("an unknown key derivation, another checksum", b"Xx", bytes(32), True),
     ):
-        record = record_of(derivation, checksum)
-        yield Row(f"sealed: {name}", ask("sk_from_bytes", record), secret_keys.key(record, is_sealed))
+        record = toy.KEY_A.record(derivation, other=checksum)
+        yield Row(f"sealed: {name}", ask("sk_from_bytes", record), secret_key(record, is_sealed))
 
 
 def shown():
@@ -68,10 +67,4 @@ def shown():
     yield Row("shown: a secret key", ask("sk_from_bytes", secret_keys.RECORD), gives(debug=SHOWN))
 
 
-def rows(directory):
-    """Yields all rows; none needs a directory."""
-    yield from all_read_back()
-    yield from bare_signatures()
-    yield from all_compared()
-    yield from sealed()
-    yield from shown()
+PARTS = (all_read_back, bare_signatures, all_compared, sealed, shown)

@@ -2,32 +2,15 @@
 sizes."""
 
 import base64
-import os
 
 import toy
-from asking import Row, ask, data, gives, rejected
-from verifying import (
-    ACCEPTED,
-    COMMENT_REJECTED,
-    KEY_TEXT,
-    LEGACY_RECORD,
-    LEGACY_TEXT,
-    PIECE,
-    PREHASHED_RECORD,
-    PREHASHED_TEXT,
-    RECORD,
-    REJECTED,
-    UPSTREAM_LEGACY,
-    UPSTREAM_PREHASHED,
-    VERIFIED,
-    reads_of,
-    texts,
-    upstream_parts,
-)
+from asking import Row, ask, data, gives, public_key, rejected, secret_key, signature
+from running import write
+from toy import DEFAULT_COMMENT, RECORD, SECRET_RECORD
+from verifying import (ACCEPTED, COMMENT_REJECTED, LEGACY_RECORD, LEGACY_TEXT, PIECE, PREHASHED_RECORD, PREHASHED_TEXT,
+                       REJECTED,
+                       UPSTREAM_LEGACY, UPSTREAM_PREHASHED, VERIFIED, reads_of, texts, upstream_parts)
 
-SECRET = toy.SEED + toy.KEY
-SECRET_RECORD = b"Ed" + bytes(2) + b"B2" + bytes(48) + toy.KEYNUM + SECRET + toy.checksum(toy.KEYNUM, SECRET)
-DEFAULT_COMMENT = b"signature from rsign secret key"
 
 # The lines of the text over `abc` under key A, with the comments `c` and `t`.
 FIRST, SECOND, THIRD, FOURTH = PREHASHED_TEXT.splitlines()
@@ -49,12 +32,6 @@ ABSENT = "TrustedCommentAbsent"
 INCOMPLETE = "SignatureBoxIncomplete"
 
 
-def holds(record, text, trusted=b"t", untrusted=b"c", **deeds):
-    """The answer where a signature holds these."""
-    return gives(bones=record, keynum=record[2:10], prehashed=record[:2] == b"ED", untrusted=untrusted, trusted=trusted,
-                 text=text, **deeds)
-
-
 def read(name, text, answer):
     """The row of a text that is read."""
     return Row(name, ask("sig_from_string", text), answer)
@@ -73,7 +50,7 @@ def signed(name, content, trusted, untrusted, moment=0, key=None, chunk=PIECE):
     below = DEFAULT_COMMENT if untrusted is None else untrusted
     record = toy.signature_record(content)
     text = toy.signature_text(content, record, said, below)
-    return Row(name, request, holds(record, text, said, below, drawn=128, reads=reads_of(len(content), chunk),
+    return Row(name, request, signature(record, text, said, below, drawn=128, reads=reads_of(len(content), chunk),
                                     pos=len(content)))
 
 
@@ -81,8 +58,8 @@ def written_and_read_back():
     """A signature is written, read at once and one byte a read, and read back."""
     for how, chunk in (("at once", PIECE), ("one byte a read", 1)):
         yield signed(f"written: {how}", b"abc", b"t", b"c", chunk=chunk)
-    yield read("read back: prehashed", PREHASHED_TEXT, holds(PREHASHED_RECORD, PREHASHED_TEXT))
-    yield read("read back: legacy", LEGACY_TEXT, holds(LEGACY_RECORD, LEGACY_TEXT))
+    yield read("read back: prehashed", PREHASHED_TEXT, signature(PREHASHED_RECORD, PREHASHED_TEXT))
+    yield read("read back: legacy", LEGACY_TEXT, signature(LEGACY_RECORD, LEGACY_TEXT))
 
 
 def blanks():
@@ -92,7 +69,7 @@ def blanks():
     trimmed = toy.signature_text(b"abc", trusted=b"t", comment_signature=comment_signature)
     for how, chunk in (("at once", PIECE), ("one byte a read", 1)):
         yield signed(f"blanks: signed, {how}", b"abc", b" t ", b"c", chunk=chunk)
-    yield read("blanks: read", text, holds(PREHASHED_RECORD, trimmed))
+    yield read("blanks: read", text, signature(PREHASHED_RECORD, trimmed))
     yield from judged("blanks: verified", text, COMMENT_REJECTED)
 
 
@@ -127,7 +104,7 @@ def prefixes():
     for length in range(len(PREHASHED_TEXT) + 1):
         text = PREHASHED_TEXT[:length]
         outcome = outcome_of_prefix(length)
-        answer = rejected(outcome) if outcome not in (ACCEPTED, COMMENT_REJECTED) else holds(
+        answer = rejected(outcome) if outcome not in (ACCEPTED, COMMENT_REJECTED) else signature(
             PREHASHED_RECORD, text.rstrip(b"\n") + b"\n")
         yield read(f"prefix: {length} bytes, read", text, answer)
         yield from judged(f"prefix: {length} bytes, verified", text, outcome)
@@ -198,7 +175,7 @@ def a_longer_second_line():
     for more in (1, 60):
         text = toy.lines(FIRST, base64.b64encode(PREHASHED_RECORD + bytes(range(more))), THIRD, FOURTH)
         yield from judged(f"a second line with {more} bytes more, verified", text, ACCEPTED)
-        yield read(f"a second line with {more} bytes more, read", text, holds(PREHASHED_RECORD, PREHASHED_TEXT))
+        yield read(f"a second line with {more} bytes more, read", text, signature(PREHASHED_RECORD, PREHASHED_TEXT))
 
 
 def letters():
@@ -206,10 +183,9 @@ def letters():
     alphabet = b"ABCDEFGHIJKLMNOPQRSTUVWXYZabcdefghijklmnopqrstuvwxyz0123456789+/"
     for name, part in (("first", alphabet[:56]), ("last", alphabet[8:])):
         record = base64.b64decode(part)
-        answer = gives(raw=record, keynum=record[2:10], base64=part)
-        yield Row(f"letters: the {name} ones", ask("pk_from_bytes", record), answer)
+        yield Row(f"letters: the {name} ones", ask("pk_from_bytes", record), public_key(record))
     text = toy.lines(FIRST, SECOND, THIRD, alphabet)
-    yield read("letters: as a comment signature", text, holds(PREHASHED_RECORD, text))
+    yield read("letters: as a comment signature", text, signature(PREHASHED_RECORD, text))
 
 
 def upstream_texts():
@@ -217,7 +193,7 @@ def upstream_texts():
     for name, text in (("legacy", UPSTREAM_LEGACY), ("prehashed", UPSTREAM_PREHASHED)):
         record, trusted, _ = upstream_parts(text)
         untrusted = b"signature from minisign secret key"
-        yield read(f"upstream: {name}", text, holds(record, text + b"\n", trusted, untrusted))
+        yield read(f"upstream: {name}", text, signature(record, text + b"\n", trusted, untrusted))
 
 
 def comments_of_many_sizes():
@@ -227,7 +203,7 @@ def comments_of_many_sizes():
         text = toy.signature_text(b"abc", trusted=comment, untrusted=comment)
         said = VERIFIED + toy.lines(b"Trusted comment: " + comment)
         yield signed(f"comments: {size} letters, signed", b"abc", comment, comment, key=RECORD)
-        yield read(f"comments: {size} letters, read", text, holds(PREHASHED_RECORD, text, comment, comment))
+        yield read(f"comments: {size} letters, read", text, signature(PREHASHED_RECORD, text, comment, comment))
         asked = texts(text, said=said, output=True, legacy=True)
         yield asked.row(f"comments: {size} letters, verified", ACCEPTED)
 
@@ -238,8 +214,8 @@ def keys_of_many_sizes():
         comment = b"x" * size
         first = b"untrusted comment: " + comment
         secret_text = toy.lines(first, base64.b64encode(SECRET_RECORD))
-        kept = gives(raw=SECRET_RECORD, keynum=toy.KEYNUM, encrypted=False)
-        yield Row(f"texts of keys: {size} letters, the secret one", ask("sk_plain", secret_text), kept)
+        yield Row(f"texts of keys: {size} letters, the secret one", ask("sk_plain", secret_text),
+                  secret_key(SECRET_RECORD))
         asked = texts(toy.signature_text(b"abc", trusted=comment, untrusted=comment),
                       key=toy.lines(first, base64.b64encode(RECORD)),
                       said=VERIFIED + toy.lines(b"Trusted comment: " + comment), output=True, legacy=True)
@@ -275,7 +251,7 @@ def moments():
         dated = b"timestamp:%d" % moment
         text = toy.signature_text(b"abc", trusted=dated, untrusted=DEFAULT_COMMENT)
         yield signed(f"moment: {moment}, signed", b"abc", None, None, moment, RECORD)
-        yield read(f"moment: {moment}, read", text, holds(PREHASHED_RECORD, text, dated, DEFAULT_COMMENT))
+        yield read(f"moment: {moment}, read", text, signature(PREHASHED_RECORD, text, dated, DEFAULT_COMMENT))
         asked = texts(text, said=VERIFIED + toy.lines(b"Trusted comment: " + dated), output=True, legacy=True)
         yield asked.row(f"moment: {moment}, verified", ACCEPTED)
 
@@ -283,32 +259,19 @@ def moments():
 def files(directory):
     """Texts that are read from files."""
     for name, content, answer in (
-        ("good", PREHASHED_TEXT, holds(PREHASHED_RECORD, PREHASHED_TEXT)),
+        ("good", PREHASHED_TEXT, signature(PREHASHED_RECORD, PREHASHED_TEXT)),
         ("cut", PREHASHED_TEXT[:141], rejected(NO_FOURTH)),
         ("empty", b"", rejected(NO_FIRST)),
         ("not_utf8", FIRST + b"\xff\n" + SECOND, rejected("NotUtf8")),
         ("missing", None, rejected("ReadingFailed")),
     ):
         if content is not None:
-            with open(os.path.join(directory, name), "wb") as file:
-                file.write(content)
+            write(directory, name, content)
         yield Row(f"file: {name}", ask("sig_from_file", name), answer)
 
 
-def rows(directory):
-    yield from written_and_read_back()
-    yield from blanks()
-    yield from bones_have_no_text()
-    yield from prefixes()
-    yield from lines_in_their_order()
-    yield from odd_texts()
-    yield from odd_fourth_lines()
-    yield from a_longer_second_line()
-    yield from letters()
-    yield from upstream_texts()
-    yield from comments_of_many_sizes()
-    yield from keys_of_many_sizes()
-    yield from data_of_many_sizes()
-    yield from data_of_every_byte()
-    yield from moments()
-    yield from files(directory)
+PARTS = (
+    written_and_read_back, blanks, bones_have_no_text, prefixes, lines_in_their_order, odd_texts,
+    odd_fourth_lines, a_longer_second_line, letters, upstream_texts, comments_of_many_sizes,
+    keys_of_many_sizes, data_of_many_sizes, data_of_every_byte, moments, files,
+)

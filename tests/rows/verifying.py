@@ -7,10 +7,9 @@ from dataclasses import dataclass, replace
 
 import toy
 from asking import Row, ask, bones, data, gives, rejected
+from toy import OTHER_RECORD, RECORD
 
 PIECE = 65536
-RECORD = b"Ed" + toy.KEYNUM + toy.KEY
-OTHER_RECORD = b"Ed" + toy.OTHER_KEYNUM + toy.KEY
 KEY_TEXT = toy.public_text()
 OTHER_KEY_TEXT = toy.public_text(toy.OTHER_KEYNUM)
 VERIFIED = b"Signature and comment signature verified\n"
@@ -90,14 +89,14 @@ class Verifying:
             answer = rejected(UNREAD, reads=read, pos=read - 1)
         return Row(name, self.asked(chunk=1, fail=read), answer)
 
-    def changing(self, name, second, outcome):
+    def changing(self, name, second, outcome, chunk=PIECE):
         """The row of data that is something else once it was read and gone back: all that comes then is copied."""
-        answer = self.answered(outcome)
+        answer = self.answered(outcome, chunk)
         if outcome in (ACCEPTED, CHANGED):
             deeds = {"stdout": second, "stderr": self.status(),
-                     "reads": reads_of(len(self.content)) + reads_of(len(second)), "pos": len(second)}
+                     "reads": reads_of(len(self.content), chunk) + reads_of(len(second), chunk), "pos": len(second)}
             answer = gives(**deeds) if outcome == ACCEPTED else rejected(CHANGED, **deeds)
-        return Row(name, self.asked(second=second), answer)
+        return Row(name, self.asked(second=second, **({} if chunk == PIECE else {"chunk": chunk})), answer)
 
     def from_place(self, name, front):
         """Rows of data that is copied, after so many bytes that were read of it before."""
@@ -120,7 +119,7 @@ def bare(record=PREHASHED_RECORD, content=b"abc", key=RECORD, **how):
 
 def bare_signatures():
     """Of the data, of other data, and with a bit turned; whether legacy signatures are accepted makes no difference."""
-    changed = PREHASHED_RECORD[:-1] + bytes([PREHASHED_RECORD[-1] ^ 1])
+    changed = toy.changed(PREHASHED_RECORD)
     yield from bare().rows("bare: a signature", ACCEPTED)
     yield from bare(legacy=True).rows("bare: a signature, where legacy ones are accepted", ACCEPTED)
     yield from bare(content=b"").rows("bare: a signature over no data", REJECTED)
@@ -234,9 +233,7 @@ def texts_in_their_order():
 def turned(text):
     """A text of a signature with the last bit of its comment signature turned."""
     lines = text.splitlines()
-    comment_signature = bytearray(base64.b64decode(lines[3]))
-    comment_signature[-1] ^= 1
-    return toy.lines(*lines[:3], base64.b64encode(comment_signature))
+    return toy.lines(*lines[:3], base64.b64encode(toy.changed(base64.b64decode(lines[3]))))
 
 
 def verdicts_of_two_texts():
@@ -353,18 +350,9 @@ def upstream_texts_that_are_told():
     yield prehashed.row(f"{name}: no table", REJECTED)
 
 
-def rows(directory):
-    yield from bare_signatures()
-    yield from bare_legacy_signatures()
-    yield from records()
-    yield from bare_signatures_of_another_key()
-    yield from a_long_message()
-    yield from failing_data_of_bare_signatures()
-    yield from a_quiet_run()
-    yield from copies_of_bare_signatures()
-    yield from texts_in_their_order()
-    yield from verdicts_of_two_texts()
-    yield from failing_data_of_texts()
-    yield from copies_of_texts()
-    yield from upstream_texts()
-    yield from upstream_texts_that_are_told()
+PARTS = (
+    bare_signatures, bare_legacy_signatures, records, bare_signatures_of_another_key, a_long_message,
+    failing_data_of_bare_signatures, a_quiet_run, copies_of_bare_signatures, texts_in_their_order,
+    verdicts_of_two_texts, failing_data_of_texts, copies_of_texts, upstream_texts,
+    upstream_texts_that_are_told,
+)

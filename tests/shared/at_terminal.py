@@ -1,4 +1,4 @@
-"""How a program is run at a terminal of its own, with a person at it."""
+"""Runs a program at a terminal of its own, with a person at it."""
 
 import fcntl
 import os

@@ -1,4 +1,4 @@
-"""How a script counts what it checks."""
+"""Counts what a script checks."""
 
 
 class Checks:

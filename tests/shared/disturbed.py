@@ -1,14 +1,19 @@
-"""How programs are disturbed: with each of their calls of the system broken in turn, on a disk without room, and several at once."""
+"""Disturbs programs: breaks each of their calls of the system in turn, runs them on a disk without room, and several
+at once.
+"""
 
 import contextlib
 import errno
+import functools
 import os
 import shutil
 import signal
 import subprocess
 import tempfile
+from dataclasses import replace
 
-from running import SECONDS, Failure, Skip, read
+from process import Ran, run_program, told
+from running import SECONDS, Failure, Skip, build_preload, read
 
 # Where fresh directories are in memory, since each run brings its files to the disk.
 MEMORY = "/dev/shm"
@@ -34,6 +39,56 @@ def in_turn(place, attempt):
     raise Failure(f"it made {MAX_CALLS} calls")
 
 
+class Disturbing:
+    """A program that is run in fresh directories, in memory where that can be had, since each run brings its files to the disk. The
+    program stands elsewhere, as what is in memory may not be run everywhere."""
+
+    # After so many seconds a run has failed.
+    seconds = 4 * SECONDS
+
+    def __init__(self, program, room):
+        self.program, self.room, self.place = program, room, place_for(room)
+        self.preload = build_preload(room, "disturbed_calls")
+
+    @functools.cached_property
+    def rejecting(self):
+        return build_preload(self.room, "refuse_memory")
+
+    def run(self, directory, arguments, environment=None, program=None, **how):
+        """A run in a directory."""
+        return run_program([program or self.program, *arguments], directory,
+                           **{"seconds": self.seconds, "env": environment or {}, **how})
+
+    def run_told(self, directory, arguments, environment, says, **how):
+        """A run with a library preloaded that has a call or a request for memory fail, and by this name is told where to say so."""
+        run = lambda number: self.run(directory, arguments, {**environment, says: str(number)}, pass_fds=[number],
+                                      **how)
+        ran, came = told(run)
+        return replace(ran, came=came)
+
+    def run_broken(self, directory, arguments, how, **more):
+        """A run with a call broken, as `disturbed_calls.c` is told."""
+        broken = {f"BREAK_{name}": str(value) for name, value in how.items()}
+        return self.run_told(directory, arguments, {"LD_PRELOAD": self.preload, **broken}, "BREAK_SAYS", **more)
+
+    def run_refused(self, directory, arguments, number):
+        """A run whose request for memory of this number is refused."""
+        return self.run_told(directory, arguments, {"LD_PRELOAD": self.rejecting, "REFUSE_AT": str(number)},
+                             "REFUSE_SAYS")
+
+    def break_each(self, prepare, arguments, judge, **how):
+        """Breaks each of the calls of a run in turn, in a fresh directory that is prepared, and hands to `judge` how each ended and its
+        directory: how many calls there were."""
+
+        def attempt(number, directory):
+            prepare(directory)
+            ran = self.run_broken(directory, arguments, {"AT": number, **how})
+            judge(ran, directory)
+            return ran.came
+
+        return in_turn(self.place, attempt)
+
+
 def content(directory, name):
     """What a file holds, or None where it is not there."""
     try:
@@ -43,8 +98,8 @@ def content(directory, name):
 
 
 def while_stopped(process, meanwhile, seconds=SECONDS):
-    """Does something while a program is stopped, as by `disturbed_calls.c`, and has it go on: whether it was stopped before it ended, its
-    status, and what it said."""
+    """Does something while a program is stopped, as by `disturbed_calls.c`, and has it go on: how it ended, and whether it came to
+    that."""
     _, how = os.waitpid(process.pid, os.WUNTRACED)
     try:
         if os.WIFSTOPPED(how):
@@ -59,27 +114,33 @@ def while_stopped(process, meanwhile, seconds=SECONDS):
         except subprocess.TimeoutExpired as why:
             process.kill()
             raise Failure(f"it goes on for more than {seconds} seconds") from why
-    return os.WIFSTOPPED(how), process.returncode, said
+    return Ran(process.returncode, b"", said, os.WIFSTOPPED(how))
 
 
 class Mounted:
-    """A file system in memory in a directory, mounted with these options, while it is entered; with `lazily` what is open in it stays."""
+    """What words of `mount` name, mounted on a file or a directory while it is entered; with `lazily` what is open in it stays."""
 
-    def __init__(self, directory, options, lazily=False):
-        self.directory, self.options, self.flags = directory, options, ["-l"] if lazily else []
+    def __init__(self, place, *words, lazily=False):
+        self.place, self.words, self.flags = place, words, ["-l"] if lazily else []
 
     def __enter__(self):
-        command = ["mount", "-t", "tmpfs", "-o", self.options, "tmpfs", self.directory]
+        command = ["mount", *self.words, self.place]
         if os.geteuid() != 0 or shutil.which("mount") is None or subprocess.run(command, stderr=subprocess.DEVNULL).returncode:
-            raise Skip(f"nothing may be mounted with {self.options} here")
+            raise Skip(f"nothing may be mounted by {' '.join(self.words)} here")
 
     def __exit__(self, *_):
-        subprocess.run(["umount", *self.flags, self.directory], check=True)
+        if subprocess.run(["umount", *self.flags, self.place], stderr=subprocess.DEVNULL).returncode:
+            subprocess.run(["umount", "-l", self.place], check=True)
+
+
+def in_memory(directory, options, **how):
+    """A file system in memory in a directory, while it is entered."""
+    return Mounted(directory, "-t", "tmpfs", "-o", options, "tmpfs", **how)
 
 
 def small_disk(directory):
-    """A file system of 64 KiB in a directory, while it is entered."""
-    return Mounted(directory, "size=64k")
+    """The same of 64 KiB."""
+    return in_memory(directory, "size=64k")
 
 
 @contextlib.contextmanager

@@ -1,4 +1,4 @@
-/* Preloaded into a program, tells, breaks and slows its calls of the system, as its environment says.
+/* Preloaded into a program, reports, breaks and slows its calls of the system, as its environment says.
 
    With TRACE_TO a line goes to that descriptor for each call that opens, writes, reads back, locks, syncs, renames or removes a file
    below the working directory: what was really done, with the last part of the file's path. With TAKE_AWAY a step is left out or done

@@ -1,4 +1,4 @@
-"""How scripts of tests begin and end: in a directory of their own, and with a last line `N passed, M failed`."""
+"""Begins a script of tests in a directory of its own, and ends it with a last line `N passed, M failed`."""
 
 import subprocess
 import tempfile

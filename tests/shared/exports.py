@@ -1,9 +1,8 @@
-"""What the sources of the crates say of the calls from C, beside `minisign.h`: each function that it declares has an export of
-the crate `minisign_c` of the same name and with the same types, and each export a declaration; and the layout of its structs is
-that of the crates, as assertions in a file that is compiled as C or as C++, and not run.
+"""The calls from C as the crates have them, beside `minisign.h`: each function that the header declares is an export
+of the crate `minisign_c` with the same name and types, and each export is declared. The layout of its structs is that
+of the crates, as assertions in a file that is compiled as C or as C++, and not run.
 
-What Rattle hands over as a slice is a pointer and a length in C.
-Needs Python 3.9 or later.
+A slice of Rattle is a pointer and a length in C. Needs Python 3.9 or later.
 """
 
 import os

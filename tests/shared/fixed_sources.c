@@ -1,7 +1,7 @@
-/* Preloaded into a program, makes its random bytes a count that begins at 0 and goes on from one draw to the next, and
-   the time one moment: so two programs that draw the same bytes in the same order write the same files. With FIXED_RANDOM
-   the device of random bytes has so many that count up from 0, and ends; with FIXED_MOMENT the moment is that one, which
-   the system's clock shows too. */
+/* Preloaded into a program, makes its random bytes count up from 0, from one draw to the next, and the time one moment:
+   so two programs that draw the same bytes in the same order write the same files. With FIXED_RANDOM the device of
+   random bytes has so many that count up from 0, and ends; with FIXED_MOMENT the moment is that one, which the system's
+   clock shows too. */
 #include "preload.h"
 
 #include <sys/types.h>

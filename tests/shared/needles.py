@@ -1,5 +1,6 @@
-"""Bytes that are looked for in the memory of a program that is not to hold them: how they come into `search_memory.h`, and what is
-found of them."""
+"""Secret bytes to search the memory of a program for: they go into `search_memory.h`, and this says what was found of
+them.
+"""
 
 import base64
 import hashlib

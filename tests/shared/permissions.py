@@ -1,8 +1,8 @@
-"""Which permissions a file has after a program has replaced it: owner, group, mode and access control list. The tests of each
-program that replaces files run these cases.
+"""The permissions of a file that a program has replaced: owner, group, mode and access control list. The tests of
+each program that replaces files run these cases.
 
-Needs Python 3.9 or later, and setfacl, which is installed where that is allowed; some cases need root, who makes files of
-others and runs programs as nobody.
+Needs Python 3.9 or later, and setfacl, which it installs if it may. Some cases need root, to make files of others and
+to run programs as nobody.
 """
 
 import errno
@@ -145,4 +145,4 @@ def permission_cases(replacing, tables):
     """Names of cases, and what runs each."""
     for table in tables:
         for name, case in table:
-            yield f"the permissions of a replaced file: {name}", lambda case=case: run_case(replacing, case)
+            yield f"the permissions of a replaced file: {name}", run_case, replacing, case

@@ -1,5 +1,5 @@
-/* What the libraries that are preloaded into programs share: the function of a name that they stand before, and the permissions
-   that a call is told behind its flags, where it may make a file. */
+/* What the preloaded libraries share: the function behind the one of the same name here, and the mode that a call takes
+   after its flags, where it may make a file. */
 #ifndef PRELOAD_H
 #define PRELOAD_H
 

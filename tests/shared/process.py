@@ -3,22 +3,43 @@ disturbed, by a library that is preloaded."""
 
 import os
 import subprocess
+from dataclasses import dataclass
 
 SECONDS = 1800
 
 
+@dataclass(frozen=True)
+class Ran:
+    """How a program ended, what it wrote and what it said; and whether it came to the call that was to fail."""
+
+    status: int
+    output: bytes
+    said: bytes
+    came: bool = False
+
+    def __str__(self):
+        return f"it ended with {self.status}, wrote {self.output[-200:]!r}, and said {self.said[-400:]!r}"
+
+
+def run_program(command, directory, typed=None, seconds=120, **how):
+    """Runs a program in a directory, with these bytes or nothing on its standard input, and with what else `subprocess` takes."""
+    given = {"stdin": subprocess.DEVNULL} if typed is None else {"input": typed}
+    streams = {} if "stdin" in how else given
+    ran = subprocess.run(command, cwd=directory, timeout=seconds,
+                         **{"stdout": subprocess.PIPE, "stderr": subprocess.PIPE, "umask": 0o022, **streams, **how})
+    return Ran(ran.returncode, ran.stdout or b"", ran.stderr or b"")
+
+
 def run(command, directory=None, typed=b"", seconds=SECONDS, **environment):
     """Runs a command: its status, and all that it said, on both streams."""
-    ran = subprocess.run(command, cwd=directory, env=dict(os.environ, **environment), input=typed, stdout=subprocess.PIPE,
-                         stderr=subprocess.STDOUT, timeout=seconds)
-    return ran.returncode, ran.stdout.decode(errors="replace")
+    ran = run_program(command, directory, typed, seconds, env=dict(os.environ, **environment), stderr=subprocess.STDOUT)
+    return ran.status, ran.output.decode(errors="replace")
 
 
 def run_apart(command, directory=None, typed=b"", seconds=SECONDS, **environment):
     """Runs a command: its status, its output, and its errors."""
-    ran = subprocess.run(command, cwd=directory, env=dict(os.environ, **environment), input=typed, stdout=subprocess.PIPE,
-                         stderr=subprocess.PIPE, timeout=seconds)
-    return ran.returncode, ran.stdout.decode(errors="replace"), ran.stderr.decode(errors="replace")
+    ran = run_program(command, directory, typed, seconds, env=dict(os.environ, **environment))
+    return ran.status, ran.output.decode(errors="replace"), ran.said.decode(errors="replace")
 
 
 def told(run):

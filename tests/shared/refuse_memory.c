@@ -1,5 +1,5 @@
-/* Preloaded into a program, refuses its request for memory number REFUSE_AT, and where REFUSE_REST is
-   set each one after it too. Says so by one byte on the descriptor REFUSE_SAYS. */
+/* Preloaded into a program, refuses its request for memory number REFUSE_AT, and with REFUSE_REST each one
+   after it too. Writes one byte then to the descriptor REFUSE_SAYS. */
 #include "preload.h"
 
 #include <stddef.h>

@@ -1,5 +1,7 @@
-"""What `c/minisign` says to type, in a line after Minisign's own: each such line, and the end of the line that it belongs to; by their
-flags those that stand after what a text is, too, where a key or a signature was given in place of another one."""
+"""The lines of `c/minisign` that say what to type, after a line of Minisign's own, and the ends of the lines that
+they belong to; by their flags also those that follow what a text is, where a key or a signature stood in place of
+another one.
+"""
 
 import re
 
@@ -11,9 +13,15 @@ BY_FLAG = {
 }
 REMEDIES = {
     **dict.fromkeys(BY_FLAG.values(), NO_FILE),
-    b"-p or -P has to give the public key of whoever signed this": rb"but the key id in the public key is [0-9A-F]+",
+    b"-p or -P has to give the public key of the signer": rb"but the key id in the public key is [0-9A-F]+",
     b"Without -H it is accepted": rb"Legacy \(non-prehashed\) signature found",
 }
+
+
+def names_text(theirs, ours):
+    """Whether ours says what Minisign says of a text, and after that one line more, which names the text."""
+    front, _, line = ours.partition(b"\n")
+    return theirs == front + b"\n" and re.fullmatch(rb"[^\n]+: [^\n]+\n", line) is not None
 
 
 def without_remedy(said):

@@ -31,27 +31,17 @@ NO_READER = "a pipe that nobody reads"
 
 
 @dataclass(frozen=True)
-class Unreadable:
-    """A file that its owner may not read."""
-
-    data: bytes
-
-
-@dataclass(frozen=True)
 class WithMode:
-    """A file with these permission bits."""
-
-    data: bytes
-    mode: int
-
-
-@dataclass(frozen=True)
-class WithList:
     """A file with these permission bits, and these entries of an access control list beside them."""
 
     data: bytes
     mode: int
-    entries: str
+    entries: str = ""
+
+
+def unreadable(data):
+    """A file that its owner may not read."""
+    return WithMode(data, 0)
 
 
 @dataclass(frozen=True)
@@ -69,20 +59,14 @@ class SecondName:
 
 
 @dataclass(frozen=True)
-class OpenedPipe:
-    """A named pipe that the program has to open, and in which nothing ever comes."""
+class Pipe:
+    """A named pipe that the program has to open, or to leave closed, and the data that comes in it, or none ever."""
+
+    data: object = None
+    has_to_open: bool = True
 
 
-@dataclass(frozen=True)
-class UnopenedPipe:
-    """A named pipe that the program has to leave closed."""
-
-
-@dataclass(frozen=True)
-class FedPipe:
-    """A named pipe that the program has to open, and in which this data comes."""
-
-    data: bytes
+OPENED_PIPE, UNOPENED_PIPE = Pipe(), Pipe(has_to_open=False)
 
 
 @dataclass(frozen=True)
@@ -205,10 +189,10 @@ class Skip(Exception):
     """A run that cannot be made here, and why."""
 
 
-def expect(holds, said):
+def expect(holds, *said):
     """Raises a `Failure` that says this, where something does not hold."""
     if not holds:
-        raise Failure(said)
+        raise Failure(": ".join(map(str, said)))
 
 
 def read(*path):
@@ -226,11 +210,12 @@ def write(directory, name, data):
 
 
 def run_cases(cases):
-    """Runs named cases one after another: what failed, and how many were not skipped."""
+    """Runs cases one after another, each of which has a name, a function, and what that is given: what failed, and how many were
+    not skipped."""
     failures, count = [], 0
-    for name, run in cases:
+    for name, run, *given in cases:
         try:
-            run()
+            run(*given)
         except Skip as why:
             print(f"skipped: {name}: {why}")
             continue
@@ -238,6 +223,12 @@ def run_cases(cases):
             failures.append(f"{name}: {why}")
         count += 1
     return failures, count
+
+
+def run_one(cases, name):
+    """Runs the case of this name."""
+    run, *given = next(rest for found, *rest in cases if found == name)
+    run(*given)
 
 
 class Runner:
@@ -353,8 +344,7 @@ class NamedPipe:
     def __init__(self, path, kind):
         self.name = os.path.basename(path)
         self.path = path
-        self.has_to_open = isinstance(kind, (OpenedPipe, FedPipe))
-        self.data = kind.data if isinstance(kind, FedPipe) else None
+        self.has_to_open, self.data = kind.has_to_open, kind.data
         self.opened = False
         self.writer = None
         os.mkfifo(path)
@@ -634,7 +624,7 @@ def make_files(directory, files):
             continue
         if kind in (DIRECTORY, LOCKED):
             os.mkdir(path, 0o555 if kind == LOCKED else 0o755)
-        elif isinstance(kind, (OpenedPipe, UnopenedPipe, FedPipe)):
+        elif isinstance(kind, Pipe):
             pipes.append(NamedPipe(path, kind))
         elif isinstance(kind, ReadPipe):
             pipes.append(DrainedPipe(path, kind))
@@ -645,13 +635,10 @@ def make_files(directory, files):
         else:
             with open(path, "wb") as file:
                 file.write(kind if isinstance(kind, bytes) else kind.data)
-            if isinstance(kind, Unreadable):
-                os.chmod(path, 0)
-            elif isinstance(kind, WithMode):
+            if isinstance(kind, WithMode):
                 os.chmod(path, kind.mode)
-            elif isinstance(kind, WithList):
-                os.chmod(path, kind.mode)
-                set_list(path, kind.entries)
+                if kind.entries:
+                    set_list(path, kind.entries)
     return pipes
 
 
@@ -664,7 +651,7 @@ def set_list(path, entries):
 
 def is_forbidding(kind):
     """Whether a file or directory lacks permissions that root would have all the same."""
-    return kind == LOCKED or isinstance(kind, (Unreadable, WithMode))
+    return kind == LOCKED or isinstance(kind, WithMode)
 
 
 def runs_as_nobody(program):

@@ -1,7 +1,7 @@
 /*
- * Searches the registers and all memory that the program may write, of which it is a part, for the needles of
- * needles.h. At TRAP a signal comes on a stack of its own, so that the system writes all registers into memory and
- * nothing else changes: `look` is called then.
+ * Searches the registers and all memory that its program may write for the needles of needles.h. At TRAP a signal
+ * comes on a stack of its own, so that the system writes all registers into memory and nothing else changes: then
+ * `look` is called.
  */
 #ifndef SEARCH_MEMORY_H
 #define SEARCH_MEMORY_H

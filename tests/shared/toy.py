@@ -1,7 +1,10 @@
-"""Texts of keys and signatures of the toy scheme, made and judged beside the program."""
+"""Makes texts of keys and signatures of the toy scheme, and judges them, beside the program."""
 
 import base64
+import functools
 import hashlib
+import struct
+from dataclasses import dataclass
 
 WARNING = "warning: insecure toy scheme, for tests only\n"
 OUT_OF_MEMORY = "error: out of memory\n"
@@ -9,6 +12,10 @@ READING_FAILED = "error: reading failed\n"
 WRITING_FAILED = "error: writing failed\n"
 NOT_UTF8 = "error: stream did not contain valid UTF-8\n"
 TOO_SHORT = "error: failed to fill whole buffer\n"
+
+DEFAULT_COMMENT = b"signature from rsign secret key"
+# How allocations fail, and the words for it.
+REJECTING = (("one", "one allocation"), ("all", "each allocation from one on"))
 
 SEED = bytes(32)
 # The public key of that seed.
@@ -68,24 +75,75 @@ def checksum(keynum, secret):
     return hashlib.blake2b(b"Ed" + keynum + secret, digest_size=32).digest()
 
 
-def secret_text(kdf=bytes(2), last=None, keynum=KEYNUM, operations=0, memory=0):
-    """The text of a secret key that was never sealed, or of such a record with another key derivation, another
-    last byte or other limits."""
-    limits = operations.to_bytes(8, "little") + memory.to_bytes(8, "little")
-    record = b"Ed" + kdf + b"B2" + bytes(32) + limits + keynum + SEED + KEY + checksum(keynum, SEED + KEY)
-    if last is not None:
-        record = record[:-1] + bytes([record[-1] ^ last])
-    return lines(b"untrusted comment: rsign encrypted secret key", base64.b64encode(record))
+NEVER_SEALED, SCRYPT = bytes(2), b"Sc"
 
 
-def sealed_text(password, keynum=KEYNUM):
+@dataclass(frozen=True)
+class Limits:
+    """The limits of a record, and N and p of scrypt that they lead to; r is 8."""
+
+    memory: int = 0
+    operations: int = 0
+    rows: int = 2
+    parts: int = 512
+
+
+NO_LIMITS, SMALL = Limits(), Limits(1048576, 0, 1024, 1)
+# The limits of keys that are made.
+USUAL = Limits(33554432, 1048576, 32768, 1)
+
+
+@dataclass(frozen=True)
+class Key:
+    """A secret key of the toy scheme, and the records that it can have. Without a word it is key A."""
+
+    seed: bytes = SEED
+    keynum: bytes = KEYNUM
+
+    @property
+    def public(self):
+        return bytes(byte ^ 0x5A for byte in self.seed)
+
+    @property
+    def public_record(self):
+        return b"Ed" + self.keynum + self.public
+
+    def record(self, derivation=NEVER_SEALED, limits=NO_LIMITS, salt=bytes(32), other=None):
+        """The record in which the key stands as it is, with its checksum or another one."""
+        secret, packed = self.seed + self.public, struct.pack("<QQ", limits.operations, limits.memory)
+        return b"Ed" + derivation + b"B2" + salt + packed + self.keynum + secret + (other or checksum(self.keynum, secret))
+
+    def sealed(self, password, limits=USUAL, salt=bytes(range(32))):
+        """The record, sealed under the password."""
+        opened = self.record(SCRYPT, limits, salt)
+        return opened[:54] + bytes(a ^ b for a, b in zip(opened[54:], stream(password, limits, salt)))
+
+
+@functools.lru_cache(maxsize=None)
+def stream(password, limits, salt):
+    """The bytes that the last 104 of a record are xored with."""
+    return hashlib.scrypt(password, salt=salt, n=limits.rows, r=8, p=limits.parts, dklen=104, maxmem=1 << 26)
+
+
+KEY_A = Key()
+RECORD, OTHER_RECORD = KEY_A.public_record, b"Ed" + OTHER_KEYNUM + KEY
+SECRET_RECORD = KEY_A.record()
+
+
+def secret_text(record=SECRET_RECORD, comment=b"rsign encrypted secret key"):
+    """The text of a secret key's record."""
+    return lines(b"untrusted comment: " + comment, base64.b64encode(record))
+
+
+def sealed_text(password):
     """The text of a secret key that is sealed under a password, with the limits of new keys."""
-    salt = bytes(range(32))
-    stream = hashlib.scrypt(password, salt=salt, n=1 << 15, r=8, p=1, dklen=104, maxmem=1 << 26)
-    opened = keynum + SEED + KEY + checksum(keynum, SEED + KEY)
-    limits = (1 << 20).to_bytes(8, "little") + (1 << 25).to_bytes(8, "little")
-    record = b"EdScB2" + salt + limits + bytes(a ^ b for a, b in zip(opened, stream))
-    return lines(b"untrusted comment: rsign encrypted secret key", base64.b64encode(record))
+    return secret_text(KEY_A.sealed(password))
+
+
+def changed(record, at=-1):
+    """A record of which one bit of a byte is turned."""
+    at %= len(record)
+    return record[:at] + bytes([record[at] ^ 1]) + record[at + 1:]
 
 
 def some_data(length):

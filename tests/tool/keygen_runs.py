@@ -1,13 +1,13 @@
-"""Runs of `keygen`: the two files that it leaves, what it asks, and that the secret text opens again."""
+"""Runs of `keygen`: the two files that it leaves, its questions, and that the secret text opens again."""
 
 import base64
 import hashlib
-import os
-import stat
 from dataclasses import replace
 
-from running import (CLOSED, DIRECTORY, FULL, LOCKED, NO_READER, WRITE_ONLY, Case, Failure, FromFile, Link, OneOf, Pieces, PrefixOf, ReadPipe,
-                     RoomFor, SecondName, Sources, Typed, WithList, WithMode, expect)
+import toy
+from running import (CLOSED, DIRECTORY, FULL, LOCKED, NO_READER, WRITE_ONLY, Failure, FromFile, Link, OneOf, Pieces,
+                     PrefixOf, ReadPipe, RoomFor, SecondName, Sources, Typed, WithMode, expect)
+from tool_cases import Leaves, command, held_by
 from toy import NOT_UTF8, OUT_OF_MEMORY, READING_FAILED, WARNING, WRITING_FAILED
 
 END_OF_INPUT = "error: unexpected end of input\n"
@@ -24,6 +24,7 @@ EMPTY = PURPOSE + b"Password: <empty>\nPassword (one more time): <empty>\n" + TO
 
 PK, SK = "key.pk", "key.sk"
 FULL_DEVICE = "/dev/full"
+OLDER = {PK: b"older public", SK: b"older secret"}
 
 # The pair that random bytes make that count up from 0, sealed under `p` by Python's hashlib.
 COUNTED_PUBLIC = b"""untrusted comment: minisign public key: 2726252423222120
@@ -37,93 +38,19 @@ RWRTY0IyKCkqKywtLi8wMTIzNDU2Nzg5Ojs8PT4/QEFCQ0RFRkcAABAAAAAAAAAAAAIAAAAAXsrUPdVf
 MADE_BEFORE = set()
 
 
-class Pair:
-    """Looks at the directory that a run leaves: the two files of a pair that opens under the password, their
-    modes, and nothing else."""
-
-    def __init__(self, password, pk_mode=0o644, sk_mode=0o600):
-        self.password = password
-        self.modes = {PK: pk_mode, SK: sk_mode}
-
-    def __call__(self, directory):
-        names = set(os.listdir(directory))
-        expect(names == {PK, SK}, f"it left the files {sorted(names)}")
-        for name, mode in self.modes.items():
-            has_mode(directory, name, mode)
-        check_pair(self.password, read(directory, PK), read(directory, SK))
+def pair(password=b"p", public_mode=0o644, secret_mode=0o600, names=(PK, SK), links=()):
+    """What is left are the two files of a pair that opens under the password, with these modes, and these links."""
+    files = {**dict(links), **dict.fromkeys(names, bytes)}
+    return Leaves(files, dict(zip(names, (public_mode, secret_mode))),
+                  judge=lambda directory: check_pair(password, *(held_by(directory, name) for name in names)))
 
 
-class Linked:
-    """Looks at the directory that a run leaves: a pair behind links, which stay, with these modes."""
-
-    def __init__(self, links, public, secret, public_mode, secret_mode):
-        self.links = links
-        self.public = public
-        self.secret = secret
-        self.modes = {public: public_mode, secret: secret_mode}
-
-    def __call__(self, directory):
-        for name, target in self.links.items():
-            expect(os.path.islink(os.path.join(directory, name)) and os.readlink(os.path.join(directory, name)) == target,
-                   f"the link {name} is gone")
-        for name, mode in self.modes.items():
-            has_mode(directory, name, mode)
-        check_pair(b"p", read(directory, self.public), read(directory, self.secret))
-        names = {os.path.join(at, name) for at, _, files in os.walk(directory) for name in files}
-        wanted = {os.path.join(directory, name) for name in (*self.links, self.public, self.secret)}
-        expect(names == wanted, f"it left the files {sorted(names)}")
+def one_file(name, links):
+    """What is left is a secret key for its owner alone in this file, and these links to it."""
+    return Leaves({**links, name: lambda text: record_of(text, 158)}, {name: 0o600})
 
 
-class OneFile:
-    """Looks at the directory that a run leaves: a secret key for its owner alone in this file, and these links to
-    it."""
-
-    def __init__(self, name, links=(), mode=0o600):
-        self.name = name
-        self.links = links
-        self.mode = mode
-
-    def __call__(self, directory):
-        names = set(os.listdir(directory))
-        expect(names == {self.name, *self.links}, f"it left the files {sorted(names)}")
-        for name in self.links:
-            expect(os.path.islink(os.path.join(directory, name)), f"{name} is no link any more")
-        has_mode(directory, self.name, self.mode)
-        record_of(read(directory, self.name), 158)
-
-
-class Left:
-    """Looks at the directory that a run leaves: these files and directories alone, by what they hold."""
-
-    def __init__(self, files):
-        self.files = files
-
-    def __call__(self, directory):
-        names = set(os.listdir(directory))
-        expect(names == set(self.files), f"it left the files {sorted(names)} in place of {sorted(self.files)}")
-        for name, data in self.files.items():
-            if data in (DIRECTORY, LOCKED):
-                expect(not os.listdir(os.path.join(directory, name)), f"it left something in the directory {name}")
-            elif read(directory, name) != data:
-                raise Failure(f"{name} holds {read(directory, name)[:200]} in place of {data[:200]}")
-
-
-NOTHING = Left({})
-
-
-def read(directory, name):
-    """What a file holds, whatever its mode."""
-    path = os.path.join(directory, name)
-    if not os.access(path, os.R_OK):
-        os.chmod(path, 0o600)
-    with open(path, "rb") as file:
-        return file.read()
-
-
-def has_mode(directory, name, mode):
-    """Raises a `Failure` where a file has another mode."""
-    found = stat.S_IMODE(os.stat(os.path.join(directory, name)).st_mode)
-    expect(found == mode, f"{name} has the mode {found:o} in place of {mode:o}")
+NOTHING = Leaves({})
 
 
 def record_of(text, length):
@@ -165,32 +92,14 @@ def check_pair(password, public_text, secret_text):
     MADE_BEFORE.add(keynum)
 
 
-def keygen(name, status, *lines, typed=b"p\np\n", output=MADE, left=NOTHING, arguments=(PK, SK), **how):
+def keygen(name, *said, typed=b"p\np\n", output=MADE, left=NOTHING, arguments=(PK, SK), **how):
     """A case of `keygen`, in which `p` is typed twice and no file is left where it says nothing else."""
-    return Case(name, ["keygen", *arguments], status, list(lines), stdin=typed, output=output, left=left, **how)
+    return command(name, ["keygen", *arguments], said, stdin=typed, output=output, left=left, **how)
 
 
-def made(name, password=b"p", lines=(WARNING,), **how):
+def made(name, password=b"p", said=(), **how):
     """A case in which a pair is made under the password, which is typed twice where nothing else is said."""
-    how.setdefault("typed", (password + b"\n") * 2)
-    how.setdefault("left", Pair(password))
-    return keygen(name, 0, *lines, **how)
-
-
-def keygen_cases():
-    return [
-        *password_cases(),
-        *rejected_cases(),
-        *source_cases(),
-        *terminal_cases(),
-        *file_cases(),
-        *link_cases(),
-        *one_file_cases(),
-        *unwritten_cases(),
-        *pipe_cases(),
-        *stream_cases(),
-        *memory_cases(),
-    ]
+    return keygen(name, *said, **{"typed": (password + b"\n") * 2, "left": pair(password), **how})
 
 
 def password_cases():
@@ -227,26 +136,24 @@ def rejected_cases():
         ("a password that is too long and no UTF-8", b"\xff" * 1025 + b"\n", ONCE, NOT_UTF8),
         ("a second password that is no UTF-8", b"a\n\xc3\n", TWICE, NOT_UTF8),
     ]
-    cases = [keygen(name, 1, WARNING, line, typed=typed, output=output) for name, typed, output, line in rows]
-    older = {PK: b"older public", SK: b"older secret"}
+    cases = [keygen(name, line, typed=typed, output=output) for name, typed, output, line in rows]
     return [
         *cases,
-        keygen("two passwords that differ, and files that exist", 1, WARNING, DIFFERENT, typed=b"a\nb\n",
-               output=TWICE, files=older, left=Left(older)),
-        keygen("an input that cannot be read", 1, WARNING, READING_FAILED, typed=WRITE_ONLY, output=ONCE),
-        keygen("a directory as input", 1, WARNING, READING_FAILED, typed=DIRECTORY, output=ONCE),
+        keygen("two passwords that differ, and files that exist", DIFFERENT, typed=b"a\nb\n",
+               output=TWICE, files=OLDER, left=Leaves(OLDER)),
+        keygen("an input that cannot be read", READING_FAILED, typed=WRITE_ONLY, output=ONCE),
+        keygen("a directory as input", READING_FAILED, typed=DIRECTORY, output=ONCE),
     ]
 
 
 def source_cases():
     """With known random bytes both texts are known. The device of random bytes ends before anything is asked."""
-    known = Left({PK: COUNTED_PUBLIC, SK: COUNTED_SECRET})
-    older = {PK: b"older public", SK: b"older secret"}
+    known = Leaves({PK: COUNTED_PUBLIC, SK: COUNTED_SECRET})
     return [
         made("random bytes that count up", sources=Sources(), left=known),
         made("72 random bytes", sources=Sources(random=72), left=known),
-        *(keygen(f"{count} random bytes", 1, WARNING, RANDOM_FAILED, output=b"", sources=Sources(random=count),
-                 files=older, left=Left(older))
+        *(keygen(f"{count} random bytes", RANDOM_FAILED, output=b"", sources=Sources(random=count),
+                 files=OLDER, left=Leaves(OLDER))
           for count in (0, 32, 40, 71)),
     ]
 
@@ -261,13 +168,10 @@ def terminal_cases():
              output=b"".join(part.replace(b"\n", b"\r\n") for part in (ONCE, b"p\n", TWICE[len(ONCE):], b"p\n", TOLD))),
         made("an empty password at a terminal", b"", typed=Typed((b"\n", b"\n")), output=EMPTY),
         made("the longest password at a terminal", longest, typed=Typed((longest + b"\n",) * 2)),
-        keygen("two passwords that differ at a terminal", 1, WARNING, DIFFERENT,
-               typed=Typed((b"a\n", b"b\n")), output=TWICE),
-        keygen("a password that is too long at a terminal", 1, WARNING, TOO_LONG,
-               typed=Typed((b"x" * 1025 + b"\n",)), output=ONCE),
-        keygen("the end of the input at once at a terminal", 1, WARNING, END_OF_INPUT,
-               typed=Typed((b"\x04",)), output=ONCE),
-        keygen("the end after the first password at a terminal", 1, WARNING, END_OF_INPUT,
+        keygen("two passwords that differ at a terminal", DIFFERENT, typed=Typed((b"a\n", b"b\n")), output=TWICE),
+        keygen("a password that is too long at a terminal", TOO_LONG, typed=Typed((b"x" * 1025 + b"\n",)), output=ONCE),
+        keygen("the end of the input at once at a terminal", END_OF_INPUT, typed=Typed((b"\x04",)), output=ONCE),
+        keygen("the end after the first password at a terminal", END_OF_INPUT,
                typed=Typed((b"a\n", b"\x04")), output=TWICE),
         made("letters and the end in place of a line feed at a terminal", b"p", typed=Typed((b"p\n", b"p\x04\x04"))),
     ]
@@ -277,23 +181,23 @@ def file_cases():
     """Files that are there are replaced and keep their modes, but for what their groups have and not all others; new ones
     get theirs."""
     longer = b"older\n" * 200
+    with_mode = lambda public, secret: {PK: WithMode(longer, public), SK: WithMode(longer, secret)}
+    listed = {PK: WithMode(longer, 0o644, "g::---,u:65534:rw"), SK: WithMode(longer, 0o600, "u:65534:rw")}
+    rows = [
+        ("files that exist", {PK: longer, SK: longer}, 0o644, 0o644),
+        ("a public file that exists", {PK: b""}, 0o644, 0o600),
+        ("a secret file that exists", {SK: longer}, 0o644, 0o644),
+        ("files that exist, with modes", with_mode(0o640, 0o620), 0o600, 0o600),
+        ("files whose groups have what all others have", with_mode(0o664, 0o646), 0o644, 0o646),
+        ("a secret file with a list of others' permissions", {SK: WithMode(longer, 0o600, "u:65534:r")}, 0o644, 0o600),
+        ("files with lists of others' permissions", listed, 0o644, 0o600),
+        ("files that exist and can only be written", with_mode(0o200, 0o200), 0o200, 0o200),
+    ]
+    masks = [("of nothing", 0, 0o666, 0o600), ("of all but the owner", 0o077, 0o600, 0o600),
+             ("that leaves no permission to write", 0o222, 0o444, 0o400)]
     return [
-        made("files that exist", files={PK: longer, SK: longer}, left=Pair(b"p", 0o644, 0o644)),
-        made("a public file that exists", files={PK: b""}),
-        made("a secret file that exists", files={SK: longer}, left=Pair(b"p", 0o644, 0o644)),
-        made("files that exist, with modes", files={PK: WithMode(longer, 0o640), SK: WithMode(longer, 0o620)},
-             left=Pair(b"p", 0o600, 0o600)),
-        made("files whose groups have what all others have", files={PK: WithMode(longer, 0o664), SK: WithMode(longer, 0o646)},
-             left=Pair(b"p", 0o644, 0o646)),
-        made("a secret file with a list of others' permissions", files={SK: WithList(longer, 0o600, "u:65534:r")},
-             left=Pair(b"p", 0o644, 0o600)),
-        made("files with lists of others' permissions", files={PK: WithList(longer, 0o644, "g::---,u:65534:rw"), SK: WithList(longer, 0o600, "u:65534:rw")},
-             left=Pair(b"p", 0o644, 0o600)),
-        made("files that exist and can only be written", files={PK: WithMode(longer, 0o200), SK: WithMode(longer, 0o200)},
-             left=Pair(b"p", 0o200, 0o200)),
-        made("a mask of nothing", umask=0, left=Pair(b"p", 0o666, 0o600)),
-        made("a mask of all but the owner", umask=0o077, left=Pair(b"p", 0o600, 0o600)),
-        made("a mask that leaves no permission to write", umask=0o222, left=Pair(b"p", 0o444, 0o400)),
+        *(made(name, files=files, left=pair(b"p", *modes)) for name, files, *modes in rows),
+        *(made(f"a mask {what}", umask=umask, left=pair(b"p", *modes)) for what, umask, *modes in masks),
         made("names that lead through the directory itself", arguments=("./" + PK, "././" + SK)),
     ]
 
@@ -301,31 +205,23 @@ def file_cases():
 def link_cases():
     """Links are followed and stay; what they lead to is replaced, and keeps its mode, or gets that of new files."""
     older = WithMode(b"older", 0o604)
-    kept = {"kept": DIRECTORY}
-    links = {PK: "kept/public", SK: "kept/secret"}
-    chain = {PK: "first", "first": "./second", "second": "kept/public", SK: "kept/secret"}
+    links = {PK: Link("kept/public"), SK: Link("kept/secret")}
+    chain = {PK: Link("first"), "first": Link("./second"), "second": Link("kept/public"), SK: Link("kept/secret")}
+    across = {PK: Link("kept/link"), "kept/link": Link("public"), SK: Link("kept/secret")}
     rows = [
-        ("links to files", links, {**kept, "kept/public": older, "kept/secret": older}, 0o604, 0o604),
-        ("links that lead nowhere", links, kept, 0o644, 0o600),
-        ("links to links", chain, {**kept, "kept/public": older}, 0o604, 0o600),
-        ("a link to a link in another directory", {PK: "kept/link", "kept/link": "public", SK: "kept/secret"}, kept, 0o644, 0o600),
+        ("links to files", links, {"kept/public": older, "kept/secret": older}, 0o604, 0o604),
+        ("links that lead nowhere", links, {}, 0o644, 0o600),
+        ("links to links", chain, {"kept/public": older}, 0o604, 0o600),
+        ("a link to a link in another directory", across, {}, 0o644, 0o600),
     ]
     return [
-        *(made(name, files={**files, **{link: Link(target) for link, target in these.items()}},
-               left=Linked(these, "kept/public", "kept/secret", public_mode, secret_mode))
-          for name, these, files, public_mode, secret_mode in rows),
-        keygen("a link to itself as secret key", 1, WARNING, WRITING_FAILED, files={PK: b"older", SK: Link(SK)}, left=KeptPublic()),
-        keygen("a link into a missing directory as secret key", 1, WARNING, WRITING_FAILED, files={PK: b"older", SK: Link("none/key")},
-               left=KeptPublic()),
+        *(made(name, files={"kept": DIRECTORY, **files, **these},
+               left=pair(b"p", *modes, ("kept/public", "kept/secret"), these))
+          for name, these, files, *modes in rows),
+        *(keygen(f"a link {what} as secret key", WRITING_FAILED, files={PK: b"older", SK: link},
+                 left=Leaves({PK: b"older", SK: link}))
+          for what, link in (("to itself", Link(SK)), ("into a missing directory", Link("none/key")))),
     ]
-
-
-class KeptPublic:
-    """Looks at the directory that a run leaves: the older public file, and a link."""
-
-    def __call__(self, directory):
-        expect(set(os.listdir(directory)) == {PK, SK} and read(directory, PK) == b"older",
-               f"it left the files {sorted(os.listdir(directory))}")
 
 
 def one_file_cases():
@@ -333,25 +229,26 @@ def one_file_cases():
     older file's mode. Two names of one file get a file each."""
     older = WithMode(b"older", 0o644)
     rows = [
-        ("one path twice", (SK, SK), {}, OneFile(SK)),
-        ("one path twice, and a file that exists", (SK, SK), {SK: older}, OneFile(SK)),
-        ("one path in two ways", (SK, "./" + SK), {}, OneFile(SK)),
-        ("one path in two ways, and a file that exists", (SK, "./" + SK), {SK: older}, OneFile(SK)),
-        ("the secret key a link to the public one", (PK, SK), {PK: older, SK: Link(PK)}, OneFile(PK, [SK])),
-        ("the secret key a link to where the public one is made", (PK, SK), {SK: Link(PK)}, OneFile(PK, [SK])),
-        ("the public key a link to the secret one", (PK, SK), {SK: older, PK: Link(SK)}, OneFile(SK, [PK])),
-        ("the public key a link to where the secret one is made", (PK, SK), {PK: Link(SK)}, OneFile(SK, [PK])),
-        ("both links to one path", (PK, SK), {PK: Link("key"), SK: Link("./key")}, OneFile("key", [PK, SK])),
-        ("both links to one file", (PK, SK), {"key": older, PK: Link("key"), SK: Link("./key")}, OneFile("key", [PK, SK])),
+        ("one path twice", (SK, SK), SK, {}),
+        ("one path twice, and a file that exists", (SK, SK), SK, {SK: older}),
+        ("one path in two ways", (SK, "./" + SK), SK, {}),
+        ("one path in two ways, and a file that exists", (SK, "./" + SK), SK, {SK: older}),
+        ("the secret key a link to the public one", (PK, SK), PK, {PK: older, SK: Link(PK)}),
+        ("the secret key a link to where the public one is made", (PK, SK), PK, {SK: Link(PK)}),
+        ("the public key a link to the secret one", (PK, SK), SK, {SK: older, PK: Link(SK)}),
+        ("the public key a link to where the secret one is made", (PK, SK), SK, {PK: Link(SK)}),
+        ("both links to one path", (PK, SK), "key", {PK: Link("key"), SK: Link("./key")}),
+        ("both links to one file", (PK, SK), "key", {"key": older, PK: Link("key"), SK: Link("./key")}),
     ]
     cases = []
     for umask in (0o000, 0o022, 0o077):
-        cases += [made(f"{name}, and a mask of {umask:o}", arguments=arguments, files=files, left=left, umask=umask)
-                  for name, arguments, files, left in rows]
+        cases += [made(f"{name}, and a mask of {umask:o}", arguments=arguments, files=files, left=one_file(kept, files),
+                       umask=umask)
+                  for name, arguments, kept, files in rows]
         cases += [
             made(f"two names of one file, and a mask of {umask:o}", files={PK: older, SK: SecondName(PK)}, umask=umask,
-                 left=Pair(b"p", 0o644, 0o600)),
-            made(f"new files, and a mask of {umask:o}", umask=umask, left=Pair(b"p", 0o666 & ~umask, 0o600)),
+                 left=pair(b"p", 0o644, 0o600)),
+            made(f"new files, and a mask of {umask:o}", umask=umask, left=pair(b"p", 0o666 & ~umask, 0o600)),
         ]
     return cases
 
@@ -376,7 +273,7 @@ def unwritten_cases():
         ("a name of the public key that is too long", ("k" * 256, SK), {}, {}),
     ]
     return [
-        keygen(name, 1, WARNING, WRITING_FAILED, arguments=arguments, files=files, left=Left(kept))
+        keygen(name, WRITING_FAILED, arguments=arguments, files=files, left=Leaves(kept))
         for name, arguments, files, kept in rows
     ]
 
@@ -390,15 +287,17 @@ def pipe_cases():
     terminal = Typed((b"p\n", b"p\n"))
     return [
         made("keys into pipes", files={**public, **secret}, **how),
-        made("keys into pipes, and for errors room for five bytes", lines=["warni"], files={**public, **secret}, typed=terminal,
+        made("keys into pipes, and for errors room for five bytes", said=["warni"], files={**public, **secret},
+             typed=terminal,
              stderr=RoomFor(5), **how),
-        keygen("no room for the public key, and the secret key into a pipe", 1, WARNING, WRITING_FAILED, files=nothing,
+        keygen("no room for the public key, and the secret key into a pipe", WRITING_FAILED, files=nothing,
                arguments=(FULL_DEVICE, SK), **how),
-        keygen("the public key into a pipe, and no room for the secret key", 1, WARNING, WRITING_FAILED, files=public,
+        keygen("the public key into a pipe, and no room for the secret key", WRITING_FAILED, files=public,
                arguments=(PK, FULL_DEVICE), **how),
-        keygen("the public key for errors with room for nine bytes, and the secret key into a pipe", 1, "untrusted",
+        keygen("the public key for errors with room for nine bytes, and the secret key into a pipe", "untrusted",
+               status=1,
                files=nothing, arguments=("/dev/stderr", SK), typed=terminal, stderr=RoomFor(9), **how),
-        keygen("the public key into a pipe, and the secret key for errors with room for a byte", 1, "u",
+        keygen("the public key into a pipe, and the secret key for errors with room for a byte", "u", status=1,
                files=public, arguments=(PK, "/dev/stderr"), typed=terminal, stderr=RoomFor(1), **how),
     ]
 
@@ -406,8 +305,7 @@ def pipe_cases():
 def stream_cases():
     """Streams that are closed or full. No file gets the number of a closed stream, so that no prompt and no
     line of an error goes into one, and no password is read from one."""
-    older = {PK: b"older public", SK: b"older secret"}
-    same = Left(older)
+    same = Leaves(OLDER)
     rows = [
         ("a closed input", CLOSED, None, READING_FAILED, ONCE),
         ("a closed output", b"p\np\n", CLOSED, WRITING_FAILED, b""),
@@ -415,17 +313,17 @@ def stream_cases():
         ("a full output", b"p\np\n", FULL, WRITING_FAILED, b""),
     ]
     cases = [
-        keygen(name, 1, WARNING, line, typed=typed, output=output, files=older, left=same, stdout=stdout)
+        keygen(name, line, typed=typed, output=output, files=OLDER, left=same, stdout=stdout)
         for name, typed, stdout, line, output in rows
     ]
     for errors in (CLOSED, FULL, NO_READER):
         cases += [
             *(replace(case, name=f"{case.name}, and for errors {errors}", lines=[], stderr=errors) for case in cases[:len(rows)]),
-            made(f"a password, and for errors {errors}", lines=[], stderr=errors),
-            keygen(f"two passwords that differ, and for errors {errors}", 1, typed=b"a\nb\n", output=TWICE,
-                   files=older, left=same, stderr=errors),
-            keygen(f"no room for the secret key, and for errors {errors}", 1, arguments=(PK, FULL_DEVICE),
-                   files={PK: b"older" * 99}, left=Left({PK: b"older" * 99}), stderr=errors),
+            made(f"a password, and for errors {errors}", stderr=errors),
+            keygen(f"two passwords that differ, and for errors {errors}", DIFFERENT, typed=b"a\nb\n", output=TWICE,
+                   files=OLDER, left=same, stderr=errors),
+            keygen(f"no room for the secret key, and for errors {errors}", WRITING_FAILED, arguments=(PK, FULL_DEVICE),
+                   files={PK: b"older" * 99}, left=Leaves({PK: b"older" * 99}), stderr=errors),
         ]
     return cases
 
@@ -433,10 +331,10 @@ def stream_cases():
 def memory_cases():
     """Each allocation fails: where it is for the texts of a pair that was made, that is reported as a failed
     write. No file is touched."""
-    older = {PK: b"older public", SK: b"older secret"}
     lines = OneOf(([WARNING, OUT_OF_MEMORY], [WARNING, WRITING_FAILED]))
-    case = replace(keygen("", 1, files=older, left=Left(older)), lines=lines, output=PrefixOf(MADE))
-    return [
-        replace(case, name=f"{many} failing", rejecting=rejecting)
-        for rejecting, many in (("one", "one allocation"), ("all", "each allocation from one on"))
-    ]
+    case = replace(keygen("", OUT_OF_MEMORY, files=OLDER, left=Leaves(OLDER)), lines=lines, output=PrefixOf(MADE))
+    return [replace(case, name=f"{many} failing", rejecting=rejecting) for rejecting, many in toy.REJECTING]
+
+
+PARTS = (password_cases, rejected_cases, source_cases, terminal_cases, file_cases, link_cases, one_file_cases,
+         unwritten_cases, pipe_cases, stream_cases, memory_cases)

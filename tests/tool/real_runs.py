@@ -1,31 +1,31 @@
 #!/usr/bin/env python3
-"""Runs the built program `minisign_tool` on real files: what it answers, to the letter, in each case.
+"""Runs the built program `minisign_tool` on real files, and compares its answers to the letter.
 
     tests/tool/real_runs.py [PROGRAM ..]
 
-Without arguments it runs the program that `rt ci` or `rt run` left in the directory `out` of
-`crates/minisign_tool`, as each compiler built it, and builds it by `rt run` where there is none. It
-prints a line for each case that failed or was skipped; the last line is `N passed, M failed`.
+By default it runs the program that `rt ci` or `rt run` left in the directory `out` of `crates/minisign_tool`, as each
+compiler built it, and builds it by `rt run` if there is none. It prints a line for each case that failed or was
+skipped; the last line is `N passed, M failed`.
 
-Needs Python 3.9 or later and a C compiler, which it installs where it may.
+Needs Python 3.9 or later and a C compiler, which it installs if it may.
 """
 
 import os
 import subprocess
 import sys
 import tempfile
-from functools import partial
 
 HERE = os.path.dirname(os.path.realpath(__file__))
 sys.path.append(os.path.join(HERE, "..", "shared"))
 
-import needs
-from keygen_runs import keygen_cases
+import ending
+import keygen_runs
+import sign_runs
+import verify_raw_runs
+import verify_runs
 from running import CLOSED, Case, FULL, Runner, run_cases
-from sign_runs import sign_cases
 from toy import WARNING
-from verify_raw_runs import KEY, SIGNATURE, by_bytes, verify_raw_cases
-from verify_runs import cat_cases, verify_cases
+from verify_raw_runs import KEY, SIGNATURE, by_bytes
 
 CRATE = os.path.join(HERE, "..", "..", "crates", "minisign_tool")
 
@@ -70,29 +70,20 @@ def usage_cases():
     ]
 
 
-CASES = {
-    "usage": usage_cases,
-    "keygen": keygen_cases,
-    "sign": sign_cases,
-    "verify": verify_cases,
-    "verify-raw": verify_raw_cases,
-    "cat": cat_cases,
-}
+# The parts of the table, by the commands.
+CASES = {"usage": (usage_cases,), "keygen": keygen_runs.PARTS, "sign": sign_runs.PARTS, "verify": verify_runs.VERIFY,
+         "verify-raw": verify_raw_runs.PARTS, "cat": verify_runs.CAT}
 
 
-def run_all(program):
-    """Runs all cases, prints those that failed or were skipped, and answers how many passed and how many failed."""
-    with tempfile.TemporaryDirectory(prefix="real-runs-") as room:
-        runner = Runner(program, room)
-        return run_named(program, ((f"{command}: {case.name}", partial(runner.run, case)) for command, cases in CASES.items() for case in cases()))
+def all_cases():
+    """The command and the case of each."""
+    return ((command, case) for command, parts in CASES.items() for part in parts for case in part())
 
 
-def run_named(program, cases):
-    """Runs named cases over a program, prints what failed, and answers how many passed and how many failed."""
-    failures, count = run_cases(cases)
-    for failure in failures:
-        print(f"FAILED: {os.path.basename(program)}: {failure}")
-    return count - len(failures), len(failures)
+def cases_of(program, room):
+    """The names of all cases of a program, and what runs each."""
+    runner = Runner(program, room)
+    return ((f"{command}: {case.name}", runner.run, case) for command, case in all_cases())
 
 
 def built_programs():
@@ -104,21 +95,20 @@ def built_programs():
     return [each for each in (made, made + ".by-rattle") if os.path.exists(each)]
 
 
-def count_over(programs, run_all):
-    """Runs all cases over each program, or else over those that were built, prints the counts, and returns the exit status."""
-    programs = [os.path.abspath(program) for program in programs or built_programs()]
-    if not programs:
-        print("FAILED: the program was not built")
-    try:
-        counts = [run_all(program) for program in programs]
-    except needs.Missing as why:
-        print(f"FAILED: {why}")
-        counts = []
-    passed = sum(count[0] for count in counts)
-    failed = sum(count[1] for count in counts) if counts else 1
-    print(f"{passed} passed, {failed} failed")
-    return 1 if failed else 0
+def run_over(name, programs, cases_of):
+    """Runs the cases of each program, or else of those that were built, prints the counts, and returns the exit status. `cases_of` is
+    given a program, and a directory of its own."""
+
+    def run_all(room):
+        os.chmod(room, 0o711)
+        failures, count = [], 0
+        for program in programs or built_programs():
+            some, ran = run_cases(cases_of(os.path.abspath(program), tempfile.mkdtemp(dir=room)))
+            failures, count = failures + [f"{os.path.basename(program)}: {failure}" for failure in some], count + ran
+        return (failures, count) if count else (["the program was not built"], 1)
+
+    return ending.main(name, run_all)
 
 
 if __name__ == "__main__":
-    sys.exit(count_over(sys.argv[1:], run_all))
+    sys.exit(run_over("real-runs", sys.argv[1:], cases_of))

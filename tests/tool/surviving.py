@@ -1,14 +1,14 @@
 #!/usr/bin/env python3
-"""Runs the built program `minisign_tool` while it is disturbed: killed at each of its calls of the system, with each call
-failing in turn, on a full disk, under a limit on the size of files, and with data that could fill the memory. After
+"""Disturbs the built program `minisign_tool`: kills it at each of its calls of the system, has each call fail in
+turn, and runs it on a full disk, under a limit on the size of files, and with data that could fill the memory. After
 each run every older file is the old or the new one, whole, and but for a kill nothing is left beside it.
 
     tests/tool/surviving.py [PROGRAM ..]
 
-Without arguments it runs the program that `rt ci` or `rt run` left in the directory `out` of
-`crates/minisign_tool`. It prints a line for each case that failed or was skipped; the last line is `N passed, M failed`.
+By default it runs the program that `rt ci` or `rt run` left in the directory `out` of `crates/minisign_tool`. It
+prints a line for each case that failed or was skipped; the last line is `N passed, M failed`.
 
-Needs Python 3.9 or later and a C compiler, which it installs where it may.
+Needs Python 3.9 or later and a C compiler, which it installs if it may.
 """
 
 import contextlib
@@ -21,16 +21,16 @@ import stat
 import subprocess
 import sys
 import tempfile
+from functools import partial
 
 HERE = os.path.dirname(os.path.realpath(__file__))
 sys.path.append(os.path.join(HERE, "..", "shared"))
 
 import toy
-from disturbed import content, in_turn, place_for, run_at_once, small_disk, without_room
+from disturbed import Disturbing, content, run_at_once, small_disk, without_room
 from keygen_runs import PK, SK, public_record, record_of
-from process import told
-from real_runs import count_over, run_named
-from running import NOBODY, SECONDS, Failure, Skip, build_preload, expect
+from real_runs import run_over
+from running import NOBODY, Failure, Skip, expect, write
 from sign_runs import FILE, OPEN_KEY, SIG, check_signature
 
 WRITING_FAILED = toy.WRITING_FAILED.encode()
@@ -55,10 +55,7 @@ class Task:
     def make(self, directory):
         os.makedirs(os.path.join(directory, "kept"))
         for name, data in self.files.items():
-            path = os.path.join(directory, name)
-            with open(path, "wb") as file:
-                file.write(data)
-            os.chmod(path, self.mode)
+            os.chmod(write(directory, name, data), self.mode)
         for name, target in self.links.items():
             os.symlink(target, os.path.join(directory, name))
 
@@ -137,15 +134,8 @@ TASKS = [
 ]
 
 
-class Surviving:
-    """Runs a program in fresh directories, in memory where that can be had, since each run brings its files to the disk.
-    What is run stands in a directory of its own, as programs in memory may not be run everywhere."""
-
-    def __init__(self, program, room):
-        self.program = program
-        self.room = room
-        self.place = place_for(room)
-        self.preload = build_preload(room, "disturbed_calls")
+class Surviving(Disturbing):
+    """Runs a program in fresh directories."""
 
     @contextlib.contextmanager
     def made(self, task):
@@ -155,77 +145,57 @@ class Surviving:
             yield directory
 
     def run(self, directory, arguments, environment=None, program=None, **how):
-        """The exit status and the error stream of a run in a directory."""
-        given = {} if "stdin" in how else {"input": TYPED}
-        ran = subprocess.run([program or self.program, *arguments], cwd=directory, env=environment or {}, umask=0o022, timeout=SECONDS,
-                             stderr=subprocess.PIPE, **{"stdout": subprocess.PIPE, **given, **how})
-        return ran.returncode, ran.stderr
-
-    def run_broken(self, directory, task, **how):
-        """The same with a call broken, and whether the run came to that call."""
-        environment = {"LD_PRELOAD": self.preload, **{name: str(value) for name, value in how.items()}}
-        (status, said), came = told(lambda says: self.run(directory, task.arguments, {**environment, "BREAK_SAYS": str(says)}, pass_fds=[says]))
-        return status, said, came
-
-    def break_each(self, task, judge, **how):
-        """Breaks each of the calls in turn, and hands to `judge` what each run left; answers how many there were."""
-
-        def attempt(number, directory):
-            task.make(directory)
-            status, said, came = self.run_broken(directory, task, BREAK_AT=number, **how)
-            judge(number if came else None, status, said, directory)
-            return came
-
-        return in_turn(self.place, attempt)
+        """A run in a directory, with a password typed twice."""
+        return super().run(directory, arguments, environment, program, **{"typed": TYPED, **how})
 
     def killed(self, task):
         """A run that is killed before each of its calls. The secret key is replaced last."""
         seen = set()
 
-        def judge(number, status, said, directory):
-            ended(status, -signal.SIGKILL if number else 0, said)
-            new = task.check(directory, killed=number is not None)
+        def judge(ran, directory):
+            expect(ran.status == (-signal.SIGKILL if ran.came else 0), ran)
+            new = task.check(directory, killed=ran.came)
             expect(list(new) == sorted(new, reverse=True), "a later file is new, and an earlier one is not")
             seen.add(sum(new))
 
-        self.break_each(task, judge)
+        self.break_each(task.make, task.arguments, judge)
         expect(seen == set(range(len(task.targets) + 1)), f"the kills left {sorted(seen)} new files alone")
 
     def failing(self, task, calls, number_of_new, number=errno.EIO, **how):
         """A run in which each of these calls fails in turn; `number_of_new` answers how many files are new then, or
         None where it has to succeed all the same."""
+        at = 0
 
-        def judge(at, status, said, directory):
-            new = sum(task.check(directory))
-            wanted = number_of_new(at) if at else None
+        def judge(ran, directory):
+            nonlocal at
+            at += 1
+            new, wanted = sum(task.check(directory)), number_of_new(at) if ran.came else None
             if wanted is None:
-                ended(status, 0, said)
-                wanted = len(task.targets)
+                expect(ran.status == 0 and new == len(task.targets), ran, f"{new} files are new")
             else:
-                ended(status, 1, said)
-                expect(said.endswith(WRITING_FAILED), f"it said {said}")
-            expect(new == wanted, f"{new} files are new in place of {wanted}")
+                expect_unwritten(ran)
+                expect(new == wanted, f"{new} files are new in place of {wanted}")
 
-        expect(self.break_each(task, judge, BREAK_CALLS=calls, BREAK_ERRNO=number, **how), "it made no such call")
+        expect(self.break_each(task.make, task.arguments, judge, CALLS=calls, ERRNO=number, **how),
+               "it made no such call")
 
     def failing_whatever(self, task, calls):
         """A run in which each of these calls fails in turn, and which ends with all files old or all new."""
 
-        def judge(at, status, said, directory):
+        def judge(ran, directory):
             new = sum(task.check(directory))
-            expect((status, new) in [(0, len(task.targets)), (1, 0)],
-                   f"it ended with status {status} and {new} new files, and said {said}")
+            expect((ran.status, new) in [(0, len(task.targets)), (1, 0)], ran, f"{new} files are new")
 
-        self.break_each(task, judge, BREAK_CALLS=calls, BREAK_ERRNO=errno.EIO)
+        self.break_each(task.make, task.arguments, judge, CALLS=calls, ERRNO=errno.EIO)
 
     def on_full_disk(self, task):
         """A run on a small file system without room."""
         with tempfile.TemporaryDirectory(dir=self.place) as directory, small_disk(directory):
             task.make(directory)
             with without_room(directory):
-                status, said = self.run(directory, task.arguments)
-            ended(status, 1, said)
-            expect(said.endswith(WRITING_FAILED) and not any(task.check(directory)), f"it said {said}")
+                ran = self.run(directory, task.arguments)
+            expect_unwritten(ran)
+            expect(not any(task.check(directory)), "a file is new")
 
     def within_file_size(self, task, ignored):
         """A run with a limit on the size of files, whose signal ends it, or is ignored as its caller may have it."""
@@ -235,10 +205,11 @@ class Surviving:
             signal.signal(signal.SIGXFSZ, signal.SIG_IGN if ignored else signal.SIG_DFL)
 
         with self.made(task) as directory:
-            status, said = self.run(directory, task.arguments, preexec_fn=prepare)
-            ended(status, 1 if ignored else -signal.SIGXFSZ, said)
+            ran = self.run(directory, task.arguments, preexec_fn=prepare)
             expect(not any(task.check(directory, killed=not ignored)), "a file is new")
-            expect(not ignored or said.endswith(WRITING_FAILED), f"it said {said}")
+            if ignored:
+                expect_unwritten(ran)
+            expect(ignored or ran.status == -signal.SIGXFSZ, ran)
 
     def keeps_owner(self):
         """A run as root over another's file, which stays that one's."""
@@ -247,9 +218,7 @@ class Surviving:
         with self.made(REPLACED_PAIR) as directory:
             for name in (PK, SK):
                 os.chown(os.path.join(directory, name), 12345, 54321)
-            status, said = self.run(directory, REPLACED_PAIR.arguments)
-            ended(status, 0, said)
-            expect(all(REPLACED_PAIR.check(directory)), "a file is old")
+            expect_done(self.run(directory, KEYGEN), REPLACED_PAIR, directory)
             for name in (PK, SK):
                 found = os.stat(os.path.join(directory, name))
                 expect((found.st_uid, found.st_gid) == (12345, 54321), f"{name} belongs to {found.st_uid} and {found.st_gid}")
@@ -264,8 +233,8 @@ class Surviving:
             os.chown(directory, NOBODY, NOBODY)
             os.chown(os.path.join(directory, SIG), owner, group)
             os.chmod(os.path.join(directory, SIG), mode)
-            status, said = self.run(directory, SIGN, program=program, user=NOBODY, group=NOBODY, extra_groups=[])
-            ended(status, 0, said)
+            ran = self.run(directory, SIGN, program=program, user=NOBODY, group=NOBODY, extra_groups=[])
+            expect(ran.status == 0, ran)
             is_signature(content(directory, SIG))
             found = os.stat(os.path.join(directory, SIG))
             expect((found.st_uid, found.st_gid, stat.S_IMODE(found.st_mode)) == left, f"it left {found}")
@@ -273,62 +242,52 @@ class Surviving:
     def taken_names(self, count):
         """A run that draws the same number each time, in a directory in which so many names from that one on are taken."""
         taken = [f"{STAGE}{number:016x}" for number in range(count)]
-        environment = {"LD_PRELOAD": self.preload, "DRAW_ZEROS": "1"}
         with self.made(REPLACED_PAIR) as directory:
             for name in taken:
-                with open(os.path.join(directory, name), "wb") as file:
-                    file.write(b"another's")
-            status, said = self.run(directory, REPLACED_PAIR.arguments, environment)
+                write(directory, name, b"another's")
+            ran = self.run(directory, KEYGEN, {"LD_PRELOAD": self.preload, "DRAW_ZEROS": "1"})
             for name in taken:
                 expect(content(directory, name) == b"another's", f"{name} was changed")
                 os.remove(os.path.join(directory, name))
-            ended(status, 0 if count < 99 else 1, said)
-            expect(sum(REPLACED_PAIR.check(directory)) == (2 if status == 0 else 0), "a file is old, or new")
+            expect((ran.status, sum(REPLACED_PAIR.check(directory))) == ((0, 2) if count < 99 else (1, 0)), ran)
 
     def at_once(self):
         """Runs that replace the same file at once."""
         with self.made(NEW_SIGNATURE) as directory:
-            for status, said in run_at_once([self.program, *SIGN], directory, {}):
-                ended(status, 0, said)
-            expect(all(NEW_SIGNATURE.check(directory)), "there is no signature")
+            ended = run_at_once([self.program, *SIGN], directory, {})
+            expect(not any(status for status, _ in ended) and all(NEW_SIGNATURE.check(directory)),
+                   f"they ended with {ended}")
 
     def into_standard_output(self):
         """A signature into a file that standard output leads into goes into that very file."""
         with self.made(NEW_SIGNATURE) as directory:
             with open(os.path.join(directory, SIG), "w+b") as output:
                 inode = os.fstat(output.fileno()).st_ino
-                status, said = self.run(directory, ["sign", SK, FILE, "/dev/stdout"], stdout=output)
-                ended(status, 0, said)
-            is_signature(content(directory, SIG))
-            expect(os.stat(os.path.join(directory, SIG)).st_ino == inode and set(os.listdir(directory)) == {SK, FILE, SIG, "kept"},
-                   "it replaced the file")
+                expect_done(self.run(directory, ["sign", SK, FILE, "/dev/stdout"], stdout=output), NEW_SIGNATURE,
+                            directory)
+            expect(os.stat(os.path.join(directory, SIG)).st_ino == inode, "it replaced the file")
 
     def under_odd_path(self):
         """A program whose path is no UTF-8."""
         with self.made(NEW_SIGNATURE) as directory:
             odd = os.path.join(os.fsencode(self.room), b"tool\xff")
             shutil.copy(self.program, odd)
-            status, said = self.run(directory, map(os.fsencode, SIGN), program=odd)
-            ended(status, 0, said)
-            is_signature(content(directory, SIG))
+            expect_done(self.run(directory, map(os.fsencode, SIGN), program=odd), NEW_SIGNATURE, directory)
 
     def legacy_within(self, command, mebibytes=2):
         """A legacy signature over 1 GiB is rejected within so many MiB more than a prehashed one over nothing takes."""
         with tempfile.TemporaryDirectory(dir=self.place) as directory:
             legacy, prehashed = (toy.signature_record(b"", algorithm=algorithm) for algorithm in (b"Ed", b"ED"))
-            contents = {"raw.pk": b"Ed" + toy.KEYNUM + toy.KEY, PK: toy.public_text(), "large": b"", "nothing": b"",
-                        "old.raw": legacy, "old.sig": toy.signature_text(b"", record=legacy),
-                        "new.raw": prehashed, "new.sig": toy.signature_text(b"", record=prehashed)}
-            for name, data in contents.items():
-                with open(os.path.join(directory, name), "wb") as file:
-                    file.write(data)
+            for name, data in {"raw.pk": toy.RECORD, PK: toy.public_text(), "large": b"", "nothing": b"",
+                               "old.raw": legacy, "old.sig": toy.signature_text(b"", record=legacy),
+                               "new.raw": prehashed, "new.sig": toy.signature_text(b"", record=prehashed)}.items():
+                write(directory, name, data)
             os.truncate(os.path.join(directory, "large"), 1 << 30)
             least = next((kibibytes for kibibytes in range(1024, 65536, 256)
-                          if self.run_within(directory, command, "nothing", "new", kibibytes)[0] == 0), None)
+                          if self.run_within(directory, command, "nothing", "new", kibibytes).status == 0), None)
             expect(least is not None, "64 MiB are not enough for no data")
-            status, said = self.run_within(directory, command, "large", "old", least + 1024 * mebibytes)
-            ended(status, 1, said)
-            expect(said.endswith(LEGACY), f"it said {said}")
+            ran = self.run_within(directory, command, "large", "old", least + 1024 * mebibytes)
+            expect(ran.status == 1 and ran.said.endswith(LEGACY), ran)
 
     def run_within(self, directory, command, data, signature, kibibytes):
         """A run of a command that verifies within so much memory."""
@@ -340,9 +299,14 @@ class Surviving:
                             preexec_fn=lambda: resource.setrlimit(resource.RLIMIT_AS, (bound, bound)))
 
 
-def ended(status, wanted, said):
-    """Raises a `Failure` where a run ended with another status."""
-    expect(status == wanted, f"it ended with status {status} in place of {wanted}, and said {said}")
+def expect_done(ran, task, directory):
+    """Raises a `Failure` where a run did not do its task."""
+    expect(ran.status == 0 and all(task.check(directory)), ran)
+
+
+def expect_unwritten(ran):
+    """Raises a `Failure` where a run did not end by a failed write."""
+    expect(ran.status == 1 and ran.said.endswith(WRITING_FAILED), ran)
 
 
 def cases(surviving):
@@ -350,26 +314,26 @@ def cases(surviving):
     for task in TASKS:
         count = len(task.targets)
         is_replaced = bool(set(task.targets) & set(task.files))
-        yield f"{task.name}, killed", lambda value=task: surviving.killed(value)
+        yield f"{task.name}, killed", surviving.killed, task
         for number in (errno.ENOSPC, errno.EDQUOT):
             name = f"{task.name}, and a write fails by {errno.errorcode[number]}"
-            yield name, lambda value=task, number=number: surviving.failing(value, "write", lambda at: 0, number)
-            yield f"{name} half way", lambda value=task, number=number: surviving.failing(value, "write", lambda at: 0, number, BREAK_SHORT=1)
+            yield name, surviving.failing, task, "write", lambda at: 0, number
+            yield f"{name} half way", partial(surviving.failing, task, "write", lambda at: 0, number, SHORT=1)
         # After the files themselves their directory is synced, when all are replaced.
-        yield f"{task.name}, and a sync fails", lambda value=task, n=count: surviving.failing(value, "fsync", lambda at: 0 if at <= n else n)
-        yield (f"{task.name}, and a sync is of no use", lambda value=task, n=count:
-               surviving.failing(value, "fsync", lambda at: 0 if at <= n else None, errno.EINVAL))
-        yield f"{task.name}, and a rename fails", lambda value=task: surviving.failing(value, "rename", lambda at: at - 1)
-        yield f"{task.name}, and a close fails", lambda value=task: surviving.failing(value, "close", lambda at: None)
-        yield f"{task.name}, and no name is drawn", lambda value=task: surviving.failing(value, "getentropy", lambda at: 0)
+        for what, after, number in (("fails", count, errno.EIO), ("is of no use", None, errno.EINVAL)):
+            number_of_new = lambda at, n=count, after=after: 0 if at <= n else after
+            yield f"{task.name}, and a sync {what}", surviving.failing, task, "fsync", number_of_new, number
+        yield f"{task.name}, and a rename fails", surviving.failing, task, "rename", lambda at: at - 1
+        yield f"{task.name}, and a close fails", surviving.failing, task, "close", lambda at: None
+        yield f"{task.name}, and no name is drawn", surviving.failing, task, "getentropy", lambda at: 0
         if is_replaced:
-            yield f"{task.name}, and no permissions are given", lambda value=task: surviving.failing(value, "fchmod", lambda at: 0)
+            yield f"{task.name}, and no permissions are given", surviving.failing, task, "fchmod", lambda at: 0
         for calls in ("open", "read", "statx readlink"):
-            yield f"{task.name}, and {calls} fails", lambda value=task, calls=calls: surviving.failing_whatever(value, calls)
-        yield f"{task.name}, on a full disk", lambda value=task: surviving.on_full_disk(value)
-        yield f"{task.name}, beyond the size of files", lambda value=task: surviving.within_file_size(value, False)
-        yield f"{task.name}, beyond the size of files, whose signal is ignored", lambda value=task: surviving.within_file_size(value, True)
-    yield f"{OWNERS_PAIR.name}, killed", lambda: surviving.killed(OWNERS_PAIR)
+            yield f"{task.name}, and {calls} fails", surviving.failing_whatever, task, calls
+        yield f"{task.name}, on a full disk", surviving.on_full_disk, task
+        yield f"{task.name}, beyond the size of files", surviving.within_file_size, task, False
+        yield f"{task.name}, beyond the size of files, whose signal is ignored", surviving.within_file_size, task, True
+    yield f"{OWNERS_PAIR.name}, killed", surviving.killed, OWNERS_PAIR
     yield "another's files stay another's", surviving.keeps_owner
     rows = [
         ("its own", NOBODY, NOBODY, 0o664, (NOBODY, NOBODY, 0o644)),
@@ -379,21 +343,15 @@ def cases(surviving):
         ("of another owner and group", 12345, 54321, 0o666, (NOBODY, NOBODY, 0o606)),
     ]
     for name, *row in rows:
-        yield f"a file that is {name}", lambda value=row: surviving.takes_what_it_may(*value)
+        yield f"a file that is {name}", surviving.takes_what_it_may, *row
     for count in (1, 40, 200):
-        yield f"{count} names that are taken", lambda value=count: surviving.taken_names(value)
+        yield f"{count} names that are taken", surviving.taken_names, count
     yield "runs at once", surviving.at_once
     yield "a signature into standard output", surviving.into_standard_output
     yield "a program whose path is no UTF-8", surviving.under_odd_path
     for command in ("verify", "cat", "verify-raw"):
-        yield f"{command} of large data with a legacy signature", lambda value=command: surviving.legacy_within(value)
-
-
-def run_all(program):
-    """Runs all cases, prints those that failed or were skipped, and answers how many passed and how many failed."""
-    with tempfile.TemporaryDirectory(prefix="surviving-") as room:
-        return run_named(program, cases(Surviving(program, room)))
+        yield f"{command} of large data with a legacy signature", surviving.legacy_within, command
 
 
 if __name__ == "__main__":
-    sys.exit(count_over(sys.argv[1:], run_all))
+    sys.exit(run_over("surviving", sys.argv[1:], lambda program, room: cases(Surviving(program, room))))

@@ -1,11 +1,13 @@
-"""Runs of `verify` and `cat`, which take the same files: what they answer, and what `cat` copies."""
+"""Runs of `verify` and `cat`, which take the same files: their answers, and what `cat` copies."""
 
 import os
 from dataclasses import replace
+from functools import partial
 
 import toy
-from running import (CLOSED, DIRECTORY, FULL, MISSING, NO_READER, Case, FedPipe, IntoFile, Link, OneOf, OpenedPipe, PrefixOf, ReadLate, RoomFor,
-                     SecondName, UnopenedPipe, Unreadable, expect)
+from running import (CLOSED, DIRECTORY, FULL, MISSING, NO_READER, OPENED_PIPE, UNOPENED_PIPE, IntoFile, Link, OneOf,
+                     Pipe, PrefixOf, ReadLate, RoomFor, SecondName, unreadable)
+from tool_cases import Leaves, command
 from toy import NOT_UTF8, OUT_OF_MEMORY, READING_FAILED, TOO_SHORT, WARNING, WRITING_FAILED
 
 VERIFIED = "Signature and comment signature verified\nTrusted comment: t\n"
@@ -24,46 +26,20 @@ GOOD = {PK: toy.public_text(), FILE: b"abc", SIG: toy.signature_text(b"abc")}
 NO_TEXT = b"untrusted comment: \xff\n"
 
 
-def verify(name, status, *lines, files=None, arguments=(PK, FILE, SIG), **how):
+def verify(name, *said, files=None, arguments=(PK, FILE, SIG), **how):
     """A case of `verify`, whose files are good where it says nothing else."""
-    return Case(name, ["verify", *arguments], status, list(lines), files={**GOOD, **(files or {})}, **how)
+    return command(name, ["verify", *arguments], said, files={**GOOD, **(files or {})}, **how)
 
 
-def cat(name, status, *lines, output=b"", **how):
+def cat(name, *said, output=b"", **how):
     """A case of `cat`, with the files of `verify`."""
-    case = verify(name, status, *lines, output=output, **how)
-    return replace(case, arguments=["cat", *case.arguments[1:]])
+    return as_cat(verify(name, *said, **how), output)
 
 
-def as_cat(case):
-    """The same case of `cat`, which copies the data where it ends with success."""
-    data = case.files[FILE] if case.status == 0 else b""
-    return replace(case, arguments=["cat", *case.arguments[1:]], output=data)
-
-
-def verify_cases():
-    return [
-        *verdict_cases(),
-        *length_cases(),
-        *text_cases(),
-        *opening_cases(),
-        *reading_cases(),
-        *verify_pipe_cases(),
-        *verify_stream_cases(),
-        *memory_cases(verify),
-    ]
-
-
-def cat_cases():
-    same = [*verdict_cases(), *length_cases(), *text_cases(), *opening_cases(), *reading_cases()]
-    return [
-        *(as_cat(case) for case in same),
-        *cat_pipe_cases(),
-        *cat_stream_cases(),
-        *own_output_cases(),
-        *changed_cases(),
-        *memory_cases(cat),
-    ]
+def as_cat(case, output=None):
+    """The same case of `cat`, with this output; else it copies the data where it ends with success."""
+    output = (case.files[FILE] if case.status == 0 else b"") if output is None else output
+    return replace(case, arguments=["cat", *case.arguments[1:]], output=output)
 
 
 def verdict_cases():
@@ -72,27 +48,27 @@ def verdict_cases():
     comment = toy.signature_of(record[10:] + b"t")
     other_key = toy.public_text(keynum=toy.OTHER_KEYNUM)
     return [
-        verify("a good signature", 0, WARNING, VERIFIED),
-        verify("other data", 1, WARNING, REJECTED, files={FILE: b"abd"}),
-        verify("no data", 1, WARNING, REJECTED, files={FILE: b""}),
-        verify("more data", 1, WARNING, REJECTED, files={FILE: b"abc\n"}),
-        verify("a letter more", 1, WARNING, REJECTED, files={FILE: b"abcd"}),
-        verify("a changed signature", 1, WARNING, REJECTED, files={SIG: toy.signature_text(b"abc", record=changed)}),
-        verify("a changed trusted comment", 1, WARNING, COMMENT_REJECTED,
+        verify("a good signature", VERIFIED),
+        verify("other data", REJECTED, files={FILE: b"abd"}),
+        verify("no data", REJECTED, files={FILE: b""}),
+        verify("more data", REJECTED, files={FILE: b"abc\n"}),
+        verify("a letter more", REJECTED, files={FILE: b"abcd"}),
+        verify("a changed signature", REJECTED, files={SIG: toy.signature_text(b"abc", record=changed)}),
+        verify("a changed trusted comment", COMMENT_REJECTED,
                files={SIG: GOOD[SIG].replace(b"comment: t\n", b"comment: u\n")}),
-        verify("a changed comment signature", 1, WARNING, COMMENT_REJECTED,
+        verify("a changed comment signature", COMMENT_REJECTED,
                files={SIG: toy.signature_text(b"abc", comment_signature=comment[:-1] + bytes([comment[-1] ^ 1]))}),
-        verify("a short comment signature", 1, WARNING, COMMENT_REJECTED,
+        verify("a short comment signature", COMMENT_REJECTED,
                files={SIG: toy.signature_text(b"abc", comment_signature=comment[:63])}),
-        verify("a longer comment signature", 0, WARNING, VERIFIED,
+        verify("a longer comment signature", VERIFIED,
                files={SIG: toy.signature_text(b"abc", comment_signature=comment + b"\xff")}),
-        verify("another untrusted comment", 0, WARNING, VERIFIED, files={SIG: toy.signature_text(b"abc", untrusted=b"u")}),
-        verify("another key", 1, WARNING, REJECTED, files={PK: toy.public_text(key=b"z" * 32)}),
-        verify("another identifier", 1, WARNING, OTHER_KEYNUM, files={PK: other_key}),
-        verify("another identifier before other data", 1, WARNING, OTHER_KEYNUM, files={PK: other_key, FILE: b"abd"}),
-        verify("a signature of the data itself", 1, WARNING, LEGACY,
+        verify("another untrusted comment", VERIFIED, files={SIG: toy.signature_text(b"abc", untrusted=b"u")}),
+        verify("another key", REJECTED, files={PK: toy.public_text(key=b"z" * 32)}),
+        verify("another identifier", OTHER_KEYNUM, files={PK: other_key}),
+        verify("another identifier before other data", OTHER_KEYNUM, files={PK: other_key, FILE: b"abd"}),
+        verify("a signature of the data itself", LEGACY,
                files={SIG: toy.signature_text(b"abc", record=toy.signature_record(b"abc", algorithm=b"Ed"))}),
-        verify("a trusted comment of more than a byte a letter", 0, WARNING,
+        verify("a trusted comment of more than a byte a letter",
                VERIFIED[:-2] + "\u00e4 \U0001f511\n",
                files={SIG: toy.signature_text(b"abc", trusted="\u00e4 \U0001f511".encode())}),
     ]
@@ -102,7 +78,7 @@ def length_cases():
     """Data of many lengths."""
     lengths = [0, 1, 127, 128, 129, 65535, 65536, 65537, 131073, 5_000_000]
     return [
-        verify(f"data of {length} bytes", 0, WARNING, VERIFIED,
+        verify(f"data of {length} bytes", VERIFIED,
                files={FILE: toy.some_data(length), SIG: toy.signature_text(toy.some_data(length))})
         for length in lengths
     ]
@@ -118,7 +94,7 @@ def text_cases():
         ("an empty signature", {SIG: b""}, NO_SIGNATURE),
         ("an empty key and an empty signature", {PK: b"", SIG: b""}, NO_PUBLIC_KEY),
         ("a key of one line", {PK: b"c\n"}, "error: Missing encoded key in public key\n"),
-        ("a raw key", {PK: b"Ed" + toy.KEYNUM + toy.KEY}, "error: Missing encoded key in public key\n"),
+        ("a raw key", {PK: toy.RECORD}, "error: Missing encoded key in public key\n"),
         ("a short record of a signature", {SIG: toy.signature_text(b"abc", record=toy.signature_record(b"abc")[:73])}, TOO_SHORT),
         ("a key that is no UTF-8", {PK: NO_TEXT}, NOT_UTF8),
         ("a signature that is no UTF-8", {SIG: NO_TEXT}, NOT_UTF8),
@@ -143,28 +119,28 @@ def text_cases():
          "error: Unsupported signature algorithm\n"),
     ]
     return [
-        *(verify(name, 1, WARNING, line, files=files) for name, files, line in rows),
-        verify("lines that end with carriage return and line feed", 0, WARNING, VERIFIED, files=windows),
-        verify("more lines", 0, WARNING, VERIFIED, files={PK: GOOD[PK] + b"more", SIG: GOOD[SIG] + b"more\n" * 20_000}),
-        verify("a last line that is not ended", 0, WARNING, VERIFIED, files={PK: GOOD[PK][:-1], SIG: GOOD[SIG][:-1]}),
+        *(verify(name, line, files=files) for name, files, line in rows),
+        verify("lines that end with carriage return and line feed", VERIFIED, files=windows),
+        verify("more lines", VERIFIED, files={PK: GOOD[PK] + b"more", SIG: GOOD[SIG] + b"more\n" * 20_000}),
+        verify("a last line that is not ended", VERIFIED, files={PK: GOOD[PK][:-1], SIG: GOOD[SIG][:-1]}),
     ]
 
 
 def opening_cases():
     """The files are opened in the order of the arguments, and nothing is read before all are open."""
-    locked = {name: Unreadable(data) for name, data in GOOD.items()}
+    locked = {name: unreadable(data) for name, data in GOOD.items()}
     rows = [
         *((f"{name} is missing", {name: MISSING}) for name in GOOD),
         *((f"{name} is unreadable", {name: locked[name]}) for name in GOOD),
         ("all are missing", {name: MISSING for name in GOOD}),
-        ("a missing key before the data is opened", {PK: MISSING, FILE: UnopenedPipe(), SIG: UnopenedPipe()}),
-        ("missing data before the signature is opened", {FILE: MISSING, SIG: UnopenedPipe()}),
-        ("the key is opened before missing data", {PK: OpenedPipe(), FILE: MISSING}),
-        ("key and data are opened before a missing signature", {PK: OpenedPipe(), FILE: OpenedPipe(), SIG: MISSING}),
+        ("a missing key before the data is opened", {PK: MISSING, FILE: UNOPENED_PIPE, SIG: UNOPENED_PIPE}),
+        ("missing data before the signature is opened", {FILE: MISSING, SIG: UNOPENED_PIPE}),
+        ("the key is opened before missing data", {PK: OPENED_PIPE, FILE: MISSING}),
+        ("key and data are opened before a missing signature", {PK: OPENED_PIPE, FILE: OPENED_PIPE, SIG: MISSING}),
         ("a missing signature before a key that is no UTF-8", {PK: NO_TEXT, SIG: MISSING}),
         ("missing data before a key that is no UTF-8", {PK: NO_TEXT, FILE: MISSING}),
     ]
-    return [verify(name, 1, WARNING, READING_FAILED, files=files) for name, files in rows]
+    return [verify(name, READING_FAILED, files=files) for name, files in rows]
 
 
 def reading_cases():
@@ -174,38 +150,38 @@ def reading_cases():
         ("a directory as key", {PK: DIRECTORY}, READING_FAILED),
         ("a directory as data", {FILE: DIRECTORY}, READING_FAILED),
         ("a directory as signature", {SIG: DIRECTORY}, READING_FAILED),
-        ("a directory as key before the signature is read", {PK: DIRECTORY, SIG: OpenedPipe()}, READING_FAILED),
+        ("a directory as key before the signature is read", {PK: DIRECTORY, SIG: OPENED_PIPE}, READING_FAILED),
         ("a directory as key before a signature that is no UTF-8", {PK: DIRECTORY, SIG: NO_TEXT}, READING_FAILED),
-        ("a key that is no UTF-8 before the signature is read", {PK: NO_TEXT, SIG: OpenedPipe()}, NOT_UTF8),
+        ("a key that is no UTF-8 before the signature is read", {PK: NO_TEXT, SIG: OPENED_PIPE}, NOT_UTF8),
         ("a key that is no UTF-8 before a directory as signature", {PK: NO_TEXT, SIG: DIRECTORY}, NOT_UTF8),
         ("a directory as signature before an empty key", {PK: b"", SIG: DIRECTORY}, READING_FAILED),
         ("a key that is no UTF-8 before a directory as data", {PK: NO_TEXT, FILE: DIRECTORY}, NOT_UTF8),
         ("an empty key before a directory as data", {PK: b"", FILE: DIRECTORY}, NO_PUBLIC_KEY),
         ("an empty signature before a directory as data", {SIG: b"", FILE: DIRECTORY}, NO_SIGNATURE),
-        ("an empty signature before the data is read", {SIG: b"", FILE: OpenedPipe()}, NO_SIGNATURE),
+        ("an empty signature before the data is read", {SIG: b"", FILE: OPENED_PIPE}, NO_SIGNATURE),
         ("a directory as data before another identifier", {PK: other_key, FILE: DIRECTORY}, READING_FAILED),
     ]
-    return [verify(name, 1, WARNING, line, files=files) for name, files, line in rows]
+    return [verify(name, line, files=files) for name, files, line in rows]
 
 
 def verify_pipe_cases():
     large = toy.some_data(300_000)
     return [
-        verify("data from a pipe", 0, WARNING, VERIFIED, files={FILE: FedPipe(b"abc")}),
-        verify("large data from a pipe", 0, WARNING, VERIFIED, files={FILE: FedPipe(large), SIG: toy.signature_text(large)}),
-        verify("other data from a pipe", 1, WARNING, REJECTED, files={FILE: FedPipe(b"abd")}),
-        verify("texts from pipes", 0, WARNING, VERIFIED, files={PK: FedPipe(GOOD[PK]), SIG: FedPipe(GOOD[SIG])}),
+        verify("data from a pipe", VERIFIED, files={FILE: Pipe(b"abc")}),
+        verify("large data from a pipe", VERIFIED, files={FILE: Pipe(large), SIG: toy.signature_text(large)}),
+        verify("other data from a pipe", REJECTED, files={FILE: Pipe(b"abd")}),
+        verify("texts from pipes", VERIFIED, files={PK: Pipe(GOOD[PK]), SIG: Pipe(GOOD[SIG])}),
     ]
 
 
 def cat_pipe_cases():
     other_key = toy.public_text(keynum=toy.OTHER_KEYNUM)
     return [
-        cat("data from a pipe", 1, WARNING, GOING_BACK_FAILED, files={FILE: FedPipe(b"abc")}),
-        cat("data from a pipe before another identifier", 1, WARNING, GOING_BACK_FAILED,
-            files={PK: other_key, FILE: FedPipe(b"abc")}),
-        cat("an empty signature before data from a pipe", 1, WARNING, NO_SIGNATURE, files={SIG: b"", FILE: FedPipe(b"abc")}),
-        cat("texts from pipes", 0, WARNING, VERIFIED, files={PK: FedPipe(GOOD[PK]), SIG: FedPipe(GOOD[SIG])}, output=b"abc"),
+        cat("data from a pipe", GOING_BACK_FAILED, files={FILE: Pipe(b"abc")}),
+        cat("data from a pipe before another identifier", GOING_BACK_FAILED,
+            files={PK: other_key, FILE: Pipe(b"abc")}),
+        cat("an empty signature before data from a pipe", NO_SIGNATURE, files={SIG: b"", FILE: Pipe(b"abc")}),
+        cat("texts from pipes", VERIFIED, files={PK: Pipe(GOOD[PK]), SIG: Pipe(GOOD[SIG])}, output=b"abc"),
     ]
 
 
@@ -213,17 +189,17 @@ def verify_stream_cases():
     """Only a status line that cannot be written changes the exit status. No file gets the number of a closed
     stream."""
     cases = [
-        verify(f"a good signature, and closed {name}", 0, WARNING, VERIFIED, stdin=stdin, stdout=stdout)
+        verify(f"a good signature, and closed {name}", VERIFIED, stdin=stdin, stdout=stdout)
         for name, stdin, stdout in [("input", CLOSED, None), ("output", b"", CLOSED), ("input and output", CLOSED, CLOSED)]
     ]
-    cases.append(verify("a good signature, and a full output", 0, WARNING, VERIFIED, stdout=FULL))
+    cases.append(verify("a good signature, and a full output", VERIFIED, stdout=FULL))
     for errors in (CLOSED, FULL, NO_READER):
         for stdin, stdout in [(b"", None), (CLOSED, None), (b"", CLOSED), (CLOSED, CLOSED)]:
+            how = {"status": 1, "stdin": stdin, "stdout": stdout, "stderr": errors}
             cases += [
-                verify(f"a good signature, input {stdin}, output {stdout}, and for errors {errors}", 1,
-                       stdin=stdin, stdout=stdout, stderr=errors),
-                verify(f"missing data, input {stdin}, output {stdout}, and for errors {errors}", 1,
-                       stdin=stdin, stdout=stdout, stderr=errors, files={FILE: MISSING}),
+                verify(f"a good signature, input {stdin}, output {stdout}, and for errors {errors}", **how),
+                verify(f"missing data, input {stdin}, output {stdout}, and for errors {errors}", files={FILE: MISSING},
+                       **how),
             ]
     return cases
 
@@ -232,24 +208,30 @@ def cat_stream_cases():
     """An output that cannot be written is told after the status. Nothing is copied where the status cannot be
     written."""
     cases = [
-        cat("a closed input", 0, WARNING, VERIFIED, output=b"abc", stdin=CLOSED),
-        cat("room for two bytes of the copy", 1, WARNING, VERIFIED, WRITING_FAILED, output=b"ab", stdout=RoomFor(2)),
-        cat("for errors room for the warning and five bytes more", 1, WARNING + VERIFIED[:5], stderr=RoomFor(50)),
+        cat("a closed input", VERIFIED, output=b"abc", stdin=CLOSED),
+        cat("room for two bytes of the copy", VERIFIED, WRITING_FAILED, output=b"ab", stdout=RoomFor(2)),
+        cat("for errors room for the warning and five bytes more", WARNING + VERIFIED[:5], status=1,
+            stderr=RoomFor(50)),
     ]
     for stdout in (CLOSED, FULL):
         for stdin in (b"", CLOSED):
             cases += [
-                cat(f"input {stdin}, and as output {stdout}", 1, WARNING, VERIFIED, WRITING_FAILED, stdin=stdin, stdout=stdout),
-                cat(f"no data, input {stdin}, and as output {stdout}", 0, WARNING, VERIFIED, stdin=stdin, stdout=stdout,
+                cat(f"input {stdin}, and as output {stdout}", VERIFIED, WRITING_FAILED, stdin=stdin, stdout=stdout),
+                cat(f"no data, input {stdin}, and as output {stdout}", VERIFIED, stdin=stdin, stdout=stdout,
                     files={FILE: b"", SIG: toy.signature_text(b"")}),
-                cat(f"other data, input {stdin}, and as output {stdout}", 1, WARNING, REJECTED, stdin=stdin, stdout=stdout,
+                cat(f"other data, input {stdin}, and as output {stdout}", REJECTED, stdin=stdin, stdout=stdout,
                     files={FILE: b"abd"}),
             ]
     for errors in (CLOSED, FULL, NO_READER):
         for stdin, stdout in [(b"", None), (CLOSED, None), (b"", CLOSED), (CLOSED, CLOSED)]:
-            cases.append(cat(f"input {stdin}, output {stdout}, and for errors {errors}", 1,
-                             stdin=stdin, stdout=stdout, stderr=errors))
+            how = {"status": 1, "stdin": stdin, "stdout": stdout, "stderr": errors}
+            cases.append(cat(f"input {stdin}, output {stdout}, and for errors {errors}", **how))
     return cases
+
+
+def holding(name, data):
+    """What is left is what was there, and of it this file has these bytes."""
+    return Leaves({name: data}, others={*GOOD, "other"} - {name})
 
 
 def own_output_cases():
@@ -265,28 +247,15 @@ def own_output_cases():
         ("appended to before an empty key", IntoFile(FILE, append), {PK: b""}, b"abc"),
     ]
     return [
-        *(cat(f"its own data {name}", 1, WARNING, INPUT_IS_OUTPUT, files=files, stdout=stdout, left=Holds(FILE, data))
+        *(cat(f"its own data {name}", INPUT_IS_OUTPUT, files=files, stdout=stdout, left=holding(FILE, data))
           for name, stdout, files, data in rows),
-        cat("a missing signature before its own data appended to", 1, WARNING, READING_FAILED, files={SIG: MISSING},
-            stdout=IntoFile(FILE, append), left=Holds(FILE, b"abc")),
-        cat("data of a link appended to", 1, WARNING, INPUT_IS_OUTPUT, files={"other": Link(FILE)}, arguments=(PK, "other", SIG),
-            stdout=IntoFile(FILE, append), left=Holds(FILE, b"abc")),
-        cat("another file appended to", 0, WARNING, VERIFIED, files={"other": b"abc"}, stdout=IntoFile("other", append),
-            left=Holds("other", b"abcabc")),
+        cat("a missing signature before its own data appended to", READING_FAILED, files={SIG: MISSING},
+            stdout=IntoFile(FILE, append), left=holding(FILE, b"abc")),
+        cat("data of a link appended to", INPUT_IS_OUTPUT, files={"other": Link(FILE)}, arguments=(PK, "other", SIG),
+            stdout=IntoFile(FILE, append), left=holding(FILE, b"abc")),
+        cat("another file appended to", VERIFIED, files={"other": b"abc"}, stdout=IntoFile("other", append),
+            left=holding("other", b"abcabc")),
     ]
-
-
-class Holds:
-    """Looks at the directory that a run leaves: what one of its files holds."""
-
-    def __init__(self, name, data):
-        self.name = name
-        self.data = data
-
-    def __call__(self, directory):
-        with open(os.path.join(directory, self.name), "rb") as file:
-            held = file.read()
-        expect(held == self.data, f"{self.name} holds {held[:200]} in place of {self.data}")
 
 
 def changed_cases():
@@ -320,21 +289,32 @@ def changed_cases():
         ("more is appended", append, data + b"more"),
     ]
     return [
-        *(cat(f"between the passes {name}", 1, WARNING, VERIFIED, DATA_CHANGED, files=files, output=output, stdout=change(edit))
+        *(cat(f"between the passes {name}", VERIFIED, DATA_CHANGED, files=files, output=output, stdout=change(edit))
           for name, edit, output in rows),
-        cat("between the passes nothing is changed", 0, WARNING, VERIFIED, files=files, output=data, stdout=change(lambda path: None)),
-        cat("between the passes another file takes its name", 0, WARNING, VERIFIED, files=files, output=data, stdout=change(replace_whole)),
-        cat("between the passes its name is taken away", 0, WARNING, VERIFIED, files=files, output=data, stdout=change(os.unlink)),
+        cat("between the passes nothing is changed", VERIFIED, files=files, output=data,
+            stdout=change(lambda path: None)),
+        cat("between the passes another file takes its name", VERIFIED, files=files, output=data,
+            stdout=change(replace_whole)),
+        cat("between the passes its name is taken away", VERIFIED, files=files, output=data, stdout=change(os.unlink)),
     ]
 
 
-def memory_cases(command):
+def memory_cases(kind):
     """Each allocation fails. Of a copy that is reported after the status."""
-    lines = OneOf(([WARNING, OUT_OF_MEMORY], [WARNING, VERIFIED, OUT_OF_MEMORY]) if command is cat else ([WARNING, OUT_OF_MEMORY],))
+    lines = OneOf(([WARNING, OUT_OF_MEMORY],
+                   [WARNING, VERIFIED, OUT_OF_MEMORY]) if kind is cat else ([WARNING, OUT_OF_MEMORY],))
     rows = [("a good signature", {}), ("other data", {FILE: b"abd"}), ("an empty key", {PK: b""})]
-    return [
-        replace(command(f"{name}, and {many} failing", 1, files=files, rejecting=rejecting),
-                lines=lines, output=PrefixOf(b"abc"))
-        for name, files in rows
-        for rejecting, many in (("one", "one allocation"), ("all", "each allocation from one on"))
-    ]
+    return [replace(kind(f"{name}, and {many} failing", OUT_OF_MEMORY, files=files, rejecting=rejecting), lines=lines,
+                    output=PrefixOf(b"abc"))
+            for name, files in rows for rejecting, many in toy.REJECTING]
+
+
+def same_cases():
+    """The cases of `verify` that `cat` has too."""
+    return [as_cat(case) for part in (verdict_cases, length_cases, text_cases, opening_cases, reading_cases)
+            for case in part()]
+
+
+VERIFY = (verdict_cases, length_cases, text_cases, opening_cases, reading_cases, verify_pipe_cases, verify_stream_cases,
+          partial(memory_cases, verify))
+CAT = (same_cases, cat_pipe_cases, cat_stream_cases, own_output_cases, changed_cases, partial(memory_cases, cat))

@@ -1,32 +1,29 @@
 #!/usr/bin/env python3
-"""Plants bugs in `c/minisign`, one at a time, each of which takes a step away that keeps strangers off, and runs the case of
-`whole_strangers.py` over it that has to notice it.
+"""Plants bugs in `c/minisign`, one at a time, each of which removes a step that keeps strangers off, and runs the
+case of `command_strangers.py` that has to notice it.
 
-    tests/whole/planted_strangers.py
+    tests/command_line/planted_strangers.py
 
-The sources are changed in a copy, which is built over the library. It prints a line for each bug that nothing noticed; the last
-line is `N passed, M failed`.
+The sources are changed in a copy, which is built over the library. It prints a line for each bug that nothing
+noticed; the last line is `N passed, M failed`.
 
-Needs what `whole_minisign.py` needs, and root.
+Needs what `command_line.py` needs, and root.
 """
 
-import concurrent.futures
 import os
-import subprocess
 import sys
-import tempfile
+from functools import partial
 
 HERE = os.path.dirname(os.path.realpath(__file__))
-sys.path += [os.path.join(HERE, "..", name) for name in ("shared", "minisign", "tool", "installer")]
+sys.path += [os.path.join(HERE, "..", name) for name in ("shared", "verdicts", "tool")]
 
 import ending
 import needs
-import static_library
-from planted_bugs import Bug, build, plant
+from planted import Bug, run_planted
 from running import Failure, Skip, build_preload
-from whole_cases import keys_of
-from whole_running import Whole
-from whole_strangers import Strangers, cases
+from command_cases import keys_of
+from command_running import Whole
+from command_strangers import Strangers, cases
 
 BUGS = [
     Bug("a stranger's file is written over", "minisign/places.c",
@@ -119,43 +116,19 @@ BUGS = [
 ]
 
 
-def is_noticed(bug, room, library, keys):
-    """Whether the case that has to notice a bug fails."""
-    copy, make = build(room, library, "minisign")
-    plant(bug, copy)
-    strangers = Strangers(make(), tempfile.mkdtemp(dir=room), keys)
-    with strangers.kept:
-        try:
-            dict(cases(strangers))[bug.case]()
-        except Failure:
-            return True
-        return False
-
-
-def wrong_of(bug, room, library, keys):
-    """What is wrong with a bug, or nothing."""
-    try:
-        return "" if is_noticed(bug, room, library, keys) else f"nothing in `{bug.case}` notices it"
-    except (Failure, Skip, KeyError, OSError, subprocess.SubprocessError) as why:
-        return f"{type(why).__name__}: {why}"
+def cases_of(keys, program, room):
+    """The cases over a program."""
+    return cases(Strangers(program, room, keys))
 
 
 def run_all(room):
-    """Plants each of them: the failures, how many there were, and no rows of a document."""
+    """Plants each of them: the failures, and how many there were."""
     if os.geteuid() != 0:
         print("skipped: only root makes files of others")
-        return [], 0, {}
+        return [], 0
     needs.libsodium()
-    library = static_library.library(os.path.join(room, "built"))
     keys = keys_of(Whole(needs.minisign(), "", build_preload(room, "fixed_sources")))
-    failures = []
-    # (each in a process of its own, which acts as other users)
-    with concurrent.futures.ProcessPoolExecutor(os.cpu_count() or 1) as pool:
-        count = len(BUGS)
-        for bug, wrong in zip(BUGS, pool.map(wrong_of, BUGS, [room] * count, [library] * count, [keys] * count)):
-            if wrong:
-                failures.append(f"{bug.what}: {wrong}")
-    return failures, len(BUGS), {}
+    return run_planted(BUGS, room, "minisign", partial(cases_of, keys))
 
 
 if __name__ == "__main__":

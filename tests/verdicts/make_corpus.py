@@ -1,11 +1,11 @@
 #!/usr/bin/env python3
 """Made the files of tests/corpus, with Minisign's own program, once; kept to show how.
 
-    tests/minisign/make_corpus.py DIRECTORY
+    tests/verdicts/make_corpus.py DIRECTORY
 
-Makes the same anew, with other keys, in an empty directory: keys with and without a password, data, signatures of
-both kinds with odd comments, some of them damaged, and in `cases.json`, for each case that is named there, what
-`minisign -V` answers. The texts of the published key are those that Minisign's author published with the Rust crate.
+It makes the same anew, with other keys, in an empty directory: keys with and without a password, data, signatures of
+both kinds with odd comments, some of them damaged, and `cases.json`, which has the answer of `minisign -V` to each
+case. The texts of the published key are those that Minisign's author published with the Rust crate.
 """
 
 import base64

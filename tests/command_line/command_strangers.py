@@ -1,9 +1,9 @@
-"""What `c/minisign` does where a stranger may have put something: in a directory where others may write, and only owners may
-remove, no file, pipe or link of a stranger's is used; a secret key goes to no other user in any directory; nothing waits for a
-stranger's pipe; and without -f nothing that stands there is written to.
+"""What `c/minisign` does where a stranger may have put something. In a directory where others may write, and only
+owners may remove, it uses no file, pipe or link of a stranger's. In no directory a secret key goes to another user.
+Nothing waits for a stranger's pipe, and without -f nothing that stands there is written to.
 
-The cases need root, who makes files of others and runs the program as another user. They expect the same under each of the
-system's settings (`fs.protected_regular`, `fs.protected_fifos`, `fs.protected_symlinks`).
+The cases need root, to make files of others and to run the program as another user. They expect the same under each
+of the system's settings (`fs.protected_regular`, `fs.protected_fifos`, `fs.protected_symlinks`).
 """
 
 import contextlib
@@ -14,15 +14,16 @@ import signal
 import stat
 import subprocess
 import tempfile
-from dataclasses import dataclass
+from dataclasses import dataclass, replace
 from functools import partial
 
 from permissions import list_of
-from disturbed import Mounted, place_for, while_stopped
-from running import NOBODY, Failure, Skip, build_preload, expect, read, run_cases, set_list
-from whole_breaking import is_public, is_secret, is_signature
-from whole_cases import CLOSED, OPEN, PASSWORD, PUBLIC
-from whole_running import PASSED_THROUGH, AtTerminal, put_files
+from disturbed import in_memory, place_for, while_stopped
+from process import run_program
+from running import NOBODY, Failure, Skip, build_preload, expect, read, run_cases, run_one, set_list
+from command_breaking import is_public, is_secret, is_signature
+from command_cases import CLOSED, OPEN, PASSWORD, PUBLIC
+from command_running import PASSED_THROUGH, AtTerminal, put_files
 
 # A run that does not end within so many seconds waits for somebody.
 SECONDS = 20
@@ -37,7 +38,7 @@ ROOT, STRANGER, USER, OWNER = 0, NOBODY, 12345, 23456
 # What is said after the name of the file.
 IN_SHARED = "this is another user's, in a directory where others may write"
 BY_LINK = "another user's link leads there, in a directory where others may write"
-TO_ANOTHER = "this is another user's, to whom no secret key is written"
+TO_ANOTHER = "this is another user's: no secret key is written there"
 NOW_ANOTHERS = "another user's file stands there now, in place of the key that was read"
 
 # The rows of docs/DIFFERENCES.md, and a case of each that Minisign's own program does not pass.
@@ -78,15 +79,6 @@ class Standing:
     mode: int = 0o1777
 
 
-@dataclass(frozen=True)
-class Ended:
-    """How a run ended, what it said, and what came out of a pipe that it may have written to."""
-
-    status: int
-    said: str
-    read: bytes = b""
-
-
 @contextlib.contextmanager
 def acting_as(user):
     """The system takes this script for the user's meanwhile."""
@@ -122,52 +114,55 @@ class Strangers:
         os.chmod(os.path.join(made, "shared"), mode)
         return made
 
+    def place(self, user=ROOT, **how):
+        """Such a directory, and the path of the file or pipe at which a command writes."""
+        directory = self.directory(user, **how)
+        return directory, os.path.join(directory, "shared", "it")
+
     def run(self, directory, user, arguments, **how):
         """Runs as a user in a directory, with nothing typed."""
         try:
-            ran = subprocess.run([self.program, *arguments], cwd=directory, user=user, group=user, extra_groups=[], umask=0o022,
-                                 stdin=subprocess.DEVNULL, stderr=subprocess.PIPE, timeout=SECONDS,
-                                 **{"stdout": subprocess.DEVNULL, **how})
+            return run_program([self.program, *arguments], directory, seconds=SECONDS, user=user, group=user,
+                               extra_groups=[],
+                               **{"stdout": subprocess.DEVNULL, **how})
         except subprocess.TimeoutExpired as why:
             raise Failure("it waits for a stranger") from why
-        return Ended(ran.returncode, ran.stderr.decode(), ran.stdout or b"")
 
     def over(self, user, command, standing):
         """Runs a command as a user over what stands at its place: how it ended, and what stands there then."""
-        directory = self.directory(user, standing.directory, standing.mode)
-        path = os.path.join(directory, "shared", "it")
+        directory, path = self.place(user, owner=standing.directory, mode=standing.mode)
         reader = put(path, standing, command.older)
-        ended = self.run(directory, user, command.at("shared/it"))
-        return Ended(ended.status, ended.said, take(reader)), path
+        ran = self.run(directory, user, command.at("shared/it"))
+        return replace(ran, output=take(reader)), path
 
     # ---- Files and pipes ----
 
     def rejected(self, user, command, standing, why=IN_SHARED):
         """It says why, nobody gets anything, and what stands there is as it was."""
-        ended, path = self.over(user, command, standing)
-        expect_rejected(ended, "shared/it", why)
+        ran, path = self.over(user, command, standing)
+        expect_rejected(ran, "shared/it", why)
         expect_untouched(path, standing, command.older)
 
     def accepted(self, user, command, standing, owner=None):
         """It is written: into the pipe, or over the file, which has this owner then."""
-        ended, path = self.over(user, command, standing)
-        expect(ended.status == 0, f"it ended with {ended.status}, and said {ended.said!r}")
+        ran, path = self.over(user, command, standing)
+        expect(ran.status == 0, ran)
         if standing.what == PIPE:
-            command.judge(ended.read)
+            command.judge(ran.output)
             return
         command.judge(read(path))
         expect(os.stat(path).st_uid == owner, f"it is {os.stat(path).st_uid}'s in place of {owner}'s")
 
     def never_opened(self, user, command):
         """A stranger's pipe that nobody reads: nothing waits for that."""
-        directory = self.directory(user)
-        make(os.path.join(directory, "shared", "it"), Standing(PIPE, STRANGER), command.older)
+        directory, path = self.place(user)
+        make(path, Standing(PIPE, STRANGER), command.older)
         expect_rejected(self.run(directory, user, command.at("shared/it")), "shared/it", IN_SHARED)
 
     def rejected_before_asking(self, arguments):
         """What is rejected later is rejected before a password is asked for."""
-        directory = self.directory(ROOT)
-        make(os.path.join(directory, "shared", "it"), Standing(FILE, STRANGER), OLDER)
+        directory, path = self.place()
+        make(path, Standing(FILE, STRANGER), OLDER)
         expect_rejected(self.run(directory, ROOT, arguments, stdout=subprocess.PIPE), "shared/it", IN_SHARED)
 
     # ---- What comes while a password is typed ----
@@ -181,8 +176,7 @@ class Strangers:
 
     def made_meanwhile(self, arguments, typed, standing, status, said):
         """Without -f, what is made while the password is typed is not written to."""
-        directory = self.directory(ROOT)
-        path = os.path.join(directory, "shared", "it")
+        directory, path = self.place()
         at = self.asked(directory, *arguments)
         reader = put(path, standing, OLDER)
         answer(at, typed)
@@ -194,8 +188,7 @@ class Strangers:
     def swapped_meanwhile(self, arguments, typed):
         """In a directory where all may do all: a stranger puts a file of his in the place of root's key while its password is typed.
         It is not made his: it is written into no file, before which the program would be killed."""
-        directory = self.directory(ROOT, mode=0o777)
-        path = os.path.join(directory, "shared", "it")
+        directory, path = self.place(mode=0o777)
         put_files(directory, {"shared/it": self.keys[CLOSED]})
         os.chmod(path, 0o600)
         at = self.asked(directory, *arguments, LD_PRELOAD=self.preload, BREAK_AT="1", BREAK_CALLS="write")
@@ -218,45 +211,43 @@ class Strangers:
         """In a directory where all may do all: a stranger puts a pipe that is read in the place of root's own, before each call that
         opens something. No key goes into the stranger's."""
         for number in range(1, MAX_OPENINGS):
-            directory, others = self.directory(ROOT, mode=0o777), []
-            path = os.path.join(directory, "shared", "it")
+            (directory, path), others = self.place(mode=0o777), []
             own = put(path, Standing(PIPE, ROOT), b"")
 
             def swap(path=path, others=others):
                 os.rename(path, path + ".own")
                 others.append(put(path, Standing(PIPE, STRANGER), b""))
 
-            is_stopped, status, said = while_stopped(self.stopping(directory, number), swap, SECONDS)
+            ran = while_stopped(self.stopping(directory, number), swap, SECONDS)
             got, kept = b"".join(map(take, others)), take(own)
-            expect(not got and (status == 0) == (kept != b""), f"at opening {number} a stranger got {got!r}, and root {kept!r}: {said!r}")
-            if not is_stopped:
+            expect(not got and (ran.status == 0) == (kept != b""),
+                   f"at opening {number} a stranger got {got!r}, and root {kept!r}", ran)
+            if not ran.came:
                 is_secret(kept)
                 return
-        raise Failure(f"it never ended: {said!r}")
+        raise Failure(f"it never ended: {ran}")
 
     def comes_at_each_opening(self):
         """In a directory where all may do all: a stranger puts a pipe that nobody reads in the place of root's file, before each call
         that opens one. Nothing waits for the pipe, and no key goes into it."""
         for number in range(1, MAX_OPENINGS):
-            directory = self.directory(ROOT, mode=0o777)
-            path = os.path.join(directory, "shared", "it")
+            directory, path = self.place(mode=0o777)
             make(path, Standing(FILE, ROOT), OLDER)
 
             def swap(path=path):
                 os.rename(path, path + ".older")
                 make(path, Standing(PIPE, STRANGER), OLDER)
 
-            is_stopped, status, said = while_stopped(self.stopping(directory, number), swap, SECONDS)
-            if not is_stopped:
+            ran = while_stopped(self.stopping(directory, number), swap, SECONDS)
+            if not ran.came:
                 break
             # (the key may have been put in its place before the pipe came)
             is_taken = stat.S_ISFIFO(os.lstat(path).st_mode)
-            if status == 0 and (not is_taken or read(path + ".older") != OLDER):
+            if ran.status == 0 and (not is_taken or read(path + ".older") != OLDER):
                 is_secret(read(path + ".older" if is_taken else path))
             else:
-                expect_rejected(Ended(status, said.decode()), "shared/it", TO_ANOTHER)
-        expect(number >= FEWEST_OPENINGS and status == 0,
-               f"it opened {number - 1} files, and ended with {status}")
+                expect_rejected(ran, "shared/it", TO_ANOTHER)
+        expect(number >= FEWEST_OPENINGS and ran.status == 0, f"it opened {number - 1} files", ran)
 
     # ---- Links ----
 
@@ -272,12 +263,12 @@ class Strangers:
             os.symlink(target, os.path.join(directory, link))
             os.lchown(os.path.join(directory, link), whose, whose)
         before = everything(directory)
-        ended = self.run(directory, user, command.at(name))
+        ran = self.run(directory, user, command.at(name))
         if why:
-            expect_rejected(ended, name, why)
+            expect_rejected(ran, name, why)
             expect(everything(directory) == before, "something was made or changed")
             return
-        expect(ended.status == 0, f"it ended with {ended.status}, and said {ended.said!r}")
+        expect(ran.status == 0, ran)
         # (a link may lead by the directory that a program runs in, and the system may follow it for the user alone)
         shown = subprocess.run(["cat", name], cwd=directory, user=user, group=user, stdout=subprocess.PIPE, check=True)
         command.judge(shown.stdout)
@@ -293,11 +284,11 @@ class Strangers:
         try:
             name = "/dev/stdout" if as_stream else f"/dev/fd/{writer}"
             arguments = ("-GWf", "-p", "own/a.pub", "-s", name)
-            ended = self.run(directory, ROOT, arguments, **({"stdout": writer} if as_stream else {"pass_fds": [writer]}))
+            ran = self.run(directory, ROOT, arguments, **({"stdout": writer} if as_stream else {"pass_fds": [writer]}))
         finally:
             os.close(writer)
         with os.fdopen(reader, "rb") as pipe:
-            expect_secret_or(ended, pipe.read(), as_stream, name)
+            expect_secret_or(ran, pipe.read(), as_stream, name)
 
     def onto_strangers_terminal(self, as_stream, link=None):
         """A stranger's terminal, by its name or by a link in a directory where all may do all."""
@@ -312,7 +303,8 @@ class Strangers:
                 os.symlink(name, os.path.join(directory, link))
                 name = link
             os.set_blocking(person, False)
-            ended = self.run(directory, ROOT, ("-GWf", "-p", "own/a.pub", "-s", name), **({"stdout": side} if as_stream else {}))
+            ran = self.run(directory, ROOT, ("-GWf", "-p", "own/a.pub", "-s", name),
+                           **({"stdout": side} if as_stream else {}))
             try:
                 shown = os.read(person, 65536).replace(b"\r", b"")
             except BlockingIOError:
@@ -320,17 +312,16 @@ class Strangers:
         finally:
             os.close(side)
             os.close(person)
-        expect_secret_or(ended, shown, as_stream, name)
+        expect_secret_or(ran, shown, as_stream, name)
 
     def output_is_strangers_pipe(self):
         """A standard output that is a stranger's pipe with a name there."""
-        directory = self.directory(ROOT)
-        path = os.path.join(directory, "shared", "it")
+        directory, path = self.place()
         reader = put(path, Standing(PIPE, STRANGER), b"")
         writer = os.open(path, os.O_WRONLY)
-        ended = self.run(directory, ROOT, ("-GWf", "-p", "own/a.pub", "-s", "/dev/stdout"), stdout=writer)
+        ran = self.run(directory, ROOT, ("-GWf", "-p", "own/a.pub", "-s", "/dev/stdout"), stdout=writer)
         os.close(writer)
-        expect_rejected(Ended(ended.status, ended.said, take(reader)), "/dev/stdout", IN_SHARED)
+        expect_rejected(replace(ran, output=take(reader)), "/dev/stdout", IN_SHARED)
 
     def output_is_for_all(self):
         """A secret key for a standard output that is a file which others may read: it is rejected, and nothing is written."""
@@ -338,34 +329,33 @@ class Strangers:
         path = os.path.join(directory, "own", "out")
         with open(path, "wb") as out:
             os.chmod(path, 0o644)
-            ended = self.run(directory, ROOT, ("-GWf", "-p", "own/a.pub", "-s", "/dev/stdout"), stdout=out)
-        if ended.status != 2 or "others may read this file" not in ended.said or read(path) != b"":
-            raise Failure(f"it ended with {ended.status}, said {ended.said!r} and wrote {len(read(path))} bytes")
+            ran = self.run(directory, ROOT, ("-GWf", "-p", "own/a.pub", "-s", "/dev/stdout"), stdout=out)
+        expect(ran.status == 2 and b"others may read this file" in ran.said and read(path) == b"", ran,
+               f"{len(read(path))} bytes")
 
     def output_has_lost_its_name(self):
         """A standard output that is a pipe of which the name, by which it was opened, is gone, and another one is there."""
-        directory = self.directory(ROOT)
-        path = os.path.join(directory, "shared", "it")
+        directory, path = self.place()
         reader = put(path, Standing(PIPE, ROOT), b"")
         writer = os.open(path, os.O_WRONLY)
         os.rename(path, path + ".first")
         os.link(path + ".first", path + ".second")
         os.remove(path + ".first")
-        ended = self.run(directory, ROOT, ("-Sm", "own/data", "-x", "/dev/stdout", "-s", "own/k.key"), stdout=writer)
+        ran = self.run(directory, ROOT, ("-Sm", "own/data", "-x", "/dev/stdout", "-s", "own/k.key"), stdout=writer)
         os.close(writer)
-        expect(ended.status == 0, f"it ended with {ended.status}, and said {ended.said!r}")
+        expect(ran.status == 0, ran)
         is_signature(take(reader))
 
     def in_directory_without_name(self):
         """A directory that is open and has no name: it is reached by the link to it in /proc, and not by the text of that."""
         directory = self.directory(ROOT)
-        with Mounted(os.path.join(directory, "shared"), "mode=755", lazily=True):
+        with in_memory(os.path.join(directory, "shared"), "mode=755", lazily=True):
             opened = os.open(os.path.join(directory, "shared"), os.O_RDONLY)
         try:
             os.mkdir("made", 0o755, dir_fd=opened)
             name = f"/dev/fd/{opened}/made/it"
-            ended = self.run(directory, ROOT, ("-Sm", "own/data", "-x", name, "-s", "own/k.key"), pass_fds=[opened])
-            expect(ended.status == 0, f"it ended with {ended.status}, and said {ended.said!r}")
+            ran = self.run(directory, ROOT, ("-Sm", "own/data", "-x", name, "-s", "own/k.key"), pass_fds=[opened])
+            expect(ran.status == 0, ran)
             with open(os.open("made/it", os.O_RDONLY, dir_fd=opened), "rb") as file:
                 is_signature(file.read())
         finally:
@@ -373,13 +363,12 @@ class Strangers:
 
     def copied_into_strangers_file(self):
         """What was verified goes into the standard output, whatever that is: whoever started the program has opened it."""
-        directory = self.directory(ROOT)
-        path = os.path.join(directory, "shared", "it")
+        directory, path = self.place()
         make(path, Standing(FILE, STRANGER), b"")
         self.run(directory, ROOT, ("-Sm", "own/data", "-s", "own/k.key"))
         with open(path, "r+b") as output:
-            ended = self.run(directory, ROOT, ("-Vom", "own/data", "-p", "own/k.pub"), stdout=output)
-        expect(ended.status == 0 and read(path) == b"some data\n", f"it ended with {ended.status}, and said {ended.said!r}")
+            ran = self.run(directory, ROOT, ("-Vom", "own/data", "-p", "own/k.pub"), stdout=output)
+        expect(ran.status == 0 and read(path) == b"some data\n", ran)
 
     # ---- Keys whose password is removed ----
 
@@ -391,10 +380,11 @@ class Strangers:
         os.chmod(path, mode)
         if entries:
             set_list(path, entries)
-        ended = self.run(directory, ROOT, ("-CW", "-s", "own/k.key"))
+        ran = self.run(directory, ROOT, ("-CW", "-s", "own/k.key"))
         found = os.stat(path)
-        expect(ended.status == 0 and found.st_uid == owner and stat.S_IMODE(found.st_mode) == mode & 0o700 and list_of(path) is None,
-               f"it ended with {ended.status}, {ended.said!r}, and left {found.st_uid}, {found.st_mode:o}")
+        expect(ran.status == 0 and found.st_uid == owner and stat.S_IMODE(found.st_mode) == mode & 0o700
+               and list_of(path) is None,
+               ran, f"it left {found.st_uid}, {found.st_mode:o}")
         is_secret(read(path))
 
 
@@ -474,8 +464,8 @@ def answer(at, typed):
 # ---- What has to come of it ----
 
 
-def expect_rejected(ended, name, why):
-    expect(ended == Ended(2, f"{name}: {why}\n"), f"it ended with {ended.status}, said {ended.said!r}, and {ended.read!r} was read")
+def expect_rejected(ran, name, why):
+    expect((ran.status, ran.output, ran.said) == (2, b"", f"{name}: {why}\n".encode()), ran)
 
 
 def expect_untouched(path, standing, data):
@@ -484,13 +474,13 @@ def expect_untouched(path, standing, data):
            f"it left {found.st_uid}'s of {found.st_mode:o}")
 
 
-def expect_secret_or(ended, came, is_written, name):
+def expect_secret_or(ran, came, is_written, name):
     """A secret key came out of a stream, in front of what is said there, or nothing."""
     if is_written:
-        expect(ended.status == 0, f"it ended with {ended.status}, and said {ended.said!r}")
+        expect(ran.status == 0, ran)
         is_secret(b"".join(came.splitlines(True)[:2]))
     else:
-        expect_rejected(Ended(ended.status, ended.said, came), name, TO_ANOTHER)
+        expect_rejected(replace(ran, output=came), name, TO_ANOTHER)
 
 
 # ---- The cases ----
@@ -498,74 +488,70 @@ def expect_secret_or(ended, came, is_written, name):
 
 def over_strangers(strangers):
     """A stranger's file or pipe: each command, by root and by another user."""
+    rejected = strangers.rejected
     for name, command in strangers.commands.items():
         for user in (ROOT, USER):
             for what in (FILE, PIPE):
-                yield (f"{name} by {user}, over a stranger's {what}",
-                       partial(strangers.rejected, user, command, Standing(what, STRANGER)))
-            yield f"{name} by {user}, over a stranger's pipe that nobody reads", partial(strangers.never_opened, user, command)
+                yield f"{name} by {user}, over a stranger's {what}", rejected, user, command, Standing(what, STRANGER)
+            yield f"{name} by {user}, over a stranger's pipe that nobody reads", strangers.never_opened, user, command
         for what in (FILE, PIPE):
-            yield (f"{name}, over a stranger's {what} in another's directory",
-                   partial(strangers.rejected, ROOT, command, Standing(what, STRANGER, OWNER)))
-            yield (f"{name}, over a stranger's {what} where a group may write",
-                   partial(strangers.rejected, ROOT, command, Standing(what, STRANGER, mode=0o1775)))
+            in_anothers, in_groups = Standing(what, STRANGER, OWNER), Standing(what, STRANGER, mode=0o1775)
+            yield f"{name}, over a stranger's {what} in another's directory", rejected, ROOT, command, in_anothers
+            yield f"{name}, over a stranger's {what} where a group may write", rejected, ROOT, command, in_groups
     for name, arguments in (("a new secret key", ("-Gf", "-p", "own/a.pub", "-s", "shared/it")),
                             ("a new public key", ("-Gf", "-p", "shared/it", "-s", "own/a.key")),
                             ("a public key written again", ("-Rf", "-p", "shared/it", "-s", "own/closed.key"))):
-        yield f"{name}, rejected before a password is asked for", partial(strangers.rejected_before_asking, arguments)
+        yield f"{name}, rejected before a password is asked for", strangers.rejected_before_asking, arguments
 
 
 def over_others(strangers):
     """What is no stranger's: the user's own, root's, and the directory's owner's where it is no secret key."""
+    accepted = strangers.accepted
     for name, command in strangers.commands.items():
         for user in (ROOT, USER):
-            yield f"{name} by {user}, over an own file", partial(strangers.accepted, user, command, Standing(FILE, user), user)
+            yield f"{name} by {user}, over an own file", accepted, user, command, Standing(FILE, user), user
             # (a pipe in place of a key that is changed would have to bring that first)
             for whose in {user, ROOT} if command.older == OLDER else ():
-                yield (f"{name} by {user}, into a pipe of {whose}",
-                       partial(strangers.accepted, user, command, Standing(PIPE, whose)))
+                yield f"{name} by {user}, into a pipe of {whose}", accepted, user, command, Standing(PIPE, whose)
         for what in (FILE, PIPE):
+            run, *owner = (strangers.rejected,) if command.is_secret else (accepted, OWNER)
             there = Standing(what, OWNER, OWNER)
-            yield (f"{name}, over a {what} of the directory's owner",
-                   partial(strangers.rejected, ROOT, command, there) if command.is_secret
-                   else partial(strangers.accepted, ROOT, command, there, OWNER))
+            yield f"{name}, over a {what} of the directory's owner", run, ROOT, command, there, *owner
     for name in ("a signature", "a new secret key"):
-        yield (f"{name}, into a pipe of root's in another's directory",
-               partial(strangers.accepted, USER, strangers.commands[name], Standing(PIPE, ROOT, OWNER)))
+        command, there = strangers.commands[name], Standing(PIPE, ROOT, OWNER)
+        yield f"{name}, into a pipe of root's in another's directory", accepted, USER, command, there
 
 
 def elsewhere(strangers):
     """A stranger's file or pipe in directories where others may not write, or may remove what they like."""
     signature, secret = strangers.commands["a signature"], strangers.commands["a new secret key"]
+    accepted = strangers.accepted
     for where, owner, mode in (("that others may not write", ROOT, 0o1755), ("where all may remove", ROOT, 0o777),
                                ("of his own", STRANGER, 0o755)):
         file, pipe = Standing(FILE, STRANGER, owner, mode), Standing(PIPE, STRANGER, owner, mode)
-        yield (f"a signature over a stranger's file in a directory {where}",
-               partial(strangers.accepted, ROOT, signature, file, STRANGER))
-        yield f"a signature into a stranger's pipe in a directory {where}", partial(strangers.accepted, ROOT, signature, pipe)
-        yield (f"a new secret key over a stranger's file in a directory {where}",
-               partial(strangers.accepted, ROOT, secret, file, ROOT))
+        yield f"a signature over a stranger's file in a directory {where}", accepted, ROOT, signature, file, STRANGER
+        yield f"a signature into a stranger's pipe in a directory {where}", accepted, ROOT, signature, pipe
+        yield f"a new secret key over a stranger's file in a directory {where}", accepted, ROOT, secret, file, ROOT
         yield (f"a new secret key into a stranger's pipe in a directory {where}",
-               partial(strangers.rejected, ROOT, secret, pipe, TO_ANOTHER))
+               strangers.rejected, ROOT, secret, pipe, TO_ANOTHER)
     yield "a stranger's pipe that comes before each opening", strangers.comes_at_each_opening
     yield "a stranger's pipe in place of an own one before each opening", strangers.replaces_own_pipe
 
 
 def made_meanwhile(strangers):
     """What is made while a password is typed, without -f, and a key that is swapped then."""
-    exists = "shared/it already exists."
     for name, arguments, typed in (
         ("a new secret key", ("-G", "-p", "own/a.pub", "-s", "shared/it"), (b"p\n", b"p\n")),
         ("a public key written again", ("-R", "-p", "shared/it", "-s", "own/closed.key"), (PASSWORD + b"\n",)),
     ):
         for what in (FILE, PIPE):
-            yield (f"{name}, and a stranger's {what} comes meanwhile",
-                   partial(strangers.made_meanwhile, arguments, typed, Standing(what, STRANGER), 2, f"shared/it: {IN_SHARED}"))
-            yield (f"{name}, and an own {what} comes meanwhile",
-                   partial(strangers.made_meanwhile, arguments, typed, Standing(what, ROOT), 1, exists))
+            for whose, owner, *ends in (("a stranger's", STRANGER, 2, f"shared/it: {IN_SHARED}"),
+                                        ("an own", ROOT, 1, "shared/it already exists.")):
+                yield (f"{name}, and {whose} {what} comes meanwhile",
+                       strangers.made_meanwhile, arguments, typed, Standing(what, owner), *ends)
     for flags, typed in (("-CW", (PASSWORD + b"\n",)), ("-C", (PASSWORD + b"\n", b"p\n", b"p\n"))):
-        yield (f"a key changed by {flags} that is swapped meanwhile",
-               partial(strangers.swapped_meanwhile, (flags, "-s", "shared/it"), typed))
+        arguments = (flags, "-s", "shared/it")
+        yield f"a key changed by {flags} that is swapped meanwhile", strangers.swapped_meanwhile, arguments, typed
 
 
 def through_links(strangers):
@@ -579,13 +565,13 @@ def through_links(strangers):
         ("to a directory further up", (to_directory,), "shared/link/sub/made"),
     ):
         for user in (ROOT, USER):
-            yield f"a stranger's link {name}, by {user}", partial(strangers.by_link, user, written, links)
+            yield f"a stranger's link {name}, by {user}", strangers.by_link, user, written, links
     for user in (ROOT, USER):
         yield (f"a stranger's link to which an own one leads, by {user}",
-               partial(strangers.by_link, user, "own/mine", (to_directory, (user, "own/mine", "../shared/link/made"))))
+               strangers.by_link, user, "own/mine", (to_directory, (user, "own/mine", "../shared/link/made")))
     for name, link, written in (("to nothing yet", (OWNER, "shared/link", "made"), "shared/link"),
                                 ("to a directory", (OWNER, "shared/link", "../own"), "shared/link/made")):
-        yield f"a link of the directory's owner {name}", partial(strangers.by_link, ROOT, written, (link,), None, OWNER)
+        yield f"a link of the directory's owner {name}", strangers.by_link, ROOT, written, (link,), None, OWNER
         yield (f"a link of the directory's owner {name}, for a secret key",
                partial(strangers.by_link, ROOT, written, (link,), BY_LINK, OWNER, command=strangers.commands["a new secret key"]))
     for name, written, *links in (
@@ -594,7 +580,7 @@ def through_links(strangers):
         ("by its whole path", "shared/link/made", ("shared/link", "/proc/self/cwd/own")),
         ("to one to a directory", "shared/link/made", ("shared/link", "../own/next"), ("own/next", "sub/")),
     ):
-        yield f"an own link {name}", partial(strangers.by_link, USER, written, [(USER, *link) for link in links], None)
+        yield f"an own link {name}", strangers.by_link, USER, written, [(USER, *link) for link in links], None
     for mode, where in ((0o777, "all may remove"), (0o1775, "a group may write")):
         yield (f"a stranger's link to a directory where {where}",
                partial(strangers.by_link, ROOT, "shared/link/made", (to_directory,), None, mode=mode))
@@ -603,10 +589,10 @@ def through_links(strangers):
 def streams(strangers):
     """What the program was started with, and what has no name."""
     for as_stream, name in ((True, "as standard output"), (False, "as another descriptor")):
-        yield f"a stranger's pipe without a name, {name}", partial(strangers.into_strangers_pipe, as_stream)
-    yield "a stranger's terminal, as standard output", partial(strangers.onto_strangers_terminal, True)
-    yield "a stranger's terminal, by its name", partial(strangers.onto_strangers_terminal, False)
-    yield "a stranger's terminal, by a link", partial(strangers.onto_strangers_terminal, False, "shared/link")
+        yield f"a stranger's pipe without a name, {name}", strangers.into_strangers_pipe, as_stream
+    yield "a stranger's terminal, as standard output", strangers.onto_strangers_terminal, True
+    yield "a stranger's terminal, by its name", strangers.onto_strangers_terminal, False
+    yield "a stranger's terminal, by a link", strangers.onto_strangers_terminal, False, "shared/link"
     yield "a stranger's pipe with a name, as standard output", strangers.output_is_strangers_pipe
     yield "a secret key into a file for all, as standard output", strangers.output_is_for_all
     yield "a pipe that has another name now, as standard output", strangers.output_has_lost_its_name
@@ -619,7 +605,7 @@ def permissions(strangers):
     for owner, mode, entries in ((ROOT, 0o644, ""), (ROOT, 0o660, ""), (OWNER, 0o640, ""), (OWNER, 0o604, ""),
                                  (ROOT, 0o440, ""), (ROOT, 0o600, f"u:{STRANGER}:r")):
         yield (f"a key without its password, of {owner} with the mode {mode:o} {entries}".rstrip(),
-               partial(strangers.made_its_owners, owner, mode, entries))
+               strangers.made_its_owners, owner, mode, entries)
 
 
 def cases(strangers):
@@ -635,10 +621,9 @@ def settings():
 
 def passes_of_minisign(strangers):
     """The rows that say of Minisign's own program what it does not do."""
-    found = dict(cases(strangers))
     for row, name in ROWS.items():
         try:
-            found[name]()
+            run_one(cases(strangers), name)
         except Failure:
             continue
         yield f"Minisign passes `{name}`, and docs/DIFFERENCES.md has the row: {row}"

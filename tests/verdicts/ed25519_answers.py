@@ -1,16 +1,16 @@
 #!/usr/bin/env python3
-"""Has the programs of c/ and examples/rust, and the one in Python of tests/c, answer the vectors of Ed25519 that implementations differ in
-(`tests/shared/edges.py`).
+"""Has the programs of c/ and examples/rust, and the one in Python of tests/c, answer the vectors of Ed25519 that
+implementations differ in (`tests/shared/edges.py`).
 
-Each vector becomes a public key, a signature of the older kind and its data. A program that accepts the vector goes on to
-the comment's signature, which no vector has, and rejects that one; one that rejects it says so: the words tell which. The
-program in Python rejects that kind, so its function that asks libsodium is called for each vector; that of the package which
-examples/rust is built over is asked by `tests/bindings/rust.py`. Then a key and a signature of small order that would fit
-every file have to be rejected by each. libsodium itself has to answer as the file of vectors says. It prints a line for each
-failure; the last line is `N passed, M failed`.
+Each vector becomes a public key, a legacy signature and its data. A program that accepts the vector goes on to the
+comment's signature, which no vector has, and rejects that one; a program that rejects the vector says so: the words
+tell which. The program in Python rejects legacy signatures, so its function that asks libsodium is called for each
+vector; `tests/bindings/rust.py` asks that of the package under examples/rust. Then each has to reject a key and a
+signature of small order that would fit every file. libsodium itself has to answer as the file of vectors says. It
+prints a line for each failure; the last line is `N passed, M failed`.
 
-Needs Python 3.9 or later, make, a C compiler, cargo, rustc and libsodium with its header, and installs what is not there
-where it may.
+Needs Python 3.9 or later, make, a C compiler, cargo, rustc and libsodium with its header. It installs what is missing
+if it may.
 """
 
 import ctypes

@@ -1,4 +1,4 @@
-/* Prints the tag of a piece of data, as `c/minisign/piece_tags.c` makes it: the key of the tags and then the piece are the standard input. */
+/* Prints the tag of a piece of data, as `c/minisign/piece_tags.c` makes it, of standard input: the key of the tags, and then the piece. */
 #include <inttypes.h>
 #include <stdio.h>
 #include <stdlib.h>

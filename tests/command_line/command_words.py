@@ -1,18 +1,20 @@
-"""What `c/minisign` says: of texts of a wrong kind the second line names the file and what it is, names of files are shown with
-control characters made visible, and in the background, without a terminal and with -q and -Q it leaves terminals and timers alone."""
+"""The words of `c/minisign`: of texts of a wrong kind the second line names the file and what it is, control
+characters in names of files are made visible, and in the background, without a terminal and with -q and -Q it leaves
+terminals and timers alone.
+"""
 
 import base64
 import os
 import signal
-import subprocess
 import sys
 import time
 
 from remedies import BY_FLAG
-from running import Failure, expect, read, run_cases
-from whole_cases import CLOSED, OPEN, OTHER, PASSWORD, PUBLIC
-from whole_running import FEW_ROWS, HOME, SECONDS, AtTerminal, record_of, sealed_for, text_of
-from whole_safety import QUESTION, Safety, wait_until
+from process import run_program
+from running import Failure, expect, read, run_cases, write
+from command_cases import CLOSED, OPEN, OTHER, PASSWORD, PUBLIC
+from command_running import FEW_ROWS, HOME, AtTerminal, record_of, sealed_for, text_of, with_checksum
+from command_safety import QUESTION, Safety, wait_until
 
 # The first line and the rest of texts of others: as their programs write them.
 SSH = b"ssh-ed25519 AAAAC3NzaC1lZDI1NTE5AAAAIK0wmN/Cr3JXqmLW7u+g9pTh+wyqDHpSQEIQczXkVx9q me@home\n"
@@ -78,12 +80,6 @@ class Words(Safety):
 
     # ---- Texts of a wrong kind ----
 
-    def signed(self, **files):
-        """A directory with a signature of the data."""
-        directory = self.directory(**files)
-        self.ours(directory, "-Sm", "data", "-s", OPEN)
-        return directory
-
     def wrong_text(self, flag, text, words):
         """A text in place of a public key, of a signature or of a secret key: Minisign's own first line, and after it one that
         names the file and says these words."""
@@ -91,26 +87,32 @@ class Words(Safety):
         arguments = {"-p": ("-Vm", "data", "-p", "wrong"), "-x": ("-Vm", "data", "-p", PUBLIC, "-x", "wrong"),
                      "-s": ("-Sm", "data", "-s", "wrong", "-x", "made")}[flag]
         ours = self.ours(directory, *arguments)
-        theirs = subprocess.run([self.whole.theirs, *arguments], cwd=directory, stdin=subprocess.DEVNULL, stderr=subprocess.PIPE, timeout=SECONDS)
+        theirs = self.theirs(directory, *arguments)
         lines = ours.said.split(b"\n")
-        expect(ours.status == 2 and len(lines) == 3 and lines[1] == b"wrong: " + words and not os.path.exists(os.path.join(directory, "made")),
-               f"{ours}")
-        first = theirs.stderr.split(b"\n")[0]
-        expect(theirs.returncode != 2 or first == lines[0] or lines[0] in ROWS_OF_FIRST_LINES.get(first, (NOT_UTF8,)),
-               f"Minisign says {theirs.stderr!r}, ours {ours}")
+        expect(ours.status == 2 and len(lines) == 3 and lines[1] == b"wrong: " + words
+               and not os.path.exists(os.path.join(directory, "made")), ours)
+        first = theirs.said.split(b"\n")[0]
+        expect(theirs.status != 2 or first == lines[0] or lines[0] in ROWS_OF_FIRST_LINES.get(first, (NOT_UTF8,)),
+               f"Minisign {theirs}, ours {ours}")
+
+    def damaged(self, text, words):
+        """A secret key that signs nothing, and what is said of it."""
+        directory = self.directory(**{"damaged.key": text})
+        ran = self.ours(directory, "-Sm", "data", "-s", "damaged.key", typed=b"x\n")
+        expect(ran.status == 2 and words in ran.said and not os.path.exists(os.path.join(directory, "data.minisig")),
+               ran)
 
     def cut_at_its_end(self):
         """A signature that ends in its last line, where the line is base64 still, is told as cut; whole ones of other data are not."""
         directory = self.signed()
         text = read(directory, "data.minisig")
         for end in (-41, -5):
-            with open(os.path.join(directory, "cut"), "wb") as file:
-                file.write(text[:end])
+            write(directory, "cut", text[:end])
             ran = self.ours(directory, "-Vm", "data", "-p", PUBLIC, "-x", "cut")
             expect(ran.status in (1, 2) and ran.said.startswith((b"Comment signature", b"base64")) and b"\ncut: this signature is " in ran.said,
                    f"{end}: {ran}")
         ran = self.ours(directory, "-Vm", "more", "-p", PUBLIC, "-x", "data.minisig")
-        expect((ran.status, ran.said) == (1, b"Signature verification failed\n"), f"{ran}")
+        expect((ran.status, ran.said) == (1, b"Signature verification failed\n"), ran)
 
     def damaged_key(self):
         """A key of which one half is another's is told as damaged, and a wrong public key is told as that."""
@@ -119,9 +121,10 @@ class Words(Safety):
         record[126:158] = bytes(32)
         directory = self.directory(**{"broken.key": text_of(bytes(record))})
         ran = self.ours(directory, "-Sm", "data", "-s", "broken.key")
-        expect(ran.status == 2 and b"\nbroken.key: this secret key is damaged: " in ran.said, f"{ran}")
+        expect(ran.status == 2 and b"\nbroken.key: this secret key is damaged: " in ran.said, ran)
         ran = self.ours(directory, "-Sm", "data", "-s", OPEN, "-p", OTHER)
-        expect(ran.status == 2 and ran.said.endswith(f"\n{OTHER}: this is not the public key of {OPEN}\n".encode()), f"{ran}")
+        expect(ran.status == 2 and ran.said.endswith(f"\n{OTHER}: this is not the public key of {OPEN}\n".encode()),
+               ran)
 
     def names_of_comments(self):
         """A name of a file that cannot stand in the default trusted comment is not told as a comment that was given; with one that
@@ -131,8 +134,7 @@ class Words(Safety):
             (b"end\xe3\x80\x80", ("-l",), b"a name that ends with white space"), (b"two\nlines", (), b"two\\u{a}lines: a name that has a line end"),
         ):
             directory = self.directory(**{})
-            with open(os.path.join(os.fsencode(directory), name), "wb") as file:
-                file.write(b"data")
+            write(os.fsencode(directory), name, b"data")
             ran = self.ours(directory, "-S", *flags, "-s", OPEN, "-m", name)
             expect(ran.status == 2 and words in ran.said and b"The comment" not in ran.said, f"{name}: {ran}")
             ran = self.ours(directory, "-S", *flags, "-s", OPEN, "-m", name, "-t", "given")
@@ -147,7 +149,7 @@ class Words(Safety):
         """A key of little work opens, though its p is 32."""
         directory = self.directory(**{"cheap.key": sealed_for(self.keys[OPEN], PASSWORD, 32)})
         ran = self.ours(directory, "-Sm", "data", "-s", "cheap.key", typed=PASSWORD + b"\n")
-        expect(ran.status == 0, f"{ran}")
+        expect(ran.status == 0, ran)
         self.expect_accepted(directory, PUBLIC)
 
     def dear_key_is_rejected(self):
@@ -189,9 +191,8 @@ class Words(Safety):
             at.wait_for_hiding()
             status, said = at.finish(b"wrong\n"), b""
         else:
-            ran = subprocess.run(command, executable=sys.executable, cwd=directory, input=b"wrong\n", stdout=subprocess.PIPE,
-                                 stderr=subprocess.PIPE, timeout=SECONDS)
-            status, said = ran.returncode, ran.stderr
+            ran = run_program(command, directory, b"wrong\n", executable=sys.executable)
+            status, said = ran.status, ran.said
         expect(status == -signal.SIGALRM and b"." not in said, f"it ended with {status}, and said {said!r}")
 
     def quiet(self, flag):
@@ -215,11 +216,11 @@ class Words(Safety):
         came = []
         for program in (self.whole.theirs, self.whole.ours):
             directory = self.directory()
-            ran = subprocess.run(["minisign", *arguments], executable=program, cwd=directory, input=PASSWORD + b"\nnew\nnew\n",
-                                 stdout=subprocess.DEVNULL, timeout=SECONDS, preexec_fn=lambda: os.close(2))
-            came.append((ran.returncode, {name: read(directory, name) for name in os.listdir(directory) if name != HOME}))
-        if came[0] != came[1] or came[1][0] != 2:
-            raise Failure(f"Minisign ended with {came[0][0]} and ours with {came[1][0]}, with other files: {came[0][1] != came[1][1]}")
+            ran = run_program(["minisign", *arguments], directory, PASSWORD + b"\nnew\nnew\n", executable=program,
+                              preexec_fn=lambda: os.close(2))
+            came.append((ran.status, {name: read(directory, name) for name in os.listdir(directory) if name != HOME}))
+        expect(came[0] == came[1] and came[1][0] == 2,
+               f"Minisign ended with {came[0][0]} and ours with {came[1][0]}, with other files: {came[0][1] != came[1][1]}")
 
     # ---- What to type ----
 
@@ -228,10 +229,9 @@ class Words(Safety):
         directory = self.signed()
         self.ours(directory, "-Slm", "data", "-s", OPEN, "-x", "legacy.minisig")
         ran = self.ours(directory, *arguments)
-        theirs = subprocess.run([self.whole.theirs, *arguments], cwd=directory, env={"HOME": HOME}, stdin=subprocess.DEVNULL,
-                                stderr=subprocess.PIPE, timeout=SECONDS)
-        expect((ran.status, ran.said) == (status, theirs.stderr + words + b"\n") and theirs.returncode == status and theirs.stderr,
-               f"{ran}, where Minisign says {theirs.stderr!r}")
+        theirs = self.theirs(directory, *arguments)
+        expect((ran.status, ran.said) == (status, theirs.said + words + b"\n") and theirs.status == status
+               and theirs.said, ran, f"Minisign {theirs}")
 
     # ---- Names ----
 
@@ -305,31 +305,54 @@ def wrong_texts(keys, signature):
     ]
 
 
+# What is said of a key whose second line is not base64, or not of so many bytes.
+NOT_BASE64 = b"base64 conversion failed - was an actual secret key given?\ndamaged.key: this secret key is damaged: its second line is "
+
+
+def damaged_keys(text):
+    """Texts that read as no key, and what is said of each."""
+    record = with_checksum(record_of(text))
+    text = text_of(record)
+    changed = lambda at: record[:at] + bytes([record[at] ^ 1]) + record[at + 1:]
+    return [
+        (b"", b"Error while loading the secret key file\ndamaged.key: this is empty\n"),
+        (text.split(b"\n")[0] + b"\n", b"Error while loading the secret key file\ndamaged.key: this secret key is cut: it has 1 of 2 lines\n"),
+        (text[:-3] + b"!=\n", NOT_BASE64 + b"not base64\n"),
+        (text.replace(b"\n", b"\n ", 1), NOT_BASE64 + b"not base64\n"),
+        (text_of(record[:-1]), NOT_BASE64),
+        (b"\xff" + text, NOT_UTF8),
+        *((text_of(changed(at)), b"Corrupted key") for at in (0, 1, 54, 61, 62, 93, 94, 125, 126, 157)),
+        (text_of(record[:2] + b"XX" + record[4:]), b"Unsupported key derivation function"),
+    ]
+
+
 def cases(words):
     """The names of all cases, and what runs each."""
+    for number, (text, said) in enumerate(damaged_keys(words.keys[OPEN])):
+        yield f"a damaged secret key {number}: {said!r}", words.damaged, text, said
     signature = read(words.signed(), "data.minisig")
     for number, (flag, text, said) in enumerate(wrong_texts(words.keys, signature)):
-        yield f"a wrong text {number} for {flag}: {said.decode()}", lambda f=flag, t=text, s=said: words.wrong_text(f, t, s)
+        yield f"a wrong text {number} for {flag}: {said.decode()}", words.wrong_text, flag, text, said
     yield "a signature that is cut at its end", words.cut_at_its_end
     yield "a key whose halves do not belong together", words.damaged_key
     yield "names that are no comments", words.names_of_comments
     yield "a key of little work", words.cheap_key_opens
     yield "keys of much work", words.dear_key_is_rejected
     yield "work that is allowed", words.flag_allows_work
-    yield "in the background", lambda: words.in_background("-Sm", "data", "-s", CLOSED)
+    yield "in the background", words.in_background, "-Sm", "data", "-s", CLOSED
     for at_terminal in (False, True):
-        yield f"a timer that was set before, at a terminal {at_terminal}", lambda at_terminal=at_terminal: words.alarm_before(at_terminal)
+        yield f"a timer that was set before, at a terminal {at_terminal}", words.alarm_before, at_terminal
     for flag in ("-q", "-Q"):
-        yield f"at a terminal with {flag}", lambda flag=flag: words.quiet(flag)
+        yield f"at a terminal with {flag}", words.quiet, flag
     yield "at a terminal, where nothing is shown", words.nothing_at_terminal
     for arguments in (("-C", "-s", CLOSED), ("-CW", "-s", CLOSED), ("-R", "-p", "made.pub", "-s", CLOSED), ("-Sm", "data", "-s", CLOSED),
                       ("-G", "-p", "made.pub", "-s", "made.key")):
-        yield f"no error stream with {arguments[0]}", lambda arguments=arguments: words.without_error_stream(*arguments)
+        yield f"no error stream with {arguments[0]}", words.without_error_stream, *arguments
     for what, said, *arguments in (
         ("no secret key", BY_FLAG["-s"], "-Sm", "data", "-s", "none.key"),
         ("no public key", BY_FLAG["-p"], "-Vm", "data", "-p", "none.pub"),
         ("no signature", BY_FLAG["-x"], "-Vm", "more", "-p", PUBLIC),
-        ("another key", b"-p or -P has to give the public key of whoever signed this", "-Vm", "data", "-p", OTHER),
+        ("another key", b"-p or -P has to give the public key of the signer", "-Vm", "data", "-p", OTHER),
         ("a legacy signature", b"Without -H it is accepted", "-VHm", "data", "-x", "legacy.minisig", "-p", PUBLIC),
     ):
         yield f"what to type: {what}", lambda s=said, a=arguments: words.advice(s, *a, status=1 if s[:1] in b"W" or b" or " in s else 2)

@@ -1,18 +1,18 @@
 #!/usr/bin/env python3
-"""Tries `c/minisign` on random command lines, built with what finds misuse of memory and undefined behavior.
+"""Tries `c/minisign`, built with sanitizers, on random command lines.
 
-    tests/whole/random_lines.py [SEED [NUMBER]]
+    tests/command_line/random_lines.py [SEED [NUMBER]]
 
-Each line has a command, most often with what it needs, and flags, names, comments and passwords of a kind that fits or not, in a
-directory of keys, signatures, texts of other kinds, links, directories and devices. It has to exit with status 0, 1 or 2 and without a word of
-AddressSanitizer or UndefinedBehaviorSanitizer; a file that it does not name stays as it was, no file is left half, no secret key is
-lost or given to others, and nothing is left beside them; what it signs Minisign's own program verifies, and of what it verifies both
-say the same. SEED is drawn where none is given, and printed; with NUMBER that line alone is tried. All 2,000 take a minute on four
-cores; after two minutes it ends with those that it has tried. It prints a line for each failure; the last line is
-`N passed, M failed`.
+Each line has a command, mostly with what it needs, and flags, names, comments and passwords that fit or not, in a
+directory of keys, signatures, texts of other kinds, links, directories and devices. The program has to exit with
+status 0, 1 or 2 and without a word of AddressSanitizer or UndefinedBehaviorSanitizer. A file that the line does not
+name stays as it was, no file is left half, no secret key is lost or given to others, and nothing is left beside them.
+Minisign's own program verifies what it signs, and agrees with what it verifies. SEED is drawn by default, and
+printed; with NUMBER that line alone is tried. All 2,000 take a minute on four cores; after two minutes it ends with
+those that it has tried. It prints a line for each failure; the last line is `N passed, M failed`.
 
-Needs Python 3.9 or later, make, binutils, a C compiler with sanitizers, libsodium with its header and minisign 0.11, and installs what
-is not there where it may.
+Needs Python 3.9 or later, make, binutils, a C compiler with sanitizers, libsodium with its header and minisign 0.11.
+It installs what is missing if it may.
 """
 
 import concurrent.futures
@@ -25,16 +25,17 @@ import tempfile
 import time
 
 HERE = os.path.dirname(os.path.realpath(__file__))
-sys.path += [os.path.join(HERE, "..", name) for name in ("shared", "minisign", "tool")]
+sys.path += [os.path.join(HERE, "..", name) for name in ("shared", "verdicts", "tool")]
 
 import ending
 import needs
 import static_library
-from running import Failure, build_preload, expect
-from whole_breaking import STAGE, is_secret
-from whole_cases import CLOSED, OPEN, OTHER, PASSWORD, PUBLIC, keys_of
-from whole_minisign import heed_signals
-from whole_running import Whole, put_files
+from process import run_program
+from running import Failure, build_preload, expect, read
+from command_breaking import STAGE, is_secret
+from command_cases import CLOSED, OPEN, OTHER, PASSWORD, PUBLIC, keys_of
+from command_line import heed_signals
+from command_running import Whole, put_files
 
 LINES = 2000
 # After so many seconds no further line is begun; fewer lines than this are too few.
@@ -54,6 +55,20 @@ PUBLICS = [PUBLIC, OTHER, "cut.pub", "link.pub"]
 SIGNATURES = ["data.minisig", "legacy.minisig", "more.minisig", "cut.minisig"]
 COMMENTS = ["a comment", "", " ", "a\nb", "a\rb", b"\xff", "\u00e9\u20ac", "t" * 1003, "t" * 1004, "t" * 8173, "t" * 8174, "tab\there", "end "]
 TYPED = [PASSWORD + b"\n", b"wrong\n", b"\n", b"", b"\0\n", b"\xff\n", b"x" * 1023 + b"\n", b"x" * 3000 + b"\n", PASSWORD]
+# Of each command the flags that name files, how often, the usual names, and what becomes of those; and what it writes by
+# default.
+READ, SIGNED, WRITTEN = "it is read", "a signature is written beside it", "it is written"
+FILES = {
+    "G": (("-p", 0.9, ["a.pub", "none", "new/a.pub", PUBLIC], WRITTEN),
+          ("-s", 0.9, ["a.key", "new/a.key", OPEN, CLOSED], WRITTEN)),
+    "R": (("-s", 0.9, SECRETS, READ), ("-p", 0.9, ["a.pub", PUBLIC, "new.pub"], WRITTEN)),
+    "C": (("-s", 0.9, SECRETS, WRITTEN),),
+    "S": (("-s", 0.95, SECRETS, READ), ("-m", 0.95, ["data", "more", "empty"], SIGNED), ("-p", 0.2, PUBLICS, READ),
+          ("-x", 0.4, ["made.minisig", "data.minisig", "dangling"], WRITTEN)),
+    "V": (("-m", 0.95, ["data", "more", "empty"], READ), ("-x", 0.7, SIGNATURES, READ), ("-p", 0.7, PUBLICS, READ)),
+}
+BY_DEFAULT = {"G": {"minisign.pub", "home/.minisign/minisign.key"}, "R": {"minisign.pub"},
+              "C": {"home/.minisign/minisign.key"}}
 # Lines that seal a key take seconds each: so few of them have both passwords.
 SEALING = 0.002
 
@@ -72,8 +87,7 @@ class Directory:
             subprocess.run([whole.theirs, *arguments], cwd=signed, stdin=subprocess.DEVNULL, stdout=subprocess.DEVNULL, check=True)
         made = {}
         for name in SIGNATURES[:3]:
-            with open(os.path.join(signed, name), "rb") as file:
-                made[name] = file.read()
+            made[name] = read(signed, name)
         turned = bytearray(keys[OPEN])
         turned[-30] ^= 2
         self.files = {**keys, **made, "data": b"some data\n", "more": b"more data\n", "empty": b"", "directory/kept": b"kept",
@@ -98,7 +112,10 @@ class Line:
         self.command = source.choice("GGRCSSSVVVV")
         self.arguments, self.outputs = [f"-{self.command}"], set()
         self.typed = b"".join(source.choice(TYPED) for _ in range(source.randint(0, 3)))
-        getattr(self, f"add_{self.command}")()
+        self.outputs |= BY_DEFAULT.get(self.command, set())
+        self.add_names()
+        if self.command in "GC":
+            self.add_sealing()
         self.add_flags()
         if source.random() < 0.03:
             self.arguments.insert(source.randint(0, len(self.arguments)), source.choice(["-G", "-S", "-V", "-Z", "-v", "-h", "--", "-"]))
@@ -110,11 +127,22 @@ class Line:
     def add(self, flag, value):
         self.arguments += [flag, value]
 
-    def add_output(self, flag, value):
-        if self.command in "GS" and self.source.random() < 0.05:
-            value = self.source.choice(STREAMS)
-        self.add(flag, value)
-        self.outputs.add(value)
+    def add_names(self):
+        """Mostly the files that the command needs."""
+        for flag, often, usual, use in FILES[self.command]:
+            if self.source.random() >= often:
+                continue
+            name = self.name_of(usual)
+            if use == WRITTEN and self.command in "GS" and self.source.random() < 0.05:
+                name = self.source.choice(STREAMS)
+            self.add(flag, name)
+            self.outputs |= {name} if use == WRITTEN else {beside(name)} if use == SIGNED else set()
+        for _ in range(self.source.choice([0, 0, 0, 1, 3, 40]) if self.command == "S" else 0):
+            self.arguments.append(self.name_of(["data", "more", "empty", "text"]))
+            self.outputs.add(beside(self.arguments[-1]))
+        if self.command in "SV" and self.source.random() < 0.12:
+            inline = self.directory.inline
+            self.add("-P", self.source.choice([inline, "", "x", "-" * 56, inline[:-1]]))
 
     def add_sealing(self):
         """Whether the key gets a password, which takes long."""
@@ -126,70 +154,13 @@ class Line:
             # (a key that is open gets a password: the second one of two is another)
             self.typed = PASSWORD + b"\n" + b"one\ntwo\n"
 
-    def add_G(self):
-        if self.source.random() < 0.9:
-            self.add_output("-p", self.name_of(["a.pub", "none", "new/a.pub", PUBLIC]))
-        if self.source.random() < 0.9:
-            self.add_output("-s", self.name_of(["a.key", "new/a.key", OPEN, CLOSED]))
-        if self.source.random() < 0.5:
-            self.arguments.append("-f")
-        self.outputs |= {"minisign.pub", "home/.minisign/minisign.key"}
-        self.add_sealing()
-
-    def add_R(self):
-        if self.source.random() < 0.9:
-            self.add("-s", self.name_of(SECRETS))
-        if self.source.random() < 0.9:
-            self.add_output("-p", self.name_of(["a.pub", PUBLIC, "new.pub"]))
-        if self.source.random() < 0.5:
-            self.arguments.append("-f")
-        self.outputs.add("minisign.pub")
-
-    def add_C(self):
-        if self.source.random() < 0.9:
-            self.add_output("-s", self.name_of(SECRETS))
-        self.outputs.add("home/.minisign/minisign.key")
-        self.add_sealing()
-
-    def add_S(self):
-        data = self.name_of(["data", "more", "empty"])
-        if self.source.random() < 0.95:
-            self.add("-s", self.name_of(SECRETS))
-        if self.source.random() < 0.95:
-            self.add("-m", data)
-            self.outputs.add(beside(data))
-        if self.source.random() < 0.4:
-            self.add_output("-x", self.name_of(["made.minisig", "data.minisig", "dangling"]))
-        for _ in range(self.source.choice([0, 0, 0, 1, 3, 40])):
-            further = self.name_of(["data", "more", "empty", "text"])
-            self.arguments.append(further)
-            self.outputs.add(beside(further))
-        if self.source.random() < 0.2:
-            self.add("-p", self.name_of(PUBLICS))
-        if self.source.random() < 0.1:
-            self.add("-P", self.source.choice([self.directory.inline, "", "x", "-" * 56, self.directory.inline[:-1]]))
-
-    def add_V(self):
-        if self.source.random() < 0.95:
-            self.add("-m", self.name_of(["data", "more", "empty"]))
-        if self.source.random() < 0.7:
-            self.add("-x", self.name_of(SIGNATURES))
-        if self.source.random() < 0.7:
-            self.add("-p", self.name_of(PUBLICS))
-        elif self.source.random() < 0.5:
-            self.add("-P", self.source.choice([self.directory.inline, "", "x", "-" * 56, self.directory.inline[:-1]]))
-
     def add_flags(self):
-        source = self.source
-        for flag in "lHoqQ":
-            if source.random() < 0.1:
-                self.arguments.append(f"-{flag}")
-        for flag in "ct":
-            if source.random() < 0.2:
-                self.add(f"-{flag}", source.choice(COMMENTS))
-        for flag in "kK":
-            if source.random() < 0.05:
-                self.add(f"-{flag}", source.choice(["1", "16", "0", "-1", "x", "1048577"]))
+        for flags, often, values in (("f", 0.5 * (self.command in "GR"), None), ("lHoqQ", 0.1, None),
+                                     ("ct", 0.2, COMMENTS),
+                                     ("kK", 0.05, ["1", "16", "0", "-1", "x", "1048577"])):
+            for flag in flags:
+                if self.source.random() < often:
+                    self.arguments += [f"-{flag}"] if values is None else [f"-{flag}", self.source.choice(values)]
 
     def may_be_tested_in_another_order(self, directory):
         """Whether more than one thing may be wrong of which each program names another first: a directory is among its names, or a
@@ -213,8 +184,7 @@ def beside(name):
 
 
 def run(program, directory, line):
-    return subprocess.run([program, *line.arguments], cwd=directory, env=ENVIRONMENT, input=line.typed, stdout=subprocess.PIPE, stderr=subprocess.PIPE,
-                          timeout=SECONDS_OF_LINE, umask=0o022)
+    return run_program([program, *line.arguments], directory, line.typed, SECONDS_OF_LINE, env=ENVIRONMENT)
 
 
 def check_files(before, directory, line):
@@ -226,8 +196,7 @@ def check_files(before, directory, line):
             path = os.path.join(at, name)
             expect(not name.startswith(STAGE), f"it left {name}")
             if not os.path.islink(path):
-                with open(path, "rb") as file:
-                    found[os.path.relpath(path, directory)] = file.read()
+                found[os.path.relpath(path, directory)] = read(path)
     for name, data in before.files.items():
         path = os.path.join(directory, name)
         expect(name in found, f"{name!r} is gone")
@@ -249,9 +218,8 @@ def check_signatures(before, directory, line):
     if data in line.outputs:
         # (a signature that was signed, and then replaced by another)
         return
-    command = [before.whole.theirs, "-Vm", data, "-P", before.inline]
-    ran = subprocess.run(command, cwd=directory, stdin=subprocess.DEVNULL, stdout=subprocess.DEVNULL, stderr=subprocess.PIPE, timeout=SECONDS_OF_LINE)
-    expect(ran.returncode == 0, f"Minisign does not verify what was signed: {ran.stderr!r}")
+    ran = run_program([before.whole.theirs, "-Vm", data, "-P", before.inline], directory, seconds=SECONDS_OF_LINE)
+    expect(ran.status == 0, "Minisign does not verify what was signed", ran)
 
 
 def check_line(before, line):
@@ -259,16 +227,16 @@ def check_line(before, line):
     with tempfile.TemporaryDirectory(prefix="random-line-") as directory:
         before.make(directory)
         ran = run(before.whole.ours, directory, line)
-        expect(ran.returncode in (0, 1, 2) and not any(word in ran.stderr for word in REPORTS),
-               f"it ended with {ran.returncode}, and said {ran.stderr[-1500:].decode(errors='replace')}")
+        expect(ran.status in (0, 1, 2) and not any(word in ran.said for word in REPORTS),
+               f"it ended with {ran.status}, and said {ran.said[-1500:].decode(errors='replace')}")
         check_files(before, directory, line)
-        if line.command == "S" and ran.returncode == 0 and not any(flag in line.arguments for flag in ("-v", "-p", "-P")):
+        if line.command == "S" and ran.status == 0 and not any(flag in line.arguments for flag in ("-v", "-p", "-P")):
             check_signatures(before, directory, line)
         if line.command == "V" and line.is_plain():
             theirs = run(before.whole.theirs, directory, line)
-            is_same_verdict = (theirs.returncode == 0) == (ran.returncode == 0)
-            expect(theirs.returncode == ran.returncode or is_same_verdict and line.may_be_tested_in_another_order(directory),
-                   f"it ended with {ran.returncode}, {ran.stderr!r}, and Minisign with {theirs.returncode}, {theirs.stderr!r}")
+            is_same_verdict = (theirs.status == 0) == (ran.status == 0)
+            expect(theirs.status == ran.status or is_same_verdict and line.may_be_tested_in_another_order(directory),
+                   ran, f"Minisign {theirs}")
 
 
 def check_lines(before, seed, numbers, end):

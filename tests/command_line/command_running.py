@@ -1,17 +1,19 @@
-"""How Minisign's own program and `c/minisign` are run side by side: each in a directory of its own with the same files, with
-the same random bytes and at the same time, over pipes or at a terminal."""
+"""Runs Minisign's own program and `c/minisign` side by side: each in a directory of its own with the same files, with
+the same random bytes and at the same time, over pipes or at a terminal.
+"""
 
 import base64
 import hashlib
 import os
 import re
 import stat
-import subprocess
 import sys
 import tempfile
 from dataclasses import dataclass, field
 
 from at_terminal import SECONDS, AtTerminal, type_at_terminal
+from process import Ran, run_program
+from running import read
 
 HOME = "home"
 # The program was built with -DPOSIX_ONLY: directories have to be readable then.
@@ -33,24 +35,6 @@ class Step:
 
 
 @dataclass(frozen=True)
-class Ran:
-    """How a step ended, and what it wrote."""
-
-    status: int
-    output: bytes
-    said: bytes
-
-    def __str__(self):
-        return f"status {self.status}, {self.output[-200:]!r}, {self.said[-200:]!r}"
-
-
-def names_text(theirs, ours):
-    """Whether ours says what Minisign says of a text, and after that one line more, which names the text."""
-    front, _, line = ours.partition(b"\n")
-    return theirs == front + b"\n" and re.fullmatch(rb"[^\n]+: [^\n]+\n", line) is not None
-
-
-@dataclass(frozen=True)
 class Whole:
     """The two programs, and what is preloaded into them."""
 
@@ -61,17 +45,12 @@ class Whole:
 
 def run_step(program, preload, directory, step):
     """Runs one step in a directory."""
-    environment = {"HOME": HOME, "PATH": os.environ.get("PATH", "")}
-    if preload:
-        environment["LD_PRELOAD"] = preload
-    environment.update(step.variables)
+    environment = {"HOME": HOME, "PATH": os.environ.get("PATH", ""), "LD_PRELOAD": preload or None, **step.variables}
     environment = {name: value for name, value in environment.items() if value is not None}
     command = ["minisign", *step.arguments]
     if step.at_terminal:
         return run_at_terminal(command, program, directory, environment, step.typed.splitlines(True))
-    ran = subprocess.run(command, executable=program, cwd=directory, env=environment, input=step.typed,
-                         stdout=subprocess.PIPE, stderr=subprocess.PIPE, umask=0o022, timeout=SECONDS)
-    return Ran(ran.returncode, ran.stdout, ran.stderr)
+    return run_program(command, directory, step.typed, executable=program, env=environment)
 
 
 def run_at_terminal(command, program, directory, environment, lines):
@@ -101,11 +80,7 @@ def files_in(directory):
         for name in directories + names:
             path = os.path.join(at, name)
             mode = stat.S_IMODE(os.stat(path).st_mode)
-            data = None
-            if name in names:
-                with open(path, "rb") as file:
-                    data = file.read()
-            found[os.path.relpath(path, directory)] = (mode, data)
+            found[os.path.relpath(path, directory)] = (mode, read(path) if name in names else None)
     return found
 
 
@@ -139,11 +114,12 @@ def with_checksum(record):
     return record[:126] + checksum_of(record)
 
 
-def sealed(text, password, salt=bytes(range(32))):
-    """The key of an open text, sealed with the least limits that Minisign takes, so that opening takes no time."""
-    record = with_checksum(record_of(text))
+def sealed(text, password, memory=16777216):
+    """The key of an open text, sealed with the least limits that Minisign takes, so that opening takes no time; as few operations decide
+    N, whatever the memory."""
+    record, salt = with_checksum(record_of(text)), bytes(range(32))
     stream = hashlib.scrypt(password, salt=salt, n=1024, r=8, p=1, dklen=104)
-    limits = (32768).to_bytes(8, "little") + (16777216).to_bytes(8, "little")
+    limits = (32768).to_bytes(8, "little") + memory.to_bytes(8, "little")
     closed = bytes(a ^ b for a, b in zip(record[54:158], stream))
     return text_of(b"EdScB2" + salt + limits + closed)
 

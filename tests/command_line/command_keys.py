@@ -1,5 +1,6 @@
-"""Damaged secret keys: what Minisign's own program and `c/minisign` do with each. Where they differ, docs/DIFFERENCES.md has a row that
-speaks of the text. (Damaged signatures and public keys `tests/minisign/real_minisign.py` has.)"""
+"""Damaged secret keys, given to Minisign's own program and to `c/minisign`. Where they differ, docs/DIFFERENCES.md
+has a row that speaks of the text. (`tests/verdicts/real_minisign.py` has damaged signatures and public keys.)
+"""
 
 import collections
 import concurrent.futures
@@ -10,8 +11,8 @@ import tempfile
 import minisign_differences as differences
 from minisign_cases import letter_damages, line_damages, lines, randomly_changed, record_damages, whole_damages, with_line
 from running import read
-from whole_cases import CLOSED, OPEN, PASSWORD
-from whole_running import HOME, Step, checksum_of, put_files, run_step
+from command_cases import CLOSED, OPEN, PASSWORD
+from command_running import HOME, Step, checksum_of, put_files, run_step
 
 KEYS = 900
 LONGEST_LINE = 1022

@@ -1,6 +1,7 @@
-"""What `c/minisign` does better than Minisign's own program: what a person types stays hidden and is shown again after a
-signal, secrets are locked in memory, comments cannot talk to a terminal, what is copied out is what was verified, a key
-opens in little memory."""
+"""What `c/minisign` does better than Minisign's own program: what you type stays hidden and the terminal shows again
+after a signal, secrets are locked in memory, comments cannot talk to a terminal, only verified data is copied out,
+and a key opens in little memory.
+"""
 
 import os
 import re
@@ -15,10 +16,10 @@ import time
 
 import needs
 import static_library
-from minisign_streams import full_pipe, wait_for_rest
-from running import Failure, build_preload, expect, run_cases
-from whole_cases import CLOSED, DATA, OPEN, OTHER, PASSWORD, PUBLIC
-from whole_running import HOME, SECONDS, AtTerminal, Step, put_files, record_of, run_step, run_steps, text_of
+from process import run_program
+from running import Failure, build_preload, expect, read, run_cases, write
+from command_cases import CLOSED, DATA, OPEN, OTHER, PASSWORD, PUBLIC
+from command_running import HOME, SECONDS, AtTerminal, Step, put_files, record_of, run_step, run_steps, text_of
 
 HERE = os.path.dirname(os.path.realpath(__file__))
 C_DIRECTORY = static_library.DIRECTORY
@@ -61,6 +62,15 @@ class Safety:
 
     def ours(self, directory, *arguments, typed=b"", at_terminal=False):
         return run_step(self.whole.ours, "", directory, Step(arguments, typed, at_terminal=at_terminal))
+
+    def theirs(self, directory, *arguments, typed=b""):
+        return run_step(self.whole.theirs, "", directory, Step(arguments, typed))
+
+    def signed(self, *flags, **files):
+        """A directory with a signature of the data."""
+        directory = self.directory(**files)
+        self.ours(directory, "-Sm", "data", "-s", OPEN, *flags)
+        return directory
 
     def costly(self):
         """The sealed key with the limits of a usual one: it takes seconds to find out that a password is wrong."""
@@ -138,9 +148,8 @@ class Safety:
             at.process.send_signal(number)
             at.process.wait(SECONDS)
             status = at.end()
-            with open(says, encoding="ascii") as file:
-                found = file.read()
-            expect(status == -number and re.search(r"\+!\+!-$", found),
+            found = read(says)
+            expect(status == -number and re.search(rb"\+!\+!-$", found),
                    f"it ended with {status}, and {secret!r} was found so: {found[-20:]}")
 
     def passwords_apart(self):
@@ -149,9 +158,8 @@ class Safety:
         os.write(writer, PASSWORD + b"\nleft over")
         os.close(writer)
         with os.fdopen(reader, "rb", buffering=0) as pipe:
-            ran = subprocess.run([self.whole.ours, "-Sm", "data", "-s", CLOSED], cwd=self.directory(), stdin=pipe,
-                                 stdout=subprocess.PIPE, stderr=subprocess.PIPE, timeout=SECONDS)
-            expect(ran.returncode == 0 and pipe.read() == b"left over", f"it ended with {ran.returncode}: {ran.stderr!r}")
+            ran = run_program([self.whole.ours, "-Sm", "data", "-s", CLOSED], self.directory(), stdin=pipe)
+            expect(ran.status == 0 and pipe.read() == b"left over", ran)
 
     # ---- Memory ----
 
@@ -161,28 +169,27 @@ class Safety:
         if ran[0].status != 0:
             raise Failure(f"Minisign makes no key: {ran[0]}")
         directory = self.directory(**{"default.key": files["a.key"][1], "default.pub": files["a.pub"][1]})
-        status, kibibytes, said = with_memory([self.whole.ours, "-Sm", "data", "-s", "default.key", "-k", ROWS], directory, b"p\n")
-        expect(status == 0 and kibibytes <= 1024 * MEBIBYTES, f"it ended with {status} and took {kibibytes} KiB: {said!r}")
+        for arguments, typed in ((("-Sm", "data"), b"p\n"), (("-C",), b"p\nq\nq\n")):
+            status, kibibytes, said = with_memory([self.whole.ours, *arguments, "-s", "default.key", "-k", ROWS],
+                                                  directory, typed)
+            expect(status == 0 and kibibytes <= 1024 * MEBIBYTES,
+                   f"{arguments}: it ended with {status} and took {kibibytes} KiB: {said!r}")
         self.expect_accepted(directory, "default.pub")
-        status, kibibytes, said = with_memory([self.whole.ours, "-C", "-s", "default.key", "-k", ROWS], directory, b"p\nq\nq\n")
-        expect(status == 0 and kibibytes <= 1024 * MEBIBYTES,
-               f"changing: it ended with {status} and took {kibibytes} KiB: {said!r}")
-        ran = run_step(self.whole.theirs, "", directory, Step(("-Sm", "more", "-s", "default.key"), b"q\n"))
-        expect(ran.status == 0, f"Minisign does not open what was changed: {ran}")
+        ran = self.theirs(directory, "-Sm", "more", "-s", "default.key", typed=b"q\n")
+        expect(ran.status == 0, "Minisign does not open what was changed", ran)
 
     def opens_where_memory_is_short(self):
         """A key of usual limits opens where there is no room for all of its rows: of those that do not fit, fewer are kept."""
         directory = self.directory(**{"costly.key": self.costly()})
         bound = 300 << 20
-        ran = subprocess.run([self.whole.ours, "-Sm", "data", "-s", "costly.key"], cwd=directory, input=b"wrong\n", stdout=subprocess.PIPE,
-                             stderr=subprocess.PIPE, timeout=SECONDS, preexec_fn=lambda: resource.setrlimit(resource.RLIMIT_AS, (bound, bound)))
-        expect(ran.returncode == 2 and ran.stderr.endswith(b"Wrong password for that key\n"),
-               f"it ended with {ran.returncode}: {ran.stderr!r}")
+        ran = run_program([self.whole.ours, "-Sm", "data", "-s", "costly.key"], directory, b"wrong\n",
+                          preexec_fn=lambda: resource.setrlimit(resource.RLIMIT_AS, (bound, bound)))
+        expect(ran.status == 2 and ran.said.endswith(b"Wrong password for that key\n"), ran)
 
     def expect_accepted(self, directory, public):
-        for program in (self.whole.theirs, self.whole.ours):
-            ran = run_step(program, "", directory, Step(("-Vm", "data", "-p", public)))
-            expect(ran.status == 0, f"{program} rejects it: {ran}")
+        for who in (self.theirs, self.ours):
+            ran = who(directory, "-Vm", "data", "-p", public)
+            expect(ran.status == 0, who.__name__, ran)
 
     def shows_derivation(self):
         """At a terminal a long derivation shows a dot each second."""
@@ -191,9 +198,7 @@ class Safety:
 
     def shows_reading(self):
         """At a terminal it shows how much of a file was read that takes long, and takes that away at the end."""
-        directory = self.directory()
-        self.ours(directory, "-Sm", "data", "-s", OPEN)
-        status, shown = self.read_slowly(directory, "slow")
+        status, shown = self.read_slowly(self.signed(), "slow")
         expect(status == 0 and re.search(rb"\rslow 0 MiB\r\x1b\[KSignature and", shown), f"it showed {shown!r}")
 
     def read_slowly(self, directory, name, *flags):
@@ -213,8 +218,7 @@ class Safety:
         """Control characters and those that turn the direction are made visible at a terminal, and written as they are
         elsewhere."""
         comment = "tab\there \x1b[31mred\x07 \x7f \u0085 \u009b2J \u202egnp\u202c \u2066x\u2069 \u00e9\u20ac\U0001f511"
-        directory = self.directory()
-        self.ours(directory, "-Sm", "data", "-s", OPEN, "-t", comment)
+        directory = self.signed("-t", comment)
         piped = self.ours(directory, "-Vm", "data", "-p", PUBLIC)
         expect(piped.output.endswith(f"Trusted comment: {comment}\n".encode()), f"into a pipe: {piped}")
         for flags in ((), ("-Q",)):
@@ -227,32 +231,45 @@ class Safety:
 
     def copies_of_pipes(self):
         """Data from a pipe is copied out once it was verified, and nothing is copied where it was not."""
-        directory = self.directory()
-        self.ours(directory, "-Sm", "data", "-s", OPEN)
+        directory = self.signed()
         for data, wanted in ((DATA["data"], (0, DATA["data"])), (b"other data\n", (1, b""))):
             ran = self.ours(directory, "-Vom", "/dev/stdin", "-x", "data.minisig", "-p", PUBLIC, typed=data)
             expect((ran.status, ran.output) == wanted, f"{data!r}: {ran}")
+        theirs = self.theirs(directory, "-Vom", "/dev/stdin", "-x", "data.minisig", "-p", PUBLIC, typed=DATA["data"])
+        expect((theirs.status, theirs.output) == (0, b""), "Minisign", theirs)
 
-    def changed_while_copied(self, change):
-        """Data that changes once it was verified: what is copied is the front of what was verified, and it ends badly."""
-        # Each block of 4096 bytes is another, and the last byte is zero.
-        directory = self.directory(large=b"".join(number.to_bytes(4, "little") * 1024 for number in range(LARGE // 4096)) + bytes(LARGE % 4096))
-        path = os.path.join(directory, "large")
-        self.ours(directory, "-Sm", "large", "-s", OPEN)
-        with open(path, "rb") as file:
-            before = file.read()
+    def copied(self, program, directory, change, *arguments):
+        """Copies data out that changes once it was verified and before it is copied: until then the error stream, to which what was
+        verified is written in between, is a pipe that takes nothing. How it ended, and what was copied."""
         reader, writer = full_pipe()
-        process = subprocess.Popen([self.whole.ours, "-Vom", "large", "-p", PUBLIC], cwd=directory, stdin=subprocess.DEVNULL,
+        process = subprocess.Popen([program, *arguments, "-p", PUBLIC], cwd=directory, stdin=subprocess.DEVNULL,
                                    stdout=subprocess.PIPE, stderr=writer)
         os.close(writer)
         wait_for_rest(process)
-        change(path)
+        change()
         drain = threading.Thread(target=read_all, args=(reader,))
         drain.start()
         output, _ = process.communicate(timeout=SECONDS)
         drain.join(SECONDS)
-        if process.returncode != 1 or not before.startswith(output) or len(output) == len(before):
-            raise Failure(f"it ended with {process.returncode} and copied {len(output)} bytes, a front: {before.startswith(output)}")
+        return process.returncode, output
+
+    def changed_while_copied(self, change):
+        """Data that changes once it was verified: what is copied is the front of what was verified, and it ends badly."""
+        # Each block of 4096 bytes is another, and the last byte is zero.
+        before = b"".join(number.to_bytes(4, "little") * 1024 for number in range(LARGE // 4096)) + bytes(LARGE % 4096)
+        directory = self.directory(large=before)
+        self.ours(directory, "-Sm", "large", "-s", OPEN)
+        status, output = self.copied(self.whole.ours, directory, lambda: change(os.path.join(directory, "large")),
+                                     "-Vom", "large")
+        expect(status == 1 and before.startswith(output) and len(output) < len(before),
+               f"it ended with {status} and copied {len(output)} bytes")
+
+    def replaced_while_copied(self, program, status, flags=()):
+        """Other data is there once it was verified: of a legacy signature ours copies what was verified, and Minisign what is there."""
+        directory = self.signed(*flags)
+        ended, output = self.copied(program, directory, lambda: write(directory, "data", DATA["more"]), "-Vom", "data")
+        wanted = DATA["more"] if program == self.whole.theirs else DATA["data"] if flags else b""
+        expect((ended, output) == (status, wanted), f"it ended with {ended} and copied {output!r}")
 
     def tags_of_pieces(self):
         """The tags by which two readings of a piece are compared are those of the formula, also where the compiler has no numbers
@@ -278,13 +295,13 @@ class Safety:
 
     def full_output(self):
         """Where the output is full it does not end well."""
-        directory = self.directory()
-        self.ours(directory, "-Sm", "data", "-s", OPEN)
-        for arguments in (("-Vm", "data", "-p", PUBLIC), ("-v",), ("-h",), ("-CW", "-s", OPEN)):
-            with open("/dev/full", "wb") as full:
-                ran = subprocess.run([self.whole.ours, *arguments], cwd=directory, stdin=subprocess.DEVNULL, stdout=full,
-                                     stderr=subprocess.PIPE, timeout=SECONDS)
-            expect(ran.returncode == 2, f"{arguments}: it ended with {ran.returncode}")
+        directory, verifying = self.signed(), ("-Vm", "data", "-p", PUBLIC)
+        with open("/dev/full", "wb") as full:
+            for arguments in (verifying, ("-v",), ("-h",), ("-CW", "-s", OPEN)):
+                ran = run_program([self.whole.ours, *arguments], directory, stdout=full)
+                expect(ran.status == 2, arguments, ran)
+            ran = run_program([self.whole.theirs, *verifying], directory, stdout=full)
+            expect(ran.status == 0, "Minisign", ran)
 
     # ---- Keys ----
 
@@ -323,6 +340,28 @@ def with_memory(command, directory, typed):
     _, status, used = os.wait4(process.pid, 0)
     process.returncode = os.waitstatus_to_exitcode(status)
     return process.returncode, used.ru_maxrss, text
+
+
+def full_pipe():
+    """The two ends of a pipe in which there is no more room."""
+    reader, writer = os.pipe()
+    os.set_blocking(writer, False)
+    try:
+        while True:
+            os.write(writer, bytes(4096))
+    except BlockingIOError:
+        os.set_blocking(writer, True)
+    return reader, writer
+
+
+def wait_for_rest(process):
+    """Waits until a process has slept for half a second."""
+    rested = 0
+    end = time.monotonic() + SECONDS
+    while rested < 10 and time.monotonic() < end:
+        with open(f"/proc/{process.pid}/stat", encoding="ascii") as stat:
+            rested = rested + 1 if stat.read().rpartition(")")[2].split()[0] == "S" else 0
+        time.sleep(0.05)
 
 
 def read_all(reader):
@@ -377,12 +416,12 @@ def add_zero(path):
 def cases(safety):
     """The names of all cases, and what runs each."""
     for number in (signal.SIGINT, signal.SIGTERM, signal.SIGHUP, signal.SIGQUIT):
-        yield f"the terminal after {number.name}", lambda n=number: safety.echo_after(n)
+        yield f"the terminal after {number.name}", safety.echo_after, number
     yield "the terminal after a key that interrupts", safety.echo_by_key
     yield "the terminal after a stop", safety.stopped_and_continued
     yield "secrets are locked", safety.locked
     for number in (signal.SIGINT, signal.SIGTERM, signal.SIGHUP):
-        yield f"secrets after {number.name}", lambda n=number: safety.cleared_by_signal(n)
+        yield f"secrets after {number.name}", safety.cleared_by_signal, number
     yield "a password and what is after it", safety.passwords_apart
     yield "a key of default limits in little memory", safety.opens_in_little_memory
     yield "a key where memory is short", safety.opens_where_memory_is_short
@@ -393,7 +432,11 @@ def cases(safety):
     for name, change in (("changed", overwrite), ("changed in its order", swap_blocks), ("changed at its end", turn_last), ("longer", add_zero),
                          ("cut", lambda path: os.truncate(path, 1000000)), ("cut at a zero", lambda path: os.truncate(path, LARGE - 1)),
                          ("emptied", lambda path: os.truncate(path, 0))):
-        yield f"data that is {name} before it is copied", lambda value=change: safety.changed_while_copied(value)
+        yield f"data that is {name} before it is copied", safety.changed_while_copied, change
+    for name, program, status, *flags in (("ours", safety.whole.ours, 1), ("Minisign", safety.whole.theirs, 0),
+                                          ("ours, legacy", safety.whole.ours, 0, ("-l",))):
+        what = f"data that is replaced before it is copied, {name}"
+        yield what, safety.replaced_while_copied, program, status, *flags
     yield "tags of pieces", safety.tags_of_pieces
     yield "copies of large files", safety.copies_large_files
     yield "a full output", safety.full_output
