@@ -1,22 +1,24 @@
 #!/usr/bin/env python3
-"""The module of `bindings/go` as its user has it: what is packed, unpacked into an empty directory, and built by Debian's Go without a
-network and without the kit, by a program of another module, also where that has it in its directory `vendor` alone.
+"""Tries the module of `bindings/go` as its user has it: packed, unpacked into an empty directory, and built by
+Debian's Go without network and kit, by a program of another module, also from its directory `vendor` alone.
 
     tests/bindings/go.py
 
-Its own tests and examples run under `go vet` and under the race detector, over each copy of the calls for x86-64, and for AArch64 in
-an emulator. Over the calls as C it answers the same here, for ARM with pointers of 32 bits, and for Windows under wine; as a
-dependency by a git path it is built in a path with blanks, with no make in PATH; and where there is no cgo a sentence says so. What
-that program answers to kept keys and signatures, to damaged ones, to data in pieces and in files, and to signatures that
-implementations of Ed25519 differ in is compared with `c/minisign` and with libsodium; why it rejects, with the numbers of the header.
-Keys and signatures that it makes `c/minisign` reads, and the other way; no key shows its secret, none is left of one that was cleared,
-and none is sealed weakly. 20,000 damaged texts, and keys and signatures that the caller has changed since they were read, or put together, get the verdict of
-go-minisign, which is run beside, but for differences that tables name. Many calls take no more memory, and threads get the same answers, under the race detector too. The program of README.md is
-built. Each of some planted bugs is noticed. It prints a line for each failure; the last line is `N passed, M failed`.
+Its own tests and examples run under `go vet` and under the race detector, over each copy of the calls for x86-64, and
+for AArch64 in an emulator. Over the calls as C it answers the same here, for ARM with pointers of 32 bits, and for
+Windows under wine. As a dependency by a git path it is built in a path with blanks, with no make in PATH; without cgo
+a sentence says so. Its answers to kept keys and signatures, to damaged ones, to data in pieces and in files, and to
+signatures that implementations of Ed25519 differ in are compared with `c/minisign` and with libsodium; its reasons,
+with the numbers of the header. `c/minisign` reads the keys and signatures that it makes, and the other way; no key
+shows its secret, none is left of one that was cleared, and none is sealed weakly. 20,000 damaged texts, and keys and
+signatures that the caller has changed since they were read, or put together, get the verdict of go-minisign, which is
+run beside, but for differences that tables name. Many calls take no more memory, and threads get the same answers,
+under the race detector too. The program of README.md is built. Each of some planted bugs is noticed. It prints a line
+for each failure; the last line is `N passed, M failed`.
 
 Needs Python 3.9 or later, golang-go, make, a C compiler, binutils and libsodium with its header, and of Debian
 golang-github-jedisct1-go-minisign-dev, gcc-aarch64-linux-gnu, libc6-dev-arm64-cross, gcc-arm-linux-gnueabihf,
-libc6-dev-armhf-cross, qemu-user-static, gcc-mingw-w64-x86-64, wine64 and git, and installs what is not there where it may.
+libc6-dev-armhf-cross, qemu-user-static, gcc-mingw-w64-x86-64, wine64 and git. It installs what is missing if it may.
 """
 
 import base64
@@ -483,7 +485,6 @@ def check_all(checks, room):
     check_many(checks, program, racing)
     check_readme(checks, go, room, package, minisign)
     check_planted(checks, go, package, room, minisign)
-    check_planted_signing(checks, go, package, room, minisign)
     check_arm(checks, go, package)
     check_copies(checks, package)
     check_without_cgo(checks, go, room, package)
@@ -526,38 +527,23 @@ SIGNING_BUGS = [
 def check_planted(checks, go, package, room, minisign):
     """Each planted bug is noticed by what is asked of a program over the changed package."""
     cases = shared_cases.corpus()
+    lines = shared_cases.lines_of(cases)
     wanted, strict = (shared_cases.answers_of(minisign, room, cases, allow) for allow in (True, False))
-    for number, (file, old, new) in enumerate(BUGS):
-        directory = os.path.join(room, f"planted-{number}")
-        changed = os.path.join(directory, "package")
-        shutil.copytree(package, changed)
-        text = shared_cases.read(os.path.join(changed, file)).decode()
-        write(changed, file, text.replace(old, new, 1).encode())
-        found, program = Checks(), go.build("answers.go", os.path.join(directory, "using"), changed)
-        lines = shared_cases.lines_of(cases)
-        shared_cases.compare(found, "kept", cases, run([program, "files", directory], data=lines)[1], wanted)
-        shared_cases.compare(found, "in pieces", cases, run([program, "pieces", "7"], data=lines)[1], strict)
-        check_vectors(found, program)
-        check_rejections(found, program)
-        check_read(found, program)
-        check_changed(found, go.build("changed.go", os.path.join(directory, "changing"), changed))
-        checks.check(old in text and found.failures, f"planted in {file}, and not noticed: {new}")
 
+    def ask(found, changed, directory):
+        program = go.build("answers.go", os.path.join(directory, "using"), changed)
+        yield shared_cases.compare(found, "kept", cases, run([program, "files", directory], data=lines)[1], wanted)
+        yield shared_cases.compare(found, "in pieces", cases, run([program, "pieces", "7"], data=lines)[1], strict)
+        for check in (check_vectors, check_rejections, check_read):
+            yield check(found, program)
+        yield check_changed(found, go.build("changed.go", os.path.join(directory, "changing"), changed))
 
-def check_planted_signing(checks, go, package, room, minisign):
-    """Each planted bug of what signs is noticed by what a program makes over the changed package."""
-    for number, (file, old, new) in enumerate(SIGNING_BUGS):
-        directory = os.path.join(room, f"planted-signing-{number}")
-        changed = os.path.join(directory, "package")
-        shutil.copytree(package, changed)
-        text = shared_cases.read(os.path.join(changed, file)).decode()
-        write(changed, file, text.replace(old, new, 1).encode())
-        found, program = Checks(), go.build("signing.go", os.path.join(directory, "using"), changed)
-        try:
-            check_signing(found, program, os.path.join(directory, "signed"), minisign)
-        except OSError as why:
-            found.check(False, f"it did not go on: {why}")
-        checks.check(old in text and found.failures, f"planted in {file}, and not noticed: {new}")
+    def ask_to_sign(found, changed, directory):
+        program = go.build("signing.go", os.path.join(directory, "using"), changed)
+        yield check_signing(found, program, os.path.join(directory, "signed"), minisign)
+
+    shared_cases.check_planted(checks, package, BUGS, room, ask)
+    shared_cases.check_planted(checks, package, SIGNING_BUGS, room, ask_to_sign)
 
 
 def run_all(checks, room):

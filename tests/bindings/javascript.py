@@ -1,22 +1,24 @@
 #!/usr/bin/env python3
-"""The package of `bindings/javascript` as its user has it: what `npm pack` makes, unpacked into the directory `node_modules` of a
-program in an empty directory; in Node, and in a page and a worker of Chromium and of Firefox. There is no network and no kit.
+"""Tries the package of `bindings/javascript` as its user has it: what `npm pack` makes, unpacked into the directory
+`node_modules` of a program in an empty directory; in Node, and in a page and a worker of Chromium and of Firefox,
+without network and kit.
 
     tests/bindings/javascript.py [PAGE]
 
-The module is that of PAGE, the one of `dist/` where none is named. What the package answers to kept keys and signatures, to
-damaged ones, to data in pieces of each kind, and to signatures that implementations of Ed25519 differ in is compared with
-`c/minisign` and with libsodium; why it rejects, the list of errors and the sizes of structs, with the header. It makes keys and
-signatures that `c/minisign` reads, and reads those of `c/minisign`; no key shows its secret, and one that is sealed weakly says so. The types need
-neither those of the web nor those of Node. The examples of README.md run, also over what npm installs. A stream is closed where the promise is rejected, and its errors reject the promise,
-whenever they come. It runs where there is nothing but the language and a few globals that browsers, Node,
-Deno and workers all have, and needs each of these. Many calls take no more memory, and threads get the same answers. Each of some
-planted bugs is noticed. Where there is no npm, the files that package.json names are taken. It prints a line for each failure;
-the last line is `N passed, M failed`.
+The module is that of PAGE, by default the one of `dist/`. Its answers to kept keys and signatures, to damaged ones,
+to data in pieces of each kind, and to signatures that implementations of Ed25519 differ in are compared with
+`c/minisign` and with libsodium; its reasons, the list of errors and the sizes of structs, with the header. It makes
+keys and signatures that `c/minisign` reads, and reads those of `c/minisign`; no key shows its secret, and one that is
+sealed weakly says so. The types need neither those of the web nor those of Node. The examples of README.md run, also
+over what npm installs. A rejected promise closes the stream, and the stream's errors reject the promise, whenever
+they come. It runs where there is nothing but the language and a few globals that browsers, Node, Deno and workers all
+have, and needs each of these. Many calls take no more memory, and threads get the same answers. Each of some planted
+bugs is noticed. Where there is no npm, the files that package.json names are taken. It prints a line for each
+failure; the last line is `N passed, M failed`.
 
-Needs Python 3.9 or later, nodejs (the one that the environment names NODE, if any), node-typescript, make, clang, lld, a C compiler, libsodium with its
-header, and for the browsers chromium, chromium-driver, python3-selenium and firefox-esr, and installs what is not there where
-it may.
+Needs Python 3.9 or later, nodejs (the one that the environment names NODE, if any), node-typescript, make, clang,
+lld, a C compiler, libsodium with its header, and for the browsers chromium, chromium-driver, python3-selenium and
+firefox-esr. It installs what is missing if it may.
 """
 
 import base64
@@ -221,7 +223,7 @@ def check_keys(checks, program):
              letters[:-1]: "BARE_PUBLIC_KEY_LENGTH", "": "BARE_PUBLIC_KEY_LENGTH", f"-{letters[1:]}": "BARE_PUBLIC_KEY_NOT_BASE64",
              f" {letters}": "BARE_PUBLIC_KEY_NOT_BASE64", f"x\n{letters[:-1]}\n": "PUBLIC_KEY_LENGTH"}
     script = """import {verify} from "minisign-proved"; import {readFileSync} from "node:fs";
-      const [texts, data, signature] = JSON.parse(readFileSync(0)), bytes = it => Buffer.from(it, "base64");
+      const [texts, data, signature] = JSON.parse(readFileSync(0)), bytes = letters => Buffer.from(letters, "base64");
       for (const text of texts) console.log(await verify(bytes(data), bytes(signature).toString(), text).then(
         ({keyId, isLegacy}) => keyId === "E7620F1842B4E81F" && !isLegacy ? "accepted" : keyId, why => why.code));"""
     encoded = json.dumps([list(texts), *(base64.b64encode(part).decode() for part in (data, signature))]).encode()
@@ -317,7 +319,7 @@ def check_streams(checks, program):
 def check_readme(checks, program):
     """The examples of the README accept data that its key has signed, and reject other data; and sign."""
     verifying, signing, streaming = re.findall(r"^```js\n(.*?)^```$", text_of("README.md"), re.M | re.S)
-    given = 'import {readFileSync} from "node:fs";\nconst [data, signature] = process.argv.slice(-2).map(it => readFileSync(it));\n'
+    given = 'import {readFileSync} from "node:fs";\nconst [data, signature] = process.argv.slice(-2).map(name => readFileSync(name));\n'
     data = os.path.join(shared_cases.CORPUS, "test")
     signed = f"{signing}import {{verify}} from 'minisign-proved'; console.log((await verify(data, minisig, pub)).trustedComment);\n"
     shared_cases.write(program.user, "signed.mjs", (given + signed).encode())
@@ -470,42 +472,35 @@ SIGNING_BUGS = [
 def check_planted(checks, program, room, minisign):
     """Each planted bug is noticed by what is asked of a program over the changed package, in Node."""
     cases, vectors = shared_cases.corpus() + shared_cases.large(minisign, room), edges.vectors()
+    lines = shared_cases.lines_of(cases)
     legacy, strict = (shared_cases.answers_of(minisign, room, cases, allowed) for allowed in (True, False))
     kept = [case for case in shared_cases.corpus() if len(case.data) < 300_000]
-    for number, (file, old, new) in enumerate(BUGS):
-        user, found = os.path.join(room, f"planted-{number}"), Checks()
-        shutil.copytree(program.user, user)
-        path = os.path.join(user, "node_modules", "minisign-proved", file)
-        text = read(path).decode()
-        with open(path, "w", encoding="utf-8") as changed:
-            changed.write(text.replace(old, new))
-        other = Program(found, user)
-        lines = shared_cases.lines_of(cases)
-        shared_cases.compare(found, "with legacy signatures", cases, other.said(lines, "cases", "legacy"), legacy)
-        shared_cases.compare(found, "without them", cases, other.said(lines, "cases"), strict)
-        found.check(b" and " not in other.said(shared_cases.lines_of(kept), "pieces", "legacy"), "in pieces")
-        check_rejections(found, other)
-        check_read(found, other, room, minisign)
-        check_streams(found, other)
-        check_keys(found, other)
+
+    def over(found, changed, directory):
+        """The user's program over the changed package."""
+        user = os.path.join(directory, "user")
+        shutil.copytree(program.user, user, ignore=shutil.ignore_patterns("minisign-proved"))
+        os.symlink(changed, os.path.join(user, "node_modules", "minisign-proved"))
+        return Program(found, user)
+
+    def ask(found, changed, directory):
+        other = over(found, changed, directory)
+        yield shared_cases.compare(found, "with legacy signatures", cases, other.said(lines, "cases", "legacy"), legacy)
+        yield shared_cases.compare(found, "without them", cases, other.said(lines, "cases"), strict)
+        yield found.check(b" and " not in other.said(shared_cases.lines_of(kept), "pieces", "legacy"), "in pieces")
+        yield check_rejections(found, other)
+        yield check_read(found, other, room, minisign)
+        yield check_streams(found, other)
+        yield check_keys(found, other)
         answers = other.said(json.dumps(vectors).encode(), "vectors").decode().split()
-        found.check(answers == [str(vector["sodium"]).lower() for vector in vectors], "vectors")
-        checks.check(old in text and found.failures, f"planted in {file}, and not noticed: {new}")
+        yield found.check(answers == [str(vector["sodium"]).lower() for vector in vectors], "vectors")
 
+    def ask_to_sign(found, changed, directory):
+        yield check_signing(found, over(found, changed, directory), os.path.join(directory, "signed"), minisign, opens=False)
 
-def check_planted_signing(checks, program, room, minisign):
-    """The same of what signs."""
-    for number, (file, old, new) in enumerate(SIGNING_BUGS):
-        user, found = os.path.join(room, f"planted-signing-{number}"), Checks()
-        shutil.copytree(program.user, user)
-        path = os.path.join(user, "node_modules", "minisign-proved", file)
-        text = read(path).decode()
-        shared_cases.write(os.path.dirname(path), file, text.replace(old, new, 1).encode())
-        try:
-            check_signing(found, Program(found, user), os.path.join(room, f"signed-{number}"), minisign, opens=False)
-        except OSError as why:
-            found.check(False, f"it did not go on: {why}")
-        checks.check(old in text and found.failures, f"planted in {file}, and not noticed: {new}")
+    package = os.path.join(program.user, "node_modules", "minisign-proved")
+    shared_cases.check_planted(checks, package, BUGS, room, ask)
+    shared_cases.check_planted(checks, package, SIGNING_BUGS, room, ask_to_sign)
 
 
 def check_memory(checks, program):
@@ -535,7 +530,6 @@ def run_all(checks, room):
     check_npm(checks, program, room)
     check_browsers(checks, program, room, minisign)
     check_planted(checks, program, room, minisign)
-    check_planted_signing(checks, program, room, minisign)
     check_memory(checks, program)
 
 

@@ -1,15 +1,16 @@
 #!/usr/bin/env python3
-"""Looks whether each package of `bindings/` is laid out as the formatter does it that people of its language use, by the defaults of
-that: rustfmt, gofmt, black, and prettier.
+"""Compares the layout of each package of `bindings/` with what the formatter of its language makes by its defaults:
+rustfmt, gofmt, black, and prettier.
 
     tests/bindings/layout.py
 
-Debian has the first three, which are asked; what tools/bindings.py makes is laid out too. Of JavaScript, whose formatter Debian does
-not have, this looks at the width of lines, indentation, quotes, the blanks inside of brackets, the brackets around parameters and
-the comma behind the last of a list. No formatter breaks comments and docstrings: this looks at their width. Then each of some lines
-that are laid out otherwise is noticed. It prints a line for each failure; the last line is `N passed, M failed`.
+Debian has the first three, which run here; they also lay out what tools/bindings.py makes. Of JavaScript, whose
+formatter Debian does not have, this looks at the width of lines, indentation, quotes, the blanks inside of brackets,
+the brackets around parameters and the comma behind the last of a list. No formatter breaks comments and docstrings:
+this looks at their width. Then it notices each of some lines that are laid out otherwise. It prints a line for each
+failure; the last line is `N passed, M failed`.
 
-Needs Python 3.9 or later, and of Debian rustfmt, golang-go and black, and installs what is not there where it may.
+Needs Python 3.9 or later, and of Debian rustfmt, golang-go and black. It installs what is missing if it may.
 """
 
 import glob

@@ -1,18 +1,21 @@
 #!/usr/bin/env python3
-"""Builds the wheel of bindings/python from the archive of sources that is packed, without the kit, installs it into fresh environments
-without a network, and uses it as its user would, by libsodium and by the package `cryptography`.
+"""Tries the package of `bindings/python` as its user has it: builds the wheel from the packed archive of sources,
+without the kit, installs it into fresh environments without a network, and uses it over libsodium and over the
+package `cryptography`.
 
     tests/bindings/python.py
 
-The archive is also built where no archive of calls is for the system (`python_builds.py`). Its answers are compared with those of `c/minisign`: the kept corpus, 500 damaged texts, data in pieces; and with those of libsodium:
-the signatures of Ed25519 that implementations answer differently. Also: the exceptions and structs are those of the header; the
-types hold; each call names the argument that is of another type or value; calls hold no memory in the end; threads; keys and signatures of Minisign's own program; the examples of the README; the
-cases of tests/installer for `install` and `check`; and each of some planted bugs is noticed. It prints a line for each case that failed or was
+The archive is also built where there is no archive of calls for the system (`python_builds.py`). Its answers are
+compared with those of `c/minisign`: the kept corpus, 500 damaged texts, data in pieces; and with those of libsodium:
+the signatures of Ed25519 that implementations answer differently. Also: the exceptions and structs are those of the
+header; the types hold; each call names the argument that is of another type or value; calls hold no memory in the
+end; threads; keys and signatures of Minisign's own program; the examples of the README; the cases of tests/installer
+for `install` and `check`; and each of some planted bugs is noticed. It prints a line for each case that failed or was
 skipped; the last line is `N passed, M failed`.
 
-Needs Debian's Python with pip, venv, setuptools, wheel and cryptography, mypy, make, binutils, a C compiler, libsodium with its
-header, minisign and setfacl, musl-gcc, and of Debian gcc-mingw-w64-x86-64, wine64, gcc-aarch64-linux-gnu, libc6-dev-arm64-cross and
-qemu-user-static, and installs what is not there where it may.
+Needs Debian's Python with pip, venv, setuptools, wheel and cryptography, mypy, make, binutils, a C compiler,
+libsodium with its header, minisign and setfacl, musl-gcc, and of Debian gcc-mingw-w64-x86-64, wine64,
+gcc-aarch64-linux-gnu, libc6-dev-arm64-cross and qemu-user-static. It installs what is missing if it may.
 """
 
 import ast

@@ -1,5 +1,5 @@
-"""What each function and method of the Python package takes, and what it says to anything else: a TypeError or a ValueError that names
-the argument, before anything is written. `python_user.py` runs it, with the word `arguments`.
+"""The arguments of each function and method of the Python package: any other value is a TypeError or a ValueError
+that names the argument, before anything is written. `python_user.py` runs it, with the word `arguments`.
 
 Needs Python 3.9 or later.
 """

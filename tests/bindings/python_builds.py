@@ -1,7 +1,7 @@
-"""How the archive of sources of bindings/python is built where there is no archive of calls, and with no make in PATH: over the
-calls as C by Debian's compiler, over musl, for AArch64, and for Windows by mingw-w64. What was built is loaded, under qemu and wine
-where it is for others, and hashes. A compiler without GNU's options is an error that says so. A wheel is
-named after the machine that its compiler builds for. A bug that is planted in setup.py is noticed.
+"""Builds the archive of sources of bindings/python where there is no archive of calls, and with no make in PATH: over
+the calls as C by Debian's compiler, over musl, for AArch64, and for Windows by mingw-w64. What was built is loaded,
+under qemu and wine if it is for others, and hashes. A compiler without GNU's options is an error that says so. A
+wheel is named after the machine that its compiler builds for. A bug that is planted in setup.py is noticed.
 """
 
 import glob

@@ -1,4 +1,5 @@
-"""A program with the words of `minisign-install`, over `install` and `check` of the Python package: so the cases of tests/installer run over it.
+"""A program with the words of `minisign-install`, over `install` and `check` of the Python package: the cases of
+tests/installer run over it.
 
 Needs Python 3.9 or later.
 """
@@ -48,10 +49,10 @@ def rejection_text(data, signature, place, name, numbering, error):
     if isinstance(error, minisign.SameNumber):
         more = "\n--again installs all the same"
     if isinstance(error, minisign.NoNumber):
-        more = ("\nits version is wanted: without --numbering version its timestamp is" if numbering == "version"
-                else "\nits timestamp is wanted: --numbering version has it numbered by its version")
+        more = ("\nwithout --numbering version the number is its timestamp" if numbering == "version"
+                else "\n--numbering version takes the number from its version")
     if isinstance(error, minisign.OtherFile):
-        more = f"\n{name} is wanted: --name wants another name than that of the target"
+        more = f"\n{name} is wanted: --name gives another name"
     if isinstance(error, (minisign.KeptByVersion, minisign.KeptByTimestamp)):
         kept = "version" if isinstance(error, minisign.KeptByVersion) else "timestamp"
         more = f"\nit was installed by {kept}: add --numbering {kept}"

@@ -1,6 +1,6 @@
 """The cases of tests/installer for `install` and `check` of the Python package, by the program `python_installing.py`.
 
-Needs Python 3.9 or later, minisign, a C compiler and setfacl, which are installed where that is allowed.
+Needs Python 3.9 or later, minisign, a C compiler and setfacl, which it installs if it may.
 """
 
 import os
@@ -45,18 +45,18 @@ def installer(python, room):
 
 
 def chosen_cases(installing):
-    words = {name for name, _ in word_cases(installing)} | {name for name, case in check_cases(installing) if getattr(case, "func", None) is says} | set(LEFT_OUT)
+    words = {name for name, *_ in word_cases(installing)} | {name for name, case, *_ in check_cases(installing) if case is says} | set(LEFT_OUT)
     kept = {"a name that begins with a dash", "another name than the signed one"}
     # (what the host does after a cut over other beginnings, the cases of the program show)
     cut_off = {f"cut off by {cut}, over {begin}" for begin, *_ in BEGINNINGS[1:] for cut, _ in CUTS}
-    return [(name, case) for name, case in cases(installing) if name not in (words - kept) | cut_off]
+    return [(name, case, given) for name, case, *given in cases(installing) if name not in (words - kept) | cut_off]
 
 
 def run_all(check, python, room):
     """Runs the cases, each of which is checked."""
-    for name, case in chosen_cases(installer(python, room)):
+    for name, case, given in chosen_cases(installer(python, room)):
         try:
-            case()
+            case(*given)
             check(True, name)
         except Skip as why:
             print(f"skipped: installing: {name}: {why}")

@@ -1,5 +1,6 @@
-"""What a user of the Python package does, in a Python that has it installed: `python.py` runs it. With the word `answers`, `pieces` or
-`vectors` it answers a line for each case that it reads; with another one it checks, and its last line is `N passed, M failed`.
+"""A user of the Python package, in a Python that has it installed: `python.py` runs it. With the word `answers`,
+`pieces` or `vectors` it answers a line for each case that it reads; with another one it checks, and its last line is
+`N passed, M failed`.
 
 Needs Python 3.9 or later.
 """

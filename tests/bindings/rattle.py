@@ -1,13 +1,13 @@
 #!/usr/bin/env python3
-"""Builds the caller of examples/rattle in a copy, over the libraries as they stand proved (tests/shared/proved.py), and verifies files
-with keys of Minisign's own program: what was signed is accepted, and what was changed is rejected.
+"""Builds the caller of examples/rattle in a copy, over the libraries as they stand proved (tests/shared/proved.py),
+and verifies files with keys of Minisign's own program: it accepts signed files, and rejects changed ones.
 
     tests/bindings/rattle.py
 
 It prints a line for each failure; the last line is `N passed, M failed`.
 
-Needs Python 3.9 or later, the Rattle kit, a C compiler, libsodium with its header and archive, and minisign, and installs what is not
-there where it may, but for the kit.
+Needs Python 3.9 or later, the Rattle kit, a C compiler, libsodium with its header and archive, and minisign. It
+installs what is missing if it may, but for the kit.
 """
 
 import glob

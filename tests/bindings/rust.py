@@ -1,20 +1,23 @@
 #!/usr/bin/env python3
-"""The crate of `bindings/rust` as its user has it: what cargo packs, unpacked into an empty directory, and built by cargo without a
-network, without a registry and without the kit, by a program of another crate that names it `minisign-verify`.
+"""Tries the crate of `bindings/rust` as its user has it: packed by cargo, unpacked into an empty directory, and built
+by cargo without network, registry and kit, by a program of another crate that names it `minisign-verify`.
 
     tests/bindings/rust.py
 
-It is built in a path with blanks, with no make in PATH, as a git dependency, for Windows, where wine runs it, and for AArch64; a
-compiler without GNU's options, or for another target, is an error that says so. The examples of its documentation run. What that program answers to kept keys and signatures, to damaged ones, to data in pieces and
-to signatures that implementations of Ed25519 differ in is compared with `c/minisign` and with libsodium; why it rejects, with the
-names of the header. It makes keys and signatures that `c/minisign` reads, and reads those of `c/minisign`. Many calls take no more
-memory, and threads get the same answers. Structs and calls are declared as the header has them; what is written by hand has at most
-650 lines, and no `unsafe` outside one module; without its feature `sodium` nothing of libsodium is linked. Each of some planted bugs
-is noticed. It prints a line for each failure; the last line is `N passed, M failed`.
+It is built in a path with blanks, with no make in PATH, as a git dependency, for Windows, where wine runs it, and for
+AArch64; a compiler without GNU's options, or for another target, is an error that says so. The examples of its
+documentation run. Its answers to kept keys and signatures, to damaged ones, to data in pieces and to signatures that
+implementations of Ed25519 differ in are compared with `c/minisign` and with libsodium; its reasons, with the names of
+the header. It makes keys and signatures that `c/minisign` reads, and reads those of `c/minisign`. Many calls take no
+more memory, and threads get the same answers. Structs and calls are declared as the header has them; what is written
+by hand has at most 650 lines, and no `unsafe` outside one module; without its feature `sodium` nothing of libsodium
+is linked. Each of some planted bugs is noticed. It prints a line for each failure; the last line is `N passed, M
+failed`.
 
-Needs Python 3.9 or later, cargo, rustc, make, a C compiler, binutils and libsodium with its header, git, and of Debian
-libstd-rust-dev-windows, gcc-mingw-w64-x86-64, wine64, gcc-aarch64-linux-gnu, libc6-dev-arm64-cross and qemu-user-static, and installs
-what is not there where it may; Rust's library for AArch64 is fetched by apt-get, once. Where another cargo than Debian's comes first in PATH, both are tried.
+Needs Python 3.9 or later, cargo, rustc, make, a C compiler, binutils and libsodium with its header, git, and of
+Debian libstd-rust-dev-windows, gcc-mingw-w64-x86-64, wine64, gcc-aarch64-linux-gnu, libc6-dev-arm64-cross and
+qemu-user-static. It installs what is missing if it may; apt-get fetches Rust's library for AArch64 once. Where
+another cargo than Debian's comes first in PATH, both are tried.
 """
 
 import base64
@@ -445,25 +448,16 @@ def check_planted(checks, cargo, crate, room, minisign):
     lenient = copy.copy(cargo)
     lenient.environment = {**cargo.environment, "RUSTFLAGS": ""}
     take_built(cargo, room)
-    for number, (file, old, new) in enumerate(BUGS):
-        directory = os.path.join(room, f"planted-{number}")
-        changed = os.path.join(directory, "crate")
-        shutil.copytree(crate, changed)
-        text = shared_cases.read(os.path.join(changed, file)).decode()
-        write(changed, file, text.replace(old, new).encode())
-        found = Checks()
-        program = lenient.program(directory, f"planted-{number}", RENAMED.format(crate=changed), "answers.rs")
-        shared_cases.compare(found, "kept", kept, run([program, "verify"], data=shared_cases.lines_of(kept))[1], wanted)
-        shared_cases.compare(found, "from a reader", kept, run([program, "reader"], data=shared_cases.lines_of(kept))[1], strict)
-        check_rejections(found, program)
-        check_comments(found, program)
-        check_read(found, program)
-        check_vectors(found, program)
-        try:
-            check_signing(found, program, directory, minisign)
-        except OSError as why:
-            found.check(False, f"it did not go on: {why}")
-        checks.check(old in text and found.failures, f"planted in {file}, and not noticed: {new}")
+
+    def ask(found, changed, directory):
+        program = lenient.program(directory, "planted", RENAMED.format(crate=changed), "answers.rs")
+        yield shared_cases.compare(found, "kept", kept, run([program, "verify"], data=shared_cases.lines_of(kept))[1], wanted)
+        yield shared_cases.compare(found, "from a reader", kept, run([program, "reader"], data=shared_cases.lines_of(kept))[1], strict)
+        for check in (check_rejections, check_comments, check_read, check_vectors):
+            yield check(found, program)
+        yield check_signing(found, program, directory, minisign)
+
+    shared_cases.check_planted(checks, crate, BUGS, room, ask)
     shutil.rmtree(os.path.join(room, ".cargo"))
 
 

@@ -1,10 +1,10 @@
-"""What the tests of the packages in bindings/ share: the cases that each package has to answer, what `c/minisign` answers to
-them, and what the header says of numbers and structs.
+"""Shared by the tests of the packages in bindings/: the cases that each package has to answer, the answers of
+`c/minisign`, and the numbers and structs of the header.
 
-A case is a public key, data and a signature, each as bytes. A package's test hands the cases to a program in the package's
-language, one on each line (`lines_of`), and compares what comes back with `c/minisign` (`answers_of`).
+A case is a public key, data and a signature, each as bytes. A package's test hands the cases to a program in the
+package's language, one on each line (`lines_of`), and compares what comes back with `c/minisign` (`answers_of`).
 
-Needs Python 3.9 or later, make, a C compiler and libsodium with its header, and installs what is not there where it may.
+Needs Python 3.9 or later, make, a C compiler and libsodium with its header. It installs what is missing if it may.
 """
 
 import base64
@@ -14,6 +14,7 @@ import json
 import os
 import random
 import re
+import shutil
 import subprocess
 import sys
 from typing import NamedTuple
@@ -365,6 +366,27 @@ def check_weak(checks, answer, room, text, good):
     for limits, is_weak in [((524287, 1 << 24), True), ((524288, (1 << 24) - 1), True), ((1, 1), True), ((524288, 1 << 24), False)] if good else []:
         said = answer("sealed", *map(str, limits))
         checks.check(said == ("WEAK_LIMITS" if is_weak else good), f"sealing under {limits}: {said}")
+
+
+# ---- Planted bugs ----
+
+
+def check_planted(checks, package, bugs, room, ask):
+    """Plants each bug, a file with what is changed in it to what, in a copy of a package. `ask` puts questions to the copy, with a
+    directory of its own, and yields after each: one of them has to fail, and no other one is put after it."""
+    for number, (file, old, new) in enumerate(bugs):
+        directory = os.path.join(room, f"planted-{number}")
+        changed = os.path.join(directory, "package")
+        shutil.copytree(package, changed)
+        text = read(os.path.join(changed, file)).decode()
+        write(changed, file, text.replace(old, new, 1).encode())
+        found = Checks()
+        try:
+            any(found.failures for _ in ask(found, changed, directory))
+        except OSError as why:
+            found.check(False, f"it did not go on: {why}")
+        checks.check(old in text and found.failures, f"planted in {file}, and not noticed: {new}")
+        shutil.rmtree(directory)
 
 
 # ---- What the header says ----

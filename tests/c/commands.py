@@ -1,15 +1,15 @@
 #!/usr/bin/env python3
-"""Runs the commands of the documents as a reader does: those of README.md, examples/README.md and docs/INSTALLING.md, as they
-stand between the fences, one after the other in one clone of the repository, in one shell at a terminal.
+"""Runs the commands of the documents as a reader does: those between the fences of README.md, examples/README.md and
+docs/INSTALLING.md, one after the other in one clone of the repository, in one shell at a terminal.
 
     tests/c/commands.py
 
-Each ends with the status that its document says, and leaves what that says. After all of them git finds nothing new in the
-clone, and no secret key lies outside of the directories that git ignores. Commands that need the kit are left out, and
-named. It prints a line for each failure; the last line is `N passed, M failed`.
+Each ends with the status that its document says, and leaves what that says. After all of them git finds nothing new
+in the clone, and no secret key lies outside of the directories that git ignores. Commands that need the kit are left
+out, and named. It prints a line for each failure; the last line is `N passed, M failed`.
 
-Needs Python 3.9 or later, git, make, binutils, a C compiler, cargo, rustc and libsodium with its header, and installs what is not
-there where it may.
+Needs Python 3.9 or later, git, make, binutils, a C compiler, cargo, rustc and libsodium with its header. It installs
+what is missing if it may.
 """
 
 import base64
@@ -21,13 +21,13 @@ import subprocess
 import sys
 
 HERE = os.path.dirname(os.path.realpath(__file__))
-sys.path += [os.path.join(HERE, "..", name) for name in ("shared", "whole")]
+sys.path += [os.path.join(HERE, "..", name) for name in ("shared", "command_line")]
 
 import ending
 import needs
 import static_library
 from at_hand import TOP, copy_tree
-from whole_running import AtTerminal
+from command_running import AtTerminal
 
 DOCUMENTS = ("README.md", "examples/README.md", "docs/INSTALLING.md")
 # What is left out, by how it begins, and why.
@@ -57,14 +57,15 @@ def commands_of(document):
     return [line for block in blocks for line in block.splitlines()]
 
 
-def run_in_shell(directory, commands, room):
-    """Runs commands in one shell, by a person at its terminal: of each its status, and what it said."""
+def run_in_shell(directory, commands, room, path=None):
+    """Runs commands in one shell, by a person at its terminal, with this PATH or that without the kit: of each its status, and
+    what it said."""
     script = os.path.join(room, "script")
     with open(script, "w", encoding="utf-8") as file:
         file.writelines(f"{command}\nprintf '\\n{ENDED}%s\\n' $?\n" for command in commands)
     home = os.path.join(room, "home")
     os.mkdir(home)
-    terminal = AtTerminal(["sh", script], shutil.which("sh"), directory, {"PATH": static_library.path_without_kit(), "HOME": home})
+    terminal = AtTerminal(["sh", script], shutil.which("sh"), directory, {"PATH": path or static_library.path_without_kit(), "HOME": home})
     for command in commands:
         yield (command, *answer(terminal))
     terminal.end()
