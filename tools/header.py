@@ -1,15 +1,15 @@
 #!/usr/bin/env python3
-"""Makes what the headers, `include/minisign.h` and `include/minisign_install.h`, and docs/FORMATS.md say of numbers from the
-sources of the crates: the numbers, as definitions have them, and the names, comments and texts of usage errors and of errors. Of
-the headers it makes the boundary before the proved calls (`boundary.py`), and their manual pages (`manual.py`), with the examples
-of `c/examples`.
+"""Makes what the headers, `include/minisign.h` and `include/minisign_install.h`, and docs/FORMATS.md say of numbers,
+from the sources of the crates: the numbers, and the names, comments and texts of errors. Of the headers it makes the
+boundary before the proved calls (`boundary.py`), and their manual pages (`manual.py`), with the examples of
+`c/examples`.
 
     tools/header.py            writes them
     tools/header.py --check    fails where one is not up to date; the last line is `N passed, M failed`
 
-A name in C is the name in the source, in capitals after `MINISIGN_`, or the one of `NAMES`. The comment is the first sentence
-of the source's. The head of `c/library/boundary.c`, and the head and the end of each manual page, are written by hand there, and kept.
-Needs Python 3.9 or later.
+A name in C is the name in the source, in capitals after `MINISIGN_`, or the one of `NAMES`. The comment is the first
+sentence of the source's. The head of `c/library/boundary.c`, and the head and the end of each manual page, are
+written by hand and kept. Needs Python 3.9 or later.
 """
 
 import re
@@ -186,9 +186,10 @@ def formats_text(numbers, rows, comments):
     """The document with the table of usage errors, and that of all errors with the names of those that C knows."""
     texts = re.findall(r'Misuse::(\w+) => (?:\{\s*)?"((?:[^"\\]|\\.)*)"', item_text(NUMBERS, "fn", "Misuse::text"))
     in_c = {error.variant: f"`MINISIGN_{error.name}`" for error in numbers}
-    uses = [(str(misuse.number), in_c[misuse.variant], misuse.comment, f"`{dict(texts)[misuse.variant]}`") for misuse in misuses()]
-    told = [(f"`{name}`", number, in_c.get(name, ""), kind, f"`{text}`", comments[name]) for name, number, kind, text in rows]
-    tables = {"numbers": table(("Number", "Name in C", "When", "Text"), uses),
+    uses = [(str(misuse.number), in_c[misuse.variant], f"`{dict(texts)[misuse.variant]}`") for misuse in misuses()]
+    # (the header says when those come that have a name there)
+    told = [(f"`{name}`", number, in_c.get(name, ""), kind, f"`{text}`", "" if name in in_c else comments[name]) for name, number, kind, text in rows]
+    tables = {"numbers": table(("Number", "Name in C", "Text"), uses),
               "errors": table(("Name", "Number", "Name in C", "Kind", "Text", "When"), told)}
     text = read(FORMATS)
     for name, made in tables.items():

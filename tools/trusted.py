@@ -1,9 +1,11 @@
 #!/usr/bin/env python3
-"""Makes docs/TRUSTED.md: everything that the promise of the whole rests on, as the definitions' own text with their files, in
-the order of use: what a verdict is, what opening and signing add, then devices, installing, and the calls from C. What the
-clauses reach is found by following their names; a definition stands in the first part that reaches it, below what first uses it.
-What is written by hand stands in the document itself and is kept: all before and behind the parts, and of each part its title
-and the paragraph under it, but for the numbers of definitions and lines.
+"""Makes docs/TRUSTED.md: everything that the promise of the whole rests on, as the definitions' own text with their
+files, in the order of use: what a verdict is, what opening and signing add, then devices, the calls from C, and
+installing. What the clauses reach is found by following their names; a definition stands in the first part that
+reaches it, below what first uses it. At the end of a part stand by name alone those that are read in their files,
+of which nearly all counts, and so do the kit's. What is written by hand stands in the document itself and is kept:
+all before and behind the parts, and of each part its title and the paragraph under it, but for the numbers of
+definitions and lines.
 
     tools/trusted.py            writes the document
     tools/trusted.py --check    fails where it is not up to date; the last line is `N passed, M failed`
@@ -24,25 +26,27 @@ from sources import Definition, Unfit
 DOCUMENT = "docs/TRUSTED.md"
 FACTS = "proofs/Facts.antt"
 
-# A part: the functions whose clauses promise it, by crate, path and the name of the clause; and a definition of specs/ with which
-# it begins.
-Part = namedtuple("Part", "clauses first", defaults=("",))
+# A part: the functions whose clauses promise it, by crate, path and the name of the clause; a definition of specs/ with
+# which it begins; and a pattern of files that are read as they are, and not in the document.
+Part = namedtuple("Part", "clauses first files", defaults=("", "(?!)"))
 VERDICT = Part((("minisign", "verify_bytes", ""),), "verdict")
 OPENING = Part((("minisign", "open_with_password", ""),), "open_key")
 SIGNING = Part((("minisign", "sign_bytes", "headline"),))
 DEVICES = Part((("minisign", "verify_texts", "headline"), ("minisign", "SecretKey::from_box", "headline"),
                 ("minisign", "sign_texts", "headline")))
-INSTALLING = Part((("minisign_install", "any_run_installs_only_updates", "safe"),
-                   ("minisign_install", "any_sequence_of_runs_ends_well", "ends")))
 # The calls from C in their order: what they come to together, whoever makes them.
-FROM_C = Part((("minisign_c", "verify_in_a_row", ""), ("minisign_c", "sign_in_a_row", "verifies")))
+FROM_C = Part((("minisign_c", "verify_in_a_row", ""), ("minisign_c", "sign_in_a_row", "verifies")),
+              # (the table of errors, which docs/FORMATS.md shows)
+              files=r"/crates/minisign_base/specs/Faults\.antt")
+# (What an update is, and what a run may bring, stands in the document; the rest is read in its files.)
+INSTALLING = Part((("minisign_install", "any_run_installs_only_updates", "safe"),),
+                  files=r"/crates/minisign_install/(?!specs/(?:Installing|Comments)\.)")
+RUNS = Part((("minisign_install", "any_sequence_of_runs_ends_well", "ends"),), files="/crates/")
 KIT = Part(())
-PARTS = (VERDICT, OPENING, SIGNING, DEVICES, INSTALLING, FROM_C, KIT)
+PARTS = (VERDICT, OPENING, SIGNING, DEVICES, FROM_C, INSTALLING, RUNS, KIT)
 
 # What is written by hand behind the parts begins so.
 TAIL = "\n\n## Notation"
-# A definition of the kit is shown where it has at most so many lines.
-SHOWN_LINES = 5
 # A name of antt, with what it may hold beside letters.
 NAME_OF = re.compile(r"[^\W\d][\w'-]*")
 # Files of what errors are, and their names: they end the part that reaches them.
@@ -68,7 +72,8 @@ class Trusted:
     def __init__(self):
         self.library = sources.Library()
         # The clauses with which a part begins.
-        self.clauses = {part: [(function_of(self.library, *clause), clause[2]) for clause in part.clauses] for part in PARTS}
+        self.clauses = {part: [(function_of(self.library, *clause), clause[2]) for clause in part.clauses]
+                        for part in PARTS}
         # By what stands for a definition: its part. In the order in which it is used.
         self.parts = {}
         # What the logic has without a definition, and what is found nowhere.
@@ -79,8 +84,8 @@ class Trusted:
             self.end_with_faults(part)
 
     def roots(self, part):
-        """What the clauses of a part name, that with which it begins first, and then the traits that they name. (Of the scheme
-        of a verdict the notation says what it accepts; the whole trait is for signing.)"""
+        """What the clauses of a part name, that with which it begins first, and then the traits that they name. (Of the
+        scheme of a verdict the notation says what it accepts; the whole trait is for signing.)"""
         named, traits = [], []
         for function, name in self.clauses[part]:
             for clause in function.clause(name):
@@ -184,35 +189,31 @@ def place_in(text, name):
 
 
 def text_of(definition):
-    """A definition's own text, with its comment, and without the bodies of functions."""
+    """A definition's own text, with its comment, without attributes, and without the bodies of functions."""
     if isinstance(definition, Definition):
         return "\n".join([*definition.comment, *definition.lines]).rstrip()
+    text = re.sub(r"(?m)^ *#\[.*\]\n", "", definition.text)
     if definition.what == "enum" and OF_FAULTS.search(definition.file):
         # (an enum of errors by the names of its variants: when each comes, the functions say)
-        first, *names, last = [line.strip() for line in definition.text.strip().split("\n") if not line.lstrip().startswith(("///", "#["))]
+        lines = [line.strip() for line in text.strip().split("\n")]
+        first, *names, last = [line for line in lines if not line.startswith("///")]
         indent = "    "
         return "\n".join([first, textwrap.fill(" ".join(names), 120, initial_indent=indent, subsequent_indent=indent,
                                                break_on_hyphens=False), last])
-    return definition.text
-
-
-def names_of(definitions):
-    return ", ".join(f"`{definition.name}`" for definition in definitions) + "."
+    return text
 
 
 def block_of(language, definitions):
     return f"```{language}\n" + "\n\n".join(map(text_of, definitions)) + "\n```"
 
 
-def lines_of(text):
-    """How many lines the definitions of a part have: those in its blocks that are not empty, and one for each only named."""
-    blocks = re.findall(r"(?ms)^```\w+\n(.*?)^```$", text)
-    return sum(bool(line.strip()) for block in blocks for line in block.split("\n")) + sum(
-        line.count("`") // 2 for line in text.split("\n") if line.startswith("By name: "))
+def lines_of(texts):
+    """How many lines texts have that are not empty."""
+    return sum(bool(line.strip()) for text in texts for line in text.split("\n"))
 
 
 class Facts:
-    """The known values of definitions: of each its name, its file, the definition that it is about, and where it is printed."""
+    """The known values of definitions, with their names, files, what they are about, and where they are printed."""
 
     def __init__(self, trusted):
         self.trusted, self.about = trusted, {}
@@ -220,12 +221,14 @@ class Facts:
             file = os.path.join(trusted.library.crates[crate], FACTS)
             for definition in sources.read_module(file).definitions.values() if os.path.exists(file) else ():
                 if definition.text.startswith("pub ") and (subject := self.subject_of(definition)):
-                    printed = re.search(r"\((RFC \d+[^)]*)\)", " ".join(line.removeprefix("-- ") for line in definition.comment))
+                    comment = " ".join(line.removeprefix("-- ") for line in definition.comment)
+                    printed = re.search(r"\((RFC \d+[^)]*)\)", comment)
                     said = f"`{definition.name}`" + (f" ({printed[1]})" if printed else "")
-                    self.about.setdefault(trusted.parts[subject], {}).setdefault(file, {}).setdefault(subject, []).append(said)
+                    of_part = self.about.setdefault(trusted.parts[subject], {})
+                    of_part.setdefault(file, {}).setdefault(subject, []).append(said)
 
     def subject_of(self, fact):
-        """The first definition of the document that a fact names as what has the value, also by a word of its own file."""
+        """The first definition of the document that a fact names as what has the value, also by a word of its file."""
         module, waiting, seen = sources.read_module(fact.file), [signature_of(fact).partition("≡")[0]], {fact.name}
         while waiting:
             text = waiting.pop(0)
@@ -234,17 +237,16 @@ class Facts:
                 if own and token not in seen:
                     seen.add(token)
                     waiting.append(own.text[len(signature_of(own)):])
-                known = self.trusted.library.resolve(*module.imports[token]) if module.imports.get(token, ("", ""))[1] else None
+                imported = module.imports.get(token, ("", ""))
+                known = self.trusted.library.resolve(*imported) if imported[1] else None
                 if self.trusted.parts.get(known, KIT) is not KIT and isinstance(known, Definition):
                     return known
         return None
 
-    def of(self, part):
+    def of(self, part, linked):
         """What a part says of the known values of its definitions."""
-        library = self.trusted.library
         for file, subjects in self.about.get(part, {}).items():
-            shown = library.shown(file)
-            yield f"Known values, in [{shown}](../{shown}):\n\n" + "\n".join(
+            yield f"Known values, in {linked(file)}:\n\n" + "\n".join(
                 f"- `{subject.name}`: {', '.join(facts)}" for subject, facts in subjects.items())
 
 
@@ -252,67 +254,70 @@ class Writer:
     """Writes the parts in the document as it is kept, and counts what they have."""
 
     def __init__(self, trusted, kept):
-        self.trusted, self.library, self.kept, self.counts = trusted, trusted.library, kept, {}
+        self.trusted, self.library, self.kept, self.counts, self.links = trusted, trusted.library, kept, {}, {}
         self.facts = Facts(trusted)
 
     def by_hand(self, number, counts):
-        """The title of a part and the paragraph under it, as they stand in the document, with the numbers of what it has."""
+        """The title of a part and the paragraph under it, as they stand in the document, with its numbers."""
         found = re.search(rf"(?m)^## {number}\. .*\n\n.*$", self.kept)
         if not found:
             raise Unfit(f"{DOCUMENT} has no part {number}")
         return re.sub(r"\d+ definitions on \d+ lines", f"{counts[0]} definitions on {counts[1]} lines", found[0])
 
     def linked(self, file):
+        """A short name of a file, which leads to it by a line at the end of the parts."""
         shown = self.library.shown(file)
-        return f"[{shown}](../{shown})"
+        name = re.sub(r"^crates/|specs/(?=[^/]+$)|\.antt$", "", shown)
+        self.links[name] = f"[{name}]: ../{shown}"
+        return f"[{name}]"
 
-    def clauses(self, functions):
-        for function, name in functions:
-            text = next(each.whole for each in function.clause(name) if each.kind == "ensures")
-            yield f"`{function.path}` in {self.linked(function.file)}:"
-            yield f"```rust\n{text}\n```"
+    def clauses_of(self, part):
+        """The functions of a part, each with the text of its clause."""
+        return [(function, next(each.whole for each in function.clause(name) if each.kind == "ensures"))
+                for function, name in self.trusted.clauses[part]]
 
     def in_order(self, definitions):
-        """Definitions of the repository with their text, and the file above those that stand in one."""
+        """Definitions with their text, and the file above those that stand in one."""
         for file, of_file in itertools.groupby(definitions, key=lambda value: value.file):
             yield self.linked(file)
             yield block_of("antt" if file.endswith(".antt") else "rust", of_file)
 
-    def of_kit(self, file, definitions):
-        """Definitions of a file of the kit: only the short ones have their text."""
-        short = [definition for definition in definitions if isinstance(definition, Definition) and text_of(definition).count("\n") < SHOWN_LINES]
-        others = [definition for definition in definitions if definition not in short]
-        yield f"### {self.library.shown(file)}"
-        yield from ["By name: " + names_of(others)] if others else []
-        yield from [block_of("antt", short)] if short else []
+    def by_name(self, definitions, name_of):
+        """The names of definitions, by their files."""
+        files = {}
+        for definition in definitions:
+            files.setdefault(definition.file, []).append(f"`{definition.name}`")
+        return "\n".join(f"- {name_of(file)}: {', '.join(names)}" for file, names in files.items())
 
     def built_in(self):
         """What the logic has without a definition."""
         names = sorted(name for name in self.trusted.built_in if not re.search(r"\w-\w", name))
-        yield "### Built in"
-        yield "The logic itself has " + ", ".join(f"`{name}`" for name in names) + ", and `Type`, `→`, `×`, `λ`."
-
-    def kit(self, definitions):
-        files = {}
-        for definition in definitions:
-            files.setdefault(definition.file, []).append(definition)
-        for file, of_file in files.items():
-            yield from self.of_kit(file, sorted(of_file, key=lambda value: value.line))
-        yield from self.built_in()
+        return "The logic itself has " + ", ".join(f"`{name}`" for name in names) + ", and `Type`, `→`, `×`, `λ`."
 
     def part(self, number, part):
-        """The text of a part: its clauses, and its definitions in the order of use."""
+        """The text of a part: its clauses, its definitions in the order of use, then those that stand here by name, and
+        the facts."""
         definitions = [name for name, its in self.trusted.parts.items() if its is part]
-        pieces = [*self.clauses(self.trusted.clauses[part]), *(self.kit if part is KIT else self.in_order)(definitions)]
-        self.counts[number] = (len(definitions), lines_of("\n\n".join(pieces)))
-        return "\n\n".join([self.by_hand(number, self.counts[number]), *pieces, *self.facts.of(part)])
+        shown = [definition for definition in definitions if not re.search(part.files, definition.file)]
+        clauses = [text for _, text in self.clauses_of(part)]
+        self.counts[number] = (len(definitions), lines_of([*clauses, *map(text_of, definitions)]))
+        pieces = [self.by_hand(number, self.counts[number])]
+        if part is KIT:
+            return "\n\n".join([*pieces, self.by_name(definitions, self.library.shown), self.built_in()])
+        pieces += [f"`{function.path}` in {self.linked(function.file)}:\n\n```rust\n{text}\n```"
+                   for function, text in self.clauses_of(part)]
+        pieces += self.in_order(shown)
+        if shown != definitions:
+            named = (definition for definition in definitions if definition not in shown)
+            pieces += ["By name:", self.by_name(named, self.linked)]
+        return "\n\n".join([*pieces, *self.facts.of(part, self.linked)])
 
     def document(self):
         parts = [self.part(number, part) for number, part in enumerate(PARTS, 1)]
         head, tail = self.kept.partition("\n\n## 1. ")[0], self.kept.partition(TAIL)[1:]
         for number, counts in self.counts.items():
             head = re.sub(rf"(?m)^(\| {number}\. .* \|) \d+ \| \d+ \|$", rf"\g<1> {counts[0]} | {counts[1]} |", head)
-        return "\n\n".join([head, *parts]) + "".join(tail)
+        return "\n\n".join([head, *parts, "\n".join(self.links.values())]) + "".join(tail)
 
 
 def made():
