@@ -1,6 +1,6 @@
 // SPDX-License-Identifier: MIT
-// The begin: what the browser lacks is said; otherwise the library is loaded, and the page takes what it is given. The same
-// script is begun once more in the threads that hash, which have no document.
+// The begin: the page says what the browser lacks, or loads the library and takes files. The same script runs once more in
+// the threads that hash, which have no document.
 
 // The shortest module with a memory of 32-bit addresses and a function that takes a number of 64 bits.
 const SHORTEST = Uint8Array.of(0, 97, 115, 109, 1, 0, 0, 0, 1, 5, 1, 96, 1, 126, 0, 5, 3, 1, 0, 1);
@@ -90,7 +90,7 @@ function listen() {
   }
   addEventListener("drop", event => {
     const {files, hasDirectories} = droppedFiles(event.dataTransfer);
-    const section = [...document.querySelectorAll("section")].find(it => it.contains(event.target));
+    const section = [...document.querySelectorAll("section")].find(each => each.contains(event.target));
     if (files.length === 0 && !hasDirectories) {
       takeDroppedText(section?.querySelector("textarea"), event.dataTransfer.getData("text/plain"));
       return;

@@ -1,21 +1,21 @@
 #!/usr/bin/env python3
 # SPDX-License-Identifier: MIT
-"""Proves the crate minisign_page for 64-bit WebAssembly, builds it, has wasm-opt make a module with a memory of 32 bits of
-it, which each browser of the last years runs, and writes the page that verifies a download: one file, with the module in
-it, that loads nothing.
+"""Builds the page that verifies a download: one file, with the module in it, that loads nothing. It proves the crate
+minisign_page for 64-bit WebAssembly and builds it, and wasm-opt makes of that a module with a memory of 32 bits,
+which each browser of the last years runs.
 
     page/build.py [OUT] [--key LETTERS [--signature FILE.minisig ..]] [--title TITLE] [--from PAGE]
     page/build.py [OUT] --package [--from PAGE]
 
-OUT is the page, `page/minisign.html` where none is named. It has the script, the style and the module in it, and a policy
-that allows exactly these. With --key it has this public key, a line of 56 letters and digits, and takes no other; with
---signature it has these signatures, too, and takes a download alone; --title is its heading. With --from the module is that of
-a page which was built before, and neither the kit nor wasm-opt is needed. The same sources give the same bytes, whose SHA-256
-sum is printed. The page names its version; and the sum of its sources, which `tools/sources.sh page` prints, where
-`dist/PROVED` names that sum and the module, and otherwise says that it is not what that names.
+OUT is the page, by default `page/minisign.html`. It has the script, the style and the module in it, and a policy that
+allows exactly these. With --key it has this public key, a line of 56 letters and digits, and takes no other; with
+--signature it has these signatures, too, and takes a download alone; --title is its heading. With --from the module
+is that of an existing page, and neither the kit nor wasm-opt is needed. The same sources give the same bytes, whose
+SHA-256 sum is printed. The page names its version; and the sum of its sources, which `tools/sources.sh page` prints,
+where `dist/PROVED` names that sum and the module, and otherwise says that it is not what that names.
 
-`rt` proves the crate for this processor, as `rt ci` takes none for WebAssembly, so the prover is called for it here.
-Libraries below it that stand proved are taken as they are, and the others proved first (`tests/shared/proved.py`).
+`rt` proves the crate for this processor, and `rt ci` takes none for WebAssembly, so this calls the prover. It takes
+libraries below it that stand proved as they are, and proves the others first (`tests/shared/proved.py`).
 
 Needs Python 3.9 or later, the kit, and Debian's binaryen.
 """

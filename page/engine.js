@@ -1,18 +1,18 @@
 // SPDX-License-Identifier: MIT
-// Where data is hashed: in three threads, to which the page's script is given once more. They take turns: while one hashes a
-// slice of the file, the others read the next ones to where the module takes them from, which takes a browser up to twice as
-// long, and the state goes from one to the next.
-// Where the browser, or whoever serves the page, allows no such threads, all is done in the page's own.
+// Hashes data in three threads, which run the page's script once more. They take turns: while one hashes a slice of the file,
+// the others read the next ones into the module's memory, which takes a browser up to twice as long. The state goes from one
+// to the next.
+// If the browser or the server of the page allows no such threads, the page's own does all.
 
-// How long a thread may take to say that it is there, or a text to be read, in milliseconds.
+// How long a thread may take to begin, or a text to be read, in milliseconds.
 const MAX_MILLISECONDS = 10000;
 const THREADS = 3;
 // How many bytes of the file a thread reads and hashes at a time. Of a slice there are two copies for a moment, and the page is
 // to take at most 32 MiB more than an empty one.
 const SLICE_BYTES = 3 * 1048576;
-// A file that is no longer is hashed in the page's own thread, before another one would have answered.
+// A file of at most so many bytes is hashed in the page's own thread, before another one would have answered.
 const MAX_NEAR_BYTES = 1048576;
-// What a thread hashes before there is a file, and how often, so that the browser makes its better code of the module meanwhile.
+// What a thread hashes before there is a file, and how often, so that the browser compiles the module well meanwhile.
 const WARMING_BYTES = 262144;
 const WARMING_TIMES = 8;
 
@@ -22,8 +22,8 @@ const IS_FIREFOX = typeof InternalError === "function";
 
 // ---- In the thread ----
 
-// Gives the memory of bytes back at once, by posting it to where nobody is: it would lie there until the browser collects
-// what is left behind, which takes long enough for hundreds of megabytes.
+// Gives the memory of bytes back at once, by posting it to nobody: else it stays until the browser collects garbage, and may
+// grow to hundreds of megabytes.
 function giveBack(bytes) {
   if (IS_FIREFOX && bytes.buffer.transfer) {
     bytes.buffer.transfer(0);

@@ -1,14 +1,14 @@
 // SPDX-License-Identifier: MIT
-// The page: it takes a public key, files and signatures, has each file verified by the proved library and the browser's
-// Ed25519, one after another, and shows the verdicts.
+// The page: it takes a public key, files and signatures, verifies one file after another by the proved library and the
+// browser's Ed25519, and shows the verdicts.
 
 const SIGNATURE_ENDING = ".minisig";
 const KEY_ENDING = ".pub";
 // The name of a signature that was pasted.
 const PASTED = "pasted.minisig";
-// The data of a signature of the older kind is held in memory as a whole, up to this many bytes.
+// The data of a legacy signature is held in memory as a whole, up to this many bytes.
 const MAX_LEGACY_BYTES = 64 * 1048576;
-// How many milliseconds a progress that is shown stays at least: showing it takes longer than one may think.
+// How many milliseconds a shown progress stays at least: showing it takes long.
 const SHOWN_MILLISECONDS = 100;
 
 const at = id => document.getElementById(id);
@@ -16,7 +16,7 @@ const at = id => document.getElementById(id);
 // The library in the page's own thread reads texts and gives the verdict; the engine that has begun is where data is hashed.
 let library;
 let engineBegun;
-// The public key: its bytes as the library has read them, its identifier, its 56 letters, and its source, which is a kind of
+// The public key: its bytes as the library has read them, its key ID, its 56 letters, and its source, which is a kind of
 // SOURCES and the name of a file; or nothing while there is none.
 let key = null;
 // The signatures that are built into the page or that its address has, as files, each with the names that its file may have.
@@ -31,7 +31,7 @@ let lastTurn = Promise.resolve();
 // The person's last act, and whether a verdict that it brought was shown.
 let lastAct = {isAnswered: false};
 
-// Has an act of the person's done once those before it are.
+// Does what the person asks for once all before it is done.
 function inTurn(act) {
   const begin = () => {
     lastAct = {isAnswered: false};
@@ -130,7 +130,7 @@ function removeKey() {
 // Takes what is built into the page, and what its address has; no key of that where the page has its own.
 function takeCarried() {
   const {keys, letters, signatures} = partsOfLink(location.hash.slice(1));
-  const linked = signatures.map(it => [(namesIn(it)[0] ?? "link") + SIGNATURE_ENDING, it]);
+  const linked = signatures.map(text => [(namesIn(text)[0] ?? "link") + SIGNATURE_ENDING, text]);
   for (const [name, text] of [...linked, ...BUILT_IN_SIGNATURES]) {
     if (kindOfText(text) === "signature") {
       carried.push({file: new File([text], name), names: [nameOfSigned(name), ...namesIn(text)]});
@@ -143,15 +143,15 @@ function takeCarried() {
   } else if (keys.length > 0) {
     sayOfKey(NO_KEY_IN_ADDRESS);
   }
-  if (BUILT_IN_KEY && keys.some(it => it !== BUILT_IN_KEY)) {
+  if (BUILT_IN_KEY && keys.some(key => key !== BUILT_IN_KEY)) {
     at("key-said").append(" ", OTHER_KEY_IN_ADDRESS);
   }
 }
 
 // The signatures that a download is verified by: its own, or those that the page carries for its name, or else all of these.
 function signaturesOf({name, signature}) {
-  const named = carried.filter(it => it.names.some(other => isAlikeName(other, name)));
-  return signature ? [signature] : (named.length > 0 ? named : carried).map(it => it.file);
+  const named = carried.filter(each => each.names.some(other => isAlikeName(other, name)));
+  return signature ? [signature] : (named.length > 0 ? named : carried).map(each => each.file);
 }
 
 // ---- The files ----
@@ -192,10 +192,10 @@ async function takeFiles(files, hasDirectories = false) {
   const names = new Set(files.map(file => file.name));
   // A file that was taken for a download before, or comes with its signature, is one whatever is in it.
   const isDownload = ({name}) => !name.endsWith(SIGNATURE_ENDING) &&
-    (names.has(name + SIGNATURE_ENDING) || downloads.has(name) || carried.some(it => it.names.includes(name)));
+    (names.has(name + SIGNATURE_ENDING) || downloads.has(name) || carried.some(each => each.names.includes(name)));
   const kindOf = async file => isDownload(file) ? "data" : await kindOfFile(file);
   const given = await Promise.all(files.map(async file => ({file, kind: await kindOf(file)})));
-  const of = kind => given.filter(it => it.kind === kind).map(it => it.file);
+  const of = kind => given.filter(each => each.kind === kind).map(each => each.file);
   const [data, signatures] = [of("data"), of("signature")];
   const isPair = data.length === 1 && signatures.length === 1;
   for (const {file, kind} of given) {
@@ -232,7 +232,7 @@ function takeSignatureText(typed) {
 function joinLone() {
   const files = lacking("signature"), signatures = lacking("data"), isPair = files.length === 1 && signatures.length === 1;
   for (const signature of signatures) {
-    const file = files.find(it => !it.signature && (isPair || isAlikeName(it.name, signature.name)));
+    const file = files.find(other => !other.signature && (isPair || isAlikeName(other.name, signature.name)));
     if (file) {
       takeDownload(signature.signature, file.name, "signature");
       remove(signature);
@@ -241,7 +241,7 @@ function joinLone() {
 }
 
 function lacking(part) {
-  return [...downloads.values()].filter(it => !it[part]);
+  return [...downloads.values()].filter(download => !download[part]);
 }
 
 // Of keys that came among files one is taken where there is no key, and nothing in its field. What is there stays.
@@ -282,7 +282,7 @@ function takeDownload(file, name, part) {
   renew(download);
 }
 
-// Has a download verified anew, by what the person did last.
+// Verifies a download anew, by what the person did last.
 function renew(download) {
   stop(download);
   changed.add(download);
@@ -419,7 +419,7 @@ async function verdictBy(signature, download, run) {
 async function isOfOtherEnds(signatureText, verification) {
   const {questions} = verification;
   const comments = commentsWithEnds(signatureText, verification.comment());
-  const messages = comments.map(it => Uint8Array.of(...questions.signature, ...new TextEncoder().encode(it)));
-  const answers = await Promise.all(messages.map(it => accepts(questions.publicKey, questions.commentSignature, it)));
+  const messages = comments.map(comment => Uint8Array.of(...questions.signature, ...new TextEncoder().encode(comment)));
+  const answers = await Promise.all(messages.map(message => accepts(questions.publicKey, questions.commentSignature, message)));
   return answers.includes(true);
 }

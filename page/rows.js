@@ -15,14 +15,14 @@ function signed(verdict, more) {
   return element("span", "verdict", picture, words + more);
 }
 
-// Shows the worst verdict of all at the top of the window, of how many files it is, and what to do next: where a file is
-// verified under a name that is not the signer's, to read the warning of that.
+// Shows at the top of the window the worst verdict, how many files have it, and what to do next: if a file is verified under
+// a name that is not the signer's, to read the warning.
 function showBand() {
-  const found = Array.from(downloads.values(), it => it.row.dataset.verdict);
-  const verdict = [...VERDICTS.keys()].find(it => found.includes(it));
+  const found = Array.from(downloads.values(), download => download.row.dataset.verdict);
+  const verdict = [...VERDICTS.keys()].find(each => found.includes(each));
   at("band").hidden = verdict === undefined;
   if (verdict !== undefined) {
-    const of = found.length > 1 ? `: ${found.filter(it => it === verdict).length} of ${found.length} files` : "";
+    const of = found.length > 1 ? `: ${found.filter(each => each === verdict).length} of ${found.length} files` : "";
     at("band").dataset.verdict = verdict;
     const isWarned = verdict === "good" && at("verdicts").querySelector(".caution") !== null;
     at("band").replaceChildren(element("p", "", signed(verdict, of)), element("p", "", isWarned ? READ_WARNING : VERDICTS.get(verdict)[2]));

@@ -81,10 +81,10 @@ function decoded(part, isText) {
 // What a link has after #: the texts of signatures, as sig=; what it has as a key, as key=, or everything else where there is none
 // of that; and the 56 letters of that, or nothing where they are none, or there are more. Other words are never taken.
 function partsOfLink(after) {
-  const parts = after.split("&").filter(it => it !== "");
-  const valuesOf = (name, isText) => parts.filter(it => it.startsWith(name)).map(it => decoded(it.slice(name.length), isText));
+  const parts = after.split("&").filter(part => part !== "");
+  const valuesOf = (name, isText) => parts.filter(part => part.startsWith(name)).map(part => decoded(part.slice(name.length), isText));
   const named = valuesOf("key=", false);
-  const keys = named.length > 0 ? named : parts.filter(it => !it.startsWith("sig=")).map(it => decoded(it, false));
+  const keys = named.length > 0 ? named : parts.filter(part => !part.startsWith("sig=")).map(part => decoded(part, false));
   const letters = keys.length === 1 && KEY_LETTERS.test(keys[0]) ? keys[0] : "";
   return {keys, letters, signatures: valuesOf("sig=", true)};
 }
@@ -110,8 +110,8 @@ function toldByComment(comment) {
 
 // Whether two names differ at most in directories, in large and small letters, and in the number of a second download.
 function isAlikeName(name, other) {
-  const [bare, otherBare] = [name, other].map(it =>
-    it.replace(/^.*[\\/]/s, "").replace(/\s?\(\d+\)(?=(\.[^.\s]+)*$)/, "").normalize().toLowerCase());
+  const [bare, otherBare] = [name, other].map(each =>
+    each.replace(/^.*[\\/]/s, "").replace(/\s?\(\d+\)(?=(\.[^.\s]+)*$)/, "").normalize().toLowerCase());
   return bare === otherBare;
 }
 
@@ -121,6 +121,6 @@ function commentsWithEnds(signatureText, comment) {
   const line = signatureText.split("\n")[2] ?? "";
   const asItStands = line.slice(line.indexOf(":") + 1).replace(/^ /, "");
   const lost = [" ", "  ", "\t", "\r"];
-  return [asItStands, asItStands.replace(/\r$/, ""), ...lost.map(it => comment + it), ...lost.map(it => it + comment)]
-    .filter(it => it !== comment);
+  return [asItStands, asItStands.replace(/\r$/, ""), ...lost.map(letters => comment + letters), ...lost.map(letters => letters + comment)]
+    .filter(other => other !== comment);
 }

@@ -1,6 +1,6 @@
 // SPDX-License-Identifier: MIT
-// What is said to a person: why a file is not verified, by the numbers of include/minisign.h, what helps where something
-// else was given than was asked for, and how a text of a stranger's is shown.
+// The words of the page: why a file is not verified, by the numbers of include/minisign.h, what helps if something else was
+// given than was asked for, and how a stranger's text is shown.
 
 const DAMAGED = "Get the signature again: it was cut short or damaged, or it is no Minisign signature.";
 const NO_KEY = "Get the public key again: it was cut short or damaged, or it is no Minisign key.";
