@@ -10,7 +10,7 @@ optimization for the processor that `rt run` builds for. The time is processor t
 system for it, the least of ROUNDS runs (5 where it is left out) that take turns. It stops where the two
 programs print other results.
 
-Needs Python 3.9 or later and rustc, which it installs where it may.
+Needs Python 3.9 or later and rustc, which it installs if it may.
 """
 
 import base64

@@ -3,9 +3,10 @@
 
     bench/gate.py LOG
 
-What `.ci/run` says goes to the file LOG, and in it what each script of tests/scripts.txt took, of which there is a table of its
-own. The prover's processes are looked at twice a second, and told apart by their words and their directory, so no other prover
-may be at work; what was too short to be seen, and the scripts, are in the row of all else. Processor time grows with the work that others do on the host, also where `vmstat` shows none in its column `st`.
+What `.ci/run` says goes to the file LOG, and in it what each script of tests/scripts.txt took, of which there is a
+table of its own. It looks at the prover's processes twice a second, and tells them apart by their words and their
+directory, so no other prover may be at work; the row of all else has what was too short to be seen, and the scripts.
+Processor time grows with the work that others do on the host, also where `vmstat` shows none in its column `st`.
 
 Needs Python 3.9 or later, what the gate needs, and Linux.
 """

@@ -1,13 +1,13 @@
 #!/usr/bin/env python3
-"""Lists what the functions of a crate take to prove, the dearest first.
+"""Lists how long the functions of a crate take to prove, the longest first.
 
     bench/proofs.py CRATE [--test] [ROWS]
 
-The crate is proved from nothing, by one job, over the libraries below it, which are proved before where they were not. As
-the prover ends with a module it saves it, so the times of these files tell what each took: of a function mostly not the
-search for proofs, but what is made of its loans (`Lts`), its proof and its calls (`Tie`). These grow faster than the
-function: with its blocks and locals, with each `?`, and with each owned value that is let go on several paths. Seconds by
-the clock, so they mean something on a machine that has no other work.
+The crate is proved from nothing, by one job, over the libraries below it, which are proved first if they were not.
+The prover saves a module as it ends with it, so the times of these files show what each took: mostly not the search
+for proofs, but what is made of a function's loans (`Lts`), its proof and its calls (`Tie`). These grow faster than
+the function: with its blocks and locals, with each `?`, and with each owned value that is dropped on several paths.
+Seconds by the clock, so they mean something only on a quiet machine.
 
 Needs Python 3.9 or later and the kit.
 """

@@ -5,8 +5,8 @@ within a turn, by the clock and of the processor.
 
     bench/usual_keys.py [TURNS]
 
-In a turn each runs twice, and the second run counts by itself: a virtual machine may hand memory that nobody uses back to its
-host, huge pages first, and whoever needs it next waits for it once more. So the first runs show also what the other one left behind.
+In a turn each runs twice, and the second run counts by itself: a virtual machine may give unused memory back to its host,
+huge pages first, and the next program that needs it waits for it. So the first runs show also what the other one left behind.
 
 Needs: Python 3.9 or later, make, binutils, a C compiler, libsodium with its header, minisign, and 1.1 GB of memory.
 """

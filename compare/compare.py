@@ -10,7 +10,7 @@ makes requests by seed, has both programs answer them, and prints each differenc
 the shortest request of its kind first. `list` makes the stored run of crates/minisign_compare anew from the
 crate's answers: stdin, stdout and data/. README.md says more.
 
-Needs Python 3.9 or later and rustc, which it installs where it may.
+Needs Python 3.9 or later and rustc, which it installs if it may.
 """
 
 import argparse

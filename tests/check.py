@@ -1,14 +1,14 @@
 #!/usr/bin/env python3
-"""Runs the scripts that tests/scripts.txt lists, one after the other, and adds what their last lines say.
+"""Runs the scripts of tests/scripts.txt, one after the other, and adds up their last lines.
 
     tests/check.py                those that need no kit: `make -C c check`
-    tests/check.py SCRIPT ..      those of them that are named
-    tests/check.py --debian       those of them that the gate runs in a fresh Debian
+    tests/check.py SCRIPT ..      only these
+    tests/check.py --debian       those that the gate runs in a fresh Debian
     tests/check.py --group NAME   those of a group that the gate runs here
     tests/check.py --groups       prints each group with what the list says of it, for the gate
 
-Each script ends with a line `N passed, M failed`, and so does this: the sums. A script that ends badly, or without such a
-line, has failed at least once. `--list FILE` names another list.
+Each script ends with a line `N passed, M failed`, and so does this: the sums. A script that ends badly, or without
+such a line, counts as one failure at least. `--list FILE` names another list.
 
 Needs Python 3.9 or later, and what the scripts need.
 """

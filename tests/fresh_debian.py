@@ -1,20 +1,21 @@
 #!/usr/bin/env python3
-"""Has a fresh Debian, of the release that the documents name, build and try what needs no kit, as a user without rights.
+"""In a fresh Debian, of the release that the documents name, a user without rights builds and tests what needs no
+kit.
 
     tests/fresh_debian.py            the scripts that tests/scripts.txt marks by `debian`, which the gate runs nowhere else
     tests/fresh_debian.py SCRIPT ..  these
     tests/fresh_debian.py --all      all that need no kit
 
-It makes one by debootstrap, installs the packages of tests/packages.txt, but for those that none of the marked scripts needs
-where these run, copies the repository into the home of a new user, and has that user run `make -C c check` over the
-scripts. Nothing is installed while they run, and there is no newer compiler that a script could take. Not all scripts run
-there in the gate: the marked ones build and install as the documents say, by compilers and tools whose versions those name;
-the others have cases that need root, other compilers beside Debian's, or much more to install.
+It makes the system by debootstrap, installs the packages of tests/packages.txt (but for those that no marked script
+needs, where these run), copies the repository into the home of a new user, and has that user run `make -C c check`
+over the scripts. They install nothing, and find no newer compiler. The marked scripts build and install as the
+documents say, by the compilers and tools that those name. The others need root, other compilers, or much more to
+install.
 
-Where no fresh Debian can be had, as only root may make one and a mirror has to answer, it says why, and the marked scripts run
-here. The last line is `N passed, M failed`.
+If no fresh Debian can be had, since only root may make one and a mirror has to answer, it says why, and runs the
+marked scripts here. The last line is `N passed, M failed`.
 
-Needs Python 3.9 or later, debootstrap, unshare, and root; it installs debootstrap where it may.
+Needs Python 3.9 or later, debootstrap, unshare, and root; it installs debootstrap if it may.
 """
 
 import os

@@ -1,14 +1,14 @@
 #!/usr/bin/env python3
 # SPDX-License-Identifier: MIT
-"""Makes of include/minisign.h what the packages of `bindings/` have of it: for Rust the numbers, the structs and the calls
-(`src/raw/header.rs`), for Go the errors (`errors.go`) and the calls (`header.go`), for Python an exception for each error (`errors.py`), and the numbers, the
-structs and the calls (`_header.py`), which are those of include/minisign_install.h too, and for JavaScript the errors with their types
-(`errors.js`, `errors.d.ts`) and what signing needs: numbers, places in structs and calls (`header.js`).
+"""Makes of include/minisign.h what the packages of `bindings/` have of it: for Rust the numbers, structs and calls
+(`src/raw/header.rs`); for Go the errors (`errors.go`) and calls (`header.go`); for Python the errors (`errors.py`)
+and, of include/minisign_install.h too, the numbers, structs and calls (`_header.py`); for JavaScript the errors with
+their types (`errors.js`, `errors.d.ts`) and what signing needs (`header.js`).
 
     tools/bindings.py            writes them
     tools/bindings.py --check    fails where one is not what the header says; the last line is `N passed, M failed`
 
-What these files have by hand stands there, and is kept: their heads, and what their calls share. What the package for
+Parts of these files are written by hand and kept: their heads, and what their calls share. What the package for
 JavaScript verifies by, which the page has too, is written by hand (`calls.js`), and compared by its test.
 
 Needs Python 3.9 or later.

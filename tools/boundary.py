@@ -1,7 +1,7 @@
-"""Makes the boundary in C between the header and the proved library: `c/library/boundary.c`, after the head that is written by hand
-there, and `c/library/names`, which lists the names of the proved calls; and `c/library/portable/pointers.c`, after its head, by which
-they are called where they were compiled from dist/calls.c. `tools/header.py` calls it. That the declarations fit the exports of
-the crate `minisign_c`, `tests/shared/exports.py` compares.
+"""Makes the boundary in C between the header and the proved library: `c/library/boundary.c`, after its head;
+`c/library/names`, a list of the proved calls; and `c/library/portable/pointers.c`, after its head, which calls them
+where they were compiled from dist/calls.c. The heads are written by hand. `tools/header.py` calls this.
+`tests/shared/exports.py` compares the declarations with the exports of the crate `minisign_c`.
 """
 
 import re

@@ -1,5 +1,5 @@
-"""What scripts know of the headers, `include/minisign.h` and `include/minisign_install.h`: constants, enums, structs and calls.
-What stands there in another form than these fails, so that nothing is passed over.
+"""Reads the headers, `include/minisign.h` and `include/minisign_install.h`: constants, enums, structs and calls. A
+form that it does not know is an error, so that nothing is skipped.
 """
 
 import re

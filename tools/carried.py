@@ -1,8 +1,8 @@
 #!/usr/bin/env python3
-"""Makes in `bindings/go` copies of what it is built of, of dist/, c/library and include/: a module of Go has nothing but what stands
-in its own directory, also where it is a dependency of a git path, and no step before `go build`. A copy in C begins with a line
-that tells Go for which systems it is compiled. Over the archives the boundary needs other names than the proved calls have there:
-`archive.h` is made of the list of these.
+"""Copies into `bindings/go` what the module is built of, from dist/, c/library and include/: a module of Go has
+nothing but what stands in its own directory, also as a dependency by a git path, and no step before `go build`. A
+copy in C begins with a line that tells Go for which systems it is compiled. Over the archives the boundary needs
+other names than those of the proved calls: `archive.h` has the list.
 
     tools/carried.py             writes them; tools/dist.py does so too, once it has made dist/
     tools/carried.py --check     fails where one differs; the last line is `N passed, M failed`

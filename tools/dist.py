@@ -1,18 +1,19 @@
 #!/usr/bin/env python3
-"""Makes `dist/`: the proved calls of the crate minisign_c as archives and, translated, as C (`portable_calls.py`), the page that
-verifies a download, `PROVED`, which says by what and from which sources they were proved, and `SHA256SUMS`; and the copies of these
-that `carried.py` makes.
+"""Makes `dist/`: the proved calls of the crate minisign_c as archives and, translated, as C (`portable_calls.py`),
+the page that verifies a download, `PROVED`, which names the kit and the sources that they were proved by, and
+`SHA256SUMS`; and the copies that `carried.py` makes.
 
     tools/dist.py [PART ..]            proves, builds and writes them
     tools/dist.py --check [PART ..]    proves and builds them, and compares them byte for byte with what stands there
 
-PART is `calls` or `page`, both where none is named. Libraries that `rt lib` proved are taken as they stand, and the others proved
-first. `--after SAID` takes those that a finished `rt ci` left here: SAID is a file of what that said. In the gate `--check` runs
-beside `rt ci`, and builds over what that proves (`tests/shared/proved.py`).
+PART is `calls` or `page`; by default both. It takes libraries that `rt lib` proved as they stand, and proves the
+others first. With `--after SAID` it takes those that a finished `rt ci` left here: SAID is a file of what that said.
+In the gate `--check` runs beside `rt ci`, and builds over what that proves (`tests/shared/proved.py`).
 
-With another kit of the same logic the bytes may differ, and so may the page's where another wasm-opt lowered it. `--check` then
-says so; of the page it compares all but the module. (What the archives of dist/ do, all of tests/c shows.) It says of which files
-the bytes are the same, and prints a line for each failure; the last line is `N passed, M failed`. The head of PROVED is by hand.
+With another kit of the same logic the bytes may differ, and so may the page's with another wasm-opt. `--check` then
+says so; of the page it compares all but the module. (tests/c tries the archives of dist/.) It says of which files the
+bytes are the same, and prints a line for each failure; the last line is `N passed, M failed`. The head of PROVED is
+by hand.
 
 Needs Python 3.9 or later, the kit, and what `page/build.py` needs.
 """

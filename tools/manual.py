@@ -1,7 +1,7 @@
-"""Makes the manual page of a header, as `c/man/minisign.3`, from the header, with whole programs of `c/examples` after it.
-`tools/header.py` calls it.
+"""Makes the manual page of a header, as `c/man/minisign.3`, from the header, with whole programs of `c/examples`
+after it. `tools/header.py` calls it.
 
-Comments become text, and what stands between them code. What tells tools/header.py where to write is left out. The head of a
+Comments become text, and what stands between them code. The marks of tools/header.py are left out. The head of a
 page, up to the description, and its end are written by hand there.
 """
 

@@ -1,9 +1,9 @@
-"""Makes `dist/calls.c`: the proved calls as C99, for processors and systems that no archive of dist/ is for.
+"""Makes `dist/calls.c`: the proved calls as C99, for processors and systems without an archive in dist/.
 
-While the kit builds an archive for x86-64, the LLVM bitcode is kept that it hands to its clang. That the archive is the one of
-dist/, byte for byte, ties the bitcode to the proof. The same clang compiles it for 64-bit WebAssembly, of which an address and a
-`usize` have the same size and numbers in memory the same order, and `wasm_to_c.py` makes C of that object. What comes after the
-bitcode is tested, and not proved.
+While the kit builds an archive for x86-64, this keeps the LLVM bitcode that it passes to its clang. The archive has
+to be the one of dist/, byte for byte: that ties the bitcode to the proof. The same clang compiles the bitcode for
+64-bit WebAssembly, where an address and a `usize` have the same size and numbers in memory the same order, and
+`wasm_to_c.py` makes C of that object. What comes after the bitcode is tested, and not proved.
 """
 
 import os

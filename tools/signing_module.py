@@ -1,12 +1,13 @@
 #!/usr/bin/env python3
 # SPDX-License-Identifier: MIT
-"""Writes the module that the package for JavaScript signs by: the calls of dist/calls.c that take or make a secret key, compiled for
-WebAssembly by clang, in base64, as a module of JavaScript. It imports nothing, and has no calls for installing.
+"""Writes the module by which the package for JavaScript signs: the calls of dist/calls.c that take or make a secret
+key, compiled for WebAssembly by clang, in base64, as a module of JavaScript. It imports nothing, and has no calls for
+installing.
 
     tools/signing_module.py OUT
 
-The calls are translated, tested, and not proved as such (`wasm_to_c.py`). CLANG names the compiler, `clang` where it does not: Debian's
-clang and lld will do, and no kit. The same compiler makes the same bytes.
+The calls are translated, tested, and not proved as such (`wasm_to_c.py`). CLANG names the compiler, by default
+`clang`; Debian's clang and lld will do, and no kit. The same compiler makes the same bytes.
 
 Needs Python 3.9 or later.
 """

@@ -1,8 +1,8 @@
-"""What scripts know of the sources: the items of `.rt` files with their clauses, the definitions of `.antt` files,
-where a name that one of them imports is defined, and how a script writes or compares what it makes.
+"""Reads the sources: the items of `.rt` files with their clauses, the definitions of `.antt` files, and where a name
+that one of them imports is defined. It also writes or compares what a script makes.
 
-The forms are read by their brackets and not by a grammar: enough for names, clauses and texts.
-Needs Python 3.9 or later.
+The forms are read by their brackets and not by a grammar: enough for names, clauses and texts. Needs Python 3.9 or
+later.
 """
 
 import functools

@@ -1,5 +1,5 @@
-"""Reads an object of 64-bit WebAssembly as LLVM writes it: its functions, each with its instructions, its data, and what of
-both is an address. A form that is not read here is an error, so that nothing is passed over.
+"""Reads an object of 64-bit WebAssembly as LLVM writes it: its functions with their instructions, its data, and which
+parts of both are addresses. A form that it does not know is an error, so that nothing is skipped.
 """
 
 from collections import namedtuple

@@ -2,13 +2,14 @@
 
     tools/wasm_to_c.py OBJECT NAME ..          the C of these functions, and of all that they call
 
-The memory of the object is that of the program: an address is a pointer as a number of 64 bits, also where pointers have 32, so
-nothing is copied; and a number in memory is little-endian on every processor. Two things are made anew at each call from C, in the
-frame of the function that is called, so that no variable lasts and threads share nothing: the stack of the machine, as long as
-the deepest call below needs it (`sp` is its end), and a table of the data that holds addresses (`table`).
+The memory of the object is that of the program: an address is a pointer as a number of 64 bits, also where pointers
+have 32, so nothing is copied. A number in memory is little-endian on every processor. Each call from C makes two
+things anew, in the frame of the function that is called, so that no variable lasts and threads share nothing: the
+stack of the machine, as long as the deepest call below needs it (`sp` is its end), and a table of the data that holds
+addresses (`table`).
 
-Nothing here is proved. It is a translation of each instruction by a row of a table, and of blocks and branches by `goto`. What it
-does not know is an error with the name of the instruction: floats, vectors, calls by table, memory that grows, recursion.
+Nothing here is proved. A table translates each instruction, and `goto` blocks and branches. An instruction that it
+does not know is an error with its name: floats, vectors, calls by table, memory that grows, recursion.
 tests/c/translated.py compares each row, and random functions, with Python's integers and with another WebAssembly.
 """
 

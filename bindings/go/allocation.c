@@ -5,18 +5,17 @@
 /*
  * The three calls for memory that the proved calls make, over malloc and free.
  *
- * A block may have held a secret, so it is cleared before it is given back. The call that gives it back names no
- * length: that stands in front of the block, with what malloc gave. A block grows by a new one, a copy, and clearing
- * the old one.
+ * A block may have held a secret, so it is cleared before it is freed. The call that frees it gives no length: that
+ * stands in front of the block, with what malloc returned. To grow a block, a new one is allocated, the old one copied
+ * and cleared.
  *
- * Of a large block, which has the rows of a key derivation, every page will be written, from the first to the last. So
- * the system is asked for huge pages there, and to bring the pages in ahead of whoever writes them; where it has none
- * of that, they come one by one, as they are written. A virtual machine may have lent its huge pages to its host, and
- * waits for each: where they take longer than other pages, the rest is of these. A thread asks for all but the first
- * part, so that the work goes on meanwhile. It reads and writes nothing, heeds no signal, and has ended before the
- * block is given back; where none can be begun, or with -DMINISIGN_NO_THREADS, the parts come in before the work
- * begins. At the end the system is asked to take all back, so that zeros are read there; where it does not, zeros are
- * written.
+ * A large block has the rows of a key derivation, which writes every page, from the first to the last. So the system is
+ * asked for huge pages, and to bring the pages in before they are written; otherwise they come one by one. A virtual
+ * machine may have lent its huge pages to its host, and then waits for each: if they take longer than other pages, the
+ * rest is of these. A thread asks for all but the first part, so that the work goes on meanwhile. It reads and writes
+ * nothing, blocks all signals, and ends before the block is freed. If there is no thread, also with
+ * -DMINISIGN_NO_THREADS, the parts come in before the work begins. At the end the system is asked to take all pages
+ * back, so that zeros are read there, or else zeros are written.
  *
  * SPDX-License-Identifier: MIT
  */
@@ -38,7 +37,7 @@
 
 #define LARGE_BYTES ((size_t) 4 << 20)
 #define HUGE_PAGE_BYTES ((size_t) 2 << 20)
-/* How much of a large block is brought in before it is looked how long that took. */
+/* How much of a large block is brought in at a time, and timed. */
 #define PART_BYTES ((size_t) 16 << 20)
 
 /* What stands in front of a block. */
@@ -47,7 +46,7 @@ struct front {
     size_t len;
 };
 
-/* What stands in front of that where the block is large: the thread that brings its pages in. */
+/* What stands in front of that if the block is large: the thread that brings its pages in. */
 struct pages {
     char *block;
     size_t len;
@@ -68,7 +67,7 @@ static struct front *front_of(void *block)
     return (struct front *) block - 1;
 }
 
-/* How much stands in front of a large block: its multiple of 16 bytes. */
+/* How much stands in front of a large block, as a multiple of 16 bytes. */
 #define LARGE_FRONT_BYTES ((sizeof(struct pages) + sizeof(struct front) + 15) / 16 * 16)
 
 static struct pages *pages_of(void *block)
@@ -82,7 +81,7 @@ static uintptr_t aligned(uintptr_t address, size_t alignment)
     return (address + alignment - 1) & ~(uintptr_t) (alignment - 1);
 }
 
-/* How many bytes of a large block, which begins where a page does, are whole pages. */
+/* How many bytes of a large block, which begins with a page, are whole pages. */
 static size_t whole_pages(size_t len)
 {
     size_t page = (size_t) sysconf(_SC_PAGESIZE);
@@ -92,7 +91,7 @@ static size_t whole_pages(size_t len)
 
 #if defined(MADV_HUGEPAGE) && defined(MADV_POPULATE_WRITE)
 
-/* Has the system bring in a part of a block, in pages of this kind: the nanoseconds of the processor that it took. */
+/* Has the system bring in a part of a block, in pages of this kind: the processor's nanoseconds that it took. */
 static int64_t bring_in_part(char *part, size_t len, int kind)
 {
     struct timespec begun = { 0, 0 }, ended = { 0, 0 };
@@ -123,7 +122,7 @@ static void *bring_in_beside(void *pages)
     return NULL;
 }
 
-/* Begins a thread that heeds no signal: whether there is one. */
+/* Begins a thread that blocks all signals: whether there is one. */
 static int begin_thread(struct pages *pages)
 {
     sigset_t all, before;
@@ -148,16 +147,8 @@ static void end_thread(struct pages *pages)
 
 #else
 
-static int begin_thread(struct pages *pages)
-{
-    (void) pages;
-    return 0;
-}
-
-static void end_thread(struct pages *pages)
-{
-    (void) pages;
-}
+#define begin_thread(pages) ((void) (pages), 0)
+#define end_thread(pages) ((void) (pages))
 
 #endif
 
@@ -180,27 +171,20 @@ static void bring_in(struct pages *pages)
 
 #else
 
-static void bring_in(struct pages *pages)
-{
-    (void) pages;
-}
-
-static void end_thread(struct pages *pages)
-{
-    (void) pages;
-}
+#define bring_in(pages) ((void) (pages))
+#define end_thread(pages) ((void) (pages))
 
 #endif
 
-/* Writes zeros, also where nothing reads them. */
+/* Writes zeros, also if nothing reads them. */
 static void write_zeros(char *block, size_t len)
 {
     memset(block, 0, len);
     __asm__ __volatile__("" : : "r"(block) : "memory");
 }
 
-/* Has the system take back the pages of a large block: how many of its bytes are zeros then, none where malloc's memory
- * is not such. */
+/* Has the system take back the pages of a large block: how many of its bytes are zeros then, none if this memory of
+ * malloc cannot be taken back. */
 static size_t take_back(char *block, size_t len)
 {
     size_t whole = whole_pages(len);

@@ -6,7 +6,7 @@
 #include <stddef.h>
 #include <stdint.h>
 
-/* What a request is answered by: whether it was granted, and the block. */
+/* The answer to a request: whether it was granted, and the block. */
 struct grant {
     uint64_t is_granted;
     void *block;

@@ -7,10 +7,10 @@
 /*
  * The boundary between the headers and the proved calls of the crate minisign_c. Made by tools/header.py.
  *
- * It decides three things. A pointer that is NULL where its length is 0 is replaced by one that is not, which the
- * proved calls need. Of the copies of these calls it takes one: on an x86-64 the one that is built for x86-64-v3 if the
- * processor has what that needs, the one for x86-64-v2 if it has that, and else the one of dist/calls.c, which is C.
- * And after a call that was given a secret, what it has left on the stack and in registers is cleared.
+ * It does three things. It replaces a NULL pointer whose length is 0, which the proved calls do not take. It chooses
+ * between the copies of these calls: on an x86-64 it takes the one built for x86-64-v3 if the processor has what that
+ * needs, the one for x86-64-v2 if it has that, and else the one of dist/calls.c, which is C. And after a call with a
+ * secret it clears what that left on the stack and in registers.
  *
  * SPDX-License-Identifier: MIT
  */
@@ -45,7 +45,7 @@
 
 static int has_v2, has_v3;
 
-/* Whether the processor, and the system on it, have what x86-64-v2 and x86-64-v3 are: found out once, before main. */
+/* Whether the processor and the system support x86-64-v2 and x86-64-v3: found out once, before main. */
 __attribute__((constructor)) static void look_at_processor(void)
 {
     const unsigned two = bit_SSE3 | bit_SSSE3 | bit_CMPXCHG16B | bit_SSE4_1 | bit_SSE4_2 | bit_POPCNT;

@@ -3,13 +3,13 @@
 // A copy of c/library/clearing.c that tools/carried.py made: do not edit it here.
 
 /*
- * Clears what a call that was given a secret has left behind: the part of the stack that it has used, and each register
- * that a call need not keep for its caller.
+ * Clears what a call with a secret has left behind: the part of the stack that it used, and each register that a call
+ * need not keep for its caller.
  *
- * It is no C, as a compiler may put anything between a call and what is cleared after it. The registers come first: a
- * signal that comes later has the system write those that are cleared. The stack is written downwards, so that where
- * there is too little of it the page that guards it is met first. For other processors and systems it is C all the same,
- * which knows the registers of few of them: in the others what a register holds stays there until it is used again.
+ * It is assembly, as a compiler may put anything between a call and C that clears after it. The registers come first:
+ * if a signal comes later, the system saves cleared ones. The stack is written downwards, so that if too little is
+ * left, the page that guards it is met first. Other processors and systems have C, which knows the registers of a few:
+ * in the others a register keeps what it holds until it is used again.
  *
  * SPDX-License-Identifier: MIT
  */
@@ -22,7 +22,7 @@
 
 #include <cpuid.h>
 
-/* Where a jump that the processor checks may lead to this, as with -fcf-protection. */
+/* The instruction that has to stand where an indirect call arrives, with -fcf-protection. */
 #if defined(__CET__) && (__CET__ & 1) != 0
 #define LANDING "endbr64\n"
 #else
@@ -167,7 +167,7 @@ static inline void clear_registers(void)
 #endif
 }
 
-/* (written as volatile, so that all of it is, and from above; and never as a part of who calls it, below whose frame it is) */
+/* (volatile, so that all of it is written, from above; and never inlined, as it clears below the caller's frame) */
 #ifdef __GNUC__
 __attribute__((noinline))
 #endif

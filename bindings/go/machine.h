@@ -1,10 +1,10 @@
 /* SPDX-License-Identifier: MIT */
 /*
- * What dist/calls.c stands on: the instructions of 64-bit WebAssembly on numbers, and its loads and stores, over the
- * memory of the program. An address is a pointer as a number of 64 bits, also where pointers have 32, and a number in
+ * What dist/calls.c calls: the instructions of 64-bit WebAssembly on numbers, and its loads and stores, which work on
+ * the memory of the program. An address is a pointer as a number of 64 bits, even if pointers have 32, and a number in
  * memory is little-endian on every processor.
  *
- * It is C99, and needs of the C library memcpy, memmove, memset and abort.
+ * This is C99, and uses memcpy, memmove, memset and abort of the C library.
  */
 #ifndef MACHINE_H
 #define MACHINE_H
@@ -18,8 +18,8 @@ typedef uint8_t u8;
 typedef uint32_t u32;
 typedef uint64_t u64;
 
-/* The calls for memory, which calls.c makes: allocation.c has them. The first two write to `grant` whether it was
- * granted, and where the block is. */
+/* The calls for memory that calls.c makes, which are in allocation.c. The first two write to `grant` whether there is a
+ * block, and where it is. */
 void machine_rattle_alloc(u64 grant, u64 len, u64 alignment);
 void machine_rattle_realloc(u64 grant, u64 block, u64 old_len, u64 len, u64 alignment);
 void machine_rattle_dealloc(u64 block);
@@ -50,8 +50,8 @@ static inline u8 *at(u64 address)
 
 /* ---- Memory ---- */
 
-/* Whether numbers of the processor lie in memory as those of the machine do; and may lie anywhere, so that one is copied
- * by one instruction. Elsewhere it is put together of its bytes, which is right everywhere. */
+/* Whether the processor's numbers are little-endian, and whether they may have any address, so that one instruction
+ * copies one. Otherwise a number is made of its bytes, which is right everywhere. */
 #if defined(__BYTE_ORDER__) && __BYTE_ORDER__ == __ORDER_LITTLE_ENDIAN__
 #define IS_LITTLE_ENDIAN 1
 #else
@@ -166,7 +166,7 @@ static inline void fill(u64 to, u32 value, u64 len)
 
 /* ---- Signs ---- */
 
-/* Numbers of 8, 16 and 32 bits with a sign, as such of 64. */
+/* Signed numbers of 8, 16 and 32 bits as those of 64. */
 static inline u64 sign8(u64 value)
 {
     return ((value & 0xff) ^ 0x80) - 0x80;
@@ -182,7 +182,7 @@ static inline u64 sign32(u64 value)
     return ((value & UINT64_C(0xffffffff)) ^ UINT64_C(0x80000000)) - UINT64_C(0x80000000);
 }
 
-/* Numbers with a sign, in the order of those without. */
+/* Signed numbers as unsigned ones in the same order. */
 static inline u32 order32(u32 value)
 {
     return value ^ UINT32_C(0x80000000);
@@ -271,7 +271,7 @@ static inline u32 ctz32(u32 x)
 
 /* ---- Dividing ---- */
 
-/* What no code of the calls reaches. */
+/* No call gets here. */
 static inline void never(void)
 {
     abort();

@@ -3,9 +3,9 @@
 // A copy of c/library/portable/allocation.c that tools/carried.py made: do not edit it here.
 
 /*
- * The three calls for memory that dist/calls.c makes: over those of c/library/allocation.c where that is built, and with
- * -DMINISIGN_MALLOC_ALONE over malloc and free and nothing else of the system. Then too a block may have held a secret,
- * and is cleared before it is given back.
+ * The three calls for memory that dist/calls.c makes. They use those of c/library/allocation.c if that is built, and
+ * with -DMINISIGN_MALLOC_ALONE only malloc and free. Then too a block that may have held a secret is cleared before it
+ * is freed.
  *
  * SPDX-License-Identifier: MIT
  */
@@ -18,7 +18,7 @@
 /* A multiple of what each block is aligned to. */
 #define UNIT 64
 
-/* What stands in front of a block: what malloc gave, and how long the block is. */
+/* What stands in front of a block: what malloc returned, and how long the block is. */
 struct front {
     void *taken;
     size_t len;
@@ -35,7 +35,7 @@ static struct front front_of(const u8 *block)
     return front;
 }
 
-/* Writes zeros, also where nothing reads them. */
+/* Writes zeros, also if nothing reads them. */
 static void write_zeros(u8 *block, size_t len)
 {
 #if defined(__GNUC__) && !defined(__TINYC__)
@@ -87,7 +87,7 @@ void rattle_dealloc(void *block)
 
 #endif
 
-/* A number of bytes; where pointers have 32 bits, at most one that no allocation can have. */
+/* A number of bytes. If pointers have 32 bits, a greater one becomes one that no allocation can have. */
 static size_t bytes(u64 number)
 {
     return number > SIZE_MAX ? SIZE_MAX : (size_t) number;

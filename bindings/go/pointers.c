@@ -3,9 +3,9 @@
 // A copy of c/library/portable/pointers.c that tools/carried.py made: do not edit it here.
 
 /*
- * The calls of dist/calls.c as the boundary makes them. Those take an address as a number of 64 bits, and numbers in memory
- * are little-endian there; so numbers of a struct, or behind a pointer, are turned before a call and turned back after it,
- * which is nothing where the processor has them so itself. Made by tools/header.py.
+ * The calls of dist/calls.c, as the boundary makes them. dist/calls.c takes addresses as numbers of 64 bits, and numbers
+ * in memory as little-endian. So numbers in a struct, or behind a pointer, are turned before a call and turned back after
+ * it, unless the processor is little-endian itself. Made by tools/header.py.
  *
  * SPDX-License-Identifier: MIT
  */
@@ -13,7 +13,7 @@
 
 #include "minisign_install.h"
 
-/* A struct that the call may not change: it gets a copy where numbers are turned. */
+/* A struct that the call may not change: if numbers are turned, it gets a copy. */
 #define LENT(kind, lent, kept) (IS_LITTLE_ENDIAN || (lent) == NULL ? (lent) : (*(kept) = *(lent), given_##kind(kept), (kept)))
 
 /* ---- Made by tools/header.py ---- */

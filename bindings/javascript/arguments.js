@@ -1,5 +1,5 @@
 // SPDX-License-Identifier: MIT
-// What a caller passes: it is looked at here, before anything is done with it.
+// Tests what a caller passes, before anything is done with it.
 
 import { TEXT_BYTES } from "./calls.js";
 

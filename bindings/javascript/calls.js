@@ -1,12 +1,12 @@
 // SPDX-License-Identifier: MIT
 // The proved library, built from the crate minisign_page: all calls of its
 // module, which no other file knows. They are proved and built for 64-bit
-// WebAssembly; what is carried is the module that wasm-opt made of that for a
-// memory of 32 bits, whose calls still take each address and length as a number
-// of 64 bits. Both modules can be loaded here. What a caller owes the calls is
-// in include/minisign.h, "Requirements". Each method copies in what it passes
-// and copies out what was written: the caller holds the state, and nothing
-// lasts in the module from one call to the next but what `place` puts there.
+// WebAssembly; wasm-opt makes of that the module for a memory of 32 bits, whose
+// calls still take each address and length as a number of 64 bits. This loads
+// either. include/minisign.h says under "Requirements" what a caller has to do.
+// Each method copies in what it passes and copies out what was written: the
+// caller holds the state, and nothing lasts in the module from one call to the
+// next but what `place` puts there.
 
 // A text of a key or of a signature is shorter than this.
 export const TEXT_BYTES = 65536;

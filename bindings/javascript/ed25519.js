@@ -1,7 +1,7 @@
 // SPDX-License-Identifier: MIT
 // The Ed25519 of WebCrypto, which answers the two questions. Browsers and
-// others differ in what they accept besides the signatures that a signer makes;
-// what is rejected here before they are asked makes their answers those of
+// others differ in what they accept besides the signatures that a signer makes.
+// This rejects first what makes them differ, so that the answers are those of
 // libsodium.
 
 export const ED25519 = "Ed25519";

@@ -1,13 +1,13 @@
 // SPDX-License-Identifier: MIT
-// Data of each kind, read to its end in pieces; a stream that is read no
-// further gives back what it holds.
+// Reads data of each kind to its end, in pieces; it cancels a stream that it
+// reads no further.
 
 import { bytesOf, mustBe, optionsOf } from "./arguments.js";
 import { ERRORS } from "./errors.js";
 import { held } from "./loaded.js";
 
-// What takes data in pieces and is asked once at its end, with what `more`
-// adds. After the end each call rejects.
+// Takes data in pieces and answers once at its end, with what `more` adds.
+// After the end each call rejects.
 export function takingPieces(library, feed, end, more = () => ({})) {
   let taken = 0;
   let isEnded = false;

@@ -9,7 +9,8 @@ import { Verification } from "./verification.js";
 export * from "./errors.js";
 export * from "./signing.js";
 
-// What the library has read, by what a caller has of it, who cannot change it.
+// What the library has read, by the object that a caller holds and cannot
+// change.
 const readSignatures = new WeakMap();
 const readKeys = new WeakMap();
 

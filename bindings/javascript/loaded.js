@@ -1,5 +1,5 @@
 // SPDX-License-Identifier: MIT
-// The library, loaded once, and what it answers.
+// Loads the library once, and turns its answers into errors.
 
 import { Library } from "./calls.js";
 import { hasEd25519 } from "./ed25519.js";

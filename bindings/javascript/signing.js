@@ -1,6 +1,6 @@
 // SPDX-License-Identifier: MIT
 // Makes secret keys and signatures, as index.d.ts says. The calls of a secret
-// key are those of a module of their own, which is loaded at the first of them.
+// key are in a module of their own, which the first of them loads.
 
 import { mustBe, optionsOf, textOf } from "./arguments.js";
 import { identifierOf } from "./calls.js";

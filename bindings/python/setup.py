@@ -1,9 +1,10 @@
 # SPDX-License-Identifier: MIT
-"""Builds the shared library, of what the package carries or of the repository around
-it, and puts it into the wheel, which is for this kind of machine and any Python 3. By
-the C compiler that CC names, or that Python was built by: on Linux, x86-64 and AArch64,
-over the archives of dist/, and everywhere else, or with MINISIGN_PORTABLE=1, over the
-same calls as C. On Linux it has the host that installs."""
+"""Builds the shared library from what the package carries, or from the repository
+around it, and puts it into the wheel, which is for this kind of machine and any Python
+3. It takes the C compiler that CC names, or that Python was built by: on Linux, x86-64
+and AArch64, over the archives of dist/, and everywhere else, or with
+MINISIGN_PORTABLE=1, over the same calls as C. On Linux it has the host that
+installs."""
 
 import os
 import re

@@ -1,7 +1,7 @@
 // SPDX-License-Identifier: MIT
-//! Builds the library over the proved calls, of what this crate carries or of the repository around
-//! it, by a C compiler for the target of cargo: on Linux on x86-64 and AArch64 over the archives of
-//! `dist/`, and everywhere else, or with `MINISIGN_PORTABLE=1`, over the same calls as C.
+//! Builds the library over the proved calls, from what this crate carries or from the repository
+//! around it, by a C compiler for cargo's target: on Linux on x86-64 and AArch64 over the archives
+//! of `dist/`, and everywhere else, or with `MINISIGN_PORTABLE=1`, over the same calls as C.
 
 use std::process::{exit, Command};
 use std::{env, fs, path::Path};

@@ -1,17 +1,17 @@
 #!/usr/bin/env python3
-"""Builds `c/` for AArch64 by a cross compiler, and runs it under qemu, which is no such processor.
+"""Builds `c/` for AArch64 by a cross compiler, and runs it under qemu.
 
     tests/c/aarch64.py
 
-The layout of the header's structs as it is asserted; `make test` over the kept corpus; the programs of tests/c that
-need no tracing; a key that is made, sealed, opened and signed with, whose texts are those of the library for x86-64,
-and Minisign's own program verifies what it signed; an update that is installed, and an older one that is not. Where no archive
-is for what a compiler builds for, it rejects the library with a sentence that says what to do. It prints a line for each failure;
-the last line is `N passed, M failed`.
+It asserts the layout of the header's structs, runs `make test` over the kept corpus and the programs of tests/c that
+need no tracing. A key is made, sealed, opened and signed with; its texts are those of the library for x86-64, and
+Minisign's own program verifies what it signed. An update is installed, and an older one is not. Where a compiler
+builds for a processor without an archive, a sentence says what to do. It prints a line for each failure; the last
+line is `N passed, M failed`.
 
-Needs Python 3.9 or later, make, a C compiler, libsodium with its header, minisign, and of Debian gcc-aarch64-linux-gnu,
-libc6-dev-arm64-cross and qemu-user-static, and installs what is not there where it may. Debian's libsodium for this
-processor is fetched by apt-get, once (`emulated.py`).
+Needs Python 3.9 or later, make, a C compiler, libsodium with its header, minisign, and of Debian
+gcc-aarch64-linux-gnu, libc6-dev-arm64-cross and qemu-user-static. It installs what is missing if it may; apt-get
+fetches Debian's libsodium for this processor once (`emulated.py`).
 """
 
 import os

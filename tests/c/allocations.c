@@ -1,12 +1,12 @@
 /*
- * The calls for memory of c/library/allocation.c, which the proved calls make: each block is whole and aligned, and cleared
- * when it is given back, also where it was moved because it grew; what is refused leaves the older block; only large
- * blocks are brought in at once, and it does no harm where the system refuses that. Then the same of the library's own:
- * a key that is made, opened and signed with gives everything back, and cleared.
+ * The calls for memory of c/library/allocation.c, which the proved calls make. Each block is whole and aligned, and
+ * cleared when it is given back, also where it grew and was moved. A refusal leaves the older block. Only large
+ * blocks are brought in at once, and it does no harm if the system refuses that. Then the library's own calls:
+ * making, opening and signing with a key gives everything back, cleared.
  *
- * Linked with -Wl,--wrap=malloc -Wl,--wrap=realloc -Wl,--wrap=free -Wl,--wrap=madvise. With -DMINISIGN_MALLOC_ALONE the
- * calls are those of c/library/portable/allocation.c, which asks the system for nothing, and nothing is about pages.
- * Prints a line for each check that failed; the last line is `N passed, M failed`.
+ * Linked with -Wl,--wrap=malloc -Wl,--wrap=realloc -Wl,--wrap=free -Wl,--wrap=madvise. With -DMINISIGN_MALLOC_ALONE
+ * the calls are those of c/library/portable/allocation.c, which asks the system for nothing, and nothing is about
+ * pages. Prints a line for each check that failed; the last line is `N passed, M failed`.
  */
 #ifdef MINISIGN_MALLOC_ALONE
 #include "../../c/library/portable/allocation.c"

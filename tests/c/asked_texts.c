@@ -1,6 +1,6 @@
 /*
- * What reading the texts of signatures and asking about them tells, of keys and signatures that Minisign 0.11 made of the
- * bytes `hello` and a line feed, and the number for each text that is rejected. The bytes were read from the texts by
+ * Reads the texts of signatures and asks about them, with keys and signatures that Minisign 0.11 made of the bytes
+ * `hello` and a line feed, and compares the number of each rejected text. The bytes were read from the texts by
  * Python's base64; the digests are those of its hashlib.
  *
  * Prints a line for each check that failed; the last line is `N passed, M failed`.

@@ -1,16 +1,16 @@
 #!/usr/bin/env python3
-"""Builds what a user builds who has no kit and no Python: README's first commands in a clean copy of the repository,
-with nothing in PATH but a C compiler, make, binutils and what every Debian has.
+"""Builds as a user without kit and Python does: README's first commands in a clean copy of the repository, with
+nothing in PATH but a C compiler, make, binutils and what every Debian has.
 
     tests/c/at_hand.py
 
-They verify a download within 30 seconds, of the processor where others use it meanwhile. Where a source of the proved
-calls was changed since `dist/` was made, make stops with a sentence and installs nothing; likewise where an archive was
-damaged; a source that was only touched stops nothing, and other archives can be named. Where the kit is needed one
-sentence says so. It prints a line for each failure; the last line is `N passed, M failed`.
+They verify a download within 30 seconds, of the processor on a busy machine. If a source of the proved calls has
+changed since `dist/` was made, or an archive is damaged, make stops with a sentence and installs nothing. A source
+that was only touched stops nothing, and you can name other archives. Where the kit is needed one sentence says so. It
+prints a line for each failure; the last line is `N passed, M failed`.
 
-Needs Python 3.9 or later, git where this is a clone, make, binutils, a C compiler and libsodium with its header, and
-installs what is not there where it may.
+Needs Python 3.9 or later, git where this is a clone, make, binutils, a C compiler and libsodium with its header. It
+installs what is missing if it may.
 """
 
 import os

@@ -1,18 +1,18 @@
 #!/usr/bin/env python3
-"""Builds all that a user builds in a copy of the repository whose path has blanks, and installs it below a path that has some.
+"""Builds all that a user builds in a copy of the repository whose path has blanks, and installs it below such a path.
 
     tests/c/blanks.py
 
-In `a b/c d` make builds, checks, installs, uninstalls and releases `c/`, packs the packages of `bindings/` and builds the
-example in Rust; what was packed is built there too, as is a page from that of `dist/`. Where a path that falls apart at its
-blanks would lead, stand files of others, which are still there afterwards. `make clean` takes away what was built and
-nothing else, also where OUT has files of others, by names of ours too. An OUT that make cannot have in a target is rejected
-in one sentence, before anything is written or removed. It prints a line for each failure; the last line is
-`N passed, M failed`.
+In `a b/c d` make builds, checks, installs, uninstalls and releases `c/`, packs the packages of `bindings/` and builds
+the example in Rust; what was packed is built there too, as is a page from that of `dist/`. Files of others stand
+where a path would lead that falls apart at its blanks, and are still there afterwards. `make clean` removes what was
+built and nothing else, also where OUT has files of others under names of ours. An OUT that make cannot have in a
+target is rejected in one sentence, before anything is written or removed. It prints a line for each failure; the last
+line is `N passed, M failed`.
 
 Needs Python 3.9 or later, git where this is a clone, make, binutils, pkg-config, groff, a C compiler, rustc, cargo,
-golang-go, libsodium with its header, and Debian's Python with pip, setuptools and wheel, and, where npm is, clang and lld, and
-installs what is not there where it may. Without npm the package for JavaScript is left out.
+golang-go, libsodium with its header, and Debian's Python with pip, setuptools and wheel, and, where npm is, clang and
+lld. It installs what is missing if it may. Without npm the package for JavaScript is left out.
 """
 
 import glob

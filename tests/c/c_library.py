@@ -1,19 +1,20 @@
 #!/usr/bin/env python3
-"""Compiles and runs what calls the static library of `c/` through `include/minisign.h` alone.
+"""Compiles and runs programs that call the static library of `c/` through `include/minisign.h` alone.
 
     tests/c/c_library.py [LIBRARY]
 
-Its declarations beside the exports of the sources, the layout of its structs as C and as C++ (`exports.py`), usage errors (`usage_errors.c`), what texts are asked about and the
-number of each rejection (`asked_texts.c`), the text of each number (`error_texts.c`), an installation at each of its
-calls (`installations.c`), the texts of public keys (`public_keys.c`), what is taken from malloc and cleared before it
-is given back (`allocations.c`), each allocation failing, of which verifying makes none (`out_of_memory.c`),
-buffers beside pages without access (`guard_pages.c`), NULL (`null.c`), threads (`threads.c`), and calls at random
-beside a model (`random_calls.c`); each program also with what finds misuse of memory, where the compiler has it.
-LIBRARY is a `libminisign.a`; where none is named it is built over `dist/` (`static_library.py`), once more with the
-copy of the calls that is for processors without AVX2 alone, and once more with -DMINISIGN_NO_THREADS: such a library
-names no call for threads. It prints a line for each failure; the last line is `N passed, M failed`.
+They try the declarations beside the exports of the sources, the layout of its structs as C and as C++ (`exports.py`),
+usage errors (`usage_errors.c`), the questions about texts and the number of each rejection (`asked_texts.c`), the
+text of each number (`error_texts.c`), an installation at each of its calls (`installations.c`), the texts of public
+keys (`public_keys.c`), memory from malloc, which is cleared before it is given back (`allocations.c`), each
+allocation failing, of which verifying makes none (`out_of_memory.c`), buffers beside pages without access
+(`guard_pages.c`), NULL (`null.c`), threads (`threads.c`), and random calls beside a model (`random_calls.c`); each
+program also with sanitizers, where the compiler has them. LIBRARY is a `libminisign.a`. By default it is built over
+`dist/` (`static_library.py`), once more with the copy of the calls for processors without AVX2 alone, and once more
+with -DMINISIGN_NO_THREADS: such a library names no call for threads. It prints a line for each failure; the last line
+is `N passed, M failed`.
 
-Needs Python 3.9 or later, a C compiler and a C++ compiler, and installs what is not there where it may.
+Needs Python 3.9 or later, a C compiler and a C++ compiler. It installs what is missing if it may.
 """
 
 import os

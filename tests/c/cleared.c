@@ -1,11 +1,11 @@
 /*
- * What stays in memory of the secrets that calls were given: cleared.py says which bytes are looked for, in needles.h,
+ * Searches memory for the secrets that calls were given. cleared.py says which bytes are looked for, in needles.h,
  * and what has to be found of them.
  *
- * After each call all registers and all memory that the program may write are searched, but for what is the caller's
- * own, in which the secrets are found where they belong. A signal on a stack of its own has the system write the
- * registers into memory. For each call and each needle there is a line: the call, the needle, how often it is found in
- * registers, on the stack and elsewhere, and how often in what is the caller's own. A line `deepest` tells how far
+ * After each call it searches all registers and all memory that the program may write, but for the caller's own, in
+ * which the secrets are found where they belong. A signal on a stack of its own has the system write the registers
+ * into memory. For each call and each needle there is a line: the call, the needle, how often it is found in
+ * registers, on the stack and elsewhere, and how often in the caller's own memory. A line `deepest` says how far
  * below the frame of the caller the stack was written.
  */
 #define _GNU_SOURCE

@@ -1,21 +1,21 @@
 #!/usr/bin/env python3
-"""What stays in memory of the secrets that the calls of the library, and `c/minisign`, were given: nothing.
+"""No secret that the calls of the library, and `c/minisign`, were given stays in memory.
 
     tests/c/cleared.py
 
-After a key was made, opened, also in memory of the caller's, or signed with, all memory that a program may write and
-all registers are searched (`cleared.c`): for the first half of the secret key and its first 16 bytes, for the password,
-also as scrypt puts it into its two first blocks, for what scrypt derives, and for the base64 of the key. They are found
-in what is the caller's, and nowhere else. It is built over each copy of the proved calls, with the C library of GNU and
-with musl, with -O0 and with -O2, for AArch64 under qemu; the deepest call takes less than half of the stack that is
-cleared. So that the search is not blind, a secret that is left by intent is found; and where the clearing is taken
-away, of the stack, of registers, of memory that is given back, something is found each time. `c/minisign` makes, opens,
-changes and signs with keys, and is searched so whenever it opens, writes or closes a file, and at its end: nothing is
-found outside of the pages that it keeps secrets in, and at the end nothing there. It prints a line for each failure;
-the last line is `N passed, M failed`.
+After a key was made, opened, also in memory of the caller's, or signed with, `cleared.c` searches all memory that a
+program may write and all registers: for the first half of the secret key and its first 16 bytes, for the password,
+also as scrypt puts it into its two first blocks, for what scrypt derives, and for the base64 of the key. It finds
+them in what is the caller's, and nowhere else. It is built over each copy of the proved calls, with the C library of
+GNU and with musl, with -O0 and with -O2, for AArch64 under qemu; the deepest call takes less than half of the stack
+that is cleared. To show that the search is not blind, it finds a secret that is left on purpose; and without the
+clearing of the stack, of registers, or of memory that is given back, it finds something each time. `c/minisign`
+makes, opens, changes and signs with keys, and is searched so whenever it opens, writes or closes a file, and at its
+end: nothing is found outside of the pages that it keeps secrets in, and at the end nothing there. It prints a line
+for each failure; the last line is `N passed, M failed`.
 
 Needs Python 3.9 or later, make, binutils, a C compiler, libsodium with its header, and of Debian musl-tools,
-gcc-aarch64-linux-gnu, libc6-dev-arm64-cross and qemu-user-static, and installs what is not there where it may.
+gcc-aarch64-linux-gnu, libc6-dev-arm64-cross and qemu-user-static. It installs what is missing if it may.
 """
 
 import hashlib
@@ -28,7 +28,7 @@ import tempfile
 
 HERE = os.path.dirname(os.path.realpath(__file__))
 SHARED = os.path.join(HERE, "..", "shared")
-sys.path += [SHARED, os.path.join(HERE, "..", "whole")]
+sys.path += [SHARED, os.path.join(HERE, "..", "command_line")]
 
 import ending
 import needles
@@ -36,7 +36,7 @@ import needs
 import proved
 import static_library
 from running import build_preload
-from whole_running import put_files, record_of, sealed
+from command_running import put_files, record_of, sealed
 
 SECONDS = 1800
 STRICT = ["-std=c11", "-Wall", "-Wextra", "-Wpedantic", "-Werror"]

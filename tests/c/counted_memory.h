@@ -1,4 +1,4 @@
-/* The requests for memory of a program, counted, and refused where that is asked for: linked with -Wl,--wrap=malloc
+/* Counts the requests for memory of a program, and refuses some on demand: linked with -Wl,--wrap=malloc
  * -Wl,--wrap=realloc -Wl,--wrap=free. */
 #ifndef COUNTED_MEMORY_H
 #define COUNTED_MEMORY_H

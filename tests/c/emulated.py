@@ -1,7 +1,7 @@
-"""What is built of `c/` for other processors by cross compilers of Debian, and run under qemu, which is no such processor.
+"""Builds `c/` for other processors by cross compilers of Debian, and runs it under qemu.
 
-Debian's libsodium for a processor is fetched by apt-get, once, and unpacked beside what is built here: the system stays as it
-is. Where Debian has none the programs of c/ are not built, and the library is tried alone.
+apt-get fetches Debian's libsodium for a processor once, and it is unpacked beside what is built here: the system
+stays as it is. Where Debian has none the programs of c/ are not built, and the library is tried alone.
 """
 
 import glob

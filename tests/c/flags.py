@@ -1,17 +1,18 @@
 #!/usr/bin/env python3
-"""Builds all of `c/` with the flags that distributions give to what they package, by several compilers, and by `make -j`.
+"""Builds all of `c/` with the flags by which distributions package, by several compilers, and by `make -j`.
 
     tests/c/flags.py
 
-With those of Debian (`dpkg-buildflags`, all hardening and LTO), of Ubuntu (LTO, in objects that have the processor's code too) and of
-Fedora (its specs files are written here, as rpm's are), by clang, and by musl: what was built verifies the kept signatures, warns of
-nothing, and the library has no code but the processor's, so that any compiler links it. With -fcf-protection and -mbranch-protection the
-object that the library is made of has the notes of these, by which the linker and the system turn the checks on where all else has them,
-and what is written in assembly begins as they want it; the archives of dist/ have none, so that is with PORTABLE=1. It prints a line for
-each failure; the last line is `N passed, M failed`.
+It takes those of Debian (`dpkg-buildflags`, all hardening and LTO), of Ubuntu (LTO, in objects that have the
+processor's code too) and of Fedora (its specs files are written here, as rpm's are), by clang, and by musl. What was
+built verifies the kept signatures and warns of nothing, and the library has no code but the processor's, so that any
+compiler links it. With -fcf-protection and -mbranch-protection the library's object has their notes, by which the
+linker and the system turn the checks on where all else has them, and the assembly begins as they want it; the
+archives of dist/ have none, so that is with PORTABLE=1. It prints a line for each failure; the last line is `N
+passed, M failed`.
 
-Needs Python 3.9 or later, make, gcc, clang, binutils, libsodium with its header, and of Debian dpkg-dev, musl-tools and
-gcc-aarch64-linux-gnu, and installs what is not there where it may.
+Needs Python 3.9 or later, make, gcc, clang, binutils, libsodium with its header, and of Debian dpkg-dev, musl-tools
+and gcc-aarch64-linux-gnu. It installs what is missing if it may.
 """
 
 import os

@@ -1,6 +1,6 @@
 /*
- * Each buffer that a call is given ends where a page without access begins, and then begins where one ends: no call
- * reads or writes a byte beside what it was given. A wild access ends the program.
+ * Each buffer that a call gets ends where a page without access begins, and then begins where one ends: no call reads
+ * or writes a byte beside it. A wild access ends the program.
  *
  * The last line is `N passed, M failed`.
  */

@@ -1,11 +1,10 @@
 /*
- * An installation through minisign_install.h: at each call that may be due each call of the header is made, and what is due
- * then is compared with a table of its own here; where a call is rejected as a usage error, no byte of the struct changes.
- * Also the records and the signed comments that are taken and rejected, what is asked of Ed25519, and that no memory is
- * taken.
+ * An installation through minisign_install.h. At each call that may be due it makes each call of the header, and
+ * compares what is due then with a table of its own. A usage error changes no byte of the struct. Also the records
+ * and the signed comments that are taken and rejected, and the questions to Ed25519; and nothing allocates.
  *
- * Linked with -Wl,--wrap=malloc -Wl,--wrap=realloc -Wl,--wrap=free. Prints a line for each check that failed; the last
- * line is `N passed, M failed`.
+ * Linked with -Wl,--wrap=malloc -Wl,--wrap=realloc -Wl,--wrap=free. Prints a line for each check that failed; the
+ * last line is `N passed, M failed`.
  */
 #include <stdlib.h>
 #include <string.h>

@@ -1,17 +1,17 @@
 #!/usr/bin/env python3
-"""Installs the library of `c/` into a directory of its own, and uses it from what was installed alone: from C, linked as a
-static and as a shared library, from C++, from Rust and from Python. The examples of the header verify and sign good and
-bad input.
+"""Installs the library of `c/` into a directory of its own, and uses only what was installed: from C, linked as a
+static and as a shared library, from C++, from Rust and from Python. The examples of the header verify and sign good
+and bad input.
 
     tests/c/installed.py
 
-Also: exactly these files are installed, with a page for each call that leads to the manual page; the shared library has
-its soname, and like the static one the names of the header and no other; a result that is dropped is a warning in C and
-in C++; the manual pages are read without a word. It prints a line for each failure; the last line is
-`N passed, M failed`.
+Also: exactly these files are installed, with a page for each call that leads to the manual page; the shared library
+has its soname, and like the static one the names of the header and no other; a dropped result is a warning in C and
+in C++; the manual pages are read without a warning. It prints a line for each failure; the last line is `N passed, M
+failed`.
 
 Needs Python 3.9 or later, make, binutils, pkg-config, groff, a C and a C++ compiler, rustc, libsodium with its header
-and minisign, and installs what is not there where it may. The library is built over `dist/` (`static_library.py`);
+and minisign. It installs what is missing if it may. The library is built over `dist/` (`static_library.py`);
 `packaging.py` uses what a release installs in the same way.
 """
 
@@ -22,14 +22,14 @@ import shlex
 import sys
 
 HERE = os.path.dirname(os.path.realpath(__file__))
-sys.path += [os.path.join(HERE, "..", name) for name in ("shared", "minisign")]
+sys.path += [os.path.join(HERE, "..", name) for name in ("shared", "command_line")]
 
 import ending
 import needs
 import static_library
-from minisign_signing import MEMORY, sealed_key
 from process import run_apart
 from running import read, write
+from command_running import sealed
 
 TOP = os.path.join(HERE, "..", "..")
 EXAMPLES = os.path.join(TOP, "c", "examples")
@@ -204,7 +204,7 @@ def run_signer(checks, program, room, minisign):
     good, wrong, endless = (write(room, name, text) for name, text in (("pw", b"pw\n"), ("wrong", b"pv\n"), ("endless", b"pw")))
     key, nothing = os.path.join(room, "key.key"), os.path.join(room, "nothing")
     # (Minisign cuts a longer password than of 1,023 bytes)
-    long_sealed = write(room, "long.key", sealed_key(read(key), b"p" * 1024, MEMORY))
+    long_sealed = write(room, "long.key", sealed(read(key), b"p" * 1024))
     long, shorter = (write(room, f"{count}.password", b"p" * count + b"\n") for count in (1024, 1023))
     halves = [write(room, f"half{at}.key", with_half_changed(read(key), at)) for at in (SEED_AT, PUBLIC_HALF_AT, PUBLIC_HALF_AT + 31)]
     # The key, the data, the comment and the password, and what is said where no text is made.
@@ -297,7 +297,7 @@ def run_check(checks, program, root, room):
 
 
 def run_programs(checks, root, room, minisign):
-    """The programs that were installed, once each; `tests/whole/whole_minisign.py` has all about the first."""
+    """The programs that were installed, once each; `tests/command_line/command_line.py` has all about the first."""
     key, data, sig = (os.path.join(room, name) for name in ("key.pub", "data", "installed.sig"))
     ours = os.path.join(root, "bin", "minisign")
     status, _, why = run_apart([ours, "-S", "-s", os.path.join(room, "key.key"), "-m", data, "-x", sig, "-t", COMMENT])

@@ -8,9 +8,9 @@
  *     keys memory EVERY FILE
  *
  * EVERY says how many rows of scrypt are kept, and ROWS how many may be made, as in the header. The first three are in
- * hexadecimal. With `place` the key is opened in memory of just the size that is told, which is filled before and has to
- * be zeros after; `memory` writes how many words and bytes those are. Otherwise it writes the text, or the identifier
- * and the secret in hexadecimal; or the number of the error, with the exit status 1.
+ * hexadecimal. With `place` the key is opened in memory of just the size that `memory` writes, in words and bytes. The
+ * memory is filled before and has to be zeros after. Otherwise it writes the text, or the key ID and the secret in
+ * hexadecimal; or the number of the error, with the exit status 1.
  */
 #include <inttypes.h>
 #include <stdio.h>

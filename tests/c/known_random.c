@@ -1,6 +1,6 @@
 /*
- * A source of random bytes that is known: preloaded into Minisign's own program, it gives libsodium the bytes 0, 1, 2
- * and so on, each as its place times 167 plus 13, modulo 256, over all requests together.
+ * A known source of random bytes: preloaded into Minisign's own program, it gives libsodium the bytes 0, 1, 2 and so
+ * on, each as its place times 167 plus 13, modulo 256, over all requests together.
  */
 #include <stdint.h>
 #include <stddef.h>

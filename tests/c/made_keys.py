@@ -4,14 +4,14 @@
     tests/c/made_keys.py [LIBRARY]
 
 With the limits of `minisign -G` and the random bytes that it drew (`known_random.c` is preloaded into it), the texts
-have to be those that it wrote, byte for byte. Keys that the library makes are used by Minisign; keys of `minisign -G`
-are opened, made again under another password and used by Minisign, and their public keys are written again. Opening is
-bounded in work and in memory, and what is rejected has its number, in the order that the header says. LIBRARY is the one
-of `c/`, which is built where none is named (`static_library.py`). It prints a line for each failure; the last line is
-`N passed, M failed`.
+have to be those that it wrote, byte for byte. Minisign uses keys that the library makes. The library opens keys of
+`minisign -G`, and makes them again under another password, for Minisign to use, and writes their public keys again.
+Opening is bounded in work and in memory, and each rejection has its number, in the order that the header says.
+LIBRARY is the one of `c/`, which is built by default (`static_library.py`). It prints a line for each failure; the
+last line is `N passed, M failed`.
 
-Needs Python 3.9 or later, a C compiler, libsodium with its header and minisign 0.11, and installs what is not there
-where it may.
+Needs Python 3.9 or later, a C compiler, libsodium with its header and minisign 0.11. It installs what is missing if
+it may.
 """
 
 import base64

@@ -1,15 +1,15 @@
 #!/usr/bin/env python3
-"""The library over dist/calls.c for the other kinds of processors that Debian has cross compilers for, under qemu. It is no part
-of the gate, which has `portable.py`.
+"""Tries the library over dist/calls.c for the other processors that Debian has cross compilers for, under qemu. It is
+no part of the gate, which has `portable.py`.
 
     tests/c/more_processors.py [NAME ..]
 
-NAME is Debian's, as below; without any, all of them. It does what `portable.py elsewhere` does, but for the search for secrets: of
-these processors the library clears no registers. It prints a line for each failure; the last line is `N passed, M failed`. (Under
-Debian 12's emulator of sh4 no program runs at all.)
+NAME is Debian's, as below; by default all of them. It does what `portable.py elsewhere` does, but for the search for
+secrets: the library clears no registers of these processors. It prints a line for each failure; the last line is `N
+passed, M failed`. (Under Debian 12's emulator of sh4 no program runs at all.)
 
-Needs what `portable.py elsewhere` needs, with the cross compilers and C libraries of these, and installs what is not there where it
-may.
+Needs what `portable.py elsewhere` needs, with the cross compilers and C libraries of these. It installs what is
+missing if it may.
 """
 
 import os

@@ -1,6 +1,6 @@
 /*
- * NULL with length 0 is what a pointer to no bytes is, in each place of each call: the same number, and the same state
- * and bytes after it.
+ * In each place of each call, NULL with length 0 does what a pointer to no bytes does: the same number, and the same
+ * state and bytes after it.
  *
  * Prints a line for each check that failed; the last line is `N passed, M failed`.
  */

@@ -1,7 +1,7 @@
 /*
- * Verifying makes no request for memory, nor does opening a secret key in memory of the caller's, which begins no thread
- * either. Of the other calls each request is refused in turn: the answer is MINISIGN_OUT_OF_MEMORY, nothing else, the
- * state stays as it was, and what was taken is given back. Also with each request after it refused, and the whole memory
+ * Verifying makes no request for memory, nor does opening a secret key in the caller's memory, which begins no thread
+ * either. Of the other calls each request is refused in turn: the number is MINISIGN_OUT_OF_MEMORY, the state stays
+ * as it was, and what was allocated is freed. The same with each request after it refused, and with the whole memory
  * of scrypt refused for a key sealed as `minisign -G` seals.
  *
  * Linked with -Wl,--wrap=malloc -Wl,--wrap=realloc -Wl,--wrap=free -Wl,--wrap=pthread_create, and built with

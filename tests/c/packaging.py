@@ -1,16 +1,16 @@
 #!/usr/bin/env python3
-"""What those who make packages do with `c/Makefile`.
+"""What packagers do with `c/Makefile`.
 
     tests/c/packaging.py
 
-Flags of theirs are heeded in each command; without any, programs and the shared library are hardened as Debian's are;
-libsodium is linked as the shared library, and by a word as its archive; `test` passes, and fails for a program that
-verifies nothing; what was installed under another name, or without `minisign`, is taken away again, and nothing else;
-`minisign.pc` can be moved; where the loader does not find the library a sentence says so. (What a release is,
-`releases.py` shows.) It prints a line for each failure; the last line is `N passed, M failed`.
+Their flags count in each command; without any, programs and the shared library are hardened as Debian's are. The
+programs load the shared libsodium, and by a word take its archive. `test` passes, and fails for a program that
+verifies nothing. `uninstall` removes what was installed under another name, or without `minisign`, and nothing else.
+`minisign.pc` can be moved. Where the loader does not find the library a sentence says so. (`releases.py` tries
+releases.) It prints a line for each failure; the last line is `N passed, M failed`.
 
-Needs Python 3.9 or later, make, binutils, pkg-config, gcc and libsodium with its header, and installs what is not there
-where it may.
+Needs Python 3.9 or later, make, binutils, pkg-config, gcc and libsodium with its header. It installs what is missing
+if it may.
 """
 
 import os

@@ -1,20 +1,20 @@
 #!/usr/bin/env python3
-"""The library over dist/calls.c, the proved calls as C, where the archives of dist/ are for another processor or system.
+"""Tries the library over dist/calls.c, the proved calls as C, for processors and systems without an archive in dist/.
 
     tests/c/portable.py [PART ..]
 
-PART is one of those below; without any, all of them. `here`: by gcc, clang and tcc, over musl, and with what finds misuse of
-memory and undefined behaviour, the programs that `c_library.py` runs over the archives. `elsewhere`: under qemu for s390x, whose
-numbers are the other way round, for ARM with pointers of 32 bits, and for RISC-V, all that `aarch64.py` runs for AArch64, of
-RISC-V without the programs that need libsodium, which this Debian does not have for it; and no secret stays behind. `windows`: `minisign.dll` and the static
-library by mingw-w64, with pointers of 64 bits under wine. `compiled`: for the systems of Apple and the BSDs, of which nothing is here, all C
-of the library compiles over a few declarations, and that of the programs over the headers of musl, which are those of POSIX.
-`release`: a release is built with nothing that was built before. Everywhere the answers to many texts are those of the archives,
-byte for byte. It prints a line for each failure; the last line is `N passed, M failed`.
+PART is one of these; by default all of them. `here`: by gcc, clang and tcc, over musl, and with sanitizers, the
+programs that `c_library.py` runs over the archives. `elsewhere`: under qemu for s390x, whose numbers are the other
+way round, for ARM with pointers of 32 bits, and for RISC-V, all that `aarch64.py` runs for AArch64 (on RISC-V without
+the programs, as this Debian has no libsodium for it); and no secret stays behind. `windows`: `minisign.dll` and the
+static library by mingw-w64, with pointers of 64 bits, under wine. `compiled`: for the systems of Apple and the BSDs,
+all C of the library compiles over a few declarations, and that of the programs over the headers of musl, which are
+those of POSIX. `release`: a release is built without what was built before. Everywhere the answers to many texts are
+those of the archives, byte for byte. It prints a line for each failure; the last line is `N passed, M failed`.
 
-Needs Python 3.9 or later, make, binutils, gcc, clang, tcc, musl-gcc, libsodium with its header, minisign, and of Debian
-qemu-user-static, wine64, gcc-mingw-w64-x86-64 and cross compilers with their C libraries for s390x, armhf and riscv64, and
-installs what is not there where it may.
+Needs Python 3.9 or later, make, binutils, gcc, clang, tcc, musl-gcc, libsodium with its header, minisign, and of
+Debian qemu-user-static, wine64, gcc-mingw-w64-x86-64 and cross compilers with their C libraries for s390x, armhf and
+riscv64. It installs what is missing if it may.
 """
 
 import glob
@@ -26,7 +26,7 @@ import subprocess
 import sys
 
 HERE = os.path.dirname(os.path.realpath(__file__))
-sys.path += [os.path.join(HERE, "..", name) for name in ("shared", "page", "minisign")]
+sys.path += [os.path.join(HERE, "..", name) for name in ("shared", "page", "verdicts")]
 
 import c_library
 import cases

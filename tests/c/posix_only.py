@@ -1,13 +1,15 @@
 #!/usr/bin/env python3
-"""Builds the programs of `c/` with -DPOSIX_ONLY, so that they use nothing that Linux alone has, and runs the whole tests of both.
+"""Builds the programs of `c/` with -DPOSIX_ONLY, which takes nothing that Linux alone has, and runs all tests of
+both.
 
     tests/c/posix_only.py
 
-They call nothing that Linux alone has. All cases of `tests/whole/whole_minisign.py` and `tests/installer/real_installing.py` pass, but
-for those that are named here, each with what is weaker there; one of these that passes is a failure too. That a stranger gets a key is
-none of them. It prints a line for each failure; the last line is `N passed, M failed`.
+They call nothing that Linux alone has. All cases of `tests/command_line/command_line.py` and
+`tests/installer/real_installing.py` pass, but for those that this names, each with what is weaker there; one of these
+that passes is a failure too. In none of them a stranger gets a key. It prints a line for each failure; the last line
+is `N passed, M failed`.
 
-Needs what these two scripts need, and installs what is not there where it may.
+Needs what these two scripts need. It installs what is missing if it may.
 """
 
 import collections
@@ -30,7 +32,7 @@ DIRECTORY = "a directory is gone to by its name, which one that was removed has 
 
 # Patterns of the names of cases, and what is weaker.
 WEAKER = {
-    "whole_minisign.py": {
+    "command_line.py": {
         r"the permissions of a replaced file: a list ": LISTS,
         r"a pair over an older one, and (a call fails|signal \d+ at each call)": EXCHANGE,
         r"a new pair, killed: no stage": UNNAMED,
@@ -84,7 +86,7 @@ def run_all(checks, room):
     for program in programs:
         check_calls(checks, program)
     tests = os.path.join(HERE, "..")
-    check_script(checks, os.path.join(tests, "whole", "whole_minisign.py"), "--posix-only", programs[0])
+    check_script(checks, os.path.join(tests, "command_line", "command_line.py"), "--posix-only", programs[0])
     check_script(checks, os.path.join(tests, "installer", "real_installing.py"), programs[1])
 
 

@@ -1,14 +1,15 @@
 #!/usr/bin/env python3
-"""Which copy of the proved calls runs on which x86-64 processor: as qemu shows them, of which none has to be here.
+"""Shows which copy of the proved calls runs on which x86-64 processor, under qemu.
 
     tests/c/processors.py
 
-On those without AVX2, and on one that has it and lacks another part of x86-64-v3, the copy for x86-64-v2 runs, and on
-the others the one for x86-64-v3; on those that lack a part of x86-64-v2, the one of dist/calls.c. Each copy in turn has a
-wrong constant, so that it is seen which one ran. It prints a line for each failure; the last line is `N passed, M failed`.
+On processors without AVX2, and on one that has it and lacks another part of x86-64-v3, the copy for x86-64-v2 runs,
+and on the others the one for x86-64-v3; on those that lack a part of x86-64-v2, the one of dist/calls.c. Each copy in
+turn has a wrong constant, which shows which one ran. It prints a line for each failure; the last line is `N passed, M
+failed`.
 
-Needs Python 3.9 or later, make, binutils, a C compiler, libsodium with its header, and of Debian qemu-user-static, and
-installs what is not there where it may.
+Needs Python 3.9 or later, make, binutils, a C compiler, libsodium with its header, and of Debian qemu-user-static. It
+installs what is missing if it may.
 """
 
 import os

@@ -1,7 +1,7 @@
 /*
- * The texts of public keys, with the key and the identifier that they give, and those that are rejected, with the
- * number of the rejection. The keys were made by Minisign; their bytes and identifiers are those that Python's base64
- * decodes from the second lines. After a rejection both stay as they were, and nothing allocates.
+ * The texts of public keys, with the key and the key ID that they give, and rejected ones, with their numbers. The
+ * keys were made by Minisign; their bytes and key IDs are those that Python's base64 decodes from the second lines. A
+ * rejection changes neither, and nothing allocates.
  *
  * Prints a line for each check that failed; the last line is `N passed, M failed`.
  */

@@ -1,19 +1,20 @@
 #!/usr/bin/env python3
-"""What those do who have a release alone, and those who make packages of it.
+"""What users do who have a release alone, and packagers who make packages of it.
 
     tests/c/releases.py
 
-A release has the same bytes twice, and the moment of the commit; what is built in it has its sources there, and each document
-that a text of it names is there. It is signed by its own program where RELEASE_KEY names a secret key, which Minisign's own
-program verifies, and otherwise says that it is not signed. Where it is unpacked there is no kit, no Python and no repository,
-and it is built by gcc and by clang, checked, installed, and used from what was installed: by gcc also from C++, Rust and
-Python (`installed.py`); it writes the same release again. Debian's tools build packages of it by `packaging/debian.sh`, in
-which lintian finds no error; the steps of Alpine's build file go over musl, and `packaging/others` packs what is installed.
-Nobody is made up as their maintainer, and no file of the repository is a secret key. It prints a line for each failure; the
-last line is `N passed, M failed`.
+A release has the same bytes twice, and the moment of the commit. It has the sources of what is built in it, and each
+document that a text of it names. Where RELEASE_KEY names a secret key its own program signs it, which Minisign's own
+program verifies; otherwise it says that it is not signed. Where it is unpacked there is no kit, no Python and no
+repository. There it is built by gcc and by clang, checked, installed, and used from what was installed: by gcc also
+from C++, Rust and Python (`installed.py`). It writes the same release again. Debian's tools build packages of it by
+`packaging/debian.sh`, in which lintian finds no error; the steps of Alpine's build file go over musl, and
+`packaging/others` packs what is installed. No maintainer is made up, and no file of the repository is a secret key.
+It prints a line for each failure; the last line is `N passed, M failed`.
 
-Needs Python 3.9 or later, git where this is a clone, make, binutils, clang, musl-gcc, minisign, libsodium with its header and
-archive, Debian's dpkg-dev, debhelper and lintian, and what `installed.py` needs, and installs what is not there where it may.
+Needs Python 3.9 or later, git where this is a clone, make, binutils, clang, musl-gcc, minisign, libsodium with its
+header and archive, Debian's dpkg-dev, debhelper and lintian, and what `installed.py` needs. It installs what is
+missing if it may.
 """
 
 import glob

@@ -1,6 +1,6 @@
 /*
- * Several threads at once, each with states of its own: each verifies and signs what no other does, again and again,
- * and what it is told is what one thread alone is told.
+ * Several threads at once, each with states of its own: each verifies and signs its own data, again and again, and
+ * gets what one thread alone gets.
  *
  * The last line is `N passed, M failed`.
  */

@@ -1,17 +1,17 @@
 #!/usr/bin/env python3
-"""The translator of `tools/wasm_to_c.py` and `c/library/portable/machine.h`, by which dist/calls.c is made: each row of its table,
-and functions at random, beside Python's integers and another WebAssembly, Node's.
+"""Tries the translator, `tools/wasm_to_c.py` over `c/library/portable/machine.h`, which makes dist/calls.c: each row
+of its table, and random functions, beside Python's integers and another WebAssembly, Node's.
 
     tests/c/translated.py
 
-Each instruction on numbers on pairs of numbers at edges and at random, those that end the program where they have to, and each
-load and store. Then functions at random, of blocks, loops, branches, calls and what reads and writes memory; data with addresses;
-and the stack of the machine. The same bytes are translated, compiled by a C compiler with and without what finds undefined
-behaviour, and run by Node. Bugs that are planted in machine.h, in the table and in how the stack is kept are noticed, each of
-them. What the translator does not know is an error that names it. It prints a line for each failure; the last line is
-`N passed, M failed`.
+It tries each instruction on pairs of numbers at edges and at random, those that end the program where they have to,
+and each load and store. Then come random functions, of blocks, loops, branches, calls and what reads and writes
+memory; data with addresses; and the stack of the machine. The same bytes are translated, compiled by a C compiler
+with and without a sanitizer of undefined behaviour, and run by Node. Each of some bugs that are planted in machine.h,
+in the table and in the stack is noticed. What the translator does not know is an error that names it. It prints a
+line for each failure; the last line is `N passed, M failed`.
 
-Needs Python 3.9 or later, a C compiler and Node, and installs what is not there where it may.
+Needs Python 3.9 or later, a C compiler and Node. It installs what is missing if it may.
 """
 
 import os

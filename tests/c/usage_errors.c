@@ -1,7 +1,8 @@
 /*
- * Calls that are used wrongly: a signature with another text than its own, keys that were not read or opened, buffers that are too
- * short, comments that Minisign would not read back, and work that is not allowed. Each is an error number, and changes nothing.
- * Also right calls beside them, so that it is the use that is rejected. What is called in the wrong order is in random_calls.c.
+ * Wrong uses of calls: a signature with another text than its own, keys that were not read or opened, short buffers,
+ * comments that Minisign would not read back, and more work than is allowed. Each is an error number, and changes
+ * nothing. Right calls stand beside them, which shows that it is the use that is rejected. random_calls.c has calls
+ * in the wrong order.
  *
  * Prints a line for each check that failed; the last line is `N passed, M failed`.
  */

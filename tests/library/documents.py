@@ -1,10 +1,10 @@
 #!/usr/bin/env python3
-"""Compares what the documents name with what is there: functions and clauses, the calls that a CALLING.md quotes, the
-errors of docs/INSTALLING.md, blocks of code, links, paths, names, and the old texts of the must-fail edits; and so the names
-and paths in the comments of all code, of makefiles and of manual pages. No file names a directory of one machine. It also
-looks for crates that name the proofs of another one.
+"""Compares the names in the documents with the sources: functions and clauses, the calls that a CALLING.md quotes,
+the errors of docs/FORMATS.md, blocks of code, links, paths, and the old texts of the must-fail edits. It does the
+same with names and paths in the comments of all code, of makefiles and of manual pages. No file may name a directory
+of one machine, and no crate the proofs of another one.
 
-It prints a line for each name that is not there; the last line is `N passed, M failed`. Needs Python 3.9 or later.
+It prints a line for each name that is missing; the last line is `N passed, M failed`. Needs Python 3.9 or later.
 """
 
 import builtins
@@ -21,7 +21,6 @@ from checks import Checks
 from sources import NAME, ROOT, read
 
 FORMATS = "docs/FORMATS.md"
-INSTALLING = "docs/INSTALLING.md"
 ARCHITECTURE = "docs/ARCHITECTURE.md"
 # What a script makes from the sources, and checks itself.
 MADE = "docs/TRUSTED.md"
@@ -117,13 +116,13 @@ def places(document, text):
 
 
 def check_installing(report, index):
-    """Each error that installing adds stands in its table with its name and its text."""
-    rows = [row.split("|")[2] for row in read(INSTALLING).split("\n") if row.count("|") == 4]
+    """Each error that installing adds stands in the table of errors with its name and its text."""
+    rows = [row.split(" | ") for row in read(FORMATS).split("\n") if row.startswith("| `")]
     errors = re.findall(r'^install_row (\w+) =\s+row \d+ \w+ \(codes "([^"]*)"',
                         read("crates/minisign_install/specs/Faults.antt"), re.M)
     report.check(errors, "specs/Faults.antt", "no error is read")
     for name, said in errors:
-        report.check(any(f"`{name}`: `{said}`" in row for row in rows), INSTALLING, f"no row for {name}")
+        report.check(any(row[0] == f"| `{name}`" and f"`{said}`" in row for row in rows), FORMATS, f"no row for {name}")
 
 
 def squeezed(text):

@@ -1,13 +1,13 @@
 #!/usr/bin/env python3
-"""Makes the repository of a caller of the lines that the documents tell to copy, and proves the caller in it.
+"""Makes a caller's repository of the lines that the documents tell you to copy, and proves the caller in it.
 
     tests/library/new_repository.py
 
-The lines of crates.txt and the example stand in README.md or in docs/GUIDE.md, each in a block of its own. The libraries
-are those of this repository as they stand proved (tests/shared/proved.py); the caller's crate lists what the lines say
-and no more, and has the example, with the imports, the definition and the proof that stand in `minisign_examples`. The
-caller that the CALLING.md of a library shows is the whole source of a crate, over that library and those that it names. The
-last line is `N passed, M failed`.
+README.md or docs/GUIDE.md has the lines of crates.txt and the example, each in a block of its own. The libraries are
+those of this repository as they stand proved (tests/shared/proved.py). The caller's crate lists what the lines say
+and no more, and has the example, with the imports, the definition and the proof of `minisign_examples`. The caller in
+the CALLING.md of a library is the whole source of a crate, over that library and those that it names. The last line
+is `N passed, M failed`.
 
 Needs Python 3.9 or later and the kit.
 """

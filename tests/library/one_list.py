@@ -1,13 +1,13 @@
 #!/usr/bin/env python3
-"""Compares tests/scripts.txt, of which `make -C c check` and the gate read what they run, with what is there.
+"""Compares tests/scripts.txt, the list of what `make -C c check` and the gate run, with the scripts that are there.
 
     tests/library/one_list.py
 
-Each script of tests/ and tools/ that counts what it checks is in the list, once, and what is listed is there. What runs the
-list (tests/check.py) adds what scripts say, and takes one that ends badly, or says nothing, for failed; without the kit it
-leaves out what needs it. tests/packages.txt, of which README has Debian's packages installed, names each package that a
-script asks for. `.ci/run` without the kit says one sentence, and begins nothing. It prints a line for each failure; the last
-line is `N passed, M failed`.
+Each script of tests/ and tools/ that counts what it checks is in the list once, and each listed script exists.
+tests/check.py adds up what the scripts say, counts one that ends badly or says nothing as failed, and leaves out what
+needs the kit where there is none. tests/packages.txt, which README tells you to install, names each package that a
+script asks for. `.ci/run` without the kit says one sentence, and starts nothing. It prints a line for each failure;
+the last line is `N passed, M failed`.
 
 Needs Python 3.9 or later and bash.
 """

@@ -1,13 +1,13 @@
 #!/usr/bin/env python3
-"""Runs built tests with each of their requests for memory refused in turn, until a run meets none, and those
-that promise to take little memory within a bound on it.
+"""Runs built tests again and again, each time with one more of their requests for memory refused, until a run meets
+no refusal; and those that promise to take little memory, within a bound on it.
 
     tests/library/refused_memory.py [TESTS [WORD]]
 
-TESTS is a program of tests as `rt test` and `rt ci` leave it; where none is named, it is that of each crate whose
-sources have the word WORD, `crates/NAME/out/NAME_tests`. The tests whose names hold WORD are run, `refused_allocations`
-where none is named. Each of these tests passes where its call is right or is refused with `out of memory`. It
-prints a line for each test; the last line is `N passed, M failed`. A test or a program that is not there has failed.
+TESTS is a program of tests as `rt test` and `rt ci` leave it; without it, those of each crate whose sources have the
+word WORD, `crates/NAME/out/NAME_tests`. It runs the tests whose names hold WORD, by default `refused_allocations`. A
+test passes where its call is right or is refused with `out of memory`. It prints a line for each test; the last line
+is `N passed, M failed`. A missing test or program counts as failed.
 
 Needs Python 3.9 or later and a C compiler, which it installs as root on Debian.
 """

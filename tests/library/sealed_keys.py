@@ -1,6 +1,6 @@
 #!/usr/bin/env python3
-"""Seals key A by Python's hashlib alone, as `minisign_fixtures` has it in `src/texts.rt`, and compares: the constants
-there were made so.
+"""Seals key A by Python's hashlib alone, and compares with the constants of `minisign_fixtures` in `src/texts.rt`,
+which were made so.
 
     tests/library/sealed_keys.py [NAME]
 

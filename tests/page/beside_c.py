@@ -1,5 +1,6 @@
-"""Changed texts, whose verdicts and reasons are compared with those of `c/minisign -V`, and numbers for a
-flag that only who calls the module without the page can pass, compared with the library for C."""
+"""Changed texts, whose verdicts and reasons are compared with those of `c/minisign -V`; and flags that only a caller
+of the module without the page can pass, compared with the library for C.
+"""
 
 import ctypes
 import os

@@ -1,5 +1,5 @@
-"""A real browser with the page that verifies a download, without a window: what a person does there and sees, as far as a driver
-can do it, and Debian's Chromium, driven by its own driver. (Firefox is in firefox.py.)
+"""A real browser with the page that verifies a download, without a window, as far as a driver can do what a person
+does and sees; and Debian's Chromium, with its own driver. (firefox.py has Firefox.)
 """
 
 import contextlib

@@ -1,4 +1,4 @@
-"""What the page is given: the kept corpus, texts with one error each, and comments and names of a hostile signer."""
+"""Input for the page: the kept corpus, texts with one error each, and comments and names of a hostile signer."""
 
 import base64
 import json

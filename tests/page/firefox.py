@@ -1,5 +1,5 @@
-"""Debian's Firefox with the page that verifies a download, without a window. Debian has no driver of it, so it is driven by
-its own protocol, Marionette: lists in JSON, each after its length and a colon.
+"""Debian's Firefox with the page that verifies a download, without a window. Debian has no driver for it, so this
+speaks its own protocol, Marionette: lists in JSON, each after its length and a colon.
 """
 
 import base64

@@ -1,5 +1,5 @@
-"""What helps a person who never heard of Minisign: the words before the first field, signatures that are known by their
-text, and a sentence for each thing that was given in another's place.
+"""Help for a person who never heard of Minisign: the words before the first field, signatures that are known by their
+text, and a sentence for each thing that was given in place of another.
 """
 
 import os

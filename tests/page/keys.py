@@ -1,5 +1,5 @@
-"""Whose key it is: a key that a person gave stays, one that came with the files or by the link is told as such beside each
-verdict, and a page with a key of its own takes no other.
+"""Whose key it is: a key that you gave stays, each verdict says of a key that came with the files or the link that it
+did, and a page with a key of its own takes no other.
 """
 
 import base64

@@ -1,4 +1,4 @@
-"""Long files: they are stopped and begun again, and are not held in memory."""
+"""Long files: you can stop them and begin again, and the page does not hold them in memory."""
 
 import os
 import re

@@ -1,5 +1,6 @@
-"""How the page looks and how it is used without a mouse: names for a screen reader, the order of the keyboard, colours that
-differ enough, and a narrow screen."""
+"""How the page looks and works without a mouse: names for a screen reader, the order of the keyboard, colours that
+differ enough, and a narrow screen.
+"""
 
 # Pairs of a text and its ground that differ by less than this are hard to read (WCAG 2, level AA).
 MIN_CONTRAST = 4.5

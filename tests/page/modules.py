@@ -1,5 +1,5 @@
-"""The module that is proved, for a memory of 64 bits, and the one that wasm-opt made of it, for 32, which the page carries:
-both answer the same on all texts of these tests.
+"""The proved module, for a memory of 64 bits, and the page's, for 32, which wasm-opt made of it: both answer the same
+on all texts of these tests.
 """
 
 import base64

@@ -1,5 +1,5 @@
-"""Only the download: a project's page with its key and the signatures of a release, and links that have them, take one file, ask for
-nothing else, and give its verdict; and what `build.py` builds in.
+"""The download alone: a project's page with its key and the signatures of a release, and links that have them, take
+one file and give its verdict; and what `build.py` builds in.
 """
 
 import base64

@@ -1,4 +1,4 @@
-"""What the sources of the page have to have in common with those of the library for C, and what the built page may name."""
+"""What the sources of the page share with those of the library for C, and what the built page may name."""
 
 import hashlib
 import os

@@ -1,4 +1,4 @@
-"""Who uses the page in the tests, and what was seen to hold."""
+"""A person who uses the page in the tests, and what was seen to hold."""
 
 import os
 import re

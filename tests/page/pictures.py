@@ -14,7 +14,7 @@ import tempfile
 
 HERE = os.path.dirname(os.path.realpath(__file__))
 TOP = os.path.join(HERE, "..", "..")
-sys.path += [os.path.join(TOP, *directory) for directory in (("tests", "shared"), ("tests", "minisign"), ("page",))]
+sys.path += [os.path.join(TOP, *directory) for directory in (("tests", "shared"), ("tests", "verdicts"), ("page",))]
 
 import needs
 

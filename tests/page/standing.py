@@ -1,5 +1,6 @@
-"""Nothing stands still: a thread that ends and a read that hangs can be stopped, many files take no longer for each than a few, and a
-file that changes is told where the browser tells it."""
+"""Nothing hangs: you can stop a thread that ends and a read that hangs, many files take no longer for each than a
+few, and the page says that a file changed where the browser tells it.
+"""
 
 import contextlib
 import os

@@ -1,4 +1,4 @@
-"""The vectors of Ed25519 that implementations differ in: the page answers what libsodium answers, in each browser."""
+"""The vectors of Ed25519 that implementations differ in: in each browser the page answers as libsodium does."""
 
 import edges
 from minisign_cases import pattern

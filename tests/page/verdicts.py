@@ -1,4 +1,4 @@
-"""Good, damaged and foreign signatures, of the kept corpus and of keys that are made now; each error and its words; several files
+"""Good, damaged and foreign signatures, of the kept corpus and of new keys; each error and its words; several files
 at once.
 """
 

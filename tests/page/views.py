@@ -1,5 +1,6 @@
-"""What a person sees of the verdicts: the first one comes into view, and none can be taken for another one, in light, in dark, and
-where the system forces its colours."""
+"""How the verdicts show: the first one scrolls into view, and none looks like another, in light, in dark, and where
+the system forces its colours.
+"""
 
 from minisign_cases import lines
 from person import STANDS

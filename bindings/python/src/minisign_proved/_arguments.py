@@ -1,6 +1,6 @@
 # SPDX-License-Identifier: MIT
-"""What a caller passes is looked at here, before anything is done with it: TypeError
-names an argument of another type, and ValueError one of another value."""
+"""Tests what a caller passes, before anything is done with it: a TypeError names an
+argument of another type, and a ValueError one of another value."""
 
 import os
 from typing import Any, Callable, Dict, TypeVar, Union, cast

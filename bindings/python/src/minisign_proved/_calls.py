@@ -1,7 +1,7 @@
 # SPDX-License-Identifier: MIT
-"""What is outside of Python: the library, by its calls, which `_header.py` has, and
-Ed25519 by what is there: libsodium, or the package `cryptography`. What a call answers
-as an error is raised as its exception."""
+"""What is outside of Python: the calls of the library, which `_header.py` declares, and
+Ed25519 of libsodium or of the package `cryptography`. An error of a call is raised as
+its exception."""
 
 import ctypes.util
 import os

@@ -1,7 +1,7 @@
 # SPDX-License-Identifier: MIT
-"""Installing an update that a signature vouches for: the host of
-c/install/installing.c, which is in the library, makes the calls of the system. Here
-files that are open are received, Ed25519 answers, and what came of it is raised."""
+"""Installing an update that a signature vouches for. The host of
+c/install/installing.c, in the library, makes the calls of the system. This receives
+open files, asks Ed25519, and raises errors."""
 
 import ctypes
 import os
