@@ -266,16 +266,16 @@ static const u8 table_bytes[5232] = {
     99, 97, 116, 105, 111, 110, 32, 102, 97, 105, 108, 101, 100, 0, 0, 0, 8, 0, 0, 0, 3, 0, 0, 0,
     40, 1, 0, 0, 0, 0, 0, 0, 34, 0, 0, 0, 0, 0, 0, 0, 115, 116, 114, 101, 97, 109, 32, 100,
     105, 100, 32, 110, 111, 116, 32, 99, 111, 110, 116, 97, 105, 110, 32, 118, 97, 108, 105, 100, 32, 85, 84, 70,
-    45, 56, 0, 0, 0, 0, 0, 0, 20, 0, 0, 0, 3, 0, 0, 0, 240, 0, 0, 0, 0, 0, 0, 0,
-    27, 0, 0, 0, 0, 0, 0, 0, 102, 97, 105, 108, 101, 100, 32, 116, 111, 32, 102, 105, 108, 108, 32, 119,
-    104, 111, 108, 101, 32, 98, 117, 102, 102, 101, 114, 0, 0, 0, 0, 0, 0, 0, 0, 0, 0, 0, 0, 0,
+    45, 56, 0, 0, 0, 0, 0, 0, 33, 0, 0, 0, 3, 0, 0, 0, 112, 6, 0, 0, 0, 0, 0, 0,
+    29, 0, 0, 0, 0, 0, 0, 0, 77, 105, 115, 115, 105, 110, 103, 32, 99, 111, 109, 109, 101, 110, 116, 32,
+    105, 110, 32, 115, 101, 99, 114, 101, 116, 32, 107, 101, 121, 0, 0, 0, 0, 0, 0, 0, 0, 0, 0, 0,
     34, 0, 0, 0, 3, 0, 0, 0, 168, 6, 0, 0, 0, 0, 0, 0, 33, 0, 0, 0, 0, 0, 0, 0,
     77, 105, 115, 115, 105, 110, 103, 32, 101, 110, 99, 111, 100, 101, 100, 32, 107, 101, 121, 32, 105, 110, 32, 115,
     101, 99, 114, 101, 116, 32, 107, 101, 121, 0, 0, 0, 0, 0, 0, 0, 35, 0, 0, 0, 8, 0, 0, 0,
     232, 6, 0, 0, 0, 0, 0, 0, 14, 0, 0, 0, 0, 0, 0, 0, 105, 110, 118, 97, 108, 105, 100, 32,
-    98, 97, 115, 101, 54, 52, 0, 0, 0, 0, 0, 0, 0, 0, 0, 0, 33, 0, 0, 0, 3, 0, 0, 0,
-    112, 6, 0, 0, 0, 0, 0, 0, 29, 0, 0, 0, 0, 0, 0, 0, 77, 105, 115, 115, 105, 110, 103, 32,
-    99, 111, 109, 109, 101, 110, 116, 32, 105, 110, 32, 115, 101, 99, 114, 101, 116, 32, 107, 101, 121, 0, 0, 0,
+    98, 97, 115, 101, 54, 52, 0, 0, 0, 0, 0, 0, 0, 0, 0, 0, 20, 0, 0, 0, 3, 0, 0, 0,
+    240, 0, 0, 0, 0, 0, 0, 0, 27, 0, 0, 0, 0, 0, 0, 0, 102, 97, 105, 108, 101, 100, 32, 116,
+    111, 32, 102, 105, 108, 108, 32, 119, 104, 111, 108, 101, 32, 98, 117, 102, 102, 101, 114, 0, 0, 0, 0, 0,
     0, 0, 0, 0, 0, 0, 0, 0, 36, 0, 0, 0, 3, 0, 0, 0, 16, 7, 0, 0, 0, 0, 0, 0,
     22, 0, 0, 0, 0, 0, 0, 0, 75, 101, 121, 32, 109, 105, 103, 104, 116, 32, 98, 101, 32, 101, 110, 99,
     114, 121, 112, 116, 101, 100, 0, 0, 37, 0, 0, 0, 2, 0, 0, 0, 224, 7, 0, 0, 0, 0, 0, 0,
@@ -457,7 +457,7 @@ static void write_table(u64 table)
     store64(table + 1480, table + 1496);
     store64(table + 1528, table + 1544);
     store64(table + 1576, table + 1592);
-    store64(table + 904, table + 920);
+    store64(table + 1080, table + 1096);
     store64(table + 840, table + 856);
     store64(table + 1624, table + 1640);
     store64(table + 1672, table + 1688);
@@ -479,7 +479,7 @@ static void write_table(u64 table)
     store64(table + 2680, table + 2696);
     store64(table + 2792, table + 2808);
     store64(table + 2888, table + 2904);
-    store64(table + 1080, table + 1096);
+    store64(table + 904, table + 920);
     store64(table + 968, table + 984);
     store64(table + 1032, table + 1048);
     store64(table + 1144, table + 1160);
@@ -564,7 +564,7 @@ static void write_table(u64 table)
     store64(table + 1344, table + 2672);
     store64(table + 1352, table + 2784);
     store64(table + 1360, table + 2880);
-    store64(table + 1368, table + 1072);
+    store64(table + 1368, table + 896);
     store64(table + 1376, table + 960);
     store64(table + 1384, table + 1024);
     store64(table + 1392, table + 1136);
@@ -576,7 +576,7 @@ static void write_table(u64 table)
     store64(table + 144, table + 1472);
     store64(table + 152, table + 1520);
     store64(table + 160, table + 1568);
-    store64(table + 168, table + 896);
+    store64(table + 168, table + 1072);
     store64(table + 176, table + 832);
     store64(table + 184, table + 1616);
     store64(table + 192, table + 1664);
@@ -598,7 +598,7 @@ static void write_table(u64 table)
     store64(table + 320, table + 2672);
     store64(table + 328, table + 2784);
     store64(table + 336, table + 2880);
-    store64(table + 344, table + 1072);
+    store64(table + 344, table + 896);
     store64(table + 352, table + 960);
     store64(table + 360, table + 1024);
     store64(table + 368, table + 1136);
@@ -3118,275 +3118,269 @@ static void do_minisign_base64_front_decode_front(u64 sp, u64 l0, u64 l1, u64 l2
 
 static u32 do_minisign_read_public_key(u64 sp, u64 table, u64 l0, u64 l1, u64 l2)
 {
-    u32 l5 = 0, l8 = 0;
-    u64 l3 = 0, l4 = 0, l6 = 0, l7 = 0;
-    l3 = sp - UINT64_C(208);
+    u32 l5 = 0, l9 = 0;
+    u64 l3 = 0, l4 = 0, l6 = 0, l7 = 0, l8 = 0;
+    l3 = sp - UINT64_C(176);
     sp = l3;
-    store16(l3 + 80, 0u);
     l4 = UINT64_C(0);
-    store64(l3 + 72, UINT64_C(0));
-    store64(l3 + 128, UINT64_C(0));
-    store64(l3 + 120, UINT64_C(0));
     store64(l3 + 112, UINT64_C(0));
-    do_core_str_utf8_from_utf8(sp, l3 + UINT64_C(112), l0 + (l0 == 0 ? UINT64_C(4096) : UINT64_C(0)), l1);
+    store64(l3 + 104, UINT64_C(0));
+    store64(l3 + 96, UINT64_C(0));
+    do_core_str_utf8_from_utf8(sp, l3 + UINT64_C(96), l0 + (l0 == 0 ? UINT64_C(4096) : UINT64_C(0)), l1);
     {
         {
             {
                 {
-                    if (load8(l3 + 112) == 0) { goto after4; }
-                    l5 = 6u;
-                    goto after3;
-                }
-                after4:;
-                {
-                    l0 = load64(l3 + 128);
-                    if (!(l0 == 0)) { goto after5; }
-                    l5 = 21u;
-                    goto after3;
-                }
-                after5:;
-                l1 = load64(l3 + 120);
-                do_core_iter_words_find_ascii(sp, l3 + UINT64_C(56), l1, l0, 10u);
-                {
-                    l6 = load64(l3 + 64);
-                    l0 = l0 - l6;
-                    if (!(l0 == 0)) { goto after6; }
-                    l5 = 22u;
-                    goto after3;
-                }
-                after6:;
-                l1 = l1 + l6;
-                do_core_iter_words_find_ascii(sp, l3 + UINT64_C(40), l1, l0, 10u);
-                {
-                    l6 = load64(l3 + 40);
-                    if (l6 == l0) { goto after7; }
                     {
-                        if (!(l6 == 0)) { goto after8; }
-                        l5 = 23u;
-                        goto after3;
+                        if (load8(l3 + 96) == 0) { goto after5; }
+                        l5 = 6u;
+                        goto after4;
+                    }
+                    after5:;
+                    {
+                        l0 = load64(l3 + 112);
+                        if (!(l0 == 0)) { goto after6; }
+                        l5 = 21u;
+                        goto after4;
+                    }
+                    after6:;
+                    l1 = load64(l3 + 104);
+                    do_core_iter_words_find_ascii(sp, l3 + UINT64_C(56), l1, l0, 10u);
+                    {
+                        l6 = load64(l3 + 64);
+                        l0 = l0 - l6;
+                        if (!(l0 == 0)) { goto after7; }
+                        l5 = 22u;
+                        goto after4;
+                    }
+                    after7:;
+                    l1 = l1 + l6;
+                    do_core_iter_words_find_ascii(sp, l3 + UINT64_C(40), l1, l0, 10u);
+                    {
+                        l6 = load64(l3 + 40);
+                        if (l6 == l0) { goto after8; }
+                        {
+                            if (!(l6 == 0)) { goto after9; }
+                            l5 = 23u;
+                            goto after4;
+                        }
+                        after9:;
+                        l0 = l6 + UINT64_C(0xffffffffffffffff);
+                        l0 = load8(l1 + l0) == 13u ? l0 : l6;
                     }
                     after8:;
-                    l0 = l6 + UINT64_C(0xffffffffffffffff);
-                    l0 = load8(l1 + l0) == 13u ? l0 : l6;
-                }
-                after7:;
-                {
-                    if (l0 == UINT64_C(56)) { goto after9; }
-                    l5 = 23u;
-                    goto after3;
-                }
-                after9:;
-                const u64 t1 = do_core_iter_words_find_stop(l1, UINT64_C(56), 1u, 0u);
-                l0 = t1;
-                do_core_iter_words_str_trim_end(l3 + UINT64_C(24), l1 + l0, UINT64_C(56) - l0);
-                l0 = load64(l3 + 32);
-                l1 = load64(l3 + 24);
-                store16(l3 + 152, 0u);
-                store64(l3 + 144, UINT64_C(0));
-                store64(l3 + 136, UINT64_C(0));
-                store64(l3 + 128, UINT64_C(0));
-                store64(l3 + 120, UINT64_C(0));
-                store64(l3 + 112, UINT64_C(0));
-                do_minisign_base64_front_decode_front(sp, l3 + UINT64_C(8), l1, l0, l3 + UINT64_C(112), UINT64_C(42));
-                {
-                    if (load8(l3 + 8) != 1u) { goto after10; }
                     {
-                        {
-                            l7 = load64(l3 + 16);
-                            if (l7 < UINT64_C(42)) { goto after12; }
-                            store64(l3 + 192, load64(l3 + 130));
-                            store64(l3 + 197, load64(l3 + 135));
-                            l5 = load16(l3 + 151) | (load8(l3 + UINT64_C(153)) << 16);
-                            l4 = (u64) load16(l3 + 112);
-                            l6 = load64(l3 + 143);
-                            l1 = load64(l3 + 122);
-                            l0 = load64(l3 + 114);
-                            goto after11;
-                        }
-                        after12:;
-                        l6 = UINT64_C(0);
-                        store64(l3 + 197, UINT64_C(0));
-                        store64(l3 + 192, UINT64_C(0));
-                        l0 = UINT64_C(0x5000000000000);
-                        l5 = 0u;
-                        l4 = UINT64_C(0);
-                        l1 = UINT64_C(0);
+                        if (l0 == UINT64_C(56)) { goto after10; }
+                        l5 = 23u;
+                        goto after4;
                     }
-                    after11:;
-                    store64(l3 + 176, l1);
-                    store32(l3 + 187, load32(l3 + 195));
-                    store32(l3 + 184, load32(l3 + 192));
-                    store32(l3 + 160, load32(l3 + 199));
-                    store16(l3 + 164, load16(l3 + 203));
-                    store64(l3 + 168, l0);
-                    l1 = load64(l3 + 175);
-                    store64(l3 + 97, l1);
-                    store8(l3 + 96, l0 >> 48);
-                    store64(l3 + 88, (l0 << 16) | l4);
-                    l4 = load64(l3 + 183);
-                    l0 = load64(l3 + 90);
-                    if (l7 < UINT64_C(42)) { goto after2; }
-                    store16(l2 + 29, l5);
-                    store32(l2 + 3, load32(l3 + 101));
-                    store32(l2, load32(l3 + 98));
-                    store64(l2 + 7, l4);
-                    store32(l2 + 15, load32(l3 + 160));
-                    store16(l2 + 19, load16(l3 + 164));
-                    store64(l2 + 32, l0);
-                    store64(l2 + 21, l6);
-                    store8(l2 + UINT64_C(31), l5 >> 16);
-                    l5 = 0u;
-                    goto after1;
+                    after10:;
+                    const u64 t1 = do_core_iter_words_find_stop(l1, UINT64_C(56), 1u, 0u);
+                    l0 = t1;
+                    do_core_iter_words_str_trim_end(l3 + UINT64_C(24), l1 + l0, UINT64_C(56) - l0);
+                    l0 = load64(l3 + 32);
+                    l1 = load64(l3 + 24);
+                    store16(l3 + 136, 0u);
+                    store64(l3 + 128, UINT64_C(0));
+                    store64(l3 + 120, UINT64_C(0));
+                    store64(l3 + 112, UINT64_C(0));
+                    store64(l3 + 104, UINT64_C(0));
+                    store64(l3 + 96, UINT64_C(0));
+                    do_minisign_base64_front_decode_front(sp, l3 + UINT64_C(8), l1, l0, l3 + UINT64_C(96), UINT64_C(42));
+                    if (load8(l3 + 8) == 1u) { goto after3; }
+                    l5 = 24u;
                 }
-                after10:;
-                l5 = 24u;
+                after4:;
+                store64(l3 + 81, UINT64_C(0));
+                store8(l3 + 80, l5);
+                store64(l3 + 72, UINT64_C(0));
+                l0 = load64(l3 + 74);
+                l6 = UINT64_C(0);
+                l1 = UINT64_C(0);
+                goto after2;
             }
             after3:;
-            store64(l3 + 97, UINT64_C(0));
-            store8(l3 + 96, l5);
-            store64(l3 + 88, UINT64_C(0));
-            l0 = load64(l3 + 90);
-            l1 = UINT64_C(0);
-            l6 = UINT64_C(0);
+            {
+                {
+                    l7 = load64(l3 + 16);
+                    if (l7 < UINT64_C(42)) { goto after12; }
+                    store32(l3 + 168, load32(l3 + 114));
+                    store32(l3 + 171, load32(l3 + 117));
+                    l5 = load16(l3 + 135) | (load8(l3 + UINT64_C(137)) << 16);
+                    l8 = ((u64) load32(l3 + 121)) | (((u64) load16(l3 + UINT64_C(125))) << 32);
+                    l4 = (u64) load16(l3 + 96);
+                    l1 = load64(l3 + 127);
+                    l6 = load64(l3 + 106);
+                    l0 = load64(l3 + 98);
+                    goto after11;
+                }
+                after12:;
+                l5 = 0u;
+                store32(l3 + 171, 0u);
+                store32(l3 + 168, 0u);
+                l0 = UINT64_C(0x5000000000000);
+                l1 = UINT64_C(0);
+                l8 = UINT64_C(0);
+                l4 = UINT64_C(0);
+                l6 = UINT64_C(0);
+            }
+            after11:;
+            store64(l3 + 152, l6);
+            store32(l3 + 163, load32(l3 + 171));
+            store32(l3 + 160, load32(l3 + 168));
+            store64(l3 + 144, l0);
+            l6 = load64(l3 + 151);
+            store64(l3 + 81, l6);
+            store8(l3 + 80, l0 >> 48);
+            store64(l3 + 72, (l0 << 16) | l4);
+            l4 = load64(l3 + 159);
+            l0 = load64(l3 + 74);
+            if (l7 < UINT64_C(42)) { goto after2; }
+            store16(l2 + 29, l5);
+            store32(l2 + 15, l8);
+            store32(l2 + 3, load32(l3 + 85));
+            store32(l2, load32(l3 + 82));
+            store64(l2 + 32, l0);
+            store64(l2 + 21, l1);
+            store64(l2 + 7, l4);
+            store8(l2 + UINT64_C(31), l5 >> 16);
+            store16(l2 + UINT64_C(19), l8 >> 32);
+            l5 = 0u;
+            goto after1;
         }
         after2:;
-        store64(l3 + 74, l4);
-        store16(l3 + 72, l1 >> 48);
         l5 = 255u;
         {
-            l8 = ((u32) (l0 >> 40)) & 255u;
-            if (l8 != 0) { goto after13; }
+            l9 = ((u32) (l0 >> 40)) & 255u;
+            if (l9 != 0) { goto after13; }
             l5 = load32(load64(((l0 >> 45) & UINT64_C(2040)) + (table + 128)));
             goto after1;
         }
         after13:;
-        if (l8 != 2u) { goto after1; }
-        if (l6 == 0) { goto after1; }
-        machine_rattle_dealloc(load64(l3 + 72));
+        if (l9 != 2u) { goto after1; }
+        if (l1 == 0) { goto after1; }
+        machine_rattle_dealloc((l4 << 16) | (l6 >> 48));
     }
     after1:;
-    sp = l3 + UINT64_C(208);
+    sp = l3 + UINT64_C(176);
     return l5;
 }
 
 static u32 do_minisign_read_bare_public_key(u64 sp, u64 table, u64 l0, u64 l1, u64 l2)
 {
-    u32 l5 = 0, l8 = 0;
-    u64 l3 = 0, l4 = 0, l6 = 0, l7 = 0;
-    l3 = sp - UINT64_C(176);
+    u32 l5 = 0, l9 = 0;
+    u64 l3 = 0, l4 = 0, l6 = 0, l7 = 0, l8 = 0;
+    l3 = sp - UINT64_C(144);
     sp = l3;
-    store16(l3 + 48, 0u);
     l4 = UINT64_C(0);
-    store64(l3 + 40, UINT64_C(0));
-    store64(l3 + 96, UINT64_C(0));
-    store64(l3 + 88, UINT64_C(0));
     store64(l3 + 80, UINT64_C(0));
-    do_core_str_utf8_from_utf8(sp, l3 + UINT64_C(80), l0 + (l0 == 0 ? UINT64_C(4096) : UINT64_C(0)), l1);
+    store64(l3 + 72, UINT64_C(0));
+    store64(l3 + 64, UINT64_C(0));
+    do_core_str_utf8_from_utf8(sp, l3 + UINT64_C(64), l0 + (l0 == 0 ? UINT64_C(4096) : UINT64_C(0)), l1);
     {
         {
             {
                 {
-                    if (load8(l3 + 80) == 0) { goto after4; }
-                    l5 = 6u;
-                    goto after3;
+                    {
+                        if (load8(l3 + 64) == 0) { goto after5; }
+                        l5 = 6u;
+                        goto after4;
+                    }
+                    after5:;
+                    l0 = load64(l3 + 72);
+                    l1 = load64(l3 + 80);
+                    const u64 t1 = do_core_iter_words_find_stop(l0, l1, 1u, 0u);
+                    l6 = t1;
+                    do_core_iter_words_str_trim_end(l3 + UINT64_C(24), l0 + l6, l1 - l6);
+                    {
+                        if (load64(l3 + 32) == UINT64_C(56)) { goto after6; }
+                        l5 = 25u;
+                        goto after4;
+                    }
+                    after6:;
+                    store16(l3 + 104, 0u);
+                    store64(l3 + 96, UINT64_C(0));
+                    store64(l3 + 88, UINT64_C(0));
+                    store64(l3 + 80, UINT64_C(0));
+                    store64(l3 + 72, UINT64_C(0));
+                    store64(l3 + 64, UINT64_C(0));
+                    do_minisign_base64_front_decode_front(sp, l3 + UINT64_C(8), l0, l1, l3 + UINT64_C(64), UINT64_C(42));
+                    if (load8(l3 + 8) == 1u) { goto after3; }
+                    l5 = 26u;
                 }
                 after4:;
-                l0 = load64(l3 + 88);
-                l1 = load64(l3 + 96);
-                const u64 t1 = do_core_iter_words_find_stop(l0, l1, 1u, 0u);
-                l6 = t1;
-                do_core_iter_words_str_trim_end(l3 + UINT64_C(24), l0 + l6, l1 - l6);
-                {
-                    if (load64(l3 + 32) == UINT64_C(56)) { goto after5; }
-                    l5 = 25u;
-                    goto after3;
-                }
-                after5:;
-                store16(l3 + 120, 0u);
-                store64(l3 + 112, UINT64_C(0));
-                store64(l3 + 104, UINT64_C(0));
-                store64(l3 + 96, UINT64_C(0));
-                store64(l3 + 88, UINT64_C(0));
-                store64(l3 + 80, UINT64_C(0));
-                do_minisign_base64_front_decode_front(sp, l3 + UINT64_C(8), l0, l1, l3 + UINT64_C(80), UINT64_C(42));
-                {
-                    if (load8(l3 + 8) != 1u) { goto after6; }
-                    {
-                        {
-                            l7 = load64(l3 + 16);
-                            if (l7 < UINT64_C(42)) { goto after8; }
-                            store64(l3 + 160, load64(l3 + 98));
-                            store64(l3 + 165, load64(l3 + 103));
-                            l5 = load16(l3 + 119) | (load8(l3 + UINT64_C(121)) << 16);
-                            l4 = (u64) load16(l3 + 80);
-                            l6 = load64(l3 + 111);
-                            l1 = load64(l3 + 90);
-                            l0 = load64(l3 + 82);
-                            goto after7;
-                        }
-                        after8:;
-                        l6 = UINT64_C(0);
-                        store64(l3 + 165, UINT64_C(0));
-                        store64(l3 + 160, UINT64_C(0));
-                        l0 = UINT64_C(0x5000000000000);
-                        l5 = 0u;
-                        l4 = UINT64_C(0);
-                        l1 = UINT64_C(0);
-                    }
-                    after7:;
-                    store64(l3 + 144, l1);
-                    store32(l3 + 155, load32(l3 + 163));
-                    store32(l3 + 152, load32(l3 + 160));
-                    store32(l3 + 128, load32(l3 + 167));
-                    store16(l3 + 132, load16(l3 + 171));
-                    store64(l3 + 136, l0);
-                    l1 = load64(l3 + 143);
-                    store64(l3 + 65, l1);
-                    store8(l3 + 64, l0 >> 48);
-                    store64(l3 + 56, (l0 << 16) | l4);
-                    l4 = load64(l3 + 151);
-                    l0 = load64(l3 + 58);
-                    if (l7 < UINT64_C(42)) { goto after2; }
-                    store16(l2 + 29, l5);
-                    store32(l2 + 3, load32(l3 + 69));
-                    store32(l2, load32(l3 + 66));
-                    store64(l2 + 7, l4);
-                    store32(l2 + 15, load32(l3 + 128));
-                    store16(l2 + 19, load16(l3 + 132));
-                    store64(l2 + 32, l0);
-                    store64(l2 + 21, l6);
-                    store8(l2 + UINT64_C(31), l5 >> 16);
-                    l5 = 0u;
-                    goto after1;
-                }
-                after6:;
-                l5 = 26u;
+                store64(l3 + 49, UINT64_C(0));
+                store8(l3 + 48, l5);
+                store64(l3 + 40, UINT64_C(0));
+                l0 = load64(l3 + 42);
+                l6 = UINT64_C(0);
+                l1 = UINT64_C(0);
+                goto after2;
             }
             after3:;
-            store64(l3 + 65, UINT64_C(0));
-            store8(l3 + 64, l5);
-            store64(l3 + 56, UINT64_C(0));
-            l0 = load64(l3 + 58);
-            l1 = UINT64_C(0);
-            l6 = UINT64_C(0);
+            {
+                {
+                    l7 = load64(l3 + 16);
+                    if (l7 < UINT64_C(42)) { goto after8; }
+                    store32(l3 + 136, load32(l3 + 82));
+                    store32(l3 + 139, load32(l3 + 85));
+                    l5 = load16(l3 + 103) | (load8(l3 + UINT64_C(105)) << 16);
+                    l8 = ((u64) load32(l3 + 89)) | (((u64) load16(l3 + UINT64_C(93))) << 32);
+                    l4 = (u64) load16(l3 + 64);
+                    l1 = load64(l3 + 95);
+                    l6 = load64(l3 + 74);
+                    l0 = load64(l3 + 66);
+                    goto after7;
+                }
+                after8:;
+                l5 = 0u;
+                store32(l3 + 139, 0u);
+                store32(l3 + 136, 0u);
+                l0 = UINT64_C(0x5000000000000);
+                l1 = UINT64_C(0);
+                l8 = UINT64_C(0);
+                l4 = UINT64_C(0);
+                l6 = UINT64_C(0);
+            }
+            after7:;
+            store64(l3 + 120, l6);
+            store32(l3 + 131, load32(l3 + 139));
+            store32(l3 + 128, load32(l3 + 136));
+            store64(l3 + 112, l0);
+            l6 = load64(l3 + 119);
+            store64(l3 + 49, l6);
+            store8(l3 + 48, l0 >> 48);
+            store64(l3 + 40, (l0 << 16) | l4);
+            l4 = load64(l3 + 127);
+            l0 = load64(l3 + 42);
+            if (l7 < UINT64_C(42)) { goto after2; }
+            store16(l2 + 29, l5);
+            store32(l2 + 15, l8);
+            store32(l2 + 3, load32(l3 + 53));
+            store32(l2, load32(l3 + 50));
+            store64(l2 + 32, l0);
+            store64(l2 + 21, l1);
+            store64(l2 + 7, l4);
+            store8(l2 + UINT64_C(31), l5 >> 16);
+            store16(l2 + UINT64_C(19), l8 >> 32);
+            l5 = 0u;
+            goto after1;
         }
         after2:;
-        store64(l3 + 42, l4);
-        store16(l3 + 40, l1 >> 48);
         l5 = 255u;
         {
-            l8 = ((u32) (l0 >> 40)) & 255u;
-            if (l8 != 0) { goto after9; }
+            l9 = ((u32) (l0 >> 40)) & 255u;
+            if (l9 != 0) { goto after9; }
             l5 = load32(load64(((l0 >> 45) & UINT64_C(2040)) + (table + 128)));
             goto after1;
         }
         after9:;
-        if (l8 != 2u) { goto after1; }
-        if (l6 == 0) { goto after1; }
-        machine_rattle_dealloc(load64(l3 + 40));
+        if (l9 != 2u) { goto after1; }
+        if (l1 == 0) { goto after1; }
+        machine_rattle_dealloc((l4 << 16) | (l6 >> 48));
     }
     after1:;
-    sp = l3 + UINT64_C(176);
+    sp = l3 + UINT64_C(144);
     return l5;
 }
 
@@ -4508,177 +4502,131 @@ static u32 do_minisign_verdict(u64 table, u64 l0, u32 l1, u32 l2)
 
 static u32 do_minisign_read_secret_key(u64 sp, u64 table, u64 l0, u64 l1, u64 l2)
 {
-    u32 l4 = 0, l8 = 0, l9 = 0, l10 = 0, l11 = 0;
-    u64 l3 = 0, l5 = 0, l6 = 0, l7 = 0, l12 = 0, l13 = 0;
-    l3 = sp - UINT64_C(336);
+    u32 l4 = 0, l10 = 0, l14 = 0, l15 = 0, l16 = 0;
+    u64 l3 = 0, l5 = 0, l6 = 0, l7 = 0, l8 = 0, l9 = 0, l11 = 0, l12 = 0, l13 = 0;
+    l3 = sp - UINT64_C(320);
     sp = l3;
-    store64(l3 + 192, UINT64_C(0));
-    store64(l3 + 184, UINT64_C(0));
     store64(l3 + 176, UINT64_C(0));
-    do_core_str_utf8_from_utf8(sp, l3 + UINT64_C(176), l0 + (l0 == 0 ? UINT64_C(4096) : UINT64_C(0)), l1);
+    store64(l3 + 168, UINT64_C(0));
+    store64(l3 + 160, UINT64_C(0));
+    do_core_str_utf8_from_utf8(sp, l3 + UINT64_C(160), l0 + (l0 == 0 ? UINT64_C(4096) : UINT64_C(0)), l1);
     {
         {
-            {
-                if (load8(l3 + 176) == 0) { goto after3; }
-                l0 = table + 832;
-                goto after2;
-            }
-            after3:;
-            {
-                {
-                    l0 = load64(l3 + 192);
-                    if (!(l0 == 0)) { goto after5; }
-                    l4 = 27u;
-                    goto after4;
-                }
-                after5:;
-                l1 = load64(l3 + 184);
-                do_core_iter_words_find_ascii(sp, l3 + UINT64_C(40), l1, l0, 10u);
-                {
-                    l5 = load64(l3 + 48);
-                    l0 = l0 - l5;
-                    if (!(l0 == 0)) { goto after6; }
-                    l4 = 28u;
-                    goto after4;
-                }
-                after6:;
-                l1 = l1 + l5;
-                do_core_iter_words_find_ascii(sp, l3 + UINT64_C(24), l1, l0, 10u);
-                {
-                    l5 = load64(l3 + 24);
-                    if (l5 == l0) { goto after7; }
-                    {
-                        if (!(l5 == 0)) { goto after8; }
-                        l0 = UINT64_C(0);
-                        goto after7;
-                    }
-                    after8:;
-                    l0 = l5 + UINT64_C(0xffffffffffffffff);
-                    l0 = load8(l1 + l0) == 13u ? l0 : l5;
-                }
-                after7:;
-                fill(l3 + UINT64_C(176), 0u, UINT64_C(159));
-                do_minisign_base64_front_decode_front(sp, l3 + UINT64_C(8), l1, l0, l3 + UINT64_C(176), UINT64_C(159));
-                {
-                    if (load8(l3 + 8) == 1u) { goto after9; }
-                    l4 = 29u;
-                    goto after4;
-                }
-                after9:;
-                {
-                    if (load64(l3 + 16) > UINT64_C(157)) { goto after10; }
-                    l4 = 5u;
-                    goto after4;
-                }
-                after10:;
-                store64(l3 + 160, load64(l3 + 201));
-                store64(l3 + 165, load64(l3 + 206));
-                l6 = load64(l3 + 193);
-                l7 = load64(l3 + 185);
-                l8 = load8(l3 + 184);
-                l0 = load64(l3 + 222);
-                l1 = load64(l3 + 214);
-                l5 = load64(l3 + 176);
-                copy(l3 + UINT64_C(56), l3 + UINT64_C(230), UINT64_C(104));
-                l9 = (u32) (l5 >> 16);
-                l10 = (l9 >> 8) | l9;
-                l4 = 0u;
-                {
-                    {
-                        if ((l9 & 65535u) != 0) { goto after12; }
-                        l9 = 0u;
-                        l11 = 0u;
-                        goto after11;
-                    }
-                    after12:;
-                    l9 = 0u;
-                    l11 = 0u;
-                    if (l0 > UINT64_C(0x40000000)) { goto after11; }
-                    {
-                        l12 = l1 > UINT64_C(32768) ? l1 : UINT64_C(32768);
-                        if (l12 >= (l0 >> 5)) { goto after13; }
-                        l11 = 64u - ((u32) clz64(l12 >> 6));
-                        l9 = 1u;
-                        goto after11;
-                    }
-                    after13:;
-                    l13 = l0 >> 11;
-                    l9 = 64u - ((u32) clz64(l13 > UINT64_C(1) ? l13 : UINT64_C(1)));
-                    const u32 t1 = l9;
-                    l9 = (u32) ((l12 >> 2) >> ((((u64) l9) & UINT64_C(255)) & 63));
-                    l9 = (l9 < 0x3fffffffu ? l9 : 0x3fffffffu) >> 3;
-                    l11 = l9 != 0 ? t1 : 0u;
-                }
-                after11:;
-                store64(l2 + 25, l6);
-                store64(l2 + 17, l7);
-                store8(l2 + 16, l8);
-                store64(l2 + 8, l5);
-                store64(l2, UINT64_C(0x63657273696e696d));
-                store64(l2 + 33, load64(l3 + 160));
-                store64(l2 + 38, load64(l3 + 165));
-                store64(l2 + 54, l0);
-                store64(l2 + 46, l1);
-                copy(l2 + UINT64_C(62), l3 + UINT64_C(56), UINT64_C(104));
-                store32(l2 + 172, 0u);
-                store32(l2 + 168, l9);
-                store8(l2 + 167, l11);
-                store8(l2 + 166, (u32) ((l10 & 255u) != 0u));
-                goto after1;
-            }
-            after4:;
-            l0 = table + 896;
-            {
-                {
-                    {
-                        {
-                            switch (l4 + 0xfffffffbu) {
-                            case 1: goto after15;
-                            case 2: goto after15;
-                            case 3: goto after15;
-                            case 4: goto after15;
-                            case 5: goto after15;
-                            case 6: goto after15;
-                            case 7: goto after15;
-                            case 8: goto after15;
-                            case 9: goto after15;
-                            case 10: goto after15;
-                            case 11: goto after15;
-                            case 12: goto after15;
-                            case 13: goto after15;
-                            case 14: goto after15;
-                            case 15: goto after15;
-                            case 16: goto after15;
-                            case 17: goto after15;
-                            case 18: goto after15;
-                            case 19: goto after15;
-                            case 20: goto after15;
-                            case 21: goto after15;
-                            case 22: goto after14;
-                            case 23: goto after17;
-                            case 24: goto after16;
-                            default: goto after2;
-                            }
-                        }
-                        after17:;
-                        l0 = table + 960;
-                        goto after2;
-                    }
-                    after16:;
-                    l0 = table + 1024;
-                    goto after2;
-                }
-                after15:;
-                never();
-            }
-            after14:;
-            l0 = table + 1072;
+            if (load8(l3 + 160) == 0) { goto after2; }
+            l4 = load32(table + 832);
+            goto after1;
         }
         after2:;
-        l4 = load32(l0);
+        {
+            l0 = load64(l3 + 176);
+            if (!(l0 == 0)) { goto after3; }
+            l4 = load32(table + 896);
+            goto after1;
+        }
+        after3:;
+        l1 = load64(l3 + 168);
+        do_core_iter_words_find_ascii(sp, l3 + UINT64_C(40), l1, l0, 10u);
+        {
+            l5 = load64(l3 + 48);
+            l0 = l0 - l5;
+            if (!(l0 == 0)) { goto after4; }
+            l4 = load32(table + 960);
+            goto after1;
+        }
+        after4:;
+        l1 = l1 + l5;
+        do_core_iter_words_find_ascii(sp, l3 + UINT64_C(24), l1, l0, 10u);
+        {
+            l5 = load64(l3 + 24);
+            if (l5 == l0) { goto after5; }
+            {
+                if (!(l5 == 0)) { goto after6; }
+                l0 = UINT64_C(0);
+                goto after5;
+            }
+            after6:;
+            l0 = l5 + UINT64_C(0xffffffffffffffff);
+            l0 = load8(l1 + l0) == 13u ? l0 : l5;
+        }
+        after5:;
+        fill(l3 + UINT64_C(160), 0u, UINT64_C(159));
+        do_minisign_base64_front_decode_front(sp, l3 + UINT64_C(8), l1, l0, l3 + UINT64_C(160), UINT64_C(159));
+        {
+            if (load8(l3 + 8) == 1u) { goto after7; }
+            l4 = load32(table + 1024);
+            goto after1;
+        }
+        after7:;
+        {
+            if (load64(l3 + 16) >= UINT64_C(158)) { goto after8; }
+            l4 = load32(table + 1072);
+            goto after1;
+        }
+        after8:;
+        l6 = (u64) load16(l3 + UINT64_C(189));
+        l0 = (u64) load8((l3 + UINT64_C(160)) + UINT64_C(37));
+        l7 = (u64) load16(l3 + UINT64_C(195));
+        l5 = load64(l3 + 198);
+        l1 = load64(l3 + 206);
+        l8 = load64(l3 + 177);
+        l9 = load64(l3 + 169);
+        l10 = load8(l3 + 168);
+        l11 = (u64) load32(l3 + 185);
+        l12 = (u64) load32(l3 + 191);
+        l13 = load64(l3 + 160);
+        copy(l3 + UINT64_C(56), l3 + UINT64_C(214), UINT64_C(104));
+        l14 = (u32) (l13 >> 16);
+        l15 = (l14 >> 8) | l14;
+        l0 = l12 | ((l0 << 48) | (l7 << 32));
+        l6 = l11 | (l6 << 32);
+        l4 = 0u;
+        {
+            {
+                if ((l14 & 65535u) != 0) { goto after10; }
+                l14 = 0u;
+                l16 = 0u;
+                goto after9;
+            }
+            after10:;
+            l14 = 0u;
+            l16 = 0u;
+            if (l1 > UINT64_C(0x40000000)) { goto after9; }
+            {
+                l7 = l5 > UINT64_C(32768) ? l5 : UINT64_C(32768);
+                if (l7 >= (l1 >> 5)) { goto after11; }
+                l16 = 64u - ((u32) clz64(l7 >> 6));
+                l14 = 1u;
+                goto after9;
+            }
+            after11:;
+            l11 = l1 >> 11;
+            l14 = 64u - ((u32) clz64(l11 > UINT64_C(1) ? l11 : UINT64_C(1)));
+            const u32 t1 = l14;
+            l14 = (u32) ((l7 >> 2) >> ((((u64) l14) & UINT64_C(255)) & 63));
+            l14 = (l14 < 0x3fffffffu ? l14 : 0x3fffffffu) >> 3;
+            l16 = l14 != 0 ? t1 : 0u;
+        }
+        after9:;
+        store32(l2 + 39, l0);
+        store32(l2 + 33, l6);
+        store64(l2 + 54, l1);
+        store64(l2 + 46, l5);
+        store64(l2 + 25, l8);
+        store64(l2 + 17, l9);
+        store8(l2 + 16, l10);
+        store64(l2 + 8, l13);
+        store64(l2, UINT64_C(0x63657273696e696d));
+        store8(l2 + UINT64_C(45), l0 >> 48);
+        store16(l2 + UINT64_C(43), l0 >> 32);
+        store16(l2 + UINT64_C(37), l6 >> 32);
+        copy(l2 + UINT64_C(62), l3 + UINT64_C(56), UINT64_C(104));
+        store32(l2 + 172, 0u);
+        store32(l2 + 168, l14);
+        store8(l2 + 167, l16);
+        store8(l2 + 166, (u32) ((l15 & 255u) != 0u));
     }
     after1:;
-    sp = l3 + UINT64_C(336);
+    sp = l3 + UINT64_C(320);
     return l4;
 }
 
@@ -10179,7 +10127,7 @@ static u32 do_minisign_signed_text(u64 sp, u64 table, u64 l0, u64 l1, u64 l2, u6
                                                                                                                                                                                                 goto after3;
                                                                                                                                                                                             }
                                                                                                                                                                                             after151:;
-                                                                                                                                                                                            l3 = table + 896;
+                                                                                                                                                                                            l3 = table + 1072;
                                                                                                                                                                                             goto after3;
                                                                                                                                                                                         }
                                                                                                                                                                                         after150:;
@@ -10267,7 +10215,7 @@ static u32 do_minisign_signed_text(u64 sp, u64 table, u64 l0, u64 l1, u64 l2, u6
                                                                                                         goto after3;
                                                                                                     }
                                                                                                     after129:;
-                                                                                                    l3 = table + 1072;
+                                                                                                    l3 = table + 896;
                                                                                                     goto after3;
                                                                                                 }
                                                                                                 after128:;
@@ -10871,19 +10819,19 @@ static void do_minisign_external_making_write_made(u64 sp, u64 l0, u64 l1, u64 l
                 store16(l10 + 676, l16);
                 store16(l10 + 674, 25427u);
                 store16(l10 + 672, l15);
-                store64(l10 + 648, UINT64_C(0));
-                store64(l10 + 640, UINT64_C(0));
                 store64(l10 + 632, UINT64_C(0));
-                store64(l10 + 624, UINT64_C(0));
-                store64(l10 + 616, UINT64_C(0));
+                store64(l10 + 640, UINT64_C(0));
+                store64(l10 + 648, UINT64_C(0));
+                store64(l10 + 656, UINT64_C(0));
+                store64(l10 + 664, UINT64_C(0));
                 l3 = (l10 + UINT64_C(672)) + UINT64_C(54);
                 copy(l3, (l10 + UINT64_C(166)) + UINT64_C(54), UINT64_C(104));
-                store64(l10 + 664, l5 > UINT64_C(1) ? l5 : UINT64_C(1));
-                store64(l10 + 656, UINT64_C(0));
-                do_minisign_secret_key_SecretKey_apply_stream(sp, l10 + UINT64_C(616), l10 + UINT64_C(672), l12, l11, l10 + UINT64_C(656));
+                store64(l10 + 624, l5 > UINT64_C(1) ? l5 : UINT64_C(1));
+                store64(l10 + 616, UINT64_C(0));
+                do_minisign_secret_key_SecretKey_apply_stream(sp, l10 + UINT64_C(632), l10 + UINT64_C(672), l12, l11, l10 + UINT64_C(616));
                 {
                     {
-                        if (load8(l10 + 616) != 0) { goto after8; }
+                        if (load8(l10 + 632) != 0) { goto after8; }
                         store32(l10 + 428, load32(l10 + 703));
                         store32(l10 + 431, load32(l10 + 706));
                         l2 = l10 + UINT64_C(681);
@@ -10923,15 +10871,15 @@ static void do_minisign_external_making_write_made(u64 sp, u64 l0, u64 l1, u64 l
                         goto after7;
                     }
                     after8:;
-                    store32(l10 + 436, load32(l10 + 626));
-                    store16(l10 + 440, load16(l10 + 630));
-                    store32(l10 + 428, load32(l10 + 648));
-                    store32(l10 + 431, load32(l10 + 651));
-                    l16 = load8(l10 + 655);
-                    l14 = load8(l10 + 624);
-                    l13 = load8(l10 + 625);
-                    l4 = load64(l10 + 632);
-                    l1 = load64(l10 + 640);
+                    store32(l10 + 436, load32(l10 + 642));
+                    store16(l10 + 440, load16(l10 + 646));
+                    store32(l10 + 428, load32(l10 + 664));
+                    store32(l10 + 431, load32(l10 + 667));
+                    l16 = load8(l10 + 671);
+                    l14 = load8(l10 + 640);
+                    l13 = load8(l10 + 641);
+                    l4 = load64(l10 + 648);
+                    l1 = load64(l10 + 656);
                     l15 = 1u;
                     l6 = l10 + UINT64_C(436);
                     l3 = l10 + UINT64_C(428);
@@ -11483,7 +11431,7 @@ static u32 do_minisign_install_init(u64 sp, u64 l0, u64 l1, u64 l2, u32 l3, u32 
     store32(l0 + 116, (u32) (l5 != 0u));
     store32(l0 + 112, (u32) (l4 != 0u));
     store32(l0 + 108, l8);
-    store32(l0 + 104, (u32) (l3 == 1u));
+    store32(l0 + 104, l3);
     fill(l0 + UINT64_C(128), 0u, UINT64_C(208));
     store64(l0 + 400, UINT64_C(0x5be0cd19137e2179));
     store64(l0 + 392, UINT64_C(0x1f83d9abfb41bd6b));
@@ -16239,7 +16187,7 @@ u32 machine_minisign_read_public_key(u64 l0, u64 l1, u64 l2);
 
 u32 machine_minisign_read_public_key(u64 l0, u64 l1, u64 l2)
 {
-    STACK(656);
+    STACK(624);
     TABLE(sizeof table_bytes);
     write_table(table);
     return do_minisign_read_public_key(sp, table, l0, l1, l2);
@@ -16249,7 +16197,7 @@ u32 machine_minisign_read_bare_public_key(u64 l0, u64 l1, u64 l2);
 
 u32 machine_minisign_read_bare_public_key(u64 l0, u64 l1, u64 l2)
 {
-    STACK(624);
+    STACK(592);
     TABLE(sizeof table_bytes);
     write_table(table);
     return do_minisign_read_bare_public_key(sp, table, l0, l1, l2);
@@ -16295,7 +16243,7 @@ u32 machine_minisign_read_secret_key(u64 l0, u64 l1, u64 l2);
 
 u32 machine_minisign_read_secret_key(u64 l0, u64 l1, u64 l2)
 {
-    STACK(784);
+    STACK(768);
     TABLE(sizeof table_bytes);
     write_table(table);
     return do_minisign_read_secret_key(sp, table, l0, l1, l2);
