@@ -38,7 +38,7 @@ import portable
 import shared_cases
 import static_library
 from emulated import Kind
-from shared_cases import TOP, Checks, run, write
+from shared_cases import TOP, run, write
 
 PACKAGE = os.path.join(TOP, "bindings", "go")
 LINES = 500

@@ -36,7 +36,7 @@ import ending
 import needs
 import shared_cases
 import static_library
-from shared_cases import TOP, Case, Checks, read, run
+from shared_cases import TOP, Case, read, run
 
 PACKAGE = os.path.join(TOP, "bindings", "javascript")
 BUILD = os.path.join(TOP, "page", "build.py")

@@ -19,7 +19,6 @@ sys.path.append(os.path.join(HERE, "..", "shared"))
 import exports
 import needs
 import static_library
-from checks import Checks
 from c_library import INCLUDE, PROGRAMS, STRICT
 from process import run
 

@@ -7,8 +7,8 @@ and bad input.
 
 Also: exactly these files are installed, with a page for each call that leads to the manual page; the shared library
 has its soname, and like the static one the names of the header and no other; a dropped result is a warning in C and
-in C++; the manual pages are read without a warning. It prints a line for each failure; the last line is `N passed, M
-failed`.
+in C++; the manual pages are read without a warning. It prints a line for each failure; the last line is
+`N passed, M failed`.
 
 Needs Python 3.9 or later, make, binutils, pkg-config, groff, a C and a C++ compiler, rustc, libsodium with its header
 and minisign. It installs what is missing if it may. The library is built over `dist/` (`static_library.py`);
@@ -24,12 +24,12 @@ import sys
 HERE = os.path.dirname(os.path.realpath(__file__))
 sys.path += [os.path.join(HERE, "..", name) for name in ("shared", "command_line")]
 
+import command_running
 import ending
 import needs
 import static_library
 from process import run_apart
 from running import read, write
-from command_running import sealed
 
 TOP = os.path.join(HERE, "..", "..")
 EXAMPLES = os.path.join(TOP, "c", "examples")
@@ -204,7 +204,7 @@ def run_signer(checks, program, room, minisign):
     good, wrong, endless = (write(room, name, text) for name, text in (("pw", b"pw\n"), ("wrong", b"pv\n"), ("endless", b"pw")))
     key, nothing = os.path.join(room, "key.key"), os.path.join(room, "nothing")
     # (Minisign cuts a longer password than of 1,023 bytes)
-    long_sealed = write(room, "long.key", sealed(read(key), b"p" * 1024))
+    long_sealed = write(room, "long.key", command_running.sealed(read(key), b"p" * 1024))
     long, shorter = (write(room, f"{count}.password", b"p" * count + b"\n") for count in (1024, 1023))
     halves = [write(room, f"half{at}.key", with_half_changed(read(key), at)) for at in (SEED_AT, PUBLIC_HALF_AT, PUBLIC_HALF_AT + 31)]
     # The key, the data, the comment and the password, and what is said where no text is made.
