@@ -14,8 +14,8 @@
     "\n" \
     "  --first            Take the update also where no number of FIELD is kept\n" \
     "                     beside TARGET, or another key has vouched for that number.\n" \
-    "  --again            Install an update of the number that is kept also where\n" \
-    "                     another update of that number was installed.\n" \
+    "  --again            Install an update of the kept number even where another\n" \
+    "                     update of that number was installed.\n" \
     "  --check            Install nothing: the exit status says what a run would do.\n" \
     "                     Show the number of the update and its signed comment. Name\n" \
     "                     no DATA.\n" \
@@ -35,9 +35,9 @@
     "  --most BYTES, --max-size BYTES\n" \
     "                     Reject longer data. `10K` is 10 times 1024 bytes, and M, G\n" \
     "                     and T stand for 1024 times as much each.\n" \
-    "  --wait SECONDS     Where another installation is at work at this target, wait\n" \
-    "                     for it so long at most, up to a day; without this option\n" \
-    "                     not at all. Data from a pipe is received before that.\n" \
+    "  --wait SECONDS     Wait so long, at most a day, for another installation at\n" \
+    "                     this target; without this option not at all. Data from a\n" \
+    "                     pipe is received before that.\n" \
     "  --                 What follows are paths.\n" \
     "  --help, -h         Show the options and the exit statuses. No other argument\n" \
     "                     may stand beside it.\n" \
