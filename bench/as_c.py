@@ -1,7 +1,7 @@
 #!/usr/bin/env python3
 """Times the calls as C, dist/calls.c, beside the archives of dist/, libsodium and Minisign's own program: hashing, by calls and by
-`-V` of a whole program, and a key of the limits of `minisign -G` that is opened, by a call and by `-S`. Seconds of the processor: the
-least of several turns, in which all take one, and the median of the ratios to the archive within a turn. The last lines say, beside
+`-V` of a whole program, and a key of the limits of `minisign -G` that is opened, by a call and by `-S`. Processor time: the least of
+several turns that all take, and the median of the ratios to the archive within a turn. The last lines say, beside
 the goal, how fast the C is, and its ratio to libsodium's own portable Blake2b; docs/PERFORMANCE.md has the ratios of the table.
 
     bench/as_c.py [TURNS]

@@ -1,8 +1,8 @@
 #!/bin/sh
 # SPDX-License-Identifier: MIT
 #
-# Prints the archive of a release, the same bytes each time, with the moment of the commit as that of each file; `make -C c
-# release` calls it, and sees to it that dist/ is that of the sources.
+# Prints the archive of a release, the same bytes each time, each file dated as the commit; `make -C c
+# release` calls it, and checks that dist/ fits the sources.
 #
 #     packaging/release.sh NAME > FILE
 #

@@ -41,7 +41,7 @@ def lengths(parameters):
 
 
 def arguments(parameters):
-    """What is handed over: a pointer with a length after it may be NULL of nothing."""
+    """What is passed: a pointer before a length may be NULL if that is 0."""
     for each, length in lengths(parameters):
         form = "READ" if each.const else "WORDS" if each.kind == "uint32_t" else "WRITTEN"
         yield f"{form}({each.name}, {length.name})" if length else each.name

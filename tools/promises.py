@@ -5,9 +5,9 @@ its clause.
     tools/promises.py            writes the tables
     tools/promises.py --check    fails where one is not up to date; the last line is `N passed, M failed`
 
-The comment above an `ensures` is said of the clauses that stand under it without a blank line between; a line `//` with
-nothing after it begins a further paragraph. Clauses before the first such comment have the first paragraph of the
-function's `///`, and so has an implementation that says something to a caller. Each clause stands under a sentence.
+The comment above an `ensures` speaks of the clauses under it, up to the next blank line; an empty line `//` begins another
+paragraph. Clauses before the first such comment take the first paragraph of the function's `///`, and so does an
+implementation that says something to a caller. Each clause stands under a sentence.
 
 The table of headlines, after a line `<!-- headlines -->`, has of each part of docs/TRUSTED.md the first clause and the
 sentence above it.

@@ -2,10 +2,9 @@
 """Makes docs/TRUSTED.md: everything that the promise of the whole rests on, as the definitions' own text with their
 files, in the order of use: what a verdict is, what opening and signing add, then devices, the calls from C, and
 installing. What the clauses reach is found by following their names; a definition stands in the first part that
-reaches it, below what first uses it. At the end of a part stand by name alone those that are read in their files,
-of which nearly all counts, and so do the kit's. What is written by hand stands in the document itself and is kept:
-all before and behind the parts, and of each part its title and the paragraph under it, but for the numbers of
-definitions and lines.
+reaches it, below what first uses it. Of a file in which nearly all counts, and of the kit, the end of a part names
+the definitions alone. What is written by hand stands in the document itself and is kept: all before and after the
+parts, and of each part its title and its first paragraph, but for the numbers of definitions and lines.
 
     tools/trusted.py            writes the document
     tools/trusted.py --check    fails where it is not up to date; the last line is `N passed, M failed`

@@ -1,5 +1,5 @@
 /* SPDX-License-Identifier: MIT */
-/* What is done however the program ends, also by a signal. */
+/* What runs however the program ends, also by a signal. */
 #include "cleanup.h"
 
 #include "messages.h"

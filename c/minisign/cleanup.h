@@ -1,7 +1,5 @@
 /* SPDX-License-Identifier: MIT */
-/*
- * What is done however the program ends, also by a signal: secrets are cleared, and files without a place are removed.
- */
+/* Clears secrets and removes unfinished files however the program ends, also by a signal. */
 #ifndef CLEANUP_H
 #define CLEANUP_H
 

@@ -20,7 +20,7 @@
 #define COMMENT_LABEL "untrusted comment: "
 #define PUBLIC_COMMENT_BYTES 64
 
-/* If memory is short, at least one of so many rows of a key derivation is kept. */
+/* If memory is short, at least every n-th row of a key derivation is kept. */
 #define MAX_ROWS_APART 256
 
 struct secrets *secrets;

@@ -1,5 +1,5 @@
 /* SPDX-License-Identifier: MIT */
-/* The names of stages, which are files beside their places, and the stages that killed runs left there. */
+/* Names stages, the files beside a target, and removes those that killed runs left. */
 #ifndef LEFTOVERS_H
 #define LEFTOVERS_H
 

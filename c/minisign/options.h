@@ -25,7 +25,7 @@ struct options {
     /* NULL: the default one. */
     const char *comment;
     const char *trusted_comment;
-    /* One of so many rows of a key derivation is kept. */
+    /* Every n-th row of a key derivation is kept. */
     uint32_t rows;
     /* The most work that opening a key may be: so many times that of a key that Minisign makes. */
     uint32_t work;

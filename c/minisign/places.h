@@ -1,7 +1,7 @@
 /* SPDX-License-Identifier: MIT */
 /*
- * Where a file goes: a directory, which is opened once, and a name in it. All that is made, renamed or removed there is
- * named in the open directory, so that nobody can put another directory in its way.
+ * Where a file goes: a directory, which is opened once, and a name in it. Files are made, renamed and removed by their
+ * names in the open directory, so that nobody can swap it.
  */
 #ifndef PLACES_H
 #define PLACES_H

@@ -444,7 +444,7 @@ const char *put_both_in_place(struct replacement *first, struct replacement *las
 
 /* ---- Many files ---- */
 
-/* If the program ends early, the stages that are whole still get their places. */
+/* If the program ends early, it still puts finished files in place. */
 static void finish_stages(void)
 {
     for (struct replacement *stage = stages; stage < stages + MAX_STAGES; stage++) {

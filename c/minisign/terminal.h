@@ -1,5 +1,5 @@
 /* SPDX-License-Identifier: MIT */
-/* Talking to a person: passwords that are typed, and comments that are shown. */
+/* Asks for passwords, and shows comments. */
 #ifndef TERMINAL_H
 #define TERMINAL_H
 

@@ -1,5 +1,5 @@
 /* SPDX-License-Identifier: MIT */
-/* What a text is that was given as a key or a signature and is none. */
+/* Says what a text is that is neither key nor signature. */
 #include "diagnosis.h"
 
 #include <strings.h>

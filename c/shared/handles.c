@@ -1,5 +1,5 @@
 /* SPDX-License-Identifier: MIT */
-/* Files that are looked at without being opened: by O_PATH and /proc of Linux, or by lstat. */
+/* Looks at files without opening them: by O_PATH and /proc on Linux, else by lstat. */
 #define _GNU_SOURCE
 
 #include "handles.h"

@@ -1,7 +1,7 @@
 /*
  * Prints a line for each text of a file that portable.py wrote: all numbers that the calls of minisign.h return, and
  * a sum over all bytes that they write. Two libraries answer the same if the lines are the same, also on processors
- * that keep numbers another way round.
+ * of another byte order.
  *
  *     answers FILE
  */

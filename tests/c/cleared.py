@@ -1,5 +1,5 @@
 #!/usr/bin/env python3
-"""No secret that the calls of the library, and `c/minisign`, were given stays in memory.
+"""The library's calls and `c/minisign` leave no secret in memory.
 
     tests/c/cleared.py
 

@@ -1,6 +1,6 @@
 /*
- * Each buffer that a call gets ends where a page without access begins, and then begins where one ends: no call reads
- * or writes a byte beside it. A wild access ends the program.
+ * Puts each buffer of a call right before an inaccessible page, and then right after one: no call reads or writes a
+ * byte beside it. A wild access ends the program.
  *
  * The last line is `N passed, M failed`.
  */

@@ -59,7 +59,7 @@ static const struct row {
 
 #define ROWS LENGTH(table)
 
-/* The moment that is handed in: the signature of these tests never expires. */
+/* The moment that is passed: the signature of these tests never expires. */
 #define NOW 1000
 
 static minisign_questions questions;

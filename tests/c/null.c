@@ -1,6 +1,5 @@
 /*
- * In each place of each call, NULL with length 0 does what a pointer to no bytes does: the same number, and the same
- * state and bytes after it.
+ * For each pointer of each call, NULL with length 0 acts as a pointer to no bytes: the same number, state and bytes.
  *
  * Prints a line for each check that failed; the last line is `N passed, M failed`.
  */

@@ -4,7 +4,7 @@
     tests/c/packaging.py
 
 Their flags count in each command; without any, programs and the shared library are hardened as Debian's are. The
-programs load the shared libsodium, and by a word take its archive. `test` passes, and fails for a program that
+programs load the shared libsodium, or its archive if you say so. `test` passes, and fails for a program that
 verifies nothing. `uninstall` removes what was installed under another name, or without `minisign`, and nothing else.
 `minisign.pc` can be moved. Where the loader does not find the library a sentence says so. (`releases.py` tries
 releases.) It prints a line for each failure; the last line is `N passed, M failed`.

@@ -1,5 +1,5 @@
 #!/usr/bin/env python3
-"""What users do who have a release alone, and packagers who make packages of it.
+"""What users do with a release alone, and packagers with it.
 
     tests/c/releases.py
 

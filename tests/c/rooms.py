@@ -6,7 +6,7 @@
 No name means two things in the rooms of the programs and in what they share; no room takes from another but as docs/ARCHITECTURE.md
 says; what only Linux has stands in one file each; one function tests UTF-8 and one struct answers a request for memory; no function has
 more than 50 lines, and what is written by hand no more than it may have. The manual pages have a date, and mandoc finds nothing. What is
-built needs nothing that glibc 2.31 has not. Without libsodium's header make says so in one sentence. It prints a line for each failure;
+built needs only names that glibc 2.31 has. Without libsodium's header make says so in one sentence. It prints a line for each failure;
 the last line is `N passed, M failed`.
 
 Needs Python 3.9 or later, make, gcc, binutils, mandoc and libsodium with its header. It installs what is missing if

@@ -1,5 +1,5 @@
 """Damaged secret keys, given to Minisign's own program and to `c/minisign`. Where they differ, docs/DIFFERENCES.md
-has a row that speaks of the text. (`tests/verdicts/real_minisign.py` has damaged signatures and public keys.)
+has a row for the text. (`tests/verdicts/real_minisign.py` has damaged signatures and public keys.)
 """
 
 import collections

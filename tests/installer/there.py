@@ -1,4 +1,4 @@
-"""The update stands at the target already: its number is the kept one, and the data is the same or other."""
+"""The update is already installed: it has the kept number, and the same or other data."""
 
 import errno
 import os

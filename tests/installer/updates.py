@@ -1,4 +1,4 @@
-"""Updates that are good, bad and older, and what stands beside the target: records, leftovers, links."""
+"""Good, bad and older updates, and the files beside the target: records, leftovers, links."""
 
 import os
 

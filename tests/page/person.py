@@ -1,4 +1,4 @@
-"""A person who uses the page in the tests, and what was seen to hold."""
+"""Uses the page as a person does, and counts the checks."""
 
 import os
 import re

@@ -1,4 +1,4 @@
-"""What scripts need from outside: each is looked for first. Where `CI` is set in the environment, what is not there is
+"""Finds what scripts need from outside. Where `CI` is set in the environment, what is not there is
 installed, as root on Debian, by one script at a time; else it is a `Missing` that names its package.
 
 The documents name the versions of compilers that Debian has. So Debian's own programs come first, before newer ones that

@@ -1,5 +1,5 @@
 """Bugs that are planted in the programs of `c/`, one at a time in a copy of the sources that is built over the static library of
-`dist/`, and the case of each that has to notice it.
+`dist/`, and the case that must notice each.
 
 Needs Python 3.9 or later, make and what `static_library.py` needs.
 """

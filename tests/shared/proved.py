@@ -2,7 +2,7 @@
 
 The gate runs scripts beside `rt ci`, and names them in SAID the file of what that says: `rt ci` proves each library from
 nothing, and leaves it built for the crates above. No other command of `rt` takes what it built, and each would prove it
-anew; so the prover itself, `rattle`, is called over it, by flags that its `--help` tells. Where SAID names no file, or
+anew; so the prover itself, `rattle`, is called over it, with flags of its `--help`. Where SAID names no file, or
 `rt ci` left nothing, `rt lib` builds the libraries, or finds them built.
 
 Needs Python 3.9 or later and the kit.
