@@ -41,7 +41,7 @@
 #define PART_BYTES ((size_t) 16 << 20)
 
 /* What stands in front of a block. */
-struct front {
+struct heading {
     void *taken;
     size_t len;
 };
@@ -60,15 +60,15 @@ struct pages {
 /* Stands for the block of an allocation that failed. */
 static char nothing;
 
-_Static_assert(sizeof(struct front) == 16, "as far as malloc aligns");
+_Static_assert(sizeof(struct heading) == 16, "as far as malloc aligns");
 
-static struct front *front_of(void *block)
+static struct heading *front_of(void *block)
 {
-    return (struct front *) block - 1;
+    return (struct heading *) block - 1;
 }
 
 /* How much stands in front of a large block, as a multiple of 16 bytes. */
-#define LARGE_FRONT_BYTES ((sizeof(struct pages) + sizeof(struct front) + 15) / 16 * 16)
+#define LARGE_FRONT_BYTES ((sizeof(struct pages) + sizeof(struct heading) + 15) / 16 * 16)
 
 static struct pages *pages_of(void *block)
 {
@@ -206,18 +206,18 @@ static void clear(char *block, size_t len)
 struct grant rattle_alloc(size_t len, size_t alignment)
 {
     int is_large = len >= LARGE_BYTES;
-    size_t unit = is_large ? HUGE_PAGE_BYTES : sizeof(struct front);
-    size_t front = is_large ? LARGE_FRONT_BYTES : sizeof(struct front);
+    size_t unit = is_large ? HUGE_PAGE_BYTES : sizeof(struct heading);
+    size_t front = is_large ? LARGE_FRONT_BYTES : sizeof(struct heading);
     char *taken, *block;
 
     unit = alignment > unit ? alignment : unit;
     /* (malloc aligns a multiple of 16 bytes to 16, so what stands in front of the block and the block fit) */
-    taken = len <= PTRDIFF_MAX - 2 * unit - front ? malloc(aligned(len, sizeof(struct front)) + unit + front) : NULL;
+    taken = len <= PTRDIFF_MAX - 2 * unit - front ? malloc(aligned(len, sizeof(struct heading)) + unit + front) : NULL;
     if (taken == NULL) {
         return (struct grant) { 0, &nothing };
     }
     block = taken + (aligned((uintptr_t) taken + front, unit) - (uintptr_t) taken);
-    *front_of(block) = (struct front) { taken, len };
+    *front_of(block) = (struct heading) { taken, len };
     if (is_large) {
         *pages_of(block) = (struct pages) { .block = block, .len = whole_pages(len) };
         bring_in(pages_of(block));
@@ -238,7 +238,7 @@ struct grant rattle_realloc(void *block, size_t old_len, size_t len, size_t alig
 
 void rattle_dealloc(void *block)
 {
-    struct front front = *front_of(block);
+    struct heading front = *front_of(block);
 
     if (front.len >= LARGE_BYTES) {
         end_thread(pages_of(block));

@@ -131,7 +131,7 @@ static const char *work_of(enum minisign_due call)
 }
 
 /* Shows how far the run is. */
-static void show(struct progress *shown, const struct installing *run)
+static void show_copying(struct progress *shown, const struct installing *run)
 {
     const char *work = work_of(run->call);
 
@@ -151,7 +151,7 @@ static void make_run(struct request *request, struct installing *run)
         request->wanted.data = open_update(request->wanted.shown);
     }
     while (make_call(run)) {
-        show(&shown, run);
+        show_copying(&shown, run);
     }
     end_progress(&shown);
 }
@@ -288,7 +288,7 @@ static enum status tell_end(const struct request *request, const struct installi
 /* ---- The program ---- */
 
 /* Begins the run, or ends the program. */
-static struct installing *begin(const struct wanted *wanted)
+static struct installing *begin_run(const struct wanted *wanted)
 {
     struct installing *run = begin_installing(wanted);
 
@@ -317,7 +317,7 @@ int main(int argc, char *argv[])
     signal(SIGXFSZ, SIG_IGN);
     request = read_request(argc, argv);
     request.wanted.answer = answer_of;
-    run = begin(&request.wanted);
+    run = begin_run(&request.wanted);
     if (sodium_init() < 0) {
         say(request.wanted.target, "libsodium could not be started");
         return FAILED;

@@ -9,7 +9,7 @@
 #define MAX_LINKS 40
 #define TARGET_BYTES 4096
 /* How often a place is looked for while others change it. */
-#define MAX_TRIES 100
+#define MAX_LOOKS 100
 
 bool is_written_in_place(const struct place *place)
 {
@@ -291,7 +291,7 @@ static _Noreturn void fail_to_find(struct place *place)
 
 struct place find_place(const char *file, bool is_secret)
 {
-    for (int i = 0; i < MAX_TRIES; i++) {
+    for (int i = 0; i < MAX_LOOKS; i++) {
         struct place place = { .file = file, .is_secret = is_secret, .directory = -1, .older.fd = -1, .opened = -1 };
         bool is_there, is_pipe;
 
@@ -341,7 +341,7 @@ void open_older(struct place *place)
 {
     for (int i = 0; place->has_older && place->opened < 0; i++) {
         place->opened = open_handle(&place->older, place->file, O_WRONLY | O_NOCTTY | O_CLOEXEC);
-        if (place->opened < 0 && errno == EBUSY && i < MAX_TRIES) {
+        if (place->opened < 0 && errno == EBUSY && i < MAX_LOOKS) {
             /* (another run replaced it meanwhile) */
             leave_place(place);
             *place = find_place(place->file, place->is_secret);

@@ -12,7 +12,7 @@
 #include "../../c/library/portable/allocation.c"
 
 #define LARGE_BYTES ((size_t) 4 << 20)
-#define LARGE_FRONT_BYTES sizeof(struct front)
+#define LARGE_FRONT_BYTES sizeof(struct heading)
 #define HINTS(len) 0
 #else
 #include "../../c/library/allocation.c"
@@ -101,12 +101,12 @@ void *__wrap_realloc(void *old, size_t size)
 /* All of it is zero but for one front. */
 static int is_cleared(const char *block, size_t len)
 {
-    size_t first = 0, front = len >= LARGE_BYTES ? LARGE_FRONT_BYTES : sizeof(struct front);
+    size_t first = 0, front = len >= LARGE_BYTES ? LARGE_FRONT_BYTES : sizeof(struct heading);
 
     while (first < len && block[first] == 0) {
         first++;
     }
-    first = first / sizeof(struct front) * sizeof(struct front);
+    first = first / sizeof(struct heading) * sizeof(struct heading);
     for (size_t at = first + front; at < len; at++) {
         if (block[at] != 0) {
             return 0;
