@@ -16,7 +16,7 @@ import re
 import signal
 import sys
 import threading
-from typing import Any, Callable, Dict, Iterator, List, Tuple, Type, cast
+from typing import IO, Any, Callable, Dict, Iterator, List, Tuple, Type, cast
 
 import minisign_proved as minisign
 import python_arguments

@@ -9,7 +9,7 @@ import select
 import signal
 import tempfile
 import threading
-from contextlib import ExitStack, contextmanager
+from contextlib import contextmanager
 from dataclasses import dataclass
 from enum import IntEnum
 from typing import IO, Iterator, Optional, Sequence, Union, cast
@@ -115,29 +115,30 @@ if HAS_HOST:
 ENDS = ("SIGHUP", "SIGINT", "SIGQUIT", "SIGTERM")
 
 
-def _send(numbers: list[int]) -> None:
-    for number in dict.fromkeys(numbers):
-        signal.raise_signal(number)
-
-
 def _make_call(begun: "ctypes._Pointer[Installing]") -> bool:
     """Has the host make the call that is due; where that is the renaming of the record,
     also those until the target has its name. Then, in the main thread, which alone may,
     what would end the process at once is noted, and sent again at the end. (The host
     holds signals back from the thread that calls it alone, and one for the process then
-    goes to any other thread.)"""
+    goes to any other thread. Python loses a signal that comes while its handler is
+    replaced, so they are blocked there.)"""
     came: list[int] = []
     due = library.minisign_install_due(begun.contents.machine)
     is_main = threading.current_thread() is threading.main_thread()
-    with ExitStack() as after:
-        after.callback(_send, came)
-        for name in ENDS if due == h.DUE_RENAME_RECORD and is_main else ():
-            end = getattr(signal, name)
-            if signal.getsignal(end) == signal.SIG_DFL:
-                after.callback(signal.signal, end, signal.SIG_DFL)
-                signal.signal(end, lambda number, _: came.append(number))
-        made = library.make_call(begun)
-    return bool(made)
+    is_held = due == h.DUE_RENAME_RECORD and is_main
+    ends = [getattr(signal, name) for name in ENDS if is_held]
+    ends = [end for end in ends if signal.getsignal(end) == signal.SIG_DFL]
+    try:
+        for end in ends:
+            signal.signal(end, lambda number, _: came.append(number))
+        return bool(library.make_call(begun))
+    finally:
+        mask = signal.pthread_sigmask(signal.SIG_BLOCK, ends)
+        for end in ends:
+            signal.signal(end, signal.SIG_DFL)
+        signal.pthread_sigmask(signal.SIG_SETMASK, mask)
+        for number in dict.fromkeys(came):
+            signal.raise_signal(number)
 
 
 def _received(
