@@ -5,9 +5,10 @@ call it, from one text, `c/install/usage.txt`, whose head says how it is written
     tools/usage.py            writes them
     tools/usage.py --check    fails where one is not up to date; the last line is `N passed, M failed`
 
-In docs/INSTALLING.md the table of a section stands between two lines with its name, as `<!-- statuses -->` and
-`<!-- end of statuses -->`. In the manual page a section is one of the page. `c/install/usage.h` is made whole. The text
-has each option and each exit status that the program knows, and no others.
+In docs/INSTALLING.md a section stands between two lines with its name, as `<!-- statuses -->` and
+`<!-- end of statuses -->`. In the manual page a section is one of the page, but for `about`: that is the first paragraph
+of DESCRIPTION, and its first sentence is NAME. `c/install/usage.h` is made whole. The text has each option and each exit
+status that the program knows, and no others.
 
 Needs Python 3.9 or later.
 """
@@ -42,7 +43,7 @@ Entry = namedtuple("Entry", "name paragraphs")
 
 
 def sections():
-    """The sections of the text: the lines of the usage, two sentences, and three sections of entries."""
+    """The sections of the text: the lines of the usage, two paragraphs, and three sections of entries."""
     _, *parts = re.split(r"(?m)^== (\w+)\n", read(TEXT))
     text = dict(zip(parts[::2], parts[1::2]))
     found = {"usage": text["usage"].strip().split("\n")}
@@ -84,10 +85,9 @@ def table_of(name, entries):
 def document(text):
     """The document, with what stands between its marks made anew."""
     said = read(DOCUMENT)
-    for name in HEADS:
-        lines = [*table_of(name, text[name])]
-        if name == "options":
-            lines = [*(f"    {line}" for line in text["usage"]), "", *lines, "", text["order"]]
+    shown = {"about": [text["about"]], **{name: [*table_of(name, text[name])] for name in HEADS}}
+    shown["options"] = [*(f"    {line}" for line in text["usage"]), "", *shown["options"], "", text["order"]]
+    for name, lines in shown.items():
         begin, end = f"<!-- {name} -->\n\n", f"\n\n<!-- end of {name} -->"
         if said.count(begin) != 1 or said.count(end) != 1:
             raise Unfit(f"{DOCUMENT} has no lines {begin.strip()} and {end.strip()}")
@@ -124,14 +124,21 @@ def synopsis(usage):
         yield from [".PP"] * bool(number) + roff(marked(line))
 
 
+def name_of(about):
+    """The line that says in one sentence what the program does."""
+    first = about.partition(".")[0]
+    return f"minisign-install \\- {first[0].lower()}{first[1:]}"
+
+
 def page(text):
-    """The manual page, with the sections that are made anew."""
+    """The manual page, with the sections that are made anew, and the first paragraph of its description."""
     said = read(PAGE)
-    made = {"SYNOPSIS": synopsis(text["usage"]), "OPTIONS": [*section_of(text["options"]), ".PP", *roff(text["order"])],
+    made = {"NAME": [name_of(text["about"])], "SYNOPSIS": synopsis(text["usage"]), "DESCRIPTION": roff(text["about"]),
+            "OPTIONS": [*section_of(text["options"]), ".PP", *roff(text["order"])],
             "FILES": section_of(text["files"]), "EXIT STATUS": section_of(text["statuses"])}
     for name, lines in made.items():
-        section = f".SH {name}\n" + "\n".join(lines) + "\n"
-        said, count = re.subn(rf"(?ms)^\.SH {name}\n.*?(?=^\.SH )", lambda _: section, said)
+        section, end = f".SH {name}\n" + "\n".join(lines) + "\n", r"\.PP$" if name == "DESCRIPTION" else r"\.SH "
+        said, count = re.subn(rf"(?ms)^\.SH {name}\n.*?(?=^{end})", lambda _: section, said)
         if count != 1:
             raise Unfit(f"{PAGE} has {count} sections {name}")
     return said

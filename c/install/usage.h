@@ -9,8 +9,10 @@
     "       minisign-install --check [OPTION ..] PK SIG TARGET\n" \
     "       minisign-install --help | -h | --version\n" \
     "\n" \
-    "Installs DATA at TARGET if the texts of the public key PK and of the signature\n" \
-    "SIG vouch for it as the update that is wanted.\n" \
+    "Installs an update that a Minisign signature vouches for. It replaces the file\n" \
+    "TARGET by DATA in one step, if the public key PK and the signature SIG vouch\n" \
+    "for DATA. The signed comment has to name the file, and to have a number that is\n" \
+    "not below the one kept beside TARGET.\n" \
     "\n" \
     "  --first            Take the update also where no number of FIELD is kept\n" \
     "                     beside TARGET, or another key has vouched for that number.\n" \

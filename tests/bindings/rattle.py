@@ -1,6 +1,8 @@
 #!/usr/bin/env python3
 """Builds the caller of examples/rattle in a copy, over the libraries as they stand proved (tests/shared/proved.py),
-and verifies files with keys of Minisign's own program: it accepts signed files, and rejects changed ones.
+and verifies files with keys of Minisign's own program: it accepts signed files, and rejects changed ones. The commands
+of its README.md run as they stand between the fences, but that `rt run`, which would prove all crates anew, runs the
+program that was built.
 
     tests/bindings/rattle.py
 
@@ -19,21 +21,29 @@ import sys
 import tempfile
 
 HERE = os.path.dirname(os.path.realpath(__file__))
-sys.path.append(os.path.join(HERE, "..", "shared"))
+sys.path += [os.path.join(HERE, "..", name) for name in ("shared", "c")]
 
 import needs
 import proved
 import shared_cases as shared
+from commands import commands_of
 
 NAME = "verify_with_sodium"
+EXAMPLE = "examples/rattle"
+# The command that takes away the endings of a copy, and those that build the program and run it.
+RENAMING, *RUNNING = commands_of(f"{EXAMPLE}/README.md")
+# What those find in place of the kit's own program.
+RT = f"""#!/bin/sh
+[ "$RT_ALLOW_C $1 $2" = "{NAME} run --" ] || exit 3
+shift 2
+exec ./{NAME} "$@"
+"""
 
 
 def build(room, libsodium):
     """The program, proved in a copy over the libraries as they stand proved, and built: its path, and what the prover said."""
-    example = os.path.join(shared.TOP, "examples", "rattle")
-    shutil.copytree(example, room, ignore=shutil.ignore_patterns("out", "*.a"))
-    for path in glob.glob(os.path.join(room, "**", "*.txt"), recursive=True):
-        os.rename(path, path.removesuffix(".txt"))
+    shutil.copytree(os.path.join(shared.TOP, EXAMPLE), room, ignore=shutil.ignore_patterns("out", "*.a"))
+    proved.hold(proved.run(["sh", "-c", RENAMING], room), RENAMING)
     lines = shared.read(os.path.join(room, "crates.txt")).decode().splitlines()
     crate = proved.Crate(next(line for line in lines if line.startswith(f"{NAME}:")), proved.crates())
     why = proved.supply(crate.below)
@@ -80,6 +90,18 @@ def check_files(checks, program, room):
     checks.check(status == 2 and said == b"", f"no words: {status}, {said}")
 
 
+def check_document(checks, room):
+    """The document's commands, in the copy: they verify the file that was signed."""
+    for name, signed in (("app.pub", "one.pub"), ("app.minisig", "data.minisig"), ("app", "data")):
+        shutil.copy(os.path.join(room, signed), os.path.join(room, "copy", "crates", NAME, name))
+    os.mkdir(os.path.join(room, "kit"))
+    shared.write(room, "kit/rt", RT.encode())
+    os.chmod(os.path.join(room, "kit", "rt"), 0o755)
+    path = os.pathsep.join([os.path.join(room, "kit"), os.environ["PATH"]])
+    status, said, why = shared.run(["sh", "-ec", "\n".join(RUNNING)], os.path.join(room, "copy"), {"PATH": path})
+    checks.check((status, said) == (0, b"version:1\tfile:data\n"), f"{EXAMPLE}/README.md: {status}, {said}, {why}")
+
+
 def check_every_file(checks, program, room):
     """The signature that fits every file where small orders are accepted: as it is over the data itself, it is rejected before
     libsodium is asked."""
@@ -100,6 +122,7 @@ def main():
             checks.check(os.path.exists(program) and re.search(r"logic=proved", said) is not None, f"the example was not built: {said[-1500:]}")
             if os.path.exists(program):
                 check_files(checks, program, room)
+                check_document(checks, room)
                 check_every_file(checks, program, room)
         except (needs.Missing, proved.NotBuilt, OSError, ValueError, subprocess.SubprocessError) as why:
             checks.check(False, f"it did not go on: {why!r}")

@@ -5,8 +5,8 @@ by cargo without network, registry and kit, by a program of another crate that n
     tests/bindings/rust.py
 
 It is built in a path with blanks, with no make in PATH, as a git dependency, for Windows, where wine runs it, and for
-AArch64; a compiler without GNU's options, or for another target, is an error that says so. The examples of its
-documentation run. Its answers to kept keys and signatures, to damaged ones, to data in pieces and to signatures that
+AArch64; a compiler without GNU's options, or for another target, is an error that says so. The examples of README.md
+and of its comments run. Its answers to kept keys and signatures, to damaged ones, to data in pieces and to signatures that
 implementations of Ed25519 differ in are compared with `c/minisign` and with libsodium; its reasons, with the names of
 the header. It makes keys and signatures that `c/minisign` reads, and reads those of `c/minisign`. Many calls take no
 more memory, and threads get the same answers. Structs and calls are declared as the header has them; what is written

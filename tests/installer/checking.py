@@ -71,31 +71,60 @@ def checks_beside_installations(directory):
             directory.check_words(CHECK, 0, environment=directory.preloading(SLOW="5000"))
 
 
-def runs_script(directory):
-    """The script of the document, over a directory in place of what curl fetches: it ends well where there is nothing newer and where
-    there is, and with the status of what was rejected otherwise."""
-    lines = re.search(rb"^    #!/bin/sh\n(?:    .*\n)+", read(proved.ROOT, "docs", "INSTALLING.md"), re.M)[0].splitlines()
+def block_of(first):
+    """What the document has set in, from this line on."""
+    lines = re.search(rb"^    %b\n(?:    .*\n)+" % re.escape(first), read(proved.ROOT, "docs", "INSTALLING.md"), re.M)[0]
+    return re.sub(rb"(?m)^    ", b"", lines)
+
+
+def prepare_documented(directory, *names):
+    """Makes a directory as the document has it, where version 1 is installed: the environment with the program in PATH."""
     directory.take_away()
-    for name in ("there", "url", "bin"):
+    for name in ("there", "bin", *names):
         os.mkdir(directory.at(name))
     directory.put("release.pub", directory.kind.public_text())
-    directory.put("update", b"".join(line[4:] + b"\n" for line in lines))
-    directory.put("bin/curl", b'#!/bin/sh\nexec cp "$6" "$5"\n')
     shutil.copy(directory.installing.program, directory.at("bin/minisign-install"))
+    offer_app(directory, "app", OLD, 1)
+    directory.check_words(["--first", "--numbering", "version", "release.pub", "app", "app.minisig", "there/app"], 0)
+    return {"PATH": f"{directory.path}/bin:{os.environ['PATH']}"}
+
+
+def offer_app(directory, name, data, number, signed=None):
+    """An update as the document names it."""
+    directory.offer(name, data, number, signed, label="version", names="app")
+    os.replace(directory.at(f"{name}.sig"), directory.at(f"{name}.minisig"))
+
+
+def runs_script(directory):
+    """The script of the document, over a directory in place of what curl fetches: it ends well where there is nothing
+    newer and where there is, and with the status of what was rejected otherwise."""
+    environment = prepare_documented(directory, "url")
+    directory.put("update", block_of(b"#!/bin/sh"))
+    directory.put("bin/curl", b'#!/bin/sh\nexec cp "$6" "$5"\n')
     os.chmod(directory.at("bin/curl"), 0o755)
-
-    def offer(data, number, signed=None):
-        directory.offer("offered", data, number, signed, label="version", names="app")
-        os.replace(directory.at("offered"), directory.at("url/app"))
-        os.replace(directory.at("offered.sig"), directory.at("url/app.minisig"))
-
-    offer(OLD, 1)
-    directory.check_words(["--first", "--numbering", "version", "release.pub", "url/app", "url/app.minisig", "there/app"], 0)
     for data, number, signed, status in ((OLD, 1, None, 0), (NEW, 2, None, 0), (NEW, 2, None, 0), (OLD, 1, None, OLDER), (LATER, 3, OLD, REJECTED)):
-        offer(data, number, signed)
-        ran = run_program(["sh", "update", "url"], directory.path, env={"PATH": f"{directory.path}/bin:{os.environ['PATH']}"})
+        offer_app(directory, "url/app", data, number, signed)
+        ran = run_program(["sh", "update", "url"], directory.path, env=environment)
         there = directory.holds("there/app")
         expect((ran.status, ran.output, there) == (status, b"", OLD if (number, status) == (1, 0) else NEW), f"of version {number}", ran)
+
+
+def runs_unit(directory):
+    """The unit of the document: its command installs an update, and ends with the unit's status of success once that is
+    there. Where `systemd-analyze` is here, it says nothing against a line."""
+    environment = prepare_documented(directory)
+    text = block_of(b"[Service]").decode()
+    unit = dict(line.split("=", 1) for line in text.splitlines()[1:])
+    expect({*unit} == {"Type", "SuccessExitStatus", "WorkingDirectory", "ExecStart"}, f"the unit has {unit}")
+    offer_app(directory, "app", NEW, 2)
+    for status in (0, int(unit["SuccessExitStatus"])):
+        ran = run_program(unit["ExecStart"].split(), directory.path, env=environment)
+        expect((ran.status, directory.holds("there/app")) == (status, NEW), ran)
+    if shutil.which("systemd-analyze"):
+        text = text.replace("=minisign-install ", f"={directory.path}/bin/minisign-install ")
+        directory.put("update.service", text.encode())
+        ran = run_program(["systemd-analyze", "verify", "--man=no", "update.service"], directory.path)
+        expect(b"update.service" not in ran.said, ran)
 
 
 def names_keys(directory):
@@ -162,6 +191,7 @@ def check_cases(installing):
         yield f"a check: {what}", checks, status, *options, how
     yield "what a check shows", shows_checked
     yield "the script of the document", runs_script
+    yield "the unit of the document", runs_unit
     yield "a mode that is asked for, of what is there already", tells_of_mode
     yield "a check: no directory", checks_where, "none/place", FAILED, b"error: none: there is no such directory\n"
     yield "a check: a record that is a directory", checks_where, PLACE, FAILED, b"error: ./.place.number: a directory stands there\n"

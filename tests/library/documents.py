@@ -2,7 +2,8 @@
 """Compares the names in the documents with the sources: functions and clauses, the calls that a CALLING.md quotes,
 the errors of docs/FORMATS.md, blocks of code, links, paths, and the old texts of the must-fail edits. It does the
 same with names and paths in the comments of all code, of makefiles and of manual pages. No file may name a directory
-of one machine, and no crate the proofs of another one.
+of one machine, and no crate the proofs of another one. The documents have no more bytes than they may, few of their
+sentences are long, and a script runs each block of commands and each example.
 
 It prints a line for each name that is missing; the last line is `N passed, M failed`. Needs Python 3.9 or later.
 """
@@ -27,6 +28,31 @@ MADE = "docs/TRUSTED.md"
 # Fewer lines than these has its first part.
 PAGE_LINES = 270
 CALLS = re.compile(r"crates/([^/]+)/CALLING\.md")
+# How many bytes the documents may have: those that are made, all others together, and README.
+GENERATED = (MADE, "docs/PROMISES.md")
+MADE_BYTES, OTHER_BYTES, README_BYTES = 180_000, 225_000, 8_192
+# In these at most one sentence in twenty has more words than the first number. What has fewer than the second, as a cell of
+# a table with a name or a number, is no sentence.
+PLAIN, MOST_WORDS, LEAST_WORDS = ("README.md", "docs/GUIDE.md", "docs/INSTALLING.md"), 24, 4
+# Where a sentence ends, once quoted texts are a word each.
+SENTENCE_END = re.compile(r"[.!?][\"')*]*\s|\n\s*\n|\|")
+# The documents with commands and examples, and what runs the blocks of each language. A block without one shows what
+# a program says, or lines of a file.
+COMMANDS, PACKAGES = "tests/c/commands.py", "tests/bindings/install_commands.py"
+RUN_BY = {
+    "README.md": {"sh": COMMANDS},
+    "docs/GUIDE.md": {"sh": "tests/tool/guide_commands.py", "rust": "tests/library/new_repository.py"},
+    "docs/INSTALLING.md": {"sh": COMMANDS},
+    "examples/README.md": {"sh": COMMANDS},
+    "examples/rattle/README.md": {"sh": "tests/bindings/rattle.py"},
+    "bindings/go/README.md": {"sh": PACKAGES, "go": "tests/bindings/go.py"},
+    "bindings/javascript/README.md": {"sh": PACKAGES, "js": "tests/bindings/javascript.py"},
+    "bindings/python/README.md": {"sh": PACKAGES, "python": "tests/bindings/python.py"},
+    "bindings/rust/README.md": {"sh": PACKAGES, "toml": PACKAGES, "rust": "tests/bindings/rust.py"},
+}
+# How blocks that are set in begin: the usage, what a check shows, and the unit and the script that
+# tests/installer/checking.py runs.
+SET_IN = {"docs/INSTALLING.md": ["minisign-install [OPTION ..] PK DATA SIG TARGET", "2", "[Service]", "#!/bin/sh"]}
 DIRECTORIES = ("tests/", "crates/", "bench/", ".ci/", "docs/", "tools/", "examples/", "c/")
 QUOTED = re.compile(r"`([^`]+)`")
 BLOCK = re.compile(r"^```(\w*)\n(.*?)^```$", re.M | re.S)
@@ -368,6 +394,43 @@ def check_trusted(report):
     report.check(len(lines) == 1 and lines[0] < PAGE_LINES, MADE, f"its first part has {lines} lines")
 
 
+def check_lengths(report, documents):
+    """How many bytes the documents have."""
+    lengths = {document: len(text.encode()) for document, text in documents.items()}
+    made = sum(lengths[document] for document in GENERATED)
+    bounds = [("README.md", lengths["README.md"], README_BYTES), (" and ".join(GENERATED), made, MADE_BYTES),
+              ("all other documents", sum(lengths.values()) - made, OTHER_BYTES)]
+    for what, count, most in bounds:
+        report.check(count <= most, what, f"{count:,} bytes, of at most {most:,}")
+
+
+def sentences_of(text):
+    """The sentences of a document, of the cells of its tables too: what is quoted is one word, and a link is its text."""
+    text = re.sub(r"(?m)^(?:#+ |    ).*|<!--.*?-->", "", without_blocks(text))
+    text = re.sub(r"(?m)^(?:- |\d+\. )", "\n", re.sub(r"\]\([^)]*\)", "]", QUOTED.sub("X", text)))
+    return [" ".join(part.split()) for part in SENTENCE_END.split(text) if len(part.split()) >= LEAST_WORDS]
+
+
+def check_sentences(report, documents):
+    """Few sentences are long."""
+    for document in PLAIN:
+        sentences = sentences_of(documents[document])
+        long = [sentence for sentence in sentences if len(sentence.split()) > MOST_WORDS]
+        report.check(len(long) * 20 <= len(sentences), document, f"{len(long)} of {len(sentences)} sentences are long", long)
+
+
+def check_run(report, documents):
+    """Each block of commands or code has a fence and a language that a script looks for, and none is set in instead."""
+    for document, scripts in RUN_BY.items():
+        fences = {*re.findall(r"(?m)^[ \t>]*(?:```|~~~).*$", documents[document])[::2]} - {"```"}
+        wanted = {f"```{language}" for language in scripts}
+        report.check(fences == wanted, document, f"its blocks begin by {fences}, and scripts run {wanted}")
+        for script in scripts.values():
+            report.check(os.path.basename(document) in read(script), document, f"{script} does not name it")
+        begun = re.findall(r"\n\n(?:    |\t)(.*)", without_blocks(documents[document]))
+        report.check(begun == SET_IN.get(document, []), document, f"set in are blocks that begin by {begun}")
+
+
 def check_version(report, documents):
     """Each logic that a document names with a kit is that of the kit that is here: a kit is replaced more often than it."""
     if sources.find_kit():
@@ -408,6 +471,9 @@ def main():
     for edit in (file for file in files if re.match(r"crates/[^/]+/(?:must-fail|wrong-bodies)/.*\.edit$", file)):
         check_edit(report, edit)
     check_trusted(report)
+    check_lengths(report, documents)
+    check_sentences(report, documents)
+    check_run(report, documents)
     check_version(report, documents)
     return report.end()
 
