@@ -3,14 +3,15 @@
 
     tests/c/rooms.py
 
-No name means two things in the rooms of the programs and in what they share; no room takes from another but as docs/ARCHITECTURE.md
-says; what only Linux has stands in one file each; one function tests UTF-8 and one struct answers a request for memory; no function has
-more than 50 lines, and what is written by hand no more than it may have. The manual pages have a date, and mandoc finds nothing. What is
-built needs only names that glibc 2.31 has. Without libsodium's header make says so in one sentence. It prints a line for each failure;
-the last line is `N passed, M failed`.
+No name means two things in the rooms of the programs and in what they share; no room takes from another but as
+docs/ARCHITECTURE.md says; what only Linux has stands in one file each; one function tests UTF-8 and one struct answers
+a request for memory; no function has more than 50 lines, and what is written by hand no more than it may have. Each
+message of the programs is Minisign's own or stands in a test. The manual pages have a date, and mandoc finds nothing.
+What is built needs only names that glibc 2.31 has. Without libsodium's header make says so in one sentence. It prints
+a line for each failure; the last line is `N passed, M failed`.
 
-Needs Python 3.9 or later, make, gcc, binutils, mandoc and libsodium with its header. It installs what is missing if
-it may.
+Needs Python 3.9 or later, make, gcc, binutils, mandoc, minisign 0.11 and libsodium with its header. It installs what
+is missing if it may.
 """
 
 import collections
@@ -32,13 +33,21 @@ C = static_library.DIRECTORY
 MADE = "install/usage.h"
 BY_HAND = ("minisign/*.[ch]", "install/*.[ch]", "shared/*.[ch]", "library/allocation.[ch]", "library/clearing.[ch]")
 MAX_LINES, MAX_FUNCTION = 6583, 50
-# Of which rooms each room takes headers besides its own.
-TAKES = {"minisign": {"shared", "library"}, "install": {"shared"}, "shared": set(), "library": set()}
+# Which headers each room takes besides its own: those of a room, or one.
+TAKES = {"minisign": ("shared/", "library/clearing.h"), "install": ("shared/",), "shared": (), "library": ()}
 # What only Linux has, in which file alone, and with which words the names of a place that is written through.
 OF_LINUX = {
     "O_PATH": "handles.c", "fstatfs": "handles.c", "ST_NOSYMFOLLOW": "handles.c", "O_TMPFILE": "stages.c", "renameat2": "stages.c",
     "RENAME_NOREPLACE": "stages.c", "sync_file_range": "stages.c", "xattr": "permissions.c", "getrandom": "stages.c",
     '"/proc/self/fd/%d"': "handles.c",
+}
+# Where tests name messages, but for Minisign's own: command_line/command_cases.py compares what both programs say.
+NAMING = ("command_line", "installer", "c", "verdicts", "shared", "bindings")
+# Messages that no test can cause, and why.
+NOT_CAUSED = {
+    "The data could not be fed": "the state was begun, and its digest is asked for later",
+    "too many files at once": "those that wait go to their places before they are so many",
+    "others replace it again and again": "others would have to do so within each of a hundred openings",
 }
 MOST_GLIBC = (2, 31)
 # What the headers of an older glibc have in place of a name of its own.
@@ -78,26 +87,57 @@ def check_names(checks):
 def check_includes(checks):
     for room, others in TAKES.items():
         for path in glob.glob(f"{C}/{room}/*.[ch]"):
-            for taken in re.findall(r'#include "([a-z]+)/', read(path)):
-                checks.check(taken in others, f"{path} takes a header of {taken}")
+            for taken in re.findall(r'#include "([a-z]+/.+)"', read(path)):
+                checks.check(taken.startswith(others), f"{path} takes {taken}")
 
 
 def check_sources(checks):
     """What stands once, and how long functions are."""
-    files = {path: code_of(path) for room in ("minisign", "install", "shared", "library", "library/portable") for path in glob.glob(f"{C}/{room}/*.[ch]")}
+    rooms = ("minisign", "install", "shared", "library", "library/portable", "examples")
+    files = {path: code_of(path) for room in rooms for path in glob.glob(f"{C}/{room}/*.[ch]")}
     for name, file in OF_LINUX.items():
         found = {os.path.basename(path) for path, text in files.items() if name in text}
         checks.check(found == {file}, f"{name} stands in {sorted(found)}, and not in {file} alone")
     for what, pattern in (("a test of UTF-8", r"0xd800"), ("what answers a request for memory", r"struct grant \{")):
         checks.check(sum(len(re.findall(pattern, text)) for text in files.values()) == 1, f"{what} stands twice or nowhere")
     for path, text in files.items():
-        for found in re.finditer(r"^[a-z_].*\n(?:.*\n)??\{\n((?:.*\n)*?)\}\n", text, re.M):
-            length = found[0].count("\n")
-            checks.check(length <= MAX_FUNCTION or path.endswith("boundary.c"), f"{path}: {found[0].splitlines()[0]} has {length} lines")
+        functions = re.findall(r"^[a-z_][^;{}]*\n\{\n(?:.*\n)*?\}\n", text, re.M)
+        ends = len(re.findall(r"^\}$", text, re.M))
+        checks.check(len(functions) == ends, f"{path}: {len(functions)} functions were found, and {ends} end")
+        for function in functions:
+            length = function.count("\n")
+            checks.check(length <= MAX_FUNCTION or path.endswith("boundary.c"),
+                         f"{path}: {function.splitlines()[0]} has {length} lines")
     by_hand = {path for pattern in BY_HAND for path in glob.glob(f"{C}/{pattern}")} - {f"{C}/{MADE}"}
     count = sum(read(path).count("\n") for path in by_hand)
     print(f"lines of C that are written by hand: {count}")
     checks.check(count <= MAX_LINES, f"{count} lines of C are written by hand, of at most {MAX_LINES}")
+
+
+def messages_of(text):
+    """The words of a file's literals between conversions and line ends, where there is a blank in them, and whether
+    a line ends there."""
+    for found in re.findall(r'"(?:\\.|[^"\\])*"(?:\s+"(?:\\.|[^"\\])*")*', text):
+        literal = re.sub(r'"\s+"', "", found)[1:-1].encode().decode("unicode_escape")
+        for line in literal.split("\n"):
+            parts = [part.strip(" :") for part in re.split(r"%[-.*0-9]*[lz]*[A-Za-z]?", line)]
+            yield from ((words, line.endswith(words)) for words in parts if " " in words)
+
+
+def check_messages(checks):
+    files = {path for room in NAMING for path in glob.glob(f"{HERE}/../{room}/*.[cp]*")} - {f"{HERE}/../c/rooms.py"}
+    with open(needs.minisign(), encoding="latin-1") as program:
+        named = "".join(map(read, sorted(files))) + program.read()
+    found = set()
+    for room in ("minisign", "install", "shared"):
+        for path in sorted(set(glob.glob(f"{C}/{room}/*.[ch]")) - {f"{C}/{MADE}"}):
+            for words, ends in messages_of(re.sub("^#include.*", "", code_of(path), flags=re.M)):
+                # (`it is too short` is not named where a test has `it is too short or too long`)
+                is_named = re.search(re.escape(words) + (r"(?! ?\w)" if ends else ""), named)
+                checks.check(is_named or words in NOT_CAUSED, f"{path}: no test has the message: {words}")
+                checks.check(not is_named or words not in NOT_CAUSED, f"{path}: a test has it after all: {words}")
+                found.add(words)
+    checks.check(found > set(NOT_CAUSED), f"no message of the programs: {sorted(set(NOT_CAUSED) - found)}")
 
 
 def check_pages(checks):
@@ -145,7 +185,7 @@ def check_built(checks, room):
 
 
 def run_all(checks, room):
-    for check in (check_names, check_includes, check_sources, check_pages):
+    for check in (check_names, check_includes, check_sources, check_messages, check_pages):
         check(checks)
     check_built(checks, room)
 

@@ -240,18 +240,19 @@ class Safety:
 
     def copied(self, program, directory, change, *arguments):
         """Copies data out that changes once it was verified and before it is copied: until then the error stream, to which what was
-        verified is written in between, is a pipe that takes nothing. How it ended, and what was copied."""
+        verified is written in between, is a pipe that takes nothing. How it ended, what was copied, what was said."""
         reader, writer = full_pipe()
         process = subprocess.Popen([program, *arguments, "-p", PUBLIC], cwd=directory, stdin=subprocess.DEVNULL,
                                    stdout=subprocess.PIPE, stderr=writer)
         os.close(writer)
         wait_for_rest(process)
         change()
-        drain = threading.Thread(target=read_all, args=(reader,))
+        said = []
+        drain = threading.Thread(target=lambda: said.append(read_all(reader)))
         drain.start()
         output, _ = process.communicate(timeout=SECONDS)
         drain.join(SECONDS)
-        return process.returncode, output
+        return process.returncode, output, b"".join(said)
 
     def changed_while_copied(self, change):
         """Data that changes once it was verified: what is copied is the front of what was verified, and it ends badly."""
@@ -259,15 +260,17 @@ class Safety:
         before = b"".join(number.to_bytes(4, "little") * 1024 for number in range(LARGE // 4096)) + bytes(LARGE % 4096)
         directory = self.directory(large=before)
         self.ours(directory, "-Sm", "large", "-s", OPEN)
-        status, output = self.copied(self.whole.ours, directory, lambda: change(os.path.join(directory, "large")),
-                                     "-Vom", "large")
-        expect(status == 1 and before.startswith(output) and len(output) < len(before),
-               f"it ended with {status} and copied {len(output)} bytes")
+        status, output, said = self.copied(self.whole.ours, directory, lambda: change(os.path.join(directory, "large")),
+                                           "-Vom", "large")
+        expect(status == 1 and before.startswith(output) and len(output) < len(before)
+               and said.endswith(b"\nData changed between verification and output\n"),
+               f"it ended with {status}, copied {len(output)} bytes, and said {said[-100:]}")
 
     def replaced_while_copied(self, program, status, flags=()):
         """Other data is there once it was verified: of a legacy signature ours copies what was verified, and Minisign what is there."""
         directory = self.signed(*flags)
-        ended, output = self.copied(program, directory, lambda: write(directory, "data", DATA["more"]), "-Vom", "data")
+        change = lambda: write(directory, "data", DATA["more"])
+        ended, output, _ = self.copied(program, directory, change, "-Vom", "data")
         wanted = DATA["more"] if program == self.whole.theirs else DATA["data"] if flags else b""
         expect((ended, output) == (status, wanted), f"it ended with {ended} and copied {output!r}")
 
@@ -366,7 +369,7 @@ def wait_for_rest(process):
 
 def read_all(reader):
     with os.fdopen(reader, "rb") as pipe:
-        pipe.read()
+        return pipe.read()
 
 
 def write_slowly(path, data):

@@ -17,7 +17,7 @@ from updates import rejects
 # A key that has signed nothing here, as a record names it.
 OTHER_KEY = bytes(range(32))
 # When a record was written, later than any clock shows, and how that is said.
-WRITTEN, AS_WRITTEN = 4000000000, b"2096-10-02 07:06:40 UTC"
+WRITTEN, AS_WRITTEN = 4000000000, b"2096-10-02 07:06:40 UTC, and the clock shows less: set it"
 BAD_EXPIRY = b"the signed comment does not say once, in a number, when it expires"
 # Data of several pieces.
 LONG = b"long" * 300000
@@ -56,7 +56,7 @@ def expect_written(directory, *moments):
 def is_behind(directory, shown, more, status, options=()):
     """At this time by the clock, an update over a record that was written at another one; and a check of it."""
     told = (said_of("new.sig", b"the update has expired")
-            + said_of("./.place.number", b"it was written at " + AS_WRITTEN + b", and the clock shows less: set it"))
+            + said_of("./.place.number", b"it was written at " + AS_WRITTEN))
     directory.offer("new", NEW, 6, more=more)
     date(directory, WRITTEN)
     for words in (CHECK, directory.arguments("new")):

@@ -17,6 +17,13 @@ def says(directory, words, status, said, shown=b""):
            f"the directory has {os.listdir(directory.path)}")
 
 
+def no_text(directory):
+    """Bytes in place of a key or of a signature."""
+    directory.put("bytes", b"\xff\n")
+    for words in (["bytes", "new", "new.sig", PLACE], [PK, "new", "bytes", PLACE]):
+        says(directory, words, REJECTED, b"error: bytes: it is no text in UTF-8\n")
+
+
 def takes(directory, words, name=PLACE, mode=None, number=b"6", **how):
     """An installation with these words."""
     directory.offer("new", NEW, int(number), **how)
@@ -101,6 +108,7 @@ def word_cases(installing):
     ]
     for what, words, status, said in failures:
         yield what, says, words, status, said
+    yield "texts that are not UTF-8", no_text
     for word in ("--help", "-h"):
         yield f"help by {word}", says, [word], 0, b"", dict(shown=usage.replace(b" (--help shows the options)", b""))
     yield "the version", says, ["--version"], 0, b"", dict(shown=NAME.encode() + b" " + VERSION + b"\n")
