@@ -52,7 +52,7 @@ static void read_long_text(struct long_text *text, const char *file)
     text->len = (size_t) n;
     close(fd);
     why = text->len == sizeof text->bytes    ? TOO_LONG
-          : !is_utf8(text->bytes, text->len) ? "it is no text in UTF-8"
+          : !is_utf8(text->bytes, text->len) ? "it is not UTF-8"
                                              : NULL;
     if (why != NULL) {
         say(file, why);
