@@ -21,7 +21,7 @@ def no_text(directory):
     """Bytes in place of a key or of a signature."""
     directory.put("bytes", b"\xff\n")
     for words in (["bytes", "new", "new.sig", PLACE], [PK, "new", "bytes", PLACE]):
-        says(directory, words, REJECTED, b"error: bytes: it is no text in UTF-8\n")
+        says(directory, words, REJECTED, b"error: bytes: it is not UTF-8\n")
 
 
 def takes(directory, words, name=PLACE, mode=None, number=b"6", **how):
