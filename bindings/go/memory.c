@@ -19,7 +19,7 @@
 #define UNIT 64
 
 /* What stands in front of a block: what malloc returned, and how long the block is. */
-struct front {
+struct heading {
     void *taken;
     size_t len;
 };
@@ -27,9 +27,9 @@ struct front {
 /* Stands for the block of an allocation that failed. */
 static u8 nothing;
 
-static struct front front_of(const u8 *block)
+static struct heading front_of(const u8 *block)
 {
-    struct front front;
+    struct heading front;
 
     memcpy(&front, block - sizeof front, sizeof front);
     return front;
@@ -50,9 +50,9 @@ static void write_zeros(u8 *block, size_t len)
 
 struct grant rattle_alloc(size_t len, size_t alignment)
 {
-    const size_t unit = alignment > UNIT ? alignment : UNIT, more = unit + sizeof(struct front);
+    const size_t unit = alignment > UNIT ? alignment : UNIT, more = unit + sizeof(struct heading);
     struct grant grant = { 0, &nothing };
-    struct front front = { NULL, len };
+    struct heading front = { NULL, len };
     u8 *block;
 
     front.taken = len <= PTRDIFF_MAX && more <= PTRDIFF_MAX - len ? malloc(len + more) : NULL;
@@ -79,7 +79,7 @@ struct grant rattle_realloc(void *block, size_t old_len, size_t len, size_t alig
 
 void rattle_dealloc(void *block)
 {
-    const struct front front = front_of(block);
+    const struct heading front = front_of(block);
 
     write_zeros(block, front.len);
     free(front.taken);
