@@ -133,6 +133,8 @@ def _make_call(begun: "ctypes._Pointer[Installing]") -> bool:
             signal.signal(end, lambda number, _: came.append(number))
         return bool(library.make_call(begun))
     finally:
+        # (by then another thread that took a signal has noted it)
+        threading.Event().wait(0.01 * len(ends))
         mask = signal.pthread_sigmask(signal.SIG_BLOCK, ends)
         for end in ends:
             signal.signal(end, signal.SIG_DFL)
@@ -218,9 +220,8 @@ def _must(run: Installing) -> None:
     """Raises what a run was rejected for, or which call failed."""
     if run.error != 0:
         why = (run.cause or b"").decode() or os.strerror(run.number)
-        raised = error_of(run.error)
-        if run.is_too_long:
-            raised = TooLong("the data is longer than it may be")
+        too_long = TooLong("the data is longer than it may be")
+        raised = too_long if run.is_too_long else error_of(run.error)
         at = os.fsdecode(run.shown or b"")
         raise raised from (OSError(run.number, why, at) if run.shown else None)
 
