@@ -30,11 +30,11 @@ inTurn(() => takeFiles(files));"""
 # How a file comes to a stop: what is done before it is chosen.
 STOPS = {"threads that end": """const done = arguments[0], {prototype} = Worker, real = prototype.postMessage;
            let count = 0;
-           prototype.postMessage = function () { this.terminate(); if (++count === 4) prototype.postMessage = real; }; done();""",
+           prototype.postMessage = function () { this.terminate(); if (++count === 4) { prototype.postMessage = real; window.isBroken = true; } }; done();""",
          "a read that hangs": """const done = arguments[0], real = window.answerOf;
-           window.answerOf = () => { window.answerOf = real; return new Promise(() => {}); }; done();""",
+           window.answerOf = () => { window.answerOf = real; window.isBroken = true; return new Promise(() => {}); }; done();""",
          "a signature whose read hangs": """const done = arguments[0], real = window.textOfFile;
-           window.textOfFile = () => { window.textOfFile = real; return new Promise(() => {}); }; done();"""}
+           window.textOfFile = () => { window.textOfFile = real; window.isBroken = true; return new Promise(() => {}); }; done();"""}
 
 
 def check_stops(person, minisign):
@@ -47,7 +47,7 @@ def check_stops(person, minisign):
         browser.choose(*paths)
         browser.run_later(script)
         browser.type_key(lines(pk)[1].decode())
-        browser.wait(lambda: browser.row("a")["verdict"] == "reading")
+        browser.wait(lambda: browser.row("a")["verdict"] == "reading" and browser.run("return window.isBroken === true"))
         browser.run("document.querySelector('#verdicts button').click()")
         browser.wait(lambda: browser.row("b")["verdict"] != "waiting")
         rows = {row["name"]: row["verdict"] for row in person.settled(what)}
