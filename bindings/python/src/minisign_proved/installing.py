@@ -277,7 +277,8 @@ def install(
     which Python has a handler, is held back until then. In another thread that holds of
     those for which Python has a handler, as for SIGINT, and of those that are sent to
     that thread alone: another one ends the process there, and so does SIGKILL in any.
-    The next run of the same update then finishes it.
+    The next run of the same update then finishes it. Python may lose a signal that
+    another thread has taken and not noted in the 30 ms after that: the process goes on.
 
     OSError where the directory or the data cannot be opened, or what is no regular file
     cannot be received; ValueError where `target` does not end with the name of a file,
