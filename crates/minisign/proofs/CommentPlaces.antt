@@ -1,7 +1,8 @@
 -- Lines of a text and what stands in them, where they stand in the text.
 use Rattle.std.proofs.Common.{◌≡◌, ◌∙◌, ℕ, ◌+◌, ◌-◌, ◌<◌, ◌≤◌, ◌==◌, Bool, true, false, List, [], ◌∷◌, ◌++◌}
-use Rattle.std.proofs.Common.{length, take, drop, slice_index, All, ap, sym, subst, arith, eqb, cond, ⊎_elim}
+use Rattle.std.proofs.Common.{length, take, drop, slice_index, ap, sym, subst, arith, eqb, cond, ⊎_elim}
 use Rattle.std.proofs.Common.{take-take, length-take-le, take_all, length-drop, drop-drop}
+use Rattle.std.specs.Prelude.{slice_index_or}
 use Rattle.minisign.proofs.Common.{drop-append_seam, trim_end, cases_lt, lines, lines_of_parts, slice_split}
 use Rattle.minisign.proofs.Common.{strip_carriage_return, trim, trim_start}
 use Rattle.std.proofs.lemmas.List.{drop-take, drop_all}
@@ -9,8 +10,8 @@ use Rattle.std.proofs.lemmas.List.Sums.{fails_before_first}
 use Rattle.std.proofs.lemmas.List.Splits.{length-slice_split, slice_split_first, slice_split_none}
 use Rattle.std.specs.List.{position_or_len, before_first}
 use Rattle.minisign.proofs.WrittenLines.{lines_of_parts-cons}
-use Rattle.minisign.specs.CommentPlace.{StandsAt, behind_line, comment_offset, comment_start, first_of}
-use Rattle.minisign.specs.SignatureText.{SignatureText, SignatureTextRecord, trusted_comment_label}
+use Rattle.minisign.specs.SignatureText.{StandsAt, behind_line, comment_offset, comment_start, SignatureText}
+use Rattle.minisign.specs.SignatureText.{SignatureTextRecord, trusted_comment_label}
 
 abbrev is_feed : ℕ → Bool
 is_feed b = eqb b 10
@@ -126,7 +127,7 @@ in_line line comment own rest trimmed n labelled also begun at ended front fits 
 -- the comment of a text that reads as a signature
 pub in_text : (text third line : List ℕ) (t : SignatureTextRecord) (start len : ℕ) → SignatureText text t
     → third ≡ behind_line (behind_line text)
-    → line ≡ first_of (lines third) → length line ≤ length third
+    → line ≡ slice_index_or (lines third) 0 [] → length line ≤ length third
     → ((comment : List ℕ) → line ≡ trusted_comment_label ++ comment
     → (start ≡ comment_start line) × (len ≡ length (trim comment)) × StandsAt (trim comment) line start)
     → (length text - length third + start ≡ comment_offset text) × (len ≡ length t.comments.trusted)
@@ -136,7 +137,7 @@ in_text text third line t start _ h third_is line_is fits place =
     let second_on = (front_line text _ _ h.cut).1 in
     let third_on = (front_line (behind_line text) _ _ second_on).1 in
     let cut = ap lines third_is ∙ third_on in
-    let same = line_is ∙ ap first_of cut in
+    let same = line_is ∙ ap (λ l. slice_index_or l 0 []) cut in
     let front =
     subst (λ (l : List ℕ). take (length l) third ≡ l) (sym same)
     (front_line third h.third (h.fourth ∷ h.later) cut).0 in
@@ -147,7 +148,7 @@ in_text text third line t start _ h third_is line_is fits place =
     let at = third_is ∙ drop-drop two one text in (
       ap (λ n. length text - length third + n) p.0
           ∙ ap (λ l. length text - length third + comment_start l) line_is
-          ∙ ap (λ w. length text - length w + comment_start (first_of (lines w))) third_is,
+          ∙ ap (λ w. length text - length w + comment_start (slice_index_or (lines w) 0 [])) third_is,
       p.1 ∙ ap length trimmed,
       rw trimmed at (placed (trim comment) line third text start (one + two) p.2 front fits at),
     )

@@ -1,12 +1,12 @@
 -- Conversations that are known from outside (docs/FORMATS.md), so that a wrong definition does not check:
 -- what they write, and which passwords differ.
 use Rattle.std.proofs.Common.{◌≡◌, ℕ, List, [], ◌∷◌, ◌++◌, None, Some, codes, refl}
-use Rattle.minisign.proofs.Common.{chars, is_utf8, Named, PasswordsDiffer, written, accepted_line}
-use Rattle.minisign.proofs.Common.{first_line, password_of, typed_password}
+use Rattle.minisign.proofs.Common.{chars, is_utf8, Named, PasswordsDiffer, written, accepted_line, first_line}
+use Rattle.minisign.proofs.Common.{password_of, typed_password}
 use lib.Utf8.{encode}
 use Rattle.minisign.specs.Generation.{choosing_steps, difference, sealing_steps, purpose_line, sealing_text}
 use Rattle.minisign.specs.Generation.{second_question}
-use Rattle.minisign.specs.Opening.{asking_text, deriving_text, done_text, opening_steps}
+use Rattle.minisign.specs.Sealing.{asking_text, deriving_text, done_text, opening_steps}
 use Rattle.minisign.specs.Records.{SecretKeyRecord}
 
 -- a line and its line feed

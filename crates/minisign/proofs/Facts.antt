@@ -8,17 +8,16 @@ use Rattle.std.specs.Int.{to_le_bytes, w64}
 use lib.Utf8.{encode}
 use Rattle.base64.specs.Rfc4648.{encode_symbols}
 use Rattle.base64.specs.Decode.{groups_bytes, scan_steps}
-use Rattle.minisign_hash.specs.Blake2b.{blake2b_digest, padded_block, compress, iv, mix, round, rounds}
-use Rattle.minisign_hash.specs.Blake2b.{sigma, state_after, work_vector}
+use Rattle.minisign_hash.specs.Blake2b.{blake2b_digest, padded_block, compress, iv, mix, round, rounds, sigma}
+use Rattle.minisign_hash.specs.Blake2b.{state_after, work_vector}
 use Rattle.minisign_hash.specs.Words.{bytes_of_words64, words64_of}
 use Rattle.minisign_base.specs.Fault.{Fault, Named}
 use Rattle.minisign_base.specs.declared.faults.NamedFault.TheVariants as named
 use Rattle.minisign.specs.Records.{PublicKeyRecord}
 use Rattle.minisign.specs.Texts.{line, base64_of, base64_bytes, is_base64, untrusted_comment_label}
-use Rattle.minisign.specs.PublicKeyText.{read_public_key, read_bare_public_key}
-use Rattle.minisign.specs.CommentPlace.{comment_offset}
-use Rattle.minisign.specs.SignatureText.{SignatureTextRecord, read_signature, trusted_comment_label}
-use Rattle.minisign.specs.SecretKeyText.{read_secret_key}
+use Rattle.minisign.specs.KeyTexts.{read_public_key, read_bare_public_key, read_secret_key}
+use Rattle.minisign.specs.SignatureText.{comment_offset, SignatureTextRecord, read_signature}
+use Rattle.minisign.specs.SignatureText.{trusted_comment_label}
 use Rattle.minisign.specs.Acceptance.{Verifier}
 use Rattle.minisign.specs.Headline.{verdict}
 

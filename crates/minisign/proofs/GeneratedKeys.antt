@@ -6,16 +6,14 @@ use Rattle.minisign.proofs.Common.{Named, RandomCall, OutOfMemory, result_err, c
 use Rattle.minisign.proofs.Common.{sealing_limits, bytes_eq-Decides, to_le_bytes, LacksByte, Fault}
 use Rattle.minisign.proofs.Common.{WorkTooHigh, Numbers}
 use Rattle.minisign_base.specs.Scheme.{IsBytes}
-use Rattle.minisign.specs.Records.{PublicKeyRecord, SecretKeyRecord, own_public_key}
+use Rattle.minisign.specs.Records.{PublicKeyRecord, SecretKeyRecord}
 use Rattle.minisign.specs.Sealing.{is_encrypted, xored_key, allowed_work, checksum_of, is_within, key_limits}
 use Rattle.minisign.specs.Sealing.{key_xor, open_sealed, scrypt_kdf, sealed_by_scrypt, unencrypted_key}
-use Rattle.minisign.specs.Generation.{AreSeedAndKeynum, IsGenuinePair, IsSealedPair, OpensToPair}
-use Rattle.minisign.specs.Generation.{key_to_seal, public_key_of, secret_of, unsealed_key, IsMadePublicText}
-use Rattle.minisign.specs.Generation.{IsMadeText}
+use Rattle.minisign.specs.Sealing.{OpensTo, open_key}
+use Rattle.minisign.specs.Generation.{AreSeedAndKeynum, IsGenuinePair, IsSealedPair, OpensToPair, key_to_seal}
+use Rattle.minisign.specs.Generation.{public_key_of, secret_of, unsealed_key, IsMadeText}
 use Rattle.std.proofs.lemmas.Nat.{from_le_bytes-to_le_bytes_8}
-use Rattle.minisign.specs.PublicKeyText.{commented_public_key_text, read_public_key}
-use Rattle.minisign.specs.SecretKeyText.{read_secret_key, secret_key_text}
-use Rattle.minisign.specs.Opening.{OpensTo, open_key}
+use Rattle.minisign.specs.KeyTexts.{read_secret_key, secret_key_text}
 use Rattle.minisign.specs.declared.making.Sealing.{Sealing}
 use Rattle.minisign.proofs.SealingLimits.{sealing_numbers}
 use Rattle.minisign.specs.Texts.{and_then, require}
@@ -134,19 +132,6 @@ made_sealed keynum secret password comment text s sk some more sealed opened all
       written = written ∙ ap (λ k. secret_key_text (Some comment) k) sealed;
       gives = λ lacks. (rw opened at (text_opens _ _ _ _ _ _ some more _ sealed opened _
           (allowed_limits _ _ _ refl allowed) _ (reads lacks)));
-      size = size;
-    }
-
-pub made_public : (keynum secret comment text : List ℕ) (pk : PublicKeyRecord) (sk : SecretKeyRecord)
-    → sk ≡ unsealed_key keynum secret → pk ≡ own_public_key sk
-    → text ≡ commented_public_key_text comment pk → (LacksByte 10 comment → read_public_key text ≡ Ok pk)
-    → length text ≡ length comment + 77
-    → IsMadePublicText keynum secret comment text
-made_public _ _ comment _ _ _ same own written reads size =
-    let is = own ∙ ap own_public_key same in
-    record {
-      written = written ∙ ap (commented_public_key_text comment) is;
-      reads = λ lacks. reads lacks ∙ ap Ok is;
       size = size;
     }
 

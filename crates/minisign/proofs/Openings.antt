@@ -1,23 +1,22 @@
 -- What a secret key opens to, and when a text gives a key: the functions and the relations agree; how opening
 -- ends, whether a password is asked for or passed in; and which key a text gives for signing.
 use Rattle.std.proofs.Common.{◌≡◌, ℕ, Bool, true, false, not, bytes_eq, List, Option, None, refl, sym, ap}
-use Rattle.std.proofs.Common.{◌∙◌, is_ok, true≢false, Result, Ok, Err, IsOk, ◌⊎◌, Some, IfOk, IfErr, inl}
-use Rattle.std.proofs.Common.{inr, [], IfSome, option_map}
+use Rattle.std.proofs.Common.{◌∙◌, is_ok, true≢false, Result, Ok, Err, IsOk, ◌⊎◌, Some, IfOk, IfErr, inl, inr}
+use Rattle.std.proofs.Common.{[], IfSome, option_map}
 use Rattle.minisign.proofs.Common.{result_err, bytes_eq-Decides, Fault, without_value, NamedFault}
 use Rattle.minisign.proofs.Common.{WorkTooHigh, Numbers, PromptCall, Named, ConversationEnds, password_of}
 use Rattle.minisign.proofs.Common.{OutOfMemory, option_map_or, result_ok}
 use Rattle.minisign.specs.Records.{SecretKeyRecord}
-use Rattle.minisign.specs.SecretKeyText.{read_secret_key}
+use Rattle.minisign.specs.KeyTexts.{read_secret_key}
 use Rattle.minisign.specs.Sealing.{allowed_work, checksum_of, is_within, key_limits, no_kdf, open_sealed}
 use Rattle.minisign.specs.Sealing.{restored_key, scrypt_kdf, sealed_by_scrypt, unencrypted_key, xored_key}
-use Rattle.minisign.specs.Sealing.{wants_password}
-use Rattle.minisign.specs.Opening.{IsOpened, IsUnencryptedText, open_key, read_unencrypted_key, IsOpening}
-use Rattle.minisign.specs.Opening.{opening_steps, IsOpenedOrNoMemory, is_sealed_text, key_with_password}
+use Rattle.minisign.specs.Sealing.{wants_password, IsOpened, IsUnencryptedText, open_key}
+use Rattle.minisign.specs.Sealing.{read_unencrypted_key, IsOpening, opening_steps, IsOpenedOrNoMemory}
+use Rattle.minisign.specs.Sealing.{is_sealed_text, key_with_password}
 use Rattle.minisign.specs.Texts.{IsReading, and_then, require}
-use Rattle.minisign.proofs.ReadTexts.{is_reading, passed, read_before, same_end, same_value}
+use Rattle.minisign.proofs.ReadTexts.{passed, read_before, same_end, same_value}
 use Rattle.minisign.proofs.SecretKeyTexts.{read_as}
-use Rattle.minisign.specs.Headline.{OpeningHeadline}
-use Rattle.minisign.specs.SigningTexts.{GivesKey, IsKeyOf}
+use Rattle.minisign.specs.Signing.{GivesKey, IsKeyOf}
 
 -- what is a value is no error
 pub no_fault : {V : Type 0} (r : Result V Fault) → IsOk r → result_err r ≡ None
@@ -116,7 +115,7 @@ text_opens _ password bound v h =
     (ap (λ m. open_sealed m password bound) same ∙ opened) in
     record {
       sealed = l;
-      read = ((read_as _).value l).0 read;
+      read = (read_as _ l).0 read;
       kdf = kdf;
       allowed = allowed;
       key =
@@ -131,15 +130,14 @@ some_work (Err e) ok = absurd (true≢false (sym ok))
 opens_text : (text password : List ℕ) (bound : Option ℕ) (v : SecretKeyRecord)
     → IsOpened text password bound v → open_key text password bound ≡ Ok v
 opens_text text _ _ v h =
-    let read = ((read_as text).value h.sealed).1 h.read in
+    let read = (read_as text h.sealed).1 h.read in
     let (w, work) = some_work _ h.allowed in
     open_text _ _ _ _ (sealed_text _ _ _ read (sealed_taken _ h.kdf))
     ∙ opened_so _ v _ _ w h.key work (rw ((bytes_eq-Decides _ _).1 h.restored) refl)
 
 pub opened_as : (text password : List ℕ) (bound : Option ℕ)
     → IsReading (IsOpened text password bound) (open_key text password bound)
-opened_as _ _ _ =
-    is_reading _ _ (λ v. (text_opens _ _ _ v, opens_text _ _ _ v))
+opened_as _ _ _ v = (text_opens _ _ _ v, opens_text _ _ _ v)
 
 -- a key is taken as one that was never sealed exactly where it is one
 pub unencrypted_taken : (k : SecretKeyRecord) → k.kdf ≡ no_kdf → k.checksum ≡ checksum_of k
@@ -174,16 +172,16 @@ text_is_unencrypted _ v h =
     let (k, read, taken) = read_before _ _ v h in
     let (same, kdf, checksum) = unencrypted_held k v taken in
     record {
-      read = ((read_as _).value v).0 (read ∙ ap Ok same);
+      read = (read_as _ v).0 (read ∙ ap Ok same);
       kdf = ap (λ l. l.kdf) (sym same) ∙ kdf;
       checksum = rw same at checksum;
     }
 
 pub unencrypted_as : (text : List ℕ) → IsReading (IsUnencryptedText text) (read_unencrypted_key text)
-unencrypted_as _ = is_reading _ _ (λ v. (
+unencrypted_as _ v = (
   text_is_unencrypted _ v,
-  λ h. unencrypted_text _ v _ (((read_as _).value v).1 h.read) (unencrypted_taken v h.kdf h.checksum),
-))
+  λ h. unencrypted_text _ v _ ((read_as _ v).1 h.read) (unencrypted_taken v h.kdf h.checksum),
+)
 
 -- how taking a key ends that was never sealed
 module _ (text : List ℕ) (k : SecretKeyRecord) (read : Ok k ≡ read_secret_key text) where
@@ -229,7 +227,7 @@ given_opening p _ _ _ k r same read (inr memory) = (same, inr (memory.0, rw read
 -- the headline of an opening
 pub headline_of : {R W : Type 0} (p : PromptCall R W) (given : Option (List ℕ)) (text : List ℕ)
     (bound : Option ℕ) (r : Result SecretKeyRecord Fault)
-    → IsOpening p given text bound r → OpeningHeadline given text bound r
+    → IsOpening p given text bound r → IfSome given (λ p. IsOpenedOrNoMemory text bound r (open_key text p bound))
 headline_of p None _ _ r h = tt
 headline_of p (Some _) _ _ r h = h.1
 

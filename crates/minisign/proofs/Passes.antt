@@ -335,7 +335,6 @@ record Copied {R O : Type 0} (accepts : Verifier) (pk : PublicKeyRecord) (x : Si
   pub no_new_fault : reader.source.faults reader.new ≡ reader.source.faults mid
   pub mark : is_reread output x ≡ false → reader.source.behind reader.new ≡ reader.source.behind mid
   pub copied : output ≡ true → HasCopy accepts pk x legacy reader out message
-  pub uncopied : output ≡ false → out.new ≡ out.old
   pub out_no_new_fault : SinkHasNoNewFault out
 
 module _ (accepts : Verifier) (pk : PublicKeyRecord) (x : SignatureBoxRecord) (legacy : Bool)
@@ -378,7 +377,6 @@ module _ (accepts : Verifier) (pk : PublicKeyRecord) (x : SignatureBoxRecord) (l
       no_new_fault = ap (λ d. reader.source.faults d.reader) same;
       mark = λ once. ap (λ d. reader.source.behind d.reader) same;
       copied = λ wanted. absurd (true≢false (sym wanted));
-      uncopied = λ unwanted. ap (λ d. d.out) same;
       out_no_new_fault = ap (λ d. out.sink.sink_faults d.out) same;
     }
     copied true (Digest _) holds read pass second
@@ -409,7 +407,6 @@ module _ (accepts : Verifier) (pk : PublicKeyRecord) (x : SignatureBoxRecord) (l
             steady_same = λ held told. both_told _ _ _ told
                 (what_was_marked _ _ _ _ (pass.marked holds.0 held) back.bytes copy.read.given) pass.given;
           };
-          uncopied = λ unwanted. absurd (true≢false unwanted);
           out_no_new_fault = flushed.no_new_fault ∙ ap out.sink.sink_faults o3 ∙ copy.no_new_fault
               ∙ ap out.sink.sink_faults o1;
         }
@@ -431,7 +428,6 @@ module _ (accepts : Verifier) (pk : PublicKeyRecord) (x : SignatureBoxRecord) (l
             legacy_same = λ kept. holds.1;
             steady_same = λ held told. holds.1;
           };
-          uncopied = λ unwanted. absurd (true≢false unwanted);
           out_no_new_fault = flushed.no_new_fault ∙ no_new_fault;
         }
     copied true Unkept holds _ _ _ _ = absurd (unallowed holds.0 holds.1)
@@ -548,7 +544,6 @@ module _ {R W O : Type 0} (accepts : Verifier) (pk : PublicKeyRecord) (x : Signa
               status_no_new_fault = no_new_fault;
               status_unflushed = unflushed;
               copied = done.copied;
-              uncopied = done.uncopied;
               out_no_new_fault = done.out_no_new_fault;
             },
             tt,

@@ -9,14 +9,13 @@ use Rattle.minisign.proofs.Common.{BarePublicKeyLength, BarePublicKeyNotBase64}
 use Rattle.minisign.specs.Records.{PublicKeyRecord, ReadsPublicKey, public_key_bytes}
 use Rattle.minisign.specs.Texts.{IsBase64Of, IsReading, base64_of, base64_bytes, is_base64, Encodes}
 use Rattle.minisign.specs.Texts.{untrusted_comment_label}
-use Rattle.minisign.specs.PublicKeyText.{PublicKeyText, BarePublicKey, decoded_key, key_in_lines}
-use Rattle.minisign.specs.PublicKeyText.{public_key_label, public_key_text, read_bare_public_key}
-use Rattle.minisign.specs.PublicKeyText.{read_public_key}
+use Rattle.minisign.specs.KeyTexts.{PublicKeyText, BarePublicKey, decoded_key, key_in_lines, public_key_label}
+use Rattle.minisign.specs.KeyTexts.{public_key_text, read_bare_public_key, read_public_key}
 use Rattle.minisign.proofs.Base64Texts.{bytes_read, is_read, length_base64, reads}
 use Rattle.minisign.proofs.WrittenLines.{AllGraphic, graphic_base64, graphic_key_id, trim_graphic, IsOneLine}
 use Rattle.minisign.proofs.WrittenLines.{AllShown, lines_line, lines_last, each_append, shown_codes}
 use Rattle.minisign.proofs.WrittenLines.{shown_graphic, shown_one_line}
-use Rattle.minisign.proofs.ReadTexts.{is_reading, passed}
+use Rattle.minisign.proofs.ReadTexts.{passed}
 use Rattle.minisign.proofs.RecordFields.{joined_fields, one_public_key}
 
 -- bytes that a key is read from
@@ -109,7 +108,7 @@ unfolding read_public_key
 read_text _ k h = read_lines _ _ k refl h
 
 pub read_as : (text : List ℕ) → IsReading (PublicKeyText text) (read_public_key text)
-read_as _ = is_reading _ _ (λ k. (read_text _ k, text_is_read _ k))
+read_as _ k = (read_text _ k, text_is_read _ k)
 
 -- a text is read by its lines
 pub of_lines : (text : List ℕ) (ls : List (List ℕ)) → lines text ≡ ls → read_public_key text ≡ key_in_lines ls
@@ -144,7 +143,7 @@ unfolding read_bare_public_key
 bare_length _ same = rw (eq-eqb _ 56 same) refl
 
 pub bare_read_as : (text : List ℕ) → IsReading (BarePublicKey text) (read_bare_public_key text)
-bare_read_as _ = is_reading _ _ (λ k. (read_bare _ k, bare_is_read _ k))
+bare_read_as _ k = (read_bare _ k, bare_is_read _ k)
 
 shown_label : AllShown (untrusted_comment_label ++ public_key_label)
 unfolding untrusted_comment_label public_key_label

@@ -1,20 +1,7 @@
 -- What a reading call answers, from what is read.
-use Rattle.std.proofs.Common.{◌≡◌, ◌↔◌, Bool, true, false, refl, sym, ◌∙◌, inl, inr, Result, Ok, Err}
+use Rattle.std.proofs.Common.{◌≡◌, Bool, true, false, refl, sym, inl, inr, Result, Ok, Err}
 use Rattle.minisign.proofs.Common.{Fault, without_value, NamedFault}
-use Rattle.minisign.specs.Texts.{IsGivenOrNoMemory, IsReading, and_then, require}
-
--- what is read is one value at most
-pub one_value : {V : Type 0} (r : Result V Fault) (v w : V) → r ≡ Ok v → r ≡ Ok w → v ≡ w
-one_value r v w of_v of_w = let same = sym of_v ∙ of_w in cc same
-
--- a relation of which a function gives the values
-pub is_reading : {V : Type 0} (reads : V → Type 0) (read : Result V Fault)
-    → ((v : V) → (read ≡ Ok v) ↔ reads v) → IsReading reads read
-is_reading reads read value = record {
-  value = value;
-  one_value = λ v w of_v of_w. one_value _ v w ((value v).1 of_v) ((value w).1 of_w);
-  no_value = λ e is v of_v. let no = sym is ∙ (value v).1 of_v in cc no;
-}
+use Rattle.minisign.specs.Texts.{IsGivenOrNoMemory, and_then, require}
 
 -- what is read after a test
 pub passed : {V : Type 0} (holds : Bool) (fault : NamedFault) (more : Result V Fault) (v : V)

@@ -5,11 +5,11 @@ use Rattle.std.proofs.Common.{arith, le-leb, leb-true, drop-drop, length-append,
 use Rattle.std.proofs.Common.{take-append-drop, Ok, take-take, ◌<◌, min, Err, append_assoc}
 use Rattle.minisign.proofs.Common.{lines, SecretKeyNotBase64, RecordTooShort, lt-leb, Named}
 use Rattle.minisign.specs.Records.{SecretKeyRecord, ReadsSecretKey, secret_key_bytes}
-use Rattle.minisign.specs.SecretKeyText.{SecretKeyText, read_secret_key, read_secret_key_bytes}
-use Rattle.minisign.specs.SecretKeyText.{secret_key_in_lines, secret_key_of_bytes}
+use Rattle.minisign.specs.KeyTexts.{SecretKeyText, read_secret_key, read_secret_key_bytes}
+use Rattle.minisign.specs.KeyTexts.{secret_key_in_lines, secret_key_of_bytes}
 use Rattle.minisign.specs.Texts.{IsBase64Of, IsReading, base64_bytes, is_base64, require}
 use Rattle.minisign.proofs.Base64Texts.{bytes_read, is_read, reads}
-use Rattle.minisign.proofs.ReadTexts.{is_reading, passed, same_value}
+use Rattle.minisign.proofs.ReadTexts.{passed, same_value}
 use Rattle.minisign.proofs.RecordFields.{joined_fields, one_secret_key}
 
 -- the record of a secret key has 158 bytes, and so has a stored one at least
@@ -81,7 +81,7 @@ read_bytes bytes k h =
     rw (same_value _ k long.1) at (key_in_front bytes (leb-true 158 _ long.0))
 
 pub bytes_read_as : (bytes : List ℕ) → IsReading (ReadsSecretKey bytes) (read_secret_key_bytes bytes)
-bytes_read_as _ = is_reading _ _ (λ k. (read_bytes _ k, bytes_are_read _ k))
+bytes_read_as _ k = (read_bytes _ k, bytes_are_read _ k)
 
 -- a line is read by the bytes that it is the base64 of
 pub line_is_read : (line bytes : List ℕ) → IsBase64Of line bytes
@@ -123,7 +123,7 @@ unfolding read_secret_key
 read_text _ k h = read_lines _ _ k refl h
 
 pub read_as : (text : List ℕ) → IsReading (SecretKeyText text) (read_secret_key text)
-read_as _ = is_reading _ _ (λ k. (read_text _ k, text_is_read _ k))
+read_as _ k = (read_text _ k, text_is_read _ k)
 
 -- bytes whose front begins with the record of a key begin with it
 longer : (bytes : List ℕ) (n : ℕ) (k : SecretKeyRecord) → ReadsSecretKey (take n bytes) k

@@ -22,9 +22,9 @@ use Rattle.minisign.proofs.Base64Texts.{bytes_read, is_read, reads, short_of, le
 use Rattle.minisign.proofs.WrittenLines.{AllGraphic, graphic_base64, trim_graphic, AllShown, labelled}
 use Rattle.minisign.proofs.WrittenLines.{labelled_one_line, lines_labelled, lines_line, lines_last}
 use Rattle.minisign.proofs.WrittenLines.{shown_codes, shown_graphic, shown_one_line, strip_none, trimmed_end}
-use Rattle.minisign.proofs.ReadTexts.{is_reading, passed}
+use Rattle.minisign.proofs.ReadTexts.{passed}
 use Rattle.minisign.proofs.RecordFields.{joined_fields, one_signature, stored_algorithm, stored_length}
-use Rattle.minisign.specs.PublicKeyText.{decoded_key}
+use Rattle.minisign.specs.KeyTexts.{decoded_key}
 use Rattle.minisign.proofs.PublicKeyTexts.{encoded_is_decoded}
 
 -- a line that begins with a label
@@ -205,7 +205,7 @@ unfolding read_signature
 read_text _ t h = read_lines _ _ t refl h
 
 pub read_as : (text : List ℕ) → IsReading (SignatureText text) (read_signature text)
-read_as _ = is_reading _ _ (λ t. (read_text _ t, text_is_read _ t))
+read_as _ t = (read_text _ t, text_is_read _ t)
 
 -- a text is read by its lines
 pub of_lines : (text : List ℕ) (ls : List (List ℕ)) → lines text ≡ ls

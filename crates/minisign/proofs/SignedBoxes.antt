@@ -2,7 +2,7 @@
 -- that vouches for the same.
 use Rattle.std.proofs.Common.{◌≡◌, ℕ, true, false, List, ◌++◌, length, Option, None, Some, inl, refl, sym}
 use Rattle.std.proofs.Common.{◌∙◌, arith, take_all, IsSomeAnd, Result, Ok, Err, IfOk, IfSome, MatchOption}
-use Rattle.std.proofs.Common.{MatchResult, subst}
+use Rattle.std.proofs.Common.{MatchResult, subst, le-leb}
 use Rattle.minisign.proofs.Common.{blake2b_digest, RandomCall, SourceCall, Fault, Named, RefusedByGivenKey}
 use Rattle.minisign.proofs.Common.{OutOfMemory, SignatureBoxIncomplete}
 use Rattle.minisign_base.specs.Scheme.{AreRandomBytes, IsBytes}
@@ -59,11 +59,13 @@ genuine_box accepts sign public_of own sk message chosen first second keynum sig
       same_key = same_keynum ∙ sym key_id;
       allowed = inl refl;
       signed = rw (key, same_signature, genuine.secret) digest_accepted;
-      comment_signed = record {
-        long_enough = omega (arith, long);
-        signed =
-            rw (take_all 64 global (omega (arith, long)), key, same_global, genuine.secret) comment_accepted;
-      };
+      comment_signed = rw (
+        le-leb 64 _ (omega (arith, long)),
+        take_all 64 global (omega (arith, long)),
+        key,
+        same_global,
+        genuine.secret,
+      ) comment_accepted;
     })
 
 -- a public key that is given and rejects the box that was made is the reason

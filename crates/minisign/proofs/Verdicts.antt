@@ -1,20 +1,20 @@
 -- The judge and the verdict are functions, acceptance a record of conditions: they agree. And what a verdict
 -- does not depend on.
 use Rattle.std.proofs.Common.{◌≡◌, ◌↔◌, ◌||◌, ℕ, Bool, true, false, List, length, refl, sym, ap, subst, ◌∙◌}
-use Rattle.std.proofs.Common.{inl, inr, ⊎_elim, [], Option, None, Some, IfSome, take, min, nat_le, arith}
-use Rattle.std.proofs.Common.{Result, Ok, Err, length-take, option_map, le-leb, leb-true}
-use Rattle.minisign.proofs.Common.{⊤, option_map_or, and_parts, or_cases, or_left, or_right}
-use Rattle.minisign.proofs.Common.{bytes_eq-Decides, Fault, NamedFault, nat_tests}
-use Rattle.minisign.specs.Acceptance.{CommentIsSigned, Verifier, Vouches, accepts_comments, judge}
+use Rattle.std.proofs.Common.{inl, inr, ⊎_elim, [], Option, None, Some, take, min, nat_le, arith}
+use Rattle.std.proofs.Common.{Result, Ok, Err, length-take, option_map}
+use Rattle.minisign.proofs.Common.{⊤, option_map_or, or_cases, or_left, or_right, bytes_eq-Decides}
+use Rattle.minisign.proofs.Common.{Fault, NamedFault, nat_tests}
+use Rattle.minisign.specs.Acceptance.{Verifier, Vouches, accepts_comments, judge}
 use Rattle.minisign.specs.Acceptance.{judge_answers, judge_key, signed_bytes, judged_parts}
 use Rattle.minisign.specs.Headline.{TextsVouchWith, TextsVouchFor, verdict}
-use Rattle.minisign.specs.PublicKeyText.{read_public_key}
+use Rattle.minisign.specs.KeyTexts.{read_public_key}
 use Rattle.minisign.specs.Records.{CommentsRecord, PublicKeyRecord, SignatureBoxRecord, SignatureRecord}
 use Rattle.minisign.specs.Records.{is_prehashed, prehashed_algorithm}
 use Rattle.minisign.specs.SignatureText.{SignatureTextRecord, box_of, read_signature, read_signature_box}
 use Rattle.minisign.specs.Texts.{IsGivenOrNoMemory, IsReading, and_then, map_ok, require}
 use Rattle.minisign.specs.Verifying.{read_texts}
-use Rattle.minisign.proofs.ReadTexts.{is_reading, passed, read_before, read_value}
+use Rattle.minisign.proofs.ReadTexts.{passed, read_before, read_value}
 
 -- == What is read one after the other ==
 
@@ -28,21 +28,6 @@ unmapped f (Ok v) e h = cc h
 unmapped f (Err d) e h = cc h
 
 -- == The judge ==
-
-comment_signed : (accepts : Verifier) (pk : PublicKeyRecord) (s : SignatureRecord) (c : Option CommentsRecord)
-    → accepts_comments accepts pk (record { signature = s; comments = c }) ≡ true
-    → IfSome c (CommentIsSigned accepts pk s)
-comment_signed _ _ s None h = tt
-comment_signed _ _ s (Some c) h =
-    let (long, signed) = and_parts _ _ h in
-    record { long_enough = leb-true 64 _ long; signed = signed }
-
-comment_accepted : (accepts : Verifier) (pk : PublicKeyRecord) (s : SignatureRecord)
-    (c : Option CommentsRecord)
-    → IfSome c (CommentIsSigned accepts pk s)
-    → accepts_comments accepts pk (record { signature = s; comments = c }) ≡ true
-comment_accepted _ _ s None h = refl
-comment_accepted _ _ s (Some c) h = rw (le-leb 64 _ h.long_enough) h.signed
 
 -- these bytes are those that the signature is over, where such a signature is allowed
 abbrev pub AreSigned : List ℕ → SignatureBoxRecord → Bool → List ℕ → Type 0
@@ -72,7 +57,7 @@ module _ (accepts : Verifier) (pk : PublicKeyRecord) (x : SignatureBoxRecord) (m
         same_key = (bytes_eq-Decides _ _).0 same;
         allowed = ⊎_elim (λ hashed. inl ((bytes_eq-Decides _ _).0 hashed)) inr (or_cases _ _ allowed);
         signed = signed;
-        comment_signed = comment_signed _ pk _ _ comments;
+        comment_signed = comments;
       }
 
   pub vouches_judged : Vouches accepts pk x message legacy → judge accepts pk x message legacy ≡ Ok tt
@@ -81,8 +66,7 @@ module _ (accepts : Verifier) (pk : PublicKeyRecord) (x : SignatureBoxRecord) (m
       let allowed =
       ⊎_elim (λ hashed. or_left _ _ ((bytes_eq-Decides _ prehashed_algorithm).1 hashed))
       (or_right (is_prehashed x.signature) legacy) v.allowed in
-      let comments = comment_accepted accepts pk x.signature x.comments v.comment_signed in
-      rw (same, allowed, v.signed, comments) refl
+      rw (same, allowed, v.signed, v.comment_signed) refl
 
   pub judge_decided : (judge accepts pk x message legacy ≡ Ok tt) ↔ Vouches accepts pk x message legacy
   judge_decided = (judged_vouches tt, vouches_judged)
@@ -247,7 +231,7 @@ module _ (accepts : Verifier) (pk_text sig_text message : List ℕ) (legacy : Bo
       ∙ ap Ok (ap (λ c. option_map_or (λ c. c.trusted) c []) v.both ∙ v.trusted)
 
   pub verdict_decided : IsReading (TextsVouchWith accepts pk_text sig_text message legacy) answer
-  verdict_decided = is_reading _ _ (λ comment. (vouched _, vouched_verdict _))
+  verdict_decided comment = (vouched _, vouched_verdict _)
 
   -- the comment of the text is the one that was signed, where the texts vouch for the message
   pub signed_comment : (comment : List ℕ) → TextsVouchFor accepts pk_text sig_text message legacy

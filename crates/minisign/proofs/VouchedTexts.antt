@@ -157,8 +157,8 @@ pub file_verdict : {T R : Type 0} (bytes : T → List ℕ) (accepts : Verifier) 
 file_verdict _ _ _ sig _ (Ok t) (message, _, vouched) _ =
     (message, inl (sig, sym (vouched_verdict _ _ _ _ _ _ vouched)))
 file_verdict _ _ _ sig _ (Err e) _ refused =
-    ⊎_elim (λ memory. ([], inr (e, refl, inl memory)))
-    (λ more. ⊎_elim (λ failed. ([], inr (e, refl, inr (inl failed.fault))))
+    ⊎_elim (λ memory. ([], inr (inl memory)))
+    (λ more. ⊎_elim (λ failed. ([], inr (inr (inl failed.fault))))
     (λ (message, given, why). (message, inl (sig, sym why))) more) refused
 
 same_ahead : (known : Option (List ℕ)) (message copy : List ℕ) → IsAhead known message

@@ -5,8 +5,8 @@ use Rattle.minisign.proofs.Common.{LacksByte, lines, strip_carriage_return}
 use Rattle.minisign.specs.Texts.{line, IsBase64Of, base64_of, untrusted_comment_label}
 use Rattle.minisign.specs.Records.{PublicKeyRecord, SecretKeyRecord, ReadsSecretKey, public_key_bytes}
 use Rattle.minisign.specs.Records.{secret_key_bytes}
-use Rattle.minisign.specs.SecretKeyText.{default_secret_key_comment, read_secret_key, secret_key_text}
-use Rattle.minisign.specs.PublicKeyText.{BarePublicKey, commented_public_key_text, read_public_key}
+use Rattle.minisign.specs.KeyTexts.{default_secret_key_comment, read_secret_key, secret_key_text}
+use Rattle.minisign.specs.KeyTexts.{BarePublicKey, commented_public_key_text, read_public_key}
 use Rattle.minisign.proofs.PublicKeyTexts.{graphic, stays, text_is_read}
 use Rattle.minisign.proofs.Base64Texts.{length_base64}
 use Rattle.minisign.proofs.SignatureTexts.{shown_untrusted, some_untrusted}

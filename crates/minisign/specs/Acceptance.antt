@@ -1,15 +1,14 @@
 -- When a signature box vouches for data under a public key: as a record of conditions, and as a function that
 -- gives the first one that fails. And what is said where it does.
-use Rattle.std.specs.Prelude.{◌≡◌, ⊤, ℕ, ◌≤◌, Bool, true, IsTrue, ◌⊎◌, ◌||◌, ◌&&◌, if◌then◌else◌, nat_le}
-use Rattle.std.specs.Prelude.{List, [], ◌++◌, length, take, Option, IfSome, Result, Ok, codes, bytes_eq}
-use Rattle.std.specs.Prelude.{option_map}
+use Rattle.std.specs.Prelude.{◌≡◌, ⊤, ℕ, Bool, true, IsTrue, ◌⊎◌, ◌||◌, ◌&&◌, if◌then◌else◌, nat_le, List, []}
+use Rattle.std.specs.Prelude.{◌++◌, length, take, Option, Result, Ok, codes, bytes_eq, option_map}
 use Rattle.std.specs.Option.{option_map_or}
 use Rattle.minisign_hash.specs.Blake2b.{blake2b_digest}
 use Rattle.minisign_base.specs.Fault.{Fault}
 use Rattle.minisign.specs.Texts.{line, and_then, require}
 use Rattle.minisign.specs.declared.options.VerifyOptions.{VerifyOptions}
-use Rattle.minisign.specs.Records.{PublicKeyRecord, SignatureRecord, CommentsRecord, SignatureBoxRecord}
-use Rattle.minisign.specs.Records.{is_prehashed, prehashed_algorithm}
+use Rattle.minisign.specs.Records.{PublicKeyRecord, SignatureRecord, SignatureBoxRecord, is_prehashed}
+use Rattle.minisign.specs.Records.{prehashed_algorithm}
 use Rattle.minisign_base.specs.declared.faults.NamedFault.TheVariants as named
 
 -- what a scheme accepts: a message, a public key and a signature
@@ -24,11 +23,11 @@ options_of quiet output legacy = record { quiet = quiet; output = output; allow_
 abbrev pub signed_bytes : SignatureBoxRecord → List ℕ → List ℕ
 signed_bytes x message = if is_prehashed x.signature then blake2b_digest 64 message else message
 
--- the first 64 bytes of the comment signature are accepted for the signature followed by the trusted comment
-pub record CommentIsSigned (accepts : Verifier) (pk : PublicKeyRecord) (s : SignatureRecord)
-    (c : CommentsRecord) : Type 0 where
-  pub long_enough : 64 ≤ length c.signature
-  pub signed : IsTrue (accepts (s.signature ++ c.trusted) pk.key (take 64 c.signature))
+-- whether the first 64 bytes of the comment signature are accepted for the signature followed by the trusted
+-- comment; a bare signature has neither
+abbrev pub accepts_comments : Verifier → PublicKeyRecord → SignatureBoxRecord → Bool
+accepts_comments accepts pk x = option_map_or (λ c. nat_le 64 (length c.signature)
+    && accepts (x.signature.signature ++ c.trusted) pk.key (take 64 c.signature)) x.comments true
 
 -- the box vouches for the message under the public key; legacy says whether a signature over the message
 -- itself will do
@@ -37,12 +36,7 @@ pub record Vouches (accepts : Verifier) (pk : PublicKeyRecord) (x : SignatureBox
   pub same_key : x.signature.keynum ≡ pk.keynum
   pub allowed : (x.signature.algorithm ≡ prehashed_algorithm) ⊎ IsTrue legacy
   pub signed : IsTrue (accepts (signed_bytes x message) pk.key x.signature.signature)
-  pub comment_signed : IfSome x.comments (CommentIsSigned accepts pk x.signature)
-
--- whether the comment of a box is signed so; a bare signature has none
-abbrev pub accepts_comments : Verifier → PublicKeyRecord → SignatureBoxRecord → Bool
-accepts_comments accepts pk x = option_map_or (λ c. nat_le 64 (length c.signature)
-    && accepts (x.signature.signature ++ c.trusted) pk.key (take 64 c.signature)) x.comments true
+  pub comment_signed : IsTrue (accepts_comments accepts pk x)
 
 -- what a key ID and a signature alone decide, in this order: the signature is by this key ID, and it is over
 -- the digest of the data, where one over the data itself will not do

@@ -1,6 +1,6 @@
 -- Keys that are made: which password a key is sealed under, and what a prompt writes and reads for it; keys
--- that are made of their parts, 64 secret bytes, of a seed and of its public key, under a key ID, and their
--- texts; and the pairs that generation makes, from which random bytes, and what the sinks of a pair take.
+-- of their parts, a key ID and 64 secret bytes, a seed and its public key, and their texts; and the pairs
+-- that generation makes, from which random bytes, and what the sinks of a pair take.
 use Rattle.std.specs.Prelude.{◌≡◌, ℕ, List, [], ◌∷◌, ◌++◌, Option, None, Some, Result, Ok, IfOk, MatchResult}
 use Rattle.std.specs.Prelude.{bytes_eq, if◌then◌else◌, ◌⊎◌, length, replicate, Err, codes, ◌<◌, ◌≤◌, ◌+◌}
 use Rattle.std.specs.Prelude.{unwrap_or}
@@ -12,15 +12,14 @@ use Rattle.minisign_base.specs.Steps.{without_value}
 use Rattle.std.specs.Int.{w64, to_le_bytes}
 use Rattle.minisign_hash.specs.Blake2b.{blake2b_digest}
 use Rattle.minisign_base.specs.Scheme.{IsBytes}
-use Rattle.minisign.specs.PublicKeyText.{public_key_text, read_public_key, commented_public_key_text}
+use Rattle.minisign.specs.KeyTexts.{public_key_text, read_secret_key, secret_key_text}
 use Rattle.minisign.specs.Records.{PublicKeyRecord, SecretKeyRecord, legacy_algorithm, public_key_bytes}
-use Rattle.minisign.specs.Records.{secret_key_bytes, own_public_key}
-use Rattle.minisign.specs.Sealing.{no_kdf, open_sealed, scrypt_kdf, sealed_by_scrypt, xored_key}
-use Rattle.minisign.specs.SecretKeyText.{read_secret_key, secret_key_text}
+use Rattle.minisign.specs.Records.{secret_key_bytes}
+use Rattle.minisign.specs.Sealing.{no_kdf, open_sealed, scrypt_kdf, sealed_by_scrypt, xored_key, OpensTo}
+use Rattle.minisign.specs.Sealing.{asking_text, done_text, read_unencrypted_key}
 use Rattle.minisign.specs.Signing.{HasDrawn, IsGenuine, RandomHasNoNewFault}
 use Rattle.minisign.specs.Reading.{HasFailed}
 use Rattle.minisign.specs.Texts.{and_then, line}
-use Rattle.minisign.specs.Opening.{OpensTo, asking_text, done_text, read_unencrypted_key}
 use Rattle.minisign_base.specs.declared.faults.NamedFault.TheVariants as named
 use Rattle.std.specs.Str.Iter.{LacksByte}
 use Rattle.minisign_base.specs.Limits.{numbers, sealing_limits}
@@ -54,7 +53,7 @@ abbrev pub sealing_steps : List Step
 sealing_steps = Say sealing_text ∷ Allocate ∷ Say done_text ∷ []
 
 -- under which password a key is sealed, or why under none: one that is passed in, with nothing asked; or one
--- that is typed twice, in these bytes, and then the derivation is told of
+-- that is typed twice, before the derivation is told of
 abbrev pub IsSealing : {R W : Type 0} → PromptCall R W → Option (List ℕ) → Result (List ℕ) Fault → Type 0
 IsSealing p (Some given) answer =
     MatchResult answer (λ password. password ≡ given) (λ e. e ≡ Named named.OutOfMemory) × (p.new ≡ p.old)
@@ -98,14 +97,15 @@ made_key keynum secret (Some password) s =
     xored_key (key_to_seal keynum secret s.salt s.operations_limit s.memory_limit) password
 
 -- the text gives back the key of these parts: without a password it reads as this key, which was never
--- sealed; under the password it opens to the key as it was before, and to no other
+-- sealed; under the password it opens, within each bound that p is within, to the key as it was before, and
+-- to no other
 abbrev pub GivesParts : List ℕ → Option (List ℕ) → List ℕ → List ℕ → Sealing → Type 0
 GivesParts text None keynum secret s = read_unencrypted_key text ≡ Ok (unsealed_key keynum secret)
 GivesParts text (Some password) keynum secret s =
     OpensTo text password (numbers s.memory_limit s.operations_limit).p
     (key_to_seal keynum secret s.salt s.operations_limit s.memory_limit)
 
--- the text of the secret key that is made of these parts: a line of comment, and a line of base64
+-- the text of the secret key that is made of these parts
 pub record IsMadeText (keynum secret : List ℕ) (password : Option (List ℕ)) (s : Sealing)
     (comment text : List ℕ) : Type 0 where
   pub written : text ≡ secret_key_text (Some comment) (made_key keynum secret password s)
@@ -117,12 +117,6 @@ abbrev pub making_fault : Option (List ℕ) → Sealing → Fault
 making_fault None s = Named named.OutOfMemory
 making_fault (Some password) s =
     unwrap_or (result_err (sealing_limits s.memory_limit s.operations_limit)) (Named named.OutOfMemory)
-
--- the text of the public key of these parts, which it reads as
-pub record IsMadePublicText (keynum secret comment text : List ℕ) : Type 0 where
-  pub written : text ≡ commented_public_key_text comment (own_public_key (unsealed_key keynum secret))
-  pub reads : LacksByte 10 comment → read_public_key text ≡ Ok (own_public_key (unsealed_key keynum secret))
-  pub size : length text ≡ length comment + 77
 
 -- == Pairs ==
 
@@ -140,8 +134,8 @@ pub record AllDrawn {Z : Type 0} (z : RandomCall Z) : Type 0 where
   pub drawn : HasDrawn z bytes
   pub no_new_fault : RandomHasNoNewFault z
 
--- no pair is made under a password that is passed in: it has more than 1024 bytes, with nothing drawn; or the
--- random source failed, or an allocation did once all was drawn
+-- no pair is made under a password that is passed in: it has more than 1024 bytes, with nothing drawn; or it
+-- has no more, and the random source failed, or an allocation did once all was drawn
 abbrev pub PasswordPairFails : {Z : Type 0} → List ℕ → RandomCall Z → Fault → Type 0
 PasswordPairFails password z e =
     ((e ≡ Named named.PasswordTooLong) × (1024 < length password) × (z.new ≡ z.old))
@@ -161,7 +155,8 @@ module _ {P K : Type 0} (pk_sink : SinkCall P) (sk_sink : SinkCall K) where
   abbrev pub AreUnwritten : Type 0
   AreUnwritten = (pk_sink.new ≡ pk_sink.old) × (sk_sink.new ≡ sk_sink.old)
 
-  -- the public sink failed, or it took and flushed its part, and the secret sink failed
+  -- the public sink failed at its part, with the secret sink as it was; or it took and flushed that, and the
+  -- secret sink failed at its own
   abbrev pub SinksFail : List ℕ → List ℕ → Type 0
   SinksFail public secret = (FailsAtPart pk_sink public × (sk_sink.new ≡ sk_sink.old))
       ⊎ (TakesPart pk_sink public × FailsAtPart sk_sink secret)
@@ -216,8 +211,8 @@ module _ (public_of : List ℕ → List ℕ) where
     pub drawn : HasDrawn z (seed ++ keynum ++ salt)
     pub sealed : IsSealedOf seed keynum salt password pk sk
 
-  -- the secret key opens under the password, and then belongs to the public key; each text that reads as it
-  -- opens to that key alone, with a parallelization of 1
+  -- the secret key opens under the password, and then belongs to the public key; so does each text that reads
+  -- as it, with a parallelization of 1
   pub record OpensToPair (password : List ℕ) (pk : PublicKeyRecord) (sk : SecretKeyRecord) : Type 0 where
     pub opens : and_then (sealed_by_scrypt sk) (λ k. open_sealed k password None) ≡ Ok (xored_key sk password)
     pub pair : IsGenuinePair pk (xored_key sk password)

@@ -1,21 +1,16 @@
--- What a caller may rely on, in the order of the headline's sentence, which is in docs/PROMISES.md.
--- docs/TRUSTED.md explains the notation, such as x.now, and that a key or a box of the code stands here for
--- its record or its text.
-use Rattle.std.specs.Prelude.{◌≡◌, ℕ, Bool, true, List, Option, Some, Ok, IfSome, Result, false}
+-- What a caller of verifying may rely on. docs/TRUSTED.md explains the notation, such as x.now, and that a
+-- key or a box of the code stands here for its record or its text.
+use Rattle.std.specs.Prelude.{◌≡◌, ℕ, Bool, true, List, Some, Ok, IfSome, Result, false}
 use Rattle.minisign_base.specs.Fault.{Fault}
 use Rattle.minisign_base.specs.DeviceCalls.{IsFlushed, IsSteady, RereaderCall, SinkFails, SinkCall}
 use Rattle.minisign_base.specs.DeviceCalls.{SourceFails, Takes}
-use Rattle.minisign.specs.Records.{PublicKeyRecord, SecretKeyRecord, SignatureBoxRecord, CommentsRecord}
-use Rattle.minisign.specs.Acceptance.{Verifier, Vouches, VouchesUnderEachKey, judge}
-use Rattle.minisign.specs.Opening.{IsOpenedOrNoMemory, open_key}
-use Rattle.minisign.specs.Signing.{ChosenComments, IsGenuine}
-use Rattle.minisign.specs.PublicKeyText.{read_public_key}
-use Rattle.minisign.specs.SignatureText.{AreOneLine, box_of, read_signature, read_signature_box}
+use Rattle.minisign.specs.Records.{PublicKeyRecord, SignatureBoxRecord, CommentsRecord}
+use Rattle.minisign.specs.Acceptance.{Verifier, Vouches, judge}
+use Rattle.minisign.specs.KeyTexts.{read_public_key}
+use Rattle.minisign.specs.SignatureText.{box_of, read_signature, read_signature_box}
 use Rattle.minisign.specs.Texts.{IsGivenOrNoMemory, and_then}
 use Rattle.minisign.specs.declared.options.VerifyOptions.{VerifyOptions}
 use Rattle.minisign.specs.Verifying.{ReadsTwice}
-
--- == Verifying ==
 
 -- the verdict on two texts and a message: the trusted comment, which was signed with the message; or the
 -- first case that fails, of the public key text, of the signature text, and of the conditions that the box
@@ -81,18 +76,3 @@ pub record CopyIsVouchedWith {R O : Type 0} (accepts : Verifier) (pk_text sig_te
   pub message : List ℕ
   pub read_twice : ReadsTwice reader out message copy
   pub same : IsSteady reader → IfSome (reader.source.ahead reader.old) (λ xs. copy ≡ xs)
-
--- opening with a password that is passed in: the answer is what the text opens to, or out of memory where
--- that derives
-abbrev pub OpeningHeadline : Option (List ℕ) → List ℕ → Option ℕ → Result SecretKeyRecord Fault → Type 0
-OpeningHeadline password text bound answer = IfSome password
-    (λ p. IsOpenedOrNoMemory text bound answer (open_key text p bound))
-
--- signing with a genuine key: where neither comment has a line feed and the trusted one is trimmed, the text
--- reads as a box that every public key of its seed and key ID vouches for the message with
-abbrev pub SigningHeadline : Verifier → (List ℕ → List ℕ) → SecretKeyRecord → List ℕ → ChosenComments → List ℕ
-    → Type 0
-SigningHeadline accepts public_of sk message chosen text =
-    (seed : List ℕ) → IsGenuine public_of sk seed → AreOneLine chosen.untrusted chosen.trusted
-    → (x : SignatureBoxRecord) × (read_signature_box text ≡ Ok x)
-    × VouchesUnderEachKey accepts (public_of seed) sk.keynum message x

@@ -2,17 +2,13 @@ pub mod Records
 pub mod Texts
 pub mod Reading
 pub mod Acceptance
-pub mod PublicKeyText
+pub mod KeyTexts
 pub mod SignatureText
-pub mod CommentPlace
 pub mod Sealing
 pub mod Signing
 pub mod Verifying
 pub mod Headline
-pub mod SecretKeyText
 pub mod Generation
-pub mod Opening
-pub mod SigningTexts
 -- the definitions of minisign_base, so that a crate that lists this one alone can cite them
 pub use Rattle.minisign_base.specs.DeviceCalls
 pub use Rattle.minisign_base.specs.Devices

@@ -1,6 +1,6 @@
--- What comes of reading to the end, and of copying what was read; why a text is not read from a source or a
--- file.
-use Rattle.std.specs.Prelude.{◌≡◌, ◌⊎◌, ⊤, ℕ, List, Option, IfSome, Result, IfErr, OnOk, OnErr, Err, IsUtf8}
+-- What comes of reading to the end, and of copying that; why no text is read from a source or a file.
+use Rattle.std.specs.Prelude.{◌≡◌, ◌⊎◌, ⊤, ℕ, List, Option, IfSome, Result, IfErr, OnOk, OnErr, IsErrAnd}
+use Rattle.std.specs.Prelude.{IsUtf8}
 use Rattle.std.specs.Io.KnownBytes.{IsAtEnd}
 use Rattle.minisign_base.specs.Devices.{Rose}
 use Rattle.minisign_base.specs.DeviceCalls.{IsUnflushed, IsWritingFault, RereaderCall, SinkCall}
@@ -33,9 +33,8 @@ IsReadFault source old new e =
     ((e ≡ Named OutOfMemory) × (source.faults new ≡ source.faults old))
     ⊎ HasFailed ReadingFailed source.faults old new e
 
--- all that is ahead is read, and put to the output, which flushes nothing; or an allocation fails before
--- anything is read, or a device fails, and the output holds a prefix of what was ahead, and of what the
--- source gave
+-- all that is ahead is read, and put to the output, which flushes nothing; or an allocation fails before, or
+-- a device fails, and the output holds a prefix of what was ahead, and of what the source gave
 pub record Copies {R O : Type 0} (reader : RereaderCall R) (out : SinkCall O) (second : List ℕ)
     (answer : Result ⊤ Fault) : Type 0 where
   pub read : OnOk answer (ReadsWhole reader.source reader.old reader.new second)
@@ -66,4 +65,4 @@ IsTextFileFault e = (e ≡ Named OutOfMemory) ⊎ (e ≡ Named ReadingFailed) �
 -- what is answered where a file is read: what some text reads as, or an error of the file; that it is the
 -- text of this file is not said
 abbrev pub IsReadFromFile : {V : Type 0} → (List ℕ → Result V Fault) → Result V Fault → Type 0
-IsReadFromFile read r = ((text : List ℕ) × (r ≡ read text)) ⊎ ((e : Fault) × (r ≡ Err e) × IsTextFileFault e)
+IsReadFromFile read r = ((text : List ℕ) × (r ≡ read text)) ⊎ IsErrAnd r IsTextFileFault

@@ -1,20 +1,26 @@
--- The checksum of a secret key, whether the key is still sealed, and what sealing and opening do: the
--- last 104 bytes of its record, as one list, are xored with a stream of scrypt (RFC 7914, section 6).
+-- The checksum of a secret key, whether the key is still sealed, and what sealing and opening do: the last
+-- 104 bytes of its record are xored with a stream of scrypt (RFC 7914, section 6). And how opening the text
+-- of a sealed key ends, with a password that is passed in or asked for.
 use Rattle.std.specs.Prelude.{ℕ, ◌*◌, ◌^◌, Bool, true, not, ◌&&◌, nat_lt, List, [], ◌∷◌, ◌++◌, take, drop}
-use Rattle.std.specs.Prelude.{Option, None, Result, Ok, bit_xor, bytes_eq, codes, if◌then◌else◌}
+use Rattle.std.specs.Prelude.{Option, None, Result, Ok, bit_xor, bytes_eq, codes, if◌then◌else◌, ◌≡◌, ◌⊎◌}
+use Rattle.std.specs.Prelude.{Some, Err, false, IsOk}
 use Rattle.std.specs.Option.{option_map_or}
-use Rattle.std.specs.Result.{result_ok}
+use Rattle.std.specs.Result.{result_ok, result_err}
 use Rattle.std.specs.Int.{w64, from_le_bytes}
 use Rattle.minisign_hash.specs.Blake2b.{blake2b_digest}
 use Rattle.minisign_base.specs.Limits.{numbers, sealing_limits}
-use Rattle.minisign_base.specs.Fault.{Fault}
+use Rattle.minisign_base.specs.Fault.{Fault, Named}
 use Rattle.std.specs.Simd.Lanes.{zip2}
 use Rattle.minisign_kdf.specs.Scrypt.{scrypt}
 use Rattle.minisign_kdf.specs.Params.{Numbers}
 use Rattle.minisign_kdf.specs.Room.{wanted_bytes, wanted_words}
 use Rattle.minisign.specs.Records.{SecretKeyRecord}
 use Rattle.minisign.specs.Texts.{and_then, require}
-use Rattle.minisign_base.specs.declared.faults.NamedFault.TheVariants as fault
+use Rattle.minisign_base.specs.declared.faults.NamedFault.TheVariants as named
+use Rattle.minisign_base.specs.DeviceCalls.{PromptCall}
+use Rattle.minisign_base.specs.Prompts.{Allocate, ConversationEnds, Say, Step, Test, asking_steps}
+use Rattle.minisign_base.specs.Passwords.{password_of, typed_password}
+use Rattle.minisign.specs.KeyTexts.{read_secret_key, SecretKeyText}
 
 -- the key derivation of a key that was never sealed, and that of one that was: scrypt
 abbrev pub no_kdf : List ℕ
@@ -61,22 +67,22 @@ is_within bound p = option_map_or (λ max_p. not (nat_lt max_p p)) bound true
 
 -- the parameters, where the limits are allowed and the parallelization is within the bound
 abbrev pub allowed_work : SecretKeyRecord → Option ℕ → Result Numbers Fault
-allowed_work k bound = and_then (key_limits k) (λ v. require (is_within bound v.p) fault.WorkTooHigh (Ok v))
+allowed_work k bound = and_then (key_limits k) (λ v. require (is_within bound v.p) named.WorkTooHigh (Ok v))
 
 -- the same, where the rows that are made, N for each part, are at most so many
 abbrev pub allowed_rows : SecretKeyRecord → ℕ → Result Numbers Fault
 allowed_rows k most =
-    and_then (key_limits k) (λ v. require (not (nat_lt most (2 ^ v.n_log2 * v.p))) fault.WorkTooHigh (Ok v))
+    and_then (key_limits k) (λ v. require (not (nat_lt most (2 ^ v.n_log2 * v.p))) named.WorkTooHigh (Ok v))
 
 -- an opened key, where its checksum is restored
 abbrev pub restored_key : SecretKeyRecord → Result SecretKeyRecord Fault
-restored_key k = require (bytes_eq k.checksum (checksum_of k)) fault.WrongPassword (Ok k)
+restored_key k = require (bytes_eq k.checksum (checksum_of k)) named.WrongPassword (Ok k)
 
 -- the key, where it is sealed by scrypt
 abbrev pub sealed_by_scrypt : SecretKeyRecord → Result SecretKeyRecord Fault
 sealed_by_scrypt k =
-    require (not (bytes_eq k.kdf no_kdf)) fault.KeyNotEncrypted
-    (require (bytes_eq k.kdf scrypt_kdf) fault.UnsupportedEncryptionAlgorithm (Ok k))
+    require (wants_password k) named.KeyNotEncrypted
+    (require (bytes_eq k.kdf scrypt_kdf) named.UnsupportedEncryptionAlgorithm (Ok k))
 
 -- such a key opened under a password, within the bound
 abbrev pub open_sealed : SecretKeyRecord → List ℕ → Option ℕ → Result SecretKeyRecord Fault
@@ -85,18 +91,108 @@ open_sealed k password bound = and_then (allowed_work k bound) (λ _. restored_k
 -- the key, where it was never sealed and its checksum matches
 abbrev pub unencrypted_key : SecretKeyRecord → Result SecretKeyRecord Fault
 unencrypted_key k =
-    require (bytes_eq k.kdf no_kdf) fault.KeyMightBeEncrypted
-    (require (bytes_eq k.checksum (checksum_of k)) fault.CorruptedKey (Ok k))
+    require (bytes_eq k.kdf no_kdf) named.KeyMightBeEncrypted
+    (require (bytes_eq k.checksum (checksum_of k)) named.CorruptedKey (Ok k))
 
--- what opening takes: scrypt's N, as its logarithm to base 2, and its p; zeros where the key wants no
--- password, or its limits are rejected
+-- what opening takes, by the parameters; zeros where the key wants no password, or its limits are rejected
+abbrev pub taken_by_opening : (Numbers → ℕ × ℕ) → SecretKeyRecord → ℕ × ℕ
+taken_by_opening of k =
+    option_map_or of (if wants_password k then result_ok (key_limits k) else None) (0, 0)
+
+-- so its work: scrypt's N, as its logarithm to base 2, and its p
 abbrev pub opening_work : SecretKeyRecord → ℕ × ℕ
-opening_work k =
-    option_map_or (λ v. (v.n_log2, v.p)) (if wants_password k then result_ok (key_limits k) else None) (0, 0)
+opening_work k = taken_by_opening (λ v. (v.n_log2, v.p)) k
 
--- the memory that opening in place takes where every k-th row is kept, in words of 32 bits and in bytes, or
--- zeros
+-- and its memory, in place, where every k-th row is kept: words of 32 bits, and bytes
 abbrev pub opening_memory : SecretKeyRecord → ℕ → ℕ × ℕ
-opening_memory key k =
-    option_map_or (λ v. (wanted_words v k, wanted_bytes v))
-    (if wants_password key then result_ok (key_limits key) else None) (0, 0)
+opening_memory key k = taken_by_opening (λ v. (wanted_words v k, wanted_bytes v)) key
+
+-- == Opening the text of a key ==
+
+-- the text that asks, the text before the derivation, and the line after it
+unfoldable pub asking_text : List ℕ
+asking_text = codes "Password: "
+
+unfoldable pub deriving_text : List ℕ
+deriving_text = codes "Deriving a key from the password and decrypting the secret key... "
+
+unfoldable pub done_text : List ℕ
+done_text = codes "done" ++ 10 ∷ []
+
+-- the key that is sealed by scrypt, and that a text reads as
+abbrev pub read_sealed_key : List ℕ → Result SecretKeyRecord Fault
+read_sealed_key text = and_then (read_secret_key text) sealed_by_scrypt
+
+-- what a text opens to under a password, within a bound on the parallelization, where there is one
+unfoldable pub open_key : List ℕ → List ℕ → Option ℕ → Result SecretKeyRecord Fault
+open_key text password bound = and_then (read_sealed_key text) (λ k. open_sealed k password bound)
+
+-- the key that was never sealed, and that a text reads as
+unfoldable pub read_unencrypted_key : List ℕ → Result SecretKeyRecord Fault
+read_unencrypted_key text = and_then (read_secret_key text) unencrypted_key
+
+-- the text reads as a key that wants a password
+unfoldable pub is_sealed_text : List ℕ → Bool
+is_sealed_text text = option_map_or wants_password (result_ok (read_secret_key text)) false
+
+-- what a text gives to who has its password: a key that was never sealed as it stands, and any other one
+-- opened
+abbrev pub key_with_password : List ℕ → List ℕ → Result SecretKeyRecord Fault
+key_with_password text password = if is_sealed_text text then open_key text password None else
+    read_unencrypted_key text
+
+-- the text opens under the password to this key, within each bound that its parallelization is within, and
+-- never to another one
+abbrev pub OpensTo : List ℕ → List ℕ → ℕ → SecretKeyRecord → Type 0
+OpensTo text password p key =
+    (bound : Option ℕ) → open_key text password bound ≡ require (is_within bound p) named.WorkTooHigh (Ok key)
+
+-- the text reads as a sealed key, whose limits are allowed, within the bound; the stream under the password
+-- restores its checksum; and this is the key opened
+pub record IsOpened (text password : List ℕ) (bound : Option ℕ) (opened : SecretKeyRecord) : Type 0 where
+  pub sealed : SecretKeyRecord
+  pub read : SecretKeyText text sealed
+  pub kdf : sealed.kdf ≡ scrypt_kdf
+  pub allowed : IsOk (allowed_work sealed bound)
+  pub key : opened ≡ xored_key sealed password
+  pub restored : opened.checksum ≡ checksum_of opened
+
+-- the text reads as this key, which was never sealed and whose checksum matches
+pub record IsUnencryptedText (text : List ℕ) (k : SecretKeyRecord) : Type 0 where
+  pub read : SecretKeyText text k
+  pub kdf : k.kdf ≡ no_kdf
+  pub checksum : k.checksum ≡ checksum_of k
+
+-- the derivation is told of, where the limits and the bound allow it, and told to be done; the checksum is
+-- to be restored
+abbrev pub telling_steps : SecretKeyRecord → List ℕ → Option ℕ → List Step
+telling_steps k password bound = Say deriving_text ∷ Test (result_err (allowed_work k bound)) ∷ Allocate
+    ∷ Say done_text ∷ Test (result_err (restored_key (xored_key k password))) ∷ []
+
+-- a sealed key is opened with the password that is typed in these bytes
+abbrev pub opening_steps : SecretKeyRecord → Option ℕ → List ℕ → List Step
+opening_steps k bound bytes = asking_steps asking_text bytes ++ telling_steps k (typed_password bytes) bound
+
+-- the answer is what the text gives; or out of memory, where its key is sealed by scrypt, with limits that
+-- are allowed and within the bound
+abbrev pub IsOpenedOrNoMemory : List ℕ → Option ℕ → Result SecretKeyRecord Fault
+    → Result SecretKeyRecord Fault → Type 0
+IsOpenedOrNoMemory text bound answer given = (answer ≡ given)
+    ⊎ ((answer ≡ Err (Named named.OutOfMemory))
+    × IsOk (and_then (read_sealed_key text) (λ k. allowed_work k bound)))
+
+-- how opening the key of a text ends, within a bound: with a password that is passed in, nothing is asked,
+-- and the answer is what it opens to, or out of memory. Otherwise one is asked for where the text reads as a
+-- sealed key, and the answer is what this opens to with what was typed, or why the conversation of opening
+-- stopped; a text that reads as none is rejected with nothing asked
+abbrev pub IsOpening : {R W : Type 0} → PromptCall R W → Option (List ℕ) → List ℕ → Option ℕ
+    → Result SecretKeyRecord Fault → Type 0
+IsOpening p (Some password) text bound answer = (p.new ≡ p.old)
+    × IsOpenedOrNoMemory text bound answer (open_key text password bound)
+IsOpening p None text bound (Ok opened) = (k : SecretKeyRecord) × (bytes : List ℕ) × (password : List ℕ)
+    × (read_sealed_key text ≡ Ok k) × (password_of bytes ≡ Ok password)
+    × (open_key text password bound ≡ Ok opened) × ConversationEnds p (opening_steps k bound bytes) (Ok tt)
+IsOpening p None text bound (Err e) =
+    ((read_sealed_key text ≡ Err e) × (p.new ≡ p.old))
+    ⊎ ((k : SecretKeyRecord) × (bytes : List ℕ) × (read_sealed_key text ≡ Ok k)
+    × ConversationEnds p (opening_steps k bound bytes) (Err e))

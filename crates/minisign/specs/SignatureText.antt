@@ -1,13 +1,13 @@
 -- Texts of signatures: what a text reads as, signature and comments or first error; the same as a relation;
--- and the text that is written for a box.
+-- the text that is written for a box; and where in a text the trusted comment stands.
 use Rattle.std.specs.Prelude.{◌≡◌, ◌≢◌, ◌||◌, ◌-◌, ℕ, List, [], ◌∷◌, ◌++◌, length, take, drop, slice_index}
-use Rattle.std.specs.Prelude.{nat_eq, nat_le, bytes_eq, Some, Result, Ok, Err, codes, if◌then◌else◌, Option}
-use Rattle.std.specs.Prelude.{None, option_map}
-use Rattle.std.specs.Str.{trim}
+use Rattle.std.specs.Prelude.{nat_eq, nat_le, slice_index_or, bytes_eq, Some, Result, Ok, Err, codes}
+use Rattle.std.specs.Prelude.{if◌then◌else◌, Option, None, option_map, ◌≤◌, ◌+◌, ◌==◌}
+use Rattle.std.specs.Str.{trim, trim_start}
 use Rattle.std.specs.Str.Iter.{LacksByte}
 use Rattle.std.specs.Str.Lines.{lines, strip_carriage_return}
 use Rattle.minisign_base.specs.Fault.{Fault, Named}
-use Rattle.std.specs.List.{starts_with}
+use Rattle.std.specs.List.{starts_with, after_first}
 use Rattle.minisign.specs.Texts.{line, Encodes, IsBase64Of, base64_of, base64_bytes, is_base64, map_ok}
 use Rattle.minisign.specs.Texts.{require, untrusted_comment_label}
 use Rattle.minisign.specs.Records.{CommentsRecord, SignatureRecord, SignatureBoxRecord, ReadsSignature}
@@ -28,6 +28,13 @@ pub record SignatureTextRecord : Type 0 where
 abbrev pub box_of : SignatureTextRecord → SignatureBoxRecord
 box_of t = record { signature = t.signature; comments = Some t.comments }
 
+-- a signature, an untrusted comment, a trusted one, and the signature of the comment
+abbrev pub with_comments : SignatureRecord → List ℕ → List ℕ → List ℕ → SignatureTextRecord
+with_comments s untrusted trusted signature = record {
+  signature = s;
+  comments = record { untrusted = untrusted; trusted = trusted; signature = signature };
+}
+
 -- there are four lines; later ones do not matter; the first and the third line are a label and a comment, the
 -- trusted one trimmed; the second and the fourth, trimmed, are base64, the second of bytes that begin with
 -- the 74 of the signature, of an algorithm that is known
@@ -46,18 +53,12 @@ signature_in_lines (first ∷ second ∷ third ∷ fourth ∷ later) =
     (require (bytes_eq algorithm legacy_algorithm || bytes_eq algorithm prehashed_algorithm)
     named.UnsupportedSignatureAlgorithm
     (require (is_base64 (trim fourth)) named.SignatureNotBase64
-    (Ok (record {
-      signature = record {
-        algorithm = algorithm;
-        keynum = take 8 (drop 2 bytes);
-        signature = take 64 (drop 8 (drop 2 bytes));
-      };
-      comments = record {
-        untrusted = drop (length untrusted_comment_label) first;
-        trusted = trim (drop (length trusted_comment_label) third);
-        signature = base64_bytes (trim fourth);
-      };
-    })))))))
+    (Ok (with_comments (record {
+      algorithm = algorithm;
+      keynum = take 8 (drop 2 bytes);
+      signature = take 64 (drop 8 (drop 2 bytes));
+    }) (drop (length untrusted_comment_label) first) (trim (drop (length trusted_comment_label) third))
+    (base64_bytes (trim fourth)))))))))
 
 -- what a text reads as
 unfoldable pub read_signature : List ℕ → Result SignatureTextRecord Fault
@@ -67,23 +68,9 @@ read_signature text = signature_in_lines (lines text)
 abbrev pub read_signature_box : List ℕ → Result SignatureBoxRecord Fault
 read_signature_box text = map_ok box_of (read_signature text)
 
--- a signature, an untrusted comment, a trusted one, and the signature of the comment
-abbrev pub with_comments : SignatureRecord → List ℕ → List ℕ → List ℕ → SignatureTextRecord
-with_comments s untrusted trusted signature =
-    record {
-      signature = s;
-      comments = record {
-        untrusted = untrusted;
-        trusted = trusted;
-        signature =
-            signature;
-      };
-    }
-
 -- == The grammar as a relation ==
 
--- the text reads as the signature with its comments: the first and the third line are a label and a comment,
--- the trusted one trimmed, and the second and the fourth, trimmed, are base64
+-- the text reads as the signature with its comments, in the same four lines
 pub record SignatureText (text : List ℕ) (t : SignatureTextRecord) : Type 0 where
   pub first : List ℕ
   pub second : List ℕ
@@ -127,14 +114,14 @@ pub record AreReadBack (untrusted trusted : List ℕ) : Type 0 where
 abbrev pub first_64 : List ℕ → Option (List ℕ)
 first_64 bytes = if nat_le 64 (length bytes) then Some (take 64 bytes) else None
 
--- a signature, both comments, and the first 64 bytes of the comment signature, where it has so many
+-- what a view tells: of the comment signature the first 64 bytes, where it has so many
 pub record SignatureViewRecord : Type 0 where
   pub signature : SignatureRecord
   pub untrusted : List ℕ
   pub trusted : List ℕ
   pub comment_signature : Option (List ℕ)
 
--- what a view tells of what a text reads as
+-- so of what a text reads as
 abbrev pub view_of : SignatureTextRecord → SignatureViewRecord
 view_of t = record {
   signature = t.signature;
@@ -142,3 +129,24 @@ view_of t = record {
   trusted = t.comments.trusted;
   comment_signature = first_64 t.comments.signature;
 }
+
+-- == The place of the trusted comment ==
+
+-- what stands behind the first line feed of a text
+abbrev pub behind_line : List ℕ → List ℕ
+behind_line text = after_first (λ b. b == 10) text
+
+-- how many bytes of a line stand before a trusted comment: the label, and white space
+abbrev pub comment_start : List ℕ → ℕ
+comment_start line = length line - length (trim_start (drop (length trusted_comment_label) line))
+
+-- how many bytes of a text stand before the trusted comment: two lines, and so many of the third
+unfoldable pub comment_offset : List ℕ → ℕ
+comment_offset text =
+    let third = behind_line (behind_line text) in
+    length text - length third + comment_start (slice_index_or (lines third) 0 [])
+
+-- the bytes stand in the text, behind so many others
+pub record StandsAt (bytes text : List ℕ) (offset : ℕ) : Type 0 where
+  pub within : offset + length bytes ≤ length text
+  pub same : take (length bytes) (drop offset text) ≡ bytes

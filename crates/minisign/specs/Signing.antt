@@ -1,18 +1,21 @@
--- The box that signing makes.
+-- The box that signing makes, and its text; and signing with the text of a secret key.
 use Rattle.std.specs.Prelude.{◌≡◌, ℕ, true, false, List, ◌++◌, length, Option, Some, ◌⊎◌, IsSomeAnd, codes}
-use Rattle.std.specs.Prelude.{option_copied, unwrap_or, decimal}
+use Rattle.std.specs.Prelude.{option_copied, unwrap_or, decimal, None, Result, Ok, Err}
 use Rattle.std.specs.Io.KnownBytes.{Consumes}
 use Rattle.minisign_hash.specs.Blake2b.{blake2b_digest}
-use Rattle.minisign_base.specs.DeviceCalls.{RandomCall, SourceCall}
+use Rattle.minisign_base.specs.DeviceCalls.{RandomCall, SourceCall, PromptCall}
 use Rattle.minisign_base.specs.Fault.{Fault, Named}
 use Rattle.minisign_base.specs.Members.{SchemeOf}
 use Rattle.minisign_base.specs.Scheme.{IsBytes, AreRandomBytes}
 use denote.Ref.{Bor}
 use Rattle.minisign.specs.Records.{PublicKeyRecord, SecretKeyRecord, SignatureBoxRecord, prehashed_signature}
-use Rattle.minisign.specs.Acceptance.{VouchesUnderEachKey, accepts_comments}
-use Rattle.minisign.specs.Reading.{HasFailed, ReadsWhole}
-use Rattle.minisign.specs.Sealing.{is_encrypted}
-use Rattle.minisign.specs.SignatureText.{AreReadBack, box_of, with_comments}
+use Rattle.minisign.specs.Records.{CommentsRecord}
+use Rattle.minisign.specs.Acceptance.{VouchesUnderEachKey, accepts_comments, Verifier}
+use Rattle.minisign.specs.Reading.{HasFailed, ReadsWhole, IsAhead}
+use Rattle.minisign.specs.Sealing.{is_encrypted, IsOpening, is_sealed_text, key_with_password}
+use Rattle.minisign.specs.Sealing.{read_unencrypted_key}
+use Rattle.minisign.specs.SignatureText.{AreOneLine, AreReadBack, box_of, read_signature_box, with_comments}
+use Rattle.minisign.specs.SignatureText.{signature_text}
 use Rattle.minisign_base.specs.declared.faults.NamedFault.TheVariants as named
 
 -- what a scheme signs: a message, with a secret key of 64 bytes and 64 random bytes or none
@@ -41,8 +44,8 @@ given_comments trusted untrusted moment = comments_of
     (unwrap_or (option_copied trusted) (default_trusted_comment moment))
     (unwrap_or (option_copied untrusted) default_untrusted_comment)
 
--- the box that signing makes of the message: a signature of its digest with the first random bytes, and a
--- signature of that signature and the trusted comment with the second
+-- the box that signing makes of the message: a signature of its digest with the first random bytes, and one
+-- of that signature and the trusted comment with the second
 abbrev pub signed_box : Signer → SecretKeyRecord → List ℕ → ChosenComments → List ℕ → List ℕ
     → SignatureBoxRecord
 signed_box sign sk message chosen z1 z2 =
@@ -59,8 +62,7 @@ module _ {Z : Type 0} (z : RandomCall Z) where
   abbrev pub RandomHasNoNewFault : Type 0
   RandomHasNoNewFault = z.random.random_faults z.new ≡ z.random.random_faults z.old
 
--- the box is the one that signing makes of the message with random bytes that were drawn: 64 for each
--- signature
+-- the box is the one that signing makes with random bytes that were drawn, 64 for each signature
 pub record IsSigned {Z : Type 0} (sign : Signer) (sk : SecretKeyRecord) (message : List ℕ)
     (chosen : ChosenComments)
     (z : RandomCall Z) (x : SignatureBoxRecord) : Type 0 where
@@ -78,25 +80,12 @@ pub record IsGenuine (public_of : List ℕ → List ℕ) (sk : SecretKeyRecord) 
   pub secret : sk.secret ≡ seed ++ public_of seed
   pub opened : is_encrypted sk ≡ false
 
-module _ {S Z : Type 0} (s : SchemeOf S) (scheme : S) (sk : SecretKeyRecord) where
-  -- the box is signed with the key, and where that is genuine it is accepted under its own public key
-  abbrev pub HasSignedBox : List ℕ → ChosenComments → RandomCall Z → SignatureBoxRecord → Type 0
-  HasSignedBox message chosen z x = IsSigned (s.signature_of scheme) sk message chosen z x
-      × ((seed : List ℕ) → IsGenuine (s.public_of scheme) sk seed
-      → VouchesUnderEachKey (s.accepts scheme) (s.public_of scheme seed) sk.keynum message x)
-
-  -- all the data was read, and the box is signed so over it
-  abbrev pub HasSignedData : {R : Type 0} → SourceCall R → ChosenComments → RandomCall Z → SignatureBoxRecord
-      → Type 0
-  HasSignedData r chosen z x = (message : List ℕ) × ReadsWhole r.source r.old r.new message
-      × HasSignedBox message chosen z x
-
 -- the chosen comments are read back as they were written
 abbrev pub AreChosenReadBack : ChosenComments → Type 0
 AreChosenReadBack chosen = AreReadBack chosen.untrusted chosen.trusted
 
--- signing with an opened key fails: an allocation fails; the data fails, with nothing drawn; or all of it was
--- read, and the random source fails
+-- signing with an opened key fails: an allocation fails, with no new error of a source; the data fails, with
+-- nothing drawn; or all of it was read, and the random source fails
 abbrev pub OpenedSigningFails : {R Z : Type 0} → SourceCall R → RandomCall Z → Fault → Type 0
 OpenedSigningFails r z e =
     (((e ≡ Named named.OutOfMemory) × RandomHasNoNewFault z)
@@ -117,7 +106,8 @@ SigningFails s scheme pk sk chosen r z e =
     × ReadsWhole r.source r.old r.new message × IsSigned (s.signature_of scheme) sk message chosen z made
     × (accepts_comments (s.accepts scheme) p made ≡ false))
 
--- signing bytes fails: the key is sealed, with nothing drawn; or an allocation or the random source fails
+-- signing bytes fails: the key is sealed, with nothing drawn; or it is opened, and an allocation fails, with
+-- no new error of the random source, or that source fails
 abbrev pub BytesSigningFails : {Z : Type 0} → SecretKeyRecord → RandomCall Z → Fault → Type 0
 BytesSigningFails sk z e =
     ((e ≡ Named named.EncryptedKeyRefused) × (is_encrypted sk ≡ true) × (z.new ≡ z.old))
@@ -125,8 +115,77 @@ BytesSigningFails sk z e =
     × (((e ≡ Named named.OutOfMemory) × RandomHasNoNewFault z)
     ⊎ HasFailed named.RandomSourceFailed z.random.random_faults z.old z.new e))
 
--- signing the data of a file fails: as that of bytes, or the file could not be opened or read, with nothing
--- drawn
-abbrev pub PathSigningFails : {Z : Type 0} → SecretKeyRecord → RandomCall Z → Fault → Type 0
-PathSigningFails sk z e =
-    BytesSigningFails sk z e ⊎ ((is_encrypted sk ≡ false) × (e ≡ Named named.ReadingFailed) × (z.new ≡ z.old))
+-- == Texts ==
+
+-- signing with a genuine key: where neither comment has a line feed and the trusted one is trimmed, the text
+-- reads as a box that every public key of its seed and key ID vouches for the message with
+abbrev pub SigningHeadline : Verifier → (List ℕ → List ℕ) → SecretKeyRecord → List ℕ → ChosenComments → List ℕ
+    → Type 0
+SigningHeadline accepts public_of sk message chosen text =
+    (seed : List ℕ) → IsGenuine public_of sk seed → AreOneLine chosen.untrusted chosen.trusted
+    → (x : SignatureBoxRecord) × (read_signature_box text ≡ Ok x)
+    × VouchesUnderEachKey accepts (public_of seed) sk.keynum message x
+
+-- the text is that of this key, which it gives under some password
+abbrev pub IsKeyOf : List ℕ → SecretKeyRecord → Type 0
+IsKeyOf text key = (password : List ℕ) × (key_with_password text password ≡ Ok key)
+
+-- the headline of signing with the text of a secret key: for the data that was ahead, and a key of the text
+abbrev pub TextSigningHeadline : Verifier → (List ℕ → List ℕ) → List ℕ → Option (List ℕ) → ChosenComments
+    → List ℕ → Type 0
+TextSigningHeadline accepts public_of sk_text ahead chosen text = (sk : SecretKeyRecord) × (message : List ℕ)
+    × IsAhead ahead message × IsKeyOf sk_text sk × SigningHeadline accepts public_of sk message chosen text
+
+-- what comes of a text that a key is wanted of: that of opening it, where it wants a password; otherwise a
+-- key that was never sealed, or why there is none, with nothing asked
+abbrev pub GivesKey : {R W : Type 0} → PromptCall R W → Option (List ℕ) → List ℕ
+    → Result SecretKeyRecord Fault → Type 0
+GivesKey p password text answer = ((is_sealed_text text ≡ true) × IsOpening p password text None answer)
+    ⊎ ((is_sealed_text text ≡ false) × (p.new ≡ p.old) × (answer ≡ read_unencrypted_key text))
+
+-- the text of the box that the key signs the message with, with random bytes that were drawn
+pub record IsSignedText {Z : Type 0} (sign : Signer) (sk : SecretKeyRecord) (message : List ℕ)
+    (chosen : ChosenComments) (z : RandomCall Z) (text : List ℕ) : Type 0 where
+  pub box : SignatureBoxRecord
+  pub comments : CommentsRecord
+  pub signed : IsSigned sign sk message chosen z box
+  pub both : box.comments ≡ Some comments
+  pub written : text ≡ signature_text box.signature comments
+
+module _ {S Z : Type 0} (s : SchemeOf S) (scheme : S) (sk : SecretKeyRecord) where
+  -- the box is signed with the key, and where that is genuine it is accepted under its own public key
+  abbrev pub HasSignedBox : List ℕ → ChosenComments → RandomCall Z → SignatureBoxRecord → Type 0
+  HasSignedBox message chosen z x = IsSigned (s.signature_of scheme) sk message chosen z x
+      × ((seed : List ℕ) → IsGenuine (s.public_of scheme) sk seed
+      → VouchesUnderEachKey (s.accepts scheme) (s.public_of scheme seed) sk.keynum message x)
+
+  -- all the data was read, and the box is signed so over it
+  abbrev pub HasSignedData : {R : Type 0} → SourceCall R → ChosenComments → RandomCall Z → SignatureBoxRecord
+      → Type 0
+  HasSignedData r chosen z x = (message : List ℕ) × ReadsWhole r.source r.old r.new message
+      × HasSignedBox message chosen z x
+
+  -- the text is that of a box that is signed with the key, and where that is genuine it is read back as one
+  -- that vouches
+  abbrev pub HasSignedText : List ℕ → ChosenComments → RandomCall Z → List ℕ → Type 0
+  HasSignedText message chosen z text = IsSignedText (s.signature_of scheme) sk message chosen z text
+      × SigningHeadline (s.accepts scheme) (s.public_of scheme) sk message chosen text
+
+  -- all the data was read, and the text is that of a box that is signed so over it
+  abbrev pub HasSignedDataText : {R : Type 0} → SourceCall R → ChosenComments → RandomCall Z → List ℕ → Type 0
+  HasSignedDataText r chosen z text = (message : List ℕ) × ReadsWhole r.source r.old r.new message
+      × HasSignedText message chosen z text
+
+-- the text of a secret key gave a key, and all the data is signed so with it
+abbrev pub HasSignedWithText : {S P Q R Z : Type 0} → SchemeOf S → S → PromptCall P Q → Option (List ℕ)
+    → List ℕ
+    → SourceCall R → ChosenComments → RandomCall Z → List ℕ → Type 0
+HasSignedWithText s scheme p password sk_text r chosen z text = (sk : SecretKeyRecord)
+    × GivesKey p password sk_text (Ok sk) × HasSignedDataText s scheme sk r chosen z text
+
+-- signing with a text fails: it gives no key, with nothing read or drawn, or signing with its key fails
+abbrev pub TextSigningFails : {P Q R Z : Type 0} → PromptCall P Q → Option (List ℕ) → List ℕ → SourceCall R
+    → RandomCall Z → Fault → Type 0
+TextSigningFails p password text r z e =
+    (GivesKey p password text (Err e) × (r.new ≡ r.old) × (z.new ≡ z.old))
+    ⊎ ((key : SecretKeyRecord) × GivesKey p password text (Ok key) × OpenedSigningFails r z e)

@@ -53,12 +53,10 @@ map_ok f (Err e) = Err e
 abbrev pub IsGivenOrNoMemory : {V : Type 0} → Result V Fault → Result V Fault → Type 0
 IsGivenOrNoMemory answer given = (answer ≡ given) ⊎ (answer ≡ Err (Named OutOfMemory))
 
--- what is read is a value exactly where the text reads as this value, by the relation, and it reads as one at
--- most
-pub record IsReading {V E : Type 0} (reads : V → Type 0) (read : Result V E) : Type 0 where
-  pub value : (v : V) → (read ≡ Ok v) ↔ reads v
-  pub one_value : (v w : V) → reads v → reads w → v ≡ w
-  pub no_value : (e : E) → read ≡ Err e → (v : V) → ¬ (reads v)
+-- what is read is a value exactly where the text reads as this value, by the relation: so as one at most, and
+-- as none where there is an error
+abbrev pub IsReading : {V E : Type 0} → (V → Type 0) → Result V E → Type 0
+IsReading {V = V} reads read = (v : V) → (read ≡ Ok v) ↔ reads v
 
 -- how the first line of a written text begins
 unfoldable pub untrusted_comment_label : List ℕ

@@ -1,6 +1,6 @@
--- How verifying ends, with a key and a box or with two texts: what it does stage by stage, and how each stage
--- ends; what holds on success, and that otherwise it failed at one of its stages. The devices are the source
--- of the data, the status, and the output.
+-- How verifying ends, with a key and a box or with two texts: its stages, and how each ends; what holds on
+-- success, and that otherwise it failed at a stage. The devices are the source of the data, the status, and
+-- the output.
 use Rattle.std.specs.Prelude.{◌≡◌, ◌≢◌, ◌⊎◌, ⊤, ℕ, Bool, true, false, ◌&&◌, List, [], ◌∷◌, ◌++◌, Result, Ok}
 use Rattle.std.specs.Prelude.{Err, MatchResult, IsErrAnd, if◌then◌else◌, IsSome}
 use Rattle.minisign_hash.specs.Blake2b.{blake2b_digest}
@@ -17,7 +17,7 @@ use Rattle.minisign.specs.declared.options.VerifyOptions.{VerifyOptions}
 use Rattle.minisign.specs.declared.signed_data.SignedData.{SignedData}
 use Rattle.minisign.specs.declared.signed_data.SignedData.TheVariants.{Digest, Kept, Unkept}
 use Rattle.std.specs.Io.KnownBytes.{IsAtEnd}
-use Rattle.minisign.specs.PublicKeyText.{read_public_key}
+use Rattle.minisign.specs.KeyTexts.{read_public_key}
 use Rattle.minisign.specs.SignatureText.{read_signature_box}
 use Rattle.minisign_base.specs.declared.faults.NamedFault.TheVariants as named
 
@@ -42,34 +42,44 @@ pub record Devices (R W O : Type 0) : Type 0 where
   pub out : O
 
 module _ {R W O : Type 0} (reader : RereaderCall R) (status : SinkCall W) (out : SinkCall O) where
-  -- how a stage ends; the devices that it does not use stay as they were
+  -- the devices that a stage does not use stay as they were
+  abbrev pub Unread : Type 0
+  Unread = reader.new ≡ reader.old
+
+  abbrev pub Unsaid : Type 0
+  Unsaid = status.new ≡ status.old
+
+  abbrev pub Uncopied : Type 0
+  Uncopied = out.new ≡ out.old
+
+  -- how a stage ends
   abbrev pub StageEnds : Stage → Result ⊤ Fault → Type 0
   StageEnds Mark answer = EndsWith (Marks reader (Ok tt)) named.GoingBackFailed (Marks reader (Err tt)) answer
-      × (status.new ≡ status.old) × (out.new ≡ out.old)
+      × Unsaid × Uncopied
   StageEnds (Read message) answer =
       (MatchResult answer (λ _. ReadsWhole reader.source reader.old reader.new message)
       (λ e. IsReadFault reader.source reader.old reader.new e × SourceGives reader)
       × (reader.source.is_marked reader.new ≡ reader.source.is_marked reader.old))
-      × (status.new ≡ status.old) × (out.new ≡ out.old)
+      × Unsaid × Uncopied
   StageEnds (Judge accepts pk x legacy message) answer = IsGivenOrNoMemory answer
       (judge accepts pk x message legacy)
-      × (reader.new ≡ reader.old) × (status.new ≡ status.old) × (out.new ≡ out.old)
+      × Unread × Unsaid × Uncopied
   StageEnds (Report text) answer =
-      ((IsErrAnd answer (λ e. e ≡ Named named.OutOfMemory) × (status.new ≡ status.old))
+      ((IsErrAnd answer (λ e. e ≡ Named named.OutOfMemory) × Unsaid)
       ⊎ Puts status text answer)
-      × (reader.new ≡ reader.old) × (out.new ≡ out.old)
+      × Unread × Uncopied
   StageEnds Return answer =
       EndsWith (GoesBack reader (Ok tt)) named.GoingBackFailed (GoesBack reader (Err tt)) answer
-      × (status.new ≡ status.old) × (out.new ≡ out.old)
-  StageEnds (Copy second) answer = Copies reader out second answer × (status.new ≡ status.old)
+      × Unsaid × Uncopied
+  StageEnds (Copy second) answer = Copies reader out second answer × Unsaid
   StageEnds (Compare digest second) answer =
       EndsWith (blake2b_digest 64 second ≡ digest) named.DataChanged (blake2b_digest 64 second ≢ digest)
       answer
-      × (reader.new ≡ reader.old) × (status.new ≡ status.old) × (out.new ≡ out.old)
+      × Unread × Unsaid × Uncopied
   StageEnds (Put bytes) answer =
-      Puts out bytes answer × (reader.new ≡ reader.old) × (status.new ≡ status.old)
+      Puts out bytes answer × Unread × Unsaid
   StageEnds Flush answer = EndsWith (Flushes out (Ok tt)) named.WritingFailed (Flushes out (Err tt)) answer
-      × (reader.new ≡ reader.old) × (status.new ≡ status.old)
+      × Unread × Unsaid
 
 module _ {R W O : Type 0} (reader : RereaderCall R) (status : SinkCall W) (out : SinkCall O) where
   -- how these stages end, one after another: all were passed; or verifying failed at one of them, and none
@@ -150,9 +160,9 @@ abbrev pub ReadsTwice : {R O : Type 0} → RereaderCall R → SinkCall O → Lis
 ReadsTwice reader out message copy = StagesEnd reader unused out
     (reading_stages true message ++ second_copy_stages (blake2b_digest 64 message) copy) (Ok tt)
 
--- the output holds a copy, which it flushed, that the box vouches for as it does for the message: the two
--- have one digest, or are the same where the data itself is signed, and over a steady source whose bytes are
--- known
+-- the output took a copy, and flushed it, that the box vouches for as it does for the message: where its
+-- digest is signed, a second reading gave it, with the digest of the first; where the data itself is signed,
+-- or over a steady source whose bytes are known, it is the message
 pub record HasCopy {R O : Type 0} (accepts : Verifier) (pk : PublicKeyRecord) (x : SignatureBoxRecord)
     (legacy : Bool)
     (reader : RereaderCall R) (out : SinkCall O) (message : List ℕ) : Type 0 where
@@ -182,7 +192,6 @@ pub record VerifyingSucceeds {R W O : Type 0} (accepts : Verifier) (pk : PublicK
   pub status_no_new_fault : SinkHasNoNewFault status
   pub status_unflushed : IsUnflushed status
   pub copied : options.output ≡ true → HasCopy accepts pk x options.allow_legacy reader out message
-  pub uncopied : options.output ≡ false → out.new ≡ out.old
   pub out_no_new_fault : SinkHasNoNewFault out
 
 -- verifying fails at one of its stages, for some message and some second reading

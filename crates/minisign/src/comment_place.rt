@@ -1,11 +1,12 @@
 //! Where in the text of a signature its trusted comment stands, for callers that keep the place and not the
 //! comment.
 
-ghost use Rattle.std.specs.Prelude.{◌≡◌, ◌+◌, ◌≤◌, ◌++◌, List, ℕ, Ok, length};
+ghost use Rattle.std.specs.Prelude.{◌≡◌, ◌+◌, ◌≤◌, ◌++◌, [], List, ℕ, Ok, length, slice_index_or};
 ghost use Rattle.std.specs.Str.{trim};
 ghost use Rattle.std.specs.Str.Lines.{lines};
-ghost use Rattle.minisign.specs.CommentPlace.{StandsAt, behind_line, comment_offset, comment_start, first_of};
-ghost use Rattle.minisign.specs.SignatureText.{SignatureTextRecord, read_signature, trusted_comment_label};
+ghost use Rattle.minisign.specs.SignatureText.{StandsAt, behind_line, comment_offset, comment_start};
+ghost use Rattle.minisign.specs.SignatureText.{SignatureTextRecord, read_signature};
+ghost use Rattle.minisign.specs.SignatureText.{trusted_comment_label};
 
 use crate::signature_box::trusted_comment_in;
 use crate::texts::next_line;
@@ -39,7 +40,7 @@ fn behind_line(text: &str) -> &str
 
 // The first line, without what ends it.
 fn first_line(text: &str) -> &str
-    ensures same { result.now ≡ first_of (lines text.now) }
+    ensures same { result.now ≡ slice_index_or (lines text.now) 0 [] }
     ensures size { length result.now ≤ length text.now }
 {
     let mut lines = text.lines();

@@ -9,9 +9,9 @@ ghost use Rattle.minisign_base.specs.declared.faults.NamedFault.TheVariants.{Pub
 ghost use Rattle.minisign_base.specs.declared.faults.NamedFault.TheVariants.{PublicKeyLineNotBase64};
 ghost use Rattle.minisign_base.specs.declared.faults.NamedFault.TheVariants.{RecordTooShort};
 ghost use Rattle.minisign_base.specs.declared.faults.NamedFault.TheVariants.{SignatureNotBase64};
-ghost use Rattle.minisign.specs.SignatureText.{first_64, view_of, read_signature};
-ghost use Rattle.minisign.specs.SignatureText.{signature_in_lines, with_comments};
-ghost use Rattle.minisign.specs.PublicKeyText.{decoded_key, read_bare_public_key, read_public_key};
+ghost use Rattle.minisign.specs.SignatureText.{first_64, view_of, read_signature, signature_in_lines};
+ghost use Rattle.minisign.specs.SignatureText.{with_comments};
+ghost use Rattle.minisign.specs.KeyTexts.{decoded_key, read_bare_public_key, read_public_key};
 ghost use Rattle.minisign.specs.Records.{IsKnownAlgorithm, is_prehashed, ReadsSignature};
 ghost use Rattle.minisign.specs.Texts.{base64_bytes, is_base64, map_ok, require, Encodes};
 

@@ -1,16 +1,16 @@
 //! Calls for callers: opening a key with a password, making a pair under one, and signing bytes in
 //! memory, what a reader has ahead, or a file.
 
-ghost use Rattle.std.specs.Prelude.{◌≡◌, ◌≤◌, List, ℕ, false, None, Some, length, string_bytes, IfOk};
-ghost use Rattle.std.specs.Prelude.{IfErr, OnOk};
+ghost use Rattle.std.specs.Prelude.{◌≡◌, ◌≤◌, List, ℕ, false, None, Some, length, string_bytes, IfOk, IfErr};
+ghost use Rattle.std.specs.Prelude.{OnOk, ◌⊎◌};
+ghost use Rattle.minisign_base.specs.Fault.{Named};
+ghost use Rattle.minisign_base.specs.declared.faults.NamedFault.TheVariants.{ReadingFailed};
 ghost use Rattle.minisign_base.specs.Devices.{HasGiven};
 ghost use Rattle.minisign_base.specs.DeviceCalls.{random_call, source_call};
 ghost use Rattle.minisign.specs.Generation.{PasswordPairFails, IsSealedPair, OpensToPair};
-ghost use Rattle.minisign.specs.Headline.{SigningHeadline};
-ghost use Rattle.minisign.specs.Sealing.{is_encrypted};
-ghost use Rattle.minisign.specs.Signing.{BytesSigningFails, PathSigningFails, SigningFails, given_comments};
-ghost use Rattle.minisign.specs.SigningTexts.{HasSignedText, IsSignedText, HasSignedDataText};
-ghost use Rattle.minisign.specs.Opening.{IsOpenedOrNoMemory, key_with_password};
+ghost use Rattle.minisign.specs.Signing.{SigningHeadline, BytesSigningFails, SigningFails, given_comments};
+ghost use Rattle.minisign.specs.Signing.{HasSignedText, IsSignedText, HasSignedDataText};
+ghost use Rattle.minisign.specs.Sealing.{is_encrypted, IsOpenedOrNoMemory, key_with_password};
 
 use crate::keypair::{KeyPair, draw_with_salt, make_sealed_pair};
 use crate::memory::MemorySource;
@@ -245,8 +245,9 @@ pub fn sign_file<F: Files, S: Scheme, Z: RandomSource>(
     // The rejections: a sealed key, with nothing drawn; and with an opened one out of memory, with no
     // new error of the random source, a file that is not opened or not read, with nothing drawn, and
     // a failing random source.
-    ensures refused { IfErr result
-        (PathSigningFails sk.now (random_call Z.RandomSource random.old random.new)) }
+    ensures refused { IfErr result (λ e. BytesSigningFails sk.now (random_call Z.RandomSource random.old
+        random.new) e ⊎ ((is_encrypted sk.now ≡ false) × (e ≡ Named ReadingFailed)
+        × (random.new ≡ random.old))) }
 
     // Whatever the result, the random source lost at most some bytes at its front.
     ensures drawn { HasGiven (Z.random_ahead random.old) (Z.random_ahead random.new) }
@@ -286,8 +287,9 @@ fn sign_opened_file<S: Scheme, R: Source, Z: RandomSource>(
         (given_comments comments.entry.trusted comments.entry.untrusted comments.entry.moment)
         (random_call Z.RandomSource random.old random.new) (string_bytes t)) }
     ensures random_no_new_fault { OnOk result (Z.random_faults random.new ≡ Z.random_faults random.old) }
-    ensures refused { IfErr result
-        (PathSigningFails sk.now (random_call Z.RandomSource random.old random.new)) }
+    ensures refused { IfErr result (λ e. BytesSigningFails sk.now (random_call Z.RandomSource random.old
+        random.new) e ⊎ ((is_encrypted sk.now ≡ false) × (e ≡ Named ReadingFailed)
+        × (random.new ≡ random.old))) }
     ensures drawn { HasGiven (Z.random_ahead random.old) (Z.random_ahead random.new) }
 {
     sign_opened(alloc, scheme, sk, file, comments, random)

@@ -1,7 +1,7 @@
 //! Pairs of keys, and how they are made.
 
-ghost use Rattle.std.specs.Prelude.{◌≡◌, ℕ, List, ◌++◌, length, string_bytes, None, Ok, Err, IfSome};
-ghost use Rattle.std.specs.Prelude.{IfOk, IfErr, OnOk, OnErr};
+ghost use Rattle.std.specs.Prelude.{◌≡◌, ℕ, List, ◌++◌, length, string_bytes, None, Ok, Err, IfSome, IfOk};
+ghost use Rattle.std.specs.Prelude.{IfErr, OnOk, OnErr};
 ghost use Rattle.std.specs.Option.{option_copied, option_map};
 ghost use Rattle.std.specs.Str.Iter.{LacksByte};
 ghost use Rattle.minisign_base.specs.Devices.{HasGiven};
@@ -11,19 +11,17 @@ ghost use Rattle.minisign_base.specs.Fault.{Named};
 ghost use Rattle.minisign_base.specs.declared.faults.NamedFault.TheVariants.{OutOfMemory, RandomSourceFailed};
 ghost use Rattle.minisign_base.specs.declared.faults.NamedFault.TheVariants.{WritingFailed};
 ghost use Rattle.minisign.specs.Records.{public_key_bytes, secret_key_bytes};
-ghost use Rattle.minisign.specs.Sealing.{unencrypted_key, xored_key};
+ghost use Rattle.minisign.specs.Sealing.{unencrypted_key, xored_key, OpensTo, read_unencrypted_key};
 ghost use Rattle.minisign.specs.Reading.{HasFailed};
 ghost use Rattle.minisign.specs.Signing.{HasDrawn};
 ghost use Rattle.minisign_base.specs.Prompts.{ConversationEnds};
 ghost use Rattle.minisign_base.specs.Passwords.{password_of};
-ghost use Rattle.minisign.specs.PublicKeyText.{public_key_text};
-ghost use Rattle.minisign.specs.SecretKeyText.{read_secret_key, secret_key_text};
+ghost use Rattle.minisign.specs.KeyTexts.{public_key_text, read_secret_key, secret_key_text};
 ghost use Rattle.minisign.specs.Generation.{IsSealing, choosing_steps, sealing_steps, AreSeedAndKeynum};
 ghost use Rattle.minisign.specs.Generation.{HasSealed, IsGenuinePair, IsSealedOf, IsUnsealedPair};
 ghost use Rattle.minisign.specs.Generation.{OpensToPair, PartsFail, RawPairFails, SealedPairFails};
 ghost use Rattle.minisign.specs.Generation.{SealedTextsFail, public_key_of, secret_of, unsealed_key};
 ghost use Rattle.minisign.specs.Generation.{SinksFail};
-ghost use Rattle.minisign.specs.Opening.{OpensTo, read_unencrypted_key};
 
 use crate::constants::{MEMLIMIT, OPSLIMIT, SIGALG};
 use crate::drawing::{draw, draw_two};
@@ -297,7 +295,7 @@ fn ask_and_seal<S: Scheme, R: Source, W: Sink>(
 }
 
 // Says what a password is for, and asks for it twice.
-#[tactic(auto, unfolding(crate::specs::Generation::purpose_line, crate::specs::Opening::asking_text, crate::specs::Generation::second_question))]
+#[tactic(auto, unfolding(crate::specs::Generation::purpose_line, crate::specs::Sealing::asking_text, crate::specs::Generation::second_question))]
 fn choose_password<R: Source, W: Sink>(alloc: Global, prompt: &mut Prompt<R, W>) -> Result<String>
     ensures chosen { IfOk result (λ password. (first : List ℕ) × (second : List ℕ) × (password_of first
         ≡ Ok (string_bytes password)) × (password_of second ≡ Ok (string_bytes password)) × ConversationEnds
@@ -316,7 +314,7 @@ fn choose_password<R: Source, W: Sink>(alloc: Global, prompt: &mut Prompt<R, W>)
 }
 
 // Seals a pair under a password, and tells of it.
-#[tactic(auto, unfolding(crate::specs::Generation::sealing_text, crate::specs::Opening::done_text))]
+#[tactic(auto, unfolding(crate::specs::Generation::sealing_text, crate::specs::Sealing::done_text))]
 fn seal_aloud<S: Scheme, R: Source, W: Sink>(
     alloc: Global,
     scheme: &S,

@@ -1,11 +1,14 @@
 //! The texts of keys that are made of their parts: so a password is changed, and a public key is
 //! written again.
 
-ghost use Rattle.std.specs.Prelude.{◌≡◌, ◌≤◌, List, ℕ, Some, IfOk, IfErr};
+ghost use Rattle.std.specs.Prelude.{◌≡◌, ◌≤◌, ◌+◌, List, ℕ, Some, Ok, IfOk, IfErr, length};
+ghost use Rattle.std.specs.Str.Iter.{LacksByte};
 ghost use Rattle.std.specs.Option.{option_map};
 ghost use Rattle.minisign_base.specs.Fault.{Named};
 ghost use Rattle.minisign_base.specs.declared.faults.NamedFault.TheVariants.{OutOfMemory};
-ghost use Rattle.minisign.specs.Generation.{unsealed_key, IsMadePublicText, IsMadeText, making_fault};
+ghost use Rattle.minisign.specs.Generation.{unsealed_key, IsMadeText, making_fault};
+ghost use Rattle.minisign.specs.KeyTexts.{commented_public_key_text, read_public_key};
+ghost use Rattle.minisign.specs.Records.{own_public_key};
 
 use crate::public_key::PublicKey;
 use crate::public_key_box::PublicKeyBox;
@@ -108,7 +111,11 @@ pub fn make_public_key(
     // The text of a public key is the one by definition; if the comment has no line feed, it reads
     // as the public key of these parts, so of the key that the other text gives; it has 77 bytes
     // more than the comment; the only rejection is out of memory.
-    ensures text { IfOk result (IsMadePublicText key_id secret comment.now) }
+    ensures written { IfOk result (λ t. t ≡ commented_public_key_text comment.now
+        (own_public_key (unsealed_key key_id secret))) }
+    ensures reads { LacksByte 10 comment.now
+        → IfOk result (λ t. read_public_key t ≡ Ok (own_public_key (unsealed_key key_id secret))) }
+    ensures size { IfOk result (λ t. length t ≡ length comment.now + 77) }
     ensures refused { IfErr result (λ e. e ≡ Named OutOfMemory) }
 {
     let sk = SecretKey::from_parts(key_id, secret);

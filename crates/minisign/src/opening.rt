@@ -3,7 +3,7 @@
 
 ghost use Rattle.std.specs.Prelude.{◌≡◌, ◌≤◌, ◌⊎◌, ◌∷◌, [], ℕ, List, None, Some, Ok, Err, false};
 ghost use Rattle.std.specs.Prelude.{string_bytes, IfOk, IfErr, IsOk, IsErrAnd, MatchResult, OnOk, ◌*◌, ◌^◌};
-ghost use Rattle.std.specs.Prelude.{length, nat_lt, replicate, OnErr};
+ghost use Rattle.std.specs.Prelude.{length, nat_lt, replicate, OnErr, IfSome};
 ghost use Rattle.std.specs.Option.{option_map};
 ghost use Rattle.std.specs.Result.{result_err};
 ghost use Rattle.minisign_base.specs.Fault.{Named};
@@ -13,13 +13,12 @@ ghost use Rattle.minisign_base.specs.Prompts.{ConversationEnds, Say, StepEnds, T
 ghost use Rattle.minisign_base.specs.Passwords.{password_of};
 ghost use Rattle.minisign_base.specs.Steps.{without_value};
 ghost use Rattle.minisign_base.specs.Limits.{sealing_limits};
-ghost use Rattle.minisign.specs.Headline.{OpeningHeadline};
 ghost use Rattle.minisign.specs.Sealing.{allowed_work, is_encrypted, open_sealed, restored_key};
 ghost use Rattle.minisign.specs.Sealing.{sealed_by_scrypt, allowed_rows, opening_work, opening_memory};
-ghost use Rattle.minisign.specs.Sealing.{xored_key, key_xor};
-ghost use Rattle.minisign.specs.Opening.{IsOpening, opening_steps, telling_steps, asking_text, deriving_text};
-ghost use Rattle.minisign.specs.Opening.{done_text, read_unencrypted_key, open_key};
-ghost use Rattle.minisign.specs.SecretKeyText.{read_secret_key};
+ghost use Rattle.minisign.specs.Sealing.{xored_key, key_xor, IsOpening, opening_steps, telling_steps};
+ghost use Rattle.minisign.specs.Sealing.{asking_text, deriving_text, done_text, read_unencrypted_key};
+ghost use Rattle.minisign.specs.Sealing.{open_key, IsOpenedOrNoMemory};
+ghost use Rattle.minisign.specs.KeyTexts.{read_secret_key};
 ghost use Rattle.minisign.specs.Reading.{IsTextFileFault};
 ghost use Rattle.minisign.specs.Texts.{and_then};
 ghost use Rattle.minisign.specs.Generation.{key_to_seal, unsealed_key, making_fault, made_key};
@@ -51,8 +50,8 @@ impl SecretKeyBox {
         // work.
         ensures opens { IsOpening (prompt_call R.Source W.Sink prompt.old prompt.new)
             (option_map string_bytes password) self None result }
-        ensures headline { OpeningHeadline
-            (option_map string_bytes password) self None result }
+        ensures headline { IfSome (option_map string_bytes password)
+            (λ p. IsOpenedOrNoMemory self None result (open_key self p None)) }
     {
         SecretKey::from_box(alloc, self, password, prompt)
     }
@@ -105,8 +104,8 @@ impl SecretKey {
         // As `SecretKey::from_box_within` says, with no bound on the work.
         ensures opens { IsOpening (prompt_call R.Source W.Sink prompt.old prompt.new)
             (option_map string_bytes password) sk_box None result }
-        ensures headline { OpeningHeadline
-            (option_map string_bytes password) sk_box None result }
+        ensures headline { IfSome (option_map string_bytes password)
+            (λ p. IsOpenedOrNoMemory sk_box None result (open_key sk_box p None)) }
     {
         let derivation = Derivation { bound: None, k: 1 };
         SecretKey::open_box(alloc, sk_box, password, prompt, derivation)
@@ -130,8 +129,8 @@ impl SecretKey {
         // `SecretKey::from_box_within` says, with no bound on the work.
         ensures opens { IsOpening (prompt_call R.Source W.Sink prompt.old prompt.new)
             (option_map string_bytes password) sk_box None result }
-        ensures headline { OpeningHeadline
-            (option_map string_bytes password) sk_box None result }
+        ensures headline { IfSome (option_map string_bytes password)
+            (λ p. IsOpenedOrNoMemory sk_box None result (open_key sk_box p None)) }
     {
         let derivation = Derivation { bound: None, k };
         SecretKey::open_box(alloc, sk_box, password, prompt, derivation)
@@ -173,8 +172,8 @@ impl SecretKey {
         // In one piece, with a password that is passed in: a text opens exactly when it reads as a
         // key that is sealed by scrypt, its limits are allowed and within the bound, and the stream
         // of RFC 7914 restores its checksum.
-        ensures headline { OpeningHeadline (option_map string_bytes password) sk_box
-            (Some max_p) result }
+        ensures headline { IfSome (option_map string_bytes password)
+            (λ p. IsOpenedOrNoMemory sk_box (Some max_p) result (open_key sk_box p (Some max_p))) }
     {
         let bound = Some(max_p);
         let derivation = Derivation { bound, k: 1 };
@@ -202,8 +201,8 @@ impl SecretKey {
         // `SecretKey::from_box_within` says.
         ensures opens { IsOpening (prompt_call R.Source W.Sink prompt.old prompt.new)
             (option_map string_bytes password) sk_box (Some max_p) result }
-        ensures headline { OpeningHeadline (option_map string_bytes password) sk_box
-            (Some max_p) result }
+        ensures headline { IfSome (option_map string_bytes password)
+            (λ p. IsOpenedOrNoMemory sk_box (Some max_p) result (open_key sk_box p (Some max_p))) }
     {
         let bound = Some(max_p);
         let derivation = Derivation { bound, k };
@@ -352,8 +351,8 @@ impl SecretKey {
         requires kept { 1 ≤ derivation.k }
         ensures opens { IsOpening (prompt_call R.Source W.Sink prompt.old prompt.new)
             (option_map string_bytes password) sk_box derivation.bound result }
-        ensures headline { OpeningHeadline
-            (option_map string_bytes password) sk_box derivation.bound result }
+        ensures headline { IfSome (option_map string_bytes password)
+            (λ p. IsOpenedOrNoMemory sk_box derivation.bound result (open_key sk_box p derivation.bound)) }
     {
         let sk = SecretKey::from_text(sk_box.as_str())?;
         sk.open(alloc, password.as_deref(), prompt, derivation)
@@ -581,7 +580,7 @@ impl SecretKey {
 }
 
 // Asks for the password.
-#[tactic(auto, unfolding(crate::specs::Opening::asking_text))]
+#[tactic(auto, unfolding(crate::specs::Sealing::asking_text))]
 fn ask_password<R: Source, W: Sink>(alloc: Global, prompt: &mut Prompt<R, W>) -> Result<String>
     ensures asked { IfOk result (λ password. (bytes : List ℕ) × (password_of bytes
         ≡ Ok (string_bytes password)) × ConversationEnds (prompt_call R.Source W.Sink prompt.old prompt.new)
@@ -594,7 +593,7 @@ fn ask_password<R: Source, W: Sink>(alloc: Global, prompt: &mut Prompt<R, W>) ->
 }
 
 // Says that the key is being derived.
-#[tactic(auto, unfolding(crate::specs::Opening::deriving_text))]
+#[tactic(auto, unfolding(crate::specs::Sealing::deriving_text))]
 fn say_deriving<R: Source, W: Sink>(prompt: &mut Prompt<R, W>) -> Result<()>
     ensures ended { StepEnds (prompt_call R.Source W.Sink prompt.old prompt.new)
         (Say deriving_text) result }
@@ -603,7 +602,7 @@ fn say_deriving<R: Source, W: Sink>(prompt: &mut Prompt<R, W>) -> Result<()>
 }
 
 // Says that the key was derived.
-#[tactic(auto, unfolding(crate::specs::Opening::done_text))]
+#[tactic(auto, unfolding(crate::specs::Sealing::done_text))]
 fn say_done<R: Source, W: Sink>(prompt: &mut Prompt<R, W>) -> Result<()>
     ensures ended { StepEnds (prompt_call R.Source W.Sink prompt.old prompt.new)
         (Say done_text) result }

@@ -8,8 +8,8 @@ ghost use Rattle.minisign_base.specs.Fault.{Named};
 ghost use Rattle.minisign_base.specs.declared.faults.NamedFault.TheVariants.{OutOfMemory, RecordTooShort};
 ghost use Rattle.minisign.specs.Texts.{base64_of};
 ghost use Rattle.minisign.specs.Records.{own_public_key};
-ghost use Rattle.minisign.specs.PublicKeyText.{commented_public_key_text, public_key_text};
-ghost use Rattle.minisign.specs.PublicKeyText.{read_bare_public_key, read_public_key};
+ghost use Rattle.minisign.specs.KeyTexts.{commented_public_key_text, public_key_text, read_bare_public_key};
+ghost use Rattle.minisign.specs.KeyTexts.{read_public_key};
 ghost use Rattle.std.specs.Str.Iter.{LacksByte};
 ghost use Rattle.minisign.specs.Reading.{IsReadFromFile};
 

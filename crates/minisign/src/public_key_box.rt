@@ -3,7 +3,7 @@
 ghost use Rattle.std.specs.Prelude.{◌≡◌, Some, IfOk, IfErr, string_bytes};
 ghost use Rattle.minisign_base.specs.Fault.{Named};
 ghost use Rattle.minisign_base.specs.declared.faults.NamedFault.TheVariants.{OutOfMemory};
-ghost use Rattle.minisign.specs.PublicKeyText.{read_public_key};
+ghost use Rattle.minisign.specs.KeyTexts.{read_public_key};
 
 use crate::public_key::PublicKey;
 use minisign_base::Result;

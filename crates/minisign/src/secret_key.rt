@@ -9,7 +9,7 @@ ghost use Rattle.std.specs.Int.{to_le_bytes, w64};
 ghost use Rattle.minisign_base.specs.Fault.{Named};
 ghost use Rattle.minisign_base.specs.declared.faults.NamedFault.TheVariants.{OutOfMemory};
 ghost use Rattle.minisign_base.specs.Steps.{without_value};
-ghost use Rattle.minisign.specs.SecretKeyText.{read_secret_key, secret_key_text};
+ghost use Rattle.minisign.specs.KeyTexts.{read_secret_key, secret_key_text};
 ghost use Rattle.minisign.specs.Sealing.{unencrypted_key, wants_password};
 ghost use Rattle.minisign.specs.Generation.{key_to_seal, unsealed_key};
 
@@ -64,7 +64,7 @@ impl Model for SecretKey {
 
 impl SecretKey {
     ghost use Rattle.minisign.specs.Records.{secret_key_bytes};
-    ghost use Rattle.minisign.specs.SecretKeyText.{read_secret_key_bytes};
+    ghost use Rattle.minisign.specs.KeyTexts.{read_secret_key_bytes};
     ghost use Rattle.minisign.specs.Sealing.{checksum_of, is_encrypted};
 
     // The checksum that the other fields call for.
@@ -219,7 +219,7 @@ impl SecretKey {
     /// opened sealed key the opened ones, still under the name of its key derivation. Where no line
     /// feed stands in the comment, the text reads as the key again. It has 233 bytes more than the
     /// comment. The only error is `OutOfMemory`.
-    #[tactic(auto, unfolding(crate::specs::SecretKeyText::secret_key_text, crate::specs::SecretKeyText::default_secret_key_comment))]
+    #[tactic(auto, unfolding(crate::specs::KeyTexts::secret_key_text, crate::specs::KeyTexts::default_secret_key_comment))]
     pub fn to_box(&self, alloc: Global, comment: Option<&str>) -> Result<SecretKeyBox>
         // The text of a secret key is the one by definition, and if the comment has no line feed it
         // reads as this key; it has 233 bytes more than the comment; the only error is out of
@@ -239,7 +239,7 @@ impl SecretKey {
     }
 
     // Writes the key as a text with this comment.
-    #[tactic(auto, unfolding(crate::specs::SecretKeyText::secret_key_text, crate::specs::Texts::untrusted_comment_label))]
+    #[tactic(auto, unfolding(crate::specs::KeyTexts::secret_key_text, crate::specs::Texts::untrusted_comment_label))]
     fn write_box(&self, alloc: Global, comment: &str) -> Result<SecretKeyBox>
         ensures text { IfOk result (λ b. b ≡ secret_key_text (Some comment.now) self.now) }
         ensures reads_back { LacksByte 10 comment.now

@@ -2,7 +2,7 @@
 
 ghost use Rattle.std.specs.Prelude.{◌≡◌};
 ghost use Rattle.minisign_base.specs.declared.faults.NamedFault.TheVariants.{SecretKeyNotBase64};
-ghost use Rattle.minisign.specs.SecretKeyText.{read_secret_key, read_secret_key_bytes, secret_key_of_bytes};
+ghost use Rattle.minisign.specs.KeyTexts.{read_secret_key, read_secret_key_bytes, secret_key_of_bytes};
 ghost use Rattle.minisign.specs.Texts.{base64_bytes, is_base64, map_ok, require};
 
 use crate::base64_front::decode_front;

@@ -5,9 +5,8 @@ ghost use Rattle.std.specs.Option.{option_map};
 ghost use Rattle.minisign_base.specs.Devices.{HasGiven};
 ghost use Rattle.minisign_base.specs.DeviceCalls.{prompt_call, random_call, source_call};
 ghost use Rattle.minisign.specs.Sealing.{is_encrypted};
-ghost use Rattle.minisign.specs.Signing.{OpenedSigningFails, given_comments};
-ghost use Rattle.minisign.specs.SigningTexts.{GivesKey, HasSignedDataText, HasSignedWithText};
-ghost use Rattle.minisign.specs.SigningTexts.{TextSigningFails, TextSigningHeadline};
+ghost use Rattle.minisign.specs.Signing.{OpenedSigningFails, given_comments, GivesKey, HasSignedDataText};
+ghost use Rattle.minisign.specs.Signing.{HasSignedWithText, TextSigningFails, TextSigningHeadline};
 
 use crate::constants::KDF_NONE;
 use crate::sealing::Derivation;

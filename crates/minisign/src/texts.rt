@@ -7,12 +7,12 @@ ghost use Rattle.std.specs.Str.Iter.{lines_rest};
 ghost use Rattle.minisign_base.specs.Fault.{Named};
 ghost use Rattle.minisign_base.specs.declared.faults.NamedFault.TheVariants.{OutOfMemory};
 ghost use Rattle.minisign.specs.Texts.{line, IsBase64Of, IsReading, base64_of, is_base64};
-ghost use Rattle.minisign.specs.PublicKeyText.{BarePublicKey, PublicKeyText, read_bare_public_key};
-ghost use Rattle.minisign.specs.PublicKeyText.{read_public_key};
-ghost use Rattle.minisign.specs.Opening.{IsOpened, IsUnencryptedText, open_key, read_unencrypted_key};
+ghost use Rattle.minisign.specs.KeyTexts.{BarePublicKey, PublicKeyText, read_bare_public_key};
+ghost use Rattle.minisign.specs.KeyTexts.{read_public_key, SecretKeyText, read_secret_key};
+ghost use Rattle.minisign.specs.KeyTexts.{read_secret_key_bytes};
+ghost use Rattle.minisign.specs.Sealing.{IsOpened, IsUnencryptedText, open_key, read_unencrypted_key};
 ghost use Rattle.minisign.specs.Records.{PublicKeyRecord, ReadsPublicKey, ReadsSecretKey, ReadsSignature};
 ghost use Rattle.minisign.specs.Records.{SignatureRecord};
-ghost use Rattle.minisign.specs.SecretKeyText.{SecretKeyText, read_secret_key, read_secret_key_bytes};
 ghost use Rattle.minisign.specs.SignatureText.{SignatureText, read_signature};
 
 use base64::DecodeAllocError;

@@ -6,7 +6,7 @@ ghost use Rattle.std.specs.Prelude.{option_copied, ◌≡◌, ◌==◌, ◌<◌,
 ghost use Rattle.std.specs.Prelude.{false, true, drop, length, take};
 ghost use Rattle.minisign_base.specs.Fault.{Fault};
 ghost use Rattle.minisign_hash.specs.Blake2b.{blake2b_digest};
-ghost use Rattle.minisign.specs.PublicKeyText.{read_public_key};
+ghost use Rattle.minisign.specs.KeyTexts.{read_public_key};
 ghost use Rattle.minisign.specs.Records.{SecretKeyRecord};
 ghost use Rattle.minisign.specs.SignatureText.{SignatureTextRecord};
 ghost use Rattle.minisign.specs.Texts.{and_then};

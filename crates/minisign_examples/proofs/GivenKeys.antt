@@ -6,10 +6,10 @@ use Rattle.std.specs.declared.result.Result.{Result}
 use Rattle.std.specs.declared.result.Result.TheVariants.{Ok, Err}
 use Rattle.minisign.specs.Fault.{Fault, Named}
 use Rattle.minisign.specs.NamedFaults.{KeyNotEncrypted, OutOfMemory, UnsupportedEncryptionAlgorithm}
-use Rattle.minisign.specs.Opening.{IsOpenedOrNoMemory, is_sealed_text, key_with_password, open_key}
+use Rattle.minisign.specs.Sealing.{IsOpenedOrNoMemory, is_sealed_text, key_with_password, open_key, no_kdf}
+use Rattle.minisign.specs.Sealing.{open_sealed, scrypt_kdf, sealed_by_scrypt, wants_password}
 use Rattle.minisign.specs.Records.{SecretKeyRecord}
-use Rattle.minisign.specs.Sealing.{no_kdf, open_sealed, scrypt_kdf, sealed_by_scrypt, wants_password}
-use Rattle.minisign.specs.SecretKeyText.{read_secret_key}
+use Rattle.minisign.specs.KeyTexts.{read_secret_key}
 use Rattle.minisign.specs.Texts.{and_then, require}
 
 -- a text that opens is that of a sealed key

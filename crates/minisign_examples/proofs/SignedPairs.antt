@@ -6,10 +6,9 @@ use Rattle.minisign.specs.Fault.{Fault}
 use Rattle.minisign.specs.DeviceCalls.{RandomCall}
 use Rattle.minisign.specs.Acceptance.{Verifier, Vouches}
 use Rattle.minisign.specs.Generation.{IsGenuinePair}
-use Rattle.minisign.specs.Headline.{SigningHeadline}
+use Rattle.minisign.specs.Signing.{SigningHeadline, BytesSigningFails, AreChosenReadBack, ChosenComments}
 use Rattle.minisign.specs.Records.{PublicKeyRecord, SecretKeyRecord, SignatureBoxRecord}
 use Rattle.minisign.specs.SignatureText.{read_signature_box}
-use Rattle.minisign.specs.Signing.{BytesSigningFails, AreChosenReadBack, ChosenComments}
 use Rattle.minisign.proofs.Laws.{judged_vouches}
 use Rattle.minisign_examples.specs.Releasing.{IsMemoryOrRandomFault}
 

@@ -5,7 +5,7 @@ use Rattle.minisign.specs.Members.{SinkOf, SourceOf}
 use Rattle.minisign.specs.DeviceCalls.{prompt_call}
 use Rattle.minisign.specs.NamedFaults.{OutOfMemory, WrongPassword}
 use Rattle.minisign.specs.Prompt.{Prompt}
-use Rattle.minisign.specs.Opening.{IsOpening}
+use Rattle.minisign.specs.Sealing.{IsOpening}
 use Rattle.minisign.specs.Records.{SecretKeyRecord}
 
 -- the prompt was asked once; or an allocation failed for a copy of the text, with the prompt as it was

@@ -3,9 +3,9 @@ use Rattle.std.specs.Prelude.{◌≡◌, ◌<◌, ◌⊎◌, ℕ, List, length, 
 use Rattle.minisign.specs.Fault.{Fault, Named}
 use Rattle.minisign.specs.NamedFaults.{OutOfMemory, PasswordTooLong, RandomSourceFailed}
 use Rattle.minisign.specs.Records.{PublicKeyRecord, SecretKeyRecord}
-use Rattle.minisign.specs.PublicKeyText.{read_public_key}
+use Rattle.minisign.specs.KeyTexts.{read_public_key}
 use Rattle.minisign.specs.Generation.{IsGenuinePair}
-use Rattle.minisign.specs.Opening.{OpensTo}
+use Rattle.minisign.specs.Sealing.{OpensTo}
 
 -- one text reads as a public key, and the other opens under the password to the secret key that belongs to it
 pub record ArePairTexts (public_of : List ℕ → List ℕ) (password pk_text sk_text : List ℕ)

@@ -5,9 +5,8 @@ ghost use Rattle.minisign.specs.Fault.{Named};
 ghost use Rattle.minisign.specs.NamedFaults.{OutOfMemory, RandomSourceFailed};
 ghost use Rattle.minisign.specs.DeviceCalls.{random_call};
 ghost use Rattle.minisign.specs.Headline.{TextsVouchFor};
-ghost use Rattle.minisign.specs.PublicKeyText.{public_key_text};
-ghost use Rattle.minisign.specs.Signing.{IsGenuine, given_comments};
-ghost use Rattle.minisign.specs.SigningTexts.{IsSignedText};
+ghost use Rattle.minisign.specs.KeyTexts.{public_key_text};
+ghost use Rattle.minisign.specs.Signing.{IsGenuine, given_comments, IsSignedText};
 
 use minisign::{
     PublicKey, RandomSource, Result, Scheme, SecretKey, default_comments_are_read_back, sign_bytes,

@@ -1,7 +1,7 @@
 //! A caller that opens a sealed key where memory is scarce.
 
 ghost use Rattle.std.specs.Prelude.{None};
-ghost use Rattle.minisign.specs.Opening.{open_key};
+ghost use Rattle.minisign.specs.Sealing.{open_key};
 ghost use Rattle.minisign.specs.Texts.{IsGivenOrNoMemory};
 
 use minisign::{Prompt, Result, SecretKey, SecretKeyBox};

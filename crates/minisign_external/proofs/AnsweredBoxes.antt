@@ -1,6 +1,6 @@
 -- The box of two answers: it is the one that signing makes, and it vouches for the message where they are
 -- accepted.
-use Rattle.std.proofs.Common.{◌≡◌, ◌∙◌, ℕ, List, length, Ok, inl, refl, sym, subst, arith}
+use Rattle.std.proofs.Common.{◌≡◌, ◌∙◌, ℕ, List, length, Ok, inl, refl, sym, subst, arith, le-leb}
 use Rattle.std.specs.Str.{IsUtf8}
 use Rattle.std.proofs.lemmas.List.{take_all}
 use Rattle.minisign.specs.Records.{SecretKeyRecord}
@@ -27,11 +27,9 @@ answered_vouches accepts public message key_id chosen first second long answers 
       same_key = sym same_id;
       allowed = inl refl;
       signed = rw key answers.to_first;
-      comment_signed = record {
-        long_enough = omega (arith, long);
-        signed =
-            rw (take_all 64 second (omega (arith, long)), key) answers.to_second;
-      };
+      comment_signed =
+          rw (le-leb 64 _ (omega (arith, long)), take_all 64 second (omega (arith, long)), key)
+          answers.to_second;
     })
 
 -- a text that is that of the answers, and reads as their box

@@ -9,8 +9,7 @@ use Rattle.std.proofs.lemmas.Str.{IsUtf8-from_is_utf8, is_utf8-from_IsUtf8}
 use Rattle.minisign_hash.specs.Blake2b.{blake2b_digest}
 use Rattle.minisign_base.specs.Fault.{Fault}
 use Rattle.minisign.specs.Acceptance.{judge_key}
-use Rattle.minisign.specs.SignatureText.{SignatureTextRecord, read_signature}
-use Rattle.minisign.specs.CommentPlace.{StandsAt}
+use Rattle.minisign.specs.SignatureText.{SignatureTextRecord, read_signature, StandsAt}
 use Rattle.minisign.specs.Texts.{and_then, map_ok}
 use Rattle.minisign_external.specs.PublicKeys.{read_utf8}
 use Rattle.minisign_external.specs.Questions.{HoldsMessage, has_whole_signature, read_under}

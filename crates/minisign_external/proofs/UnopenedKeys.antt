@@ -4,7 +4,7 @@ use Rattle.std.specs.Str.{is_utf8}
 use Rattle.minisign_base.specs.Fault.{Fault}
 use Rattle.minisign_base.specs.declared.faults.NamedFault.{NamedFault}
 use Rattle.minisign_base.specs.declared.faults.NamedFault.TheVariants.{NotUtf8}
-use Rattle.minisign.specs.SecretKeyText.{read_secret_key}
+use Rattle.minisign.specs.KeyTexts.{read_secret_key}
 use Rattle.minisign.specs.Texts.{and_then, require}
 use Rattle.minisign_external.specs.PublicKeys.{read_utf8}
 use Rattle.minisign_external.specs.SecretKeys.{OpensAs, open_unsealed, open_within, unopened_record}

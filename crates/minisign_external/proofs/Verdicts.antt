@@ -1,12 +1,11 @@
 -- What a key and the text of a signature decide is what every text that reads as the key decides with it.
 use Rattle.std.proofs.Common.{◌≡◌, ◌⊎◌, ℕ, Bool, true, false, ◌||◌, ◌&&◌, ◌==◌, not, ◌+◌, if◌then◌else◌, List}
 use Rattle.std.proofs.Common.{◌++◌, Result, Ok, Err, IsTrue, bytes_eq, inl, inr, ap, sym, subst, refl, ◌∙◌}
-use Rattle.std.proofs.Common.{nat_le, length, take, arith}
+use Rattle.std.proofs.Common.{nat_le, length, take}
 use Rattle.std.specs.Prelude.{⊤}
 use Rattle.std.specs.Str.{IsUtf8, is_utf8}
 use Rattle.std.proofs.lemmas.Str.{IsUtf8-from_is_utf8, is_utf8-from_IsUtf8}
 use Rattle.std.proofs.lemmas.Slice.Eq.{bytes_eq-Decides}
-use Rattle.std.proofs.lemmas.Bool.Decides.{nat_tests}
 use Rattle.minisign_base.specs.Fault.{Fault}
 use Rattle.minisign_base.specs.declared.faults.NamedFault.{NamedFault}
 use Rattle.minisign_base.specs.declared.faults.NamedFault.TheVariants.{DifferentKeyIds, LegacyNotAccepted}
@@ -15,7 +14,7 @@ use Rattle.minisign.specs.Records.{PublicKeyRecord, is_prehashed, prehashed_algo
 use Rattle.minisign.specs.Acceptance.{Verifier, Vouches, accepts_comments, judge_answers, judge_key}
 use Rattle.minisign.specs.Acceptance.{signed_bytes}
 use Rattle.minisign.specs.Headline.{TextsVouchFor, verdict}
-use Rattle.minisign.specs.PublicKeyText.{read_public_key}
+use Rattle.minisign.specs.KeyTexts.{read_public_key}
 use Rattle.minisign.specs.SignatureText.{SignatureTextRecord, box_of, read_signature}
 use Rattle.minisign.specs.Texts.{and_then, map_ok, require}
 use Rattle.minisign_external.specs.PublicKeys.{key_of, read_utf8, value_of}
@@ -89,10 +88,6 @@ either : (a b : Bool) → (a || b) ≡ true → (a ≡ true) ⊎ (b ≡ true)
 either true b h = inl refl
 either false b h = inr h
 
-both_true : (a b : Bool) → (a && b) ≡ true → (a ≡ true) × (b ≡ true)
-both_true true b h = (refl, h)
-both_true false b h = cc h
-
 module _ (accepts : Verifier) (key : PublicKeyRecord) (t : SignatureTextRecord) (message : List ℕ)
     (legacy : Bool) where
   abbrev is_same : Bool
@@ -115,7 +110,6 @@ module _ (accepts : Verifier) (key : PublicKeyRecord) (t : SignatureTextRecord) 
   vouched_by w h =
       let (same, allowed, signed, commented) = pass is_same is_allowed is_signed is_comment_signed _ t
       t.comments.trusted w h in
-      let (long, accepted) = both_true (nat_le 64 (length t.comments.signature)) _ commented in
       record {
         same_key = (bytes_eq-Decides t.signature.keynum key.keynum).0 same;
         allowed = elim (either (is_prehashed t.signature) legacy allowed) [
@@ -123,7 +117,7 @@ module _ (accepts : Verifier) (key : PublicKeyRecord) (t : SignatureTextRecord) 
           | inr is ↦ inr is
         ];
         signed = signed;
-        comment_signed = record { long_enough = grind (arith, nat_tests, long); signed = accepted };
+        comment_signed = commented;
       }
 
 -- == Two texts ==

@@ -5,10 +5,9 @@ use Rattle.std.specs.Str.{IsUtf8}
 use Rattle.std.specs.Str.Iter.{LacksByte}
 use Rattle.minisign_base.specs.Fault.{Fault, Named}
 use Rattle.minisign_base.specs.declared.faults.NamedFault.TheVariants.{OutOfMemory, NotUtf8}
-use Rattle.minisign.specs.PublicKeyText.{read_public_key, commented_public_key_text}
+use Rattle.minisign.specs.KeyTexts.{read_public_key, commented_public_key_text, secret_key_text}
 use Rattle.minisign.specs.Generation.{GivesParts, made_key, making_fault, unsealed_key}
 use Rattle.minisign.specs.Records.{own_public_key}
-use Rattle.minisign.specs.SecretKeyText.{secret_key_text}
 use Rattle.minisign.specs.declared.making.Sealing.{Sealing}
 use Rattle.minisign_external.specs.Numbers.{fault_number, misuse_number, refusal_number}
 use Rattle.minisign_external.specs.declared.state.Misuse.{Misuse}

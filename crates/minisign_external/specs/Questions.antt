@@ -6,7 +6,7 @@ use Rattle.minisign_base.specs.Fault.{Fault}
 use Rattle.minisign_base.specs.declared.faults.NamedFault.TheVariants.{CommentSignatureRefused}
 use Rattle.minisign.specs.Records.{PublicKeyRecord, SignatureRecord, CommentsRecord}
 use Rattle.minisign.specs.Acceptance.{Verifier, accepts_comments, judge_answers, judge_key, signed_bytes}
-use Rattle.minisign.specs.PublicKeyText.{read_public_key}
+use Rattle.minisign.specs.KeyTexts.{read_public_key}
 use Rattle.minisign.specs.SignatureText.{SignatureTextRecord, box_of, read_signature}
 use Rattle.minisign.specs.Texts.{and_then, require}
 use Rattle.minisign_external.specs.PublicKeys.{key_of, read_utf8, value_of}

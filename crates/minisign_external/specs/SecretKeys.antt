@@ -8,7 +8,7 @@ use Rattle.minisign_base.specs.declared.faults.NamedFault.TheVariants.{OutOfMemo
 use Rattle.minisign.specs.Records.{SecretKeyRecord}
 use Rattle.minisign.specs.Sealing.{allowed_rows, no_kdf, opening_memory, opening_work, restored_key}
 use Rattle.minisign.specs.Sealing.{sealed_by_scrypt, unencrypted_key, wants_password, xored_key}
-use Rattle.minisign.specs.SecretKeyText.{read_secret_key, secret_key_of_bytes}
+use Rattle.minisign.specs.KeyTexts.{read_secret_key, secret_key_of_bytes}
 use Rattle.minisign.specs.Texts.{and_then}
 use Rattle.minisign_external.specs.Numbers.{fault_number, misuse_number, refusal_number}
 use Rattle.minisign_external.specs.PublicKeys.{read_utf8}

@@ -4,9 +4,8 @@ use Rattle.std.specs.Prelude.{length, take, drop, Result, Ok, Err}
 use Rattle.std.specs.Str.{IsUtf8, is_utf8}
 use Rattle.minisign_hash.specs.Blake2b.{blake2b_digest}
 use Rattle.minisign_base.specs.Fault.{Fault}
-use Rattle.minisign.specs.CommentPlace.{StandsAt, comment_offset}
+use Rattle.minisign.specs.SignatureText.{StandsAt, comment_offset, SignatureTextRecord, read_signature}
 use Rattle.minisign.specs.Records.{SignatureRecord, is_prehashed}
-use Rattle.minisign.specs.SignatureText.{SignatureTextRecord, read_signature}
 use Rattle.minisign.specs.Texts.{map_ok}
 use Rattle.minisign_external.specs.Numbers.{fault_number}
 use Rattle.minisign_external.specs.PublicKeys.{read_utf8}

@@ -13,9 +13,9 @@ use Rattle.minisign_base.specs.declared.faults.NamedFault.TheVariants.{OutOfMemo
 use Rattle.minisign.specs.Records.{CommentsRecord, SecretKeyRecord, SignatureRecord, SignatureBoxRecord}
 use Rattle.minisign.specs.Records.{prehashed_algorithm}
 use Rattle.minisign.specs.Acceptance.{Verifier, VouchesUnderEachKey}
-use Rattle.minisign.specs.Headline.{SigningHeadline}
+use Rattle.minisign.specs.Signing.{SigningHeadline, AreChosenReadBack, ChosenComments, IsGenuine, Signer}
+use Rattle.minisign.specs.Signing.{signed_box}
 pub use Rattle.minisign.specs.Signing.{comments_of}
-use Rattle.minisign.specs.Signing.{AreChosenReadBack, ChosenComments, IsGenuine, Signer, signed_box}
 use Rattle.minisign.specs.SignatureText.{read_signature_box, signature_text}
 use Rattle.minisign_external.specs.Numbers.{fault_number, refusal_number}
 use Rattle.minisign_external.specs.Questions.{verdict_under}

@@ -1,7 +1,7 @@
 //! A public key as a value, read from its text. None of it allocates.
 
 ghost use Rattle.std.specs.Prelude.{◌≡◌};
-ghost use Rattle.minisign.specs.PublicKeyText.{read_bare_public_key, read_public_key};
+ghost use Rattle.minisign.specs.KeyTexts.{read_bare_public_key, read_public_key};
 ghost use Rattle.minisign_external.specs.PublicKeys.{read_utf8, told_key};
 
 use minisign::{PublicKey, Result, read_bare_public_key, read_public_key};

@@ -1,14 +1,13 @@
 //! A signature as a value, read once from its text. It has all that asking takes but the trusted
 //! comment, which stays in the text. None of it allocates.
 
-ghost use Rattle.std.specs.Prelude.{◌≡◌, ◌+◌, ◌≤◌, Bool, Ok, Err, false, true, IfOk, IfErr};
-ghost use Rattle.std.specs.Prelude.{MatchOption, MatchResult, if◌then◌else◌, bytes_eq, nat_le, length, take};
-ghost use Rattle.std.specs.Prelude.{drop};
+ghost use Rattle.std.specs.Prelude.{◌≡◌, ◌+◌, ◌≤◌, Bool, Ok, Err, false, true, IfOk, IfErr, MatchOption};
+ghost use Rattle.std.specs.Prelude.{MatchResult, if◌then◌else◌, bytes_eq, nat_le, length, take, drop};
 ghost use Rattle.std.specs.Str.{IsUtf8};
 ghost use Rattle.minisign_hash.specs.Blake2b.{blake2b_digest};
-ghost use Rattle.minisign.specs.CommentPlace.{StandsAt};
+ghost use Rattle.minisign.specs.SignatureText.{StandsAt, SignatureTextRecord, first_64, read_signature};
+ghost use Rattle.minisign.specs.SignatureText.{view_of};
 ghost use Rattle.minisign.specs.Records.{CommentsRecord, is_prehashed};
-ghost use Rattle.minisign.specs.SignatureText.{SignatureTextRecord, first_64, read_signature, view_of};
 ghost use Rattle.minisign.specs.Texts.{map_ok};
 ghost use Rattle.minisign_external.specs.Questions.{has_whole_signature, told_signature};
 ghost use Rattle.minisign_external.specs.Signatures.{IsReadFrom, comment_bytes, comment_of, is_text_of};

@@ -10,7 +10,7 @@ ghost use Rattle.minisign_base.specs.Steps.{without_value};
 ghost use Rattle.minisign_base.specs.declared.faults.NamedFault.TheVariants.{OutOfMemory};
 ghost use Rattle.minisign.specs.Sealing.{allowed_rows, opening_work, sealed_by_scrypt, wants_password};
 ghost use Rattle.minisign.specs.Records.{SecretKeyRecord};
-ghost use Rattle.minisign.specs.SecretKeyText.{read_secret_key, secret_key_of_bytes};
+ghost use Rattle.minisign.specs.KeyTexts.{read_secret_key, secret_key_of_bytes};
 ghost use Rattle.minisign.specs.Texts.{and_then, map_ok};
 ghost use Rattle.minisign_external.specs.PublicKeys.{read_utf8};
 ghost use Rattle.minisign_external.specs.declared.state.Misuse.TheVariants.{KeyNotRead, NoRoom};

@@ -2,7 +2,7 @@
 use Rattle.std.specs.Prelude.{bytes_eq, codes}
 use Rattle.std.proofs.Common.{Bool, Err, List, None, Ok, Result, Some, [], ap, append-nil, arith, cond, false}
 use Rattle.std.proofs.Common.{inl, inr, length, refl, subst, sym, true, ℕ, ⊎_elim, ◌++◌, ◌==◌, ◌∙◌, ◌∷◌, ◌≡◌}
-use Rattle.std.proofs.Common.{◌≢◌}
+use Rattle.std.proofs.Common.{◌≢◌, le-leb}
 use Rattle.std.proofs.lemmas.Bool.{cases_Bool, eq-eqb, eqb-true}
 use Rattle.std.specs.Bool.{Decides}
 use Rattle.std.proofs.lemmas.Slice.Eq.{bytes_eq-Decides}
@@ -14,7 +14,7 @@ use Rattle.base64.specs.Rfc4648.{encode_symbols}
 use Rattle.minisign_hash.specs.Blake2b.{blake2b_digest}
 use Rattle.minisign.specs.SignatureText.{SignatureTextRecord, box_of, read_signature, trusted_comment_label}
 use Rattle.minisign.specs.Records.{PublicKeyRecord}
-use Rattle.minisign.specs.PublicKeyText.{read_public_key}
+use Rattle.minisign.specs.KeyTexts.{read_public_key}
 use Rattle.minisign.specs.Texts.{base64_bytes, base64_of, is_base64, line, map_ok, untrusted_comment_label}
 use Rattle.minisign_external.specs.PublicKeys.{value_of}
 use Rattle.minisign_install.specs.Order.{Answer, Clear, Copy, Create, CreateRecord, Done, Due, Installed}
@@ -491,8 +491,7 @@ vouched = record {
           same_key = signature_of_text.3 ∙ sym key_of_text.2;
           allowed = inl signature_of_text.4;
           signed = refl;
-          comment_signed =
-              record { long_enough = omega (arith, signature_of_text.5); signed = refl };
+          comment_signed = rw (le-leb 64 _ (omega (arith, signature_of_text.5))) refl;
         };
   };
   comments = signature_of_text.0.comments;

@@ -6,7 +6,7 @@
 
 ghost use Rattle.std.specs.Prelude.{◌≡◌, ◌⊎◌, ◌==◌, ◌<◌, ◌++◌, ℕ, Bool, List, [], Ok, false, length, drop};
 ghost use Rattle.minisign_hash.specs.Blake2b.{blake2b_digest};
-ghost use Rattle.minisign.specs.PublicKeyText.{read_bare_public_key, read_public_key};
+ghost use Rattle.minisign.specs.KeyTexts.{read_bare_public_key, read_public_key};
 ghost use Rattle.minisign.specs.SignatureText.{SignatureTextRecord};
 ghost use Rattle.minisign.specs.Acceptance.{Verifier};
 ghost use Rattle.minisign_external.specs.Questions.{IsKeyText, read_under, verdict_under};

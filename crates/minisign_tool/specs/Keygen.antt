@@ -3,11 +3,9 @@ use Rattle.std.specs.Prelude.{ℕ, List, None, Ok}
 use Rattle.minisign.specs.DeviceCalls.{PromptCall, RandomCall, SinkCall, TakesPart}
 use Rattle.minisign.specs.Generation.{IsGenuinePair, IsSealedPair, IsSealing, SealedTextsFail}
 use Rattle.minisign.specs.Members.{SinkOf}
-use Rattle.minisign.specs.Opening.{OpensTo}
-use Rattle.minisign.specs.PublicKeyText.{public_key_text}
+use Rattle.minisign.specs.Sealing.{OpensTo, xored_key}
+use Rattle.minisign.specs.KeyTexts.{public_key_text, secret_key_text}
 use Rattle.minisign.specs.Records.{PublicKeyRecord, SecretKeyRecord}
-use Rattle.minisign.specs.Sealing.{xored_key}
-use Rattle.minisign.specs.SecretKeyText.{secret_key_text}
 use Rattle.minisign_tool.specs.Report.{ShowsOnlyFault}
 
 -- no keys were made, and all that is said is why

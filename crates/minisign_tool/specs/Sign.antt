@@ -9,8 +9,8 @@ use Rattle.minisign.specs.Records.{SecretKeyRecord, SignatureBoxRecord}
 use Rattle.minisign.specs.Acceptance.{Verifier, VouchesUnderEachKey}
 use Rattle.minisign.specs.Reading.{IsAhead, ReadsWhole, IsTextFault}
 use Rattle.minisign.specs.SignatureText.{read_signature_box}
-use Rattle.minisign.specs.Signing.{IsGenuine, given_comments}
-use Rattle.minisign.specs.SigningTexts.{GivesKey, IsKeyOf, IsSignedText, TextSigningFails}
+use Rattle.minisign.specs.Signing.{IsGenuine, given_comments, GivesKey, IsKeyOf, IsSignedText}
+use Rattle.minisign.specs.Signing.{TextSigningFails}
 use Rattle.minisign_tool.specs.declared.sign.SigningDevices.{SigningDevices}
 
 -- where the key is genuine, the text reads as a box that every public key of the same seed and key ID

@@ -1,10 +1,9 @@
 //! A caller that signs with the text of a sealed key and its password. `callers` runs it.
 
 ghost use Rattle.std.specs.Prelude.{◌≡◌, None, Ok, string_bytes, IfOk};
-ghost use Rattle.minisign.specs.Headline.{SigningHeadline};
-ghost use Rattle.minisign.specs.Opening.{key_with_password};
+ghost use Rattle.minisign.specs.Signing.{SigningHeadline, given_comments};
+ghost use Rattle.minisign.specs.Sealing.{key_with_password};
 ghost use Rattle.minisign.specs.Records.{SecretKeyRecord};
-ghost use Rattle.minisign.specs.Signing.{given_comments};
 
 use minisign::{Result, sign_texts};
 use minisign_base::devices::random_sources::RandomSource;

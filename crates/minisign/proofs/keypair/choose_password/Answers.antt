@@ -1,10 +1,10 @@
 use Rattle.std.proofs.Common.{Ok, Err, Bool, true, false, not, ◌≡◌, ◌∷◌, ◌++◌, [], string_bytes, sym, inl}
 use Rattle.std.proofs.Common.{inr, refl, ℕ, List, None, Some, bytes_eq}
-use Rattle.minisign.proofs.Common.{bytes_eq-Decides, prompt_call, second_ended, stopped_first, typed_is}
-use Rattle.minisign.proofs.Common.{Test, asking_steps, typed_password, Fault, Named, PasswordsDiffer}
+use Rattle.minisign.proofs.Common.{bytes_eq-Decides, prompt_call, second_ended, stopped_first, typed_is, Test}
+use Rattle.minisign.proofs.Common.{asking_steps, typed_password, Fault, Named, PasswordsDiffer}
 use Rattle.minisign.proofs.Beginnings.{passed_up}
 use Rattle.minisign.specs.Generation.{difference, purpose_line, second_question}
-use Rattle.minisign.specs.Opening.{asking_text}
+use Rattle.minisign.specs.Sealing.{asking_text}
 use Rattle.minisign.proofs.keypair.choose_password.Goals as goal
 
 -- what a test that is turned round says

@@ -1,7 +1,7 @@
 use Rattle.std.proofs.Common.{inl, inr, refl}
 use Rattle.minisign.proofs.Beginnings.{passed_up}
 use Rattle.minisign.specs.Generation.{sealing_text}
-use Rattle.minisign.specs.Opening.{done_text}
+use Rattle.minisign.specs.Sealing.{done_text}
 use Rattle.minisign.proofs.keypair.seal_aloud.Goals as goal
 
 pub returns-in_err-pair-clause-refused : goal.returns-in_err-pair-clause-refused

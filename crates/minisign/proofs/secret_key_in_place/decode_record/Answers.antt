@@ -1,5 +1,5 @@
 use Rattle.std.proofs.Common.{Ok, ap, sym, ◌∙◌}
-use Rattle.minisign.specs.SecretKeyText.{secret_key_of_bytes}
+use Rattle.minisign.specs.KeyTexts.{secret_key_of_bytes}
 use Rattle.minisign.proofs.SecretKeyTexts.{front_read, front_refused}
 use Rattle.minisign.proofs.secret_key_in_place.decode_record.Goals as goal
 

@@ -1,7 +1,7 @@
 use Rattle.std.proofs.Common.{Ok, subst}
 use Rattle.minisign.proofs.Common.{IfOk-weaker, prompt_call}
 use Rattle.minisign.proofs.Openings.{key_of_given}
-use Rattle.minisign.specs.SigningTexts.{GivesKey}
+use Rattle.minisign.specs.Signing.{GivesKey}
 use Rattle.minisign.proofs.signing_texts.sign_texts.Goals as goal
 
 pub returns-clause-headline : goal.returns-clause-headline
@@ -23,5 +23,5 @@ returns-clause-signed g c =
     let gives =
     rw c.as_deref.ensures.value at c.in_ok-sk.ensures.gives in
     IfOk-weaker c.sign_opened.result _ _
-    (λ t (message, read, (signed, headline)). (c.in_ok-sk.sk, message, gives, read, (signed, headline)))
+    (λ t signed. (c.in_ok-sk.sk, gives, signed))
     c.sign_opened.ensures.signed

@@ -1,6 +1,6 @@
 use Rattle.std.proofs.Common.{◌≡◌, Ok, inl, false, subst, sym, ◌∙◌}
 use Rattle.minisign.specs.Headline.{TextsVouchFor}
-use Rattle.minisign.specs.PublicKeyText.{read_public_key, public_key_text}
+use Rattle.minisign.specs.KeyTexts.{read_public_key, public_key_text}
 use Rattle.minisign.specs.SignatureText.{read_signature_box}
 use Rattle.minisign.proofs.Laws.{accepted_vouches, judged_vouches, only_memory}
 use Rattle.minisign_examples.proofs.Refusals.{passed_up}

@@ -1,7 +1,7 @@
 use Rattle.std.proofs.Common.{◌≡◌, Ok, None, string_bytes, false, inl, subst, sym}
 use Rattle.minisign.specs.Generation.{IsGenuinePair}
-use Rattle.minisign.specs.Opening.{OpensTo}
-use Rattle.minisign.specs.PublicKeyText.{read_public_key}
+use Rattle.minisign.specs.Sealing.{OpensTo}
+use Rattle.minisign.specs.KeyTexts.{read_public_key}
 use Rattle.minisign.specs.SignatureText.{read_signature_box}
 use Rattle.minisign.specs.Headline.{TextsVouchFor}
 use Rattle.minisign.proofs.Laws.{accepted_vouches, only_memory}

@@ -1,5 +1,5 @@
 use Rattle.std.proofs.Common.{◌∙◌}
-use Rattle.minisign.specs.PublicKeyText.{read_bare_public_key}
+use Rattle.minisign.specs.KeyTexts.{read_bare_public_key}
 use Rattle.minisign_external.proofs.Utf8.{no_text, of_text}
 use Rattle.minisign_external.proofs.public_keys.read_bare.Goals as goal
 

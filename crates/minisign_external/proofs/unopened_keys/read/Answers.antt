@@ -1,5 +1,5 @@
 use Rattle.std.proofs.Common.{◌∙◌, sym}
-use Rattle.minisign.specs.SecretKeyText.{read_secret_key}
+use Rattle.minisign.specs.KeyTexts.{read_secret_key}
 use Rattle.minisign_external.proofs.Utf8.{no_text, of_text}
 use Rattle.minisign_external.proofs.unopened_keys.read.Goals as goal
 

@@ -1,9 +1,9 @@
 use Rattle.std.proofs.Common.{◌≡◌, ◌⊎◌, ◌∙◌, ℕ, true, false, List, None, string_bytes, inl, inr, subst, sym}
 use Rattle.std.specs.declared.result.Result.TheVariants.{Ok}
 use Rattle.std.proofs.lemmas.Result.{IfOk-weaker}
-use Rattle.minisign.specs.Headline.{SigningHeadline}
-use Rattle.minisign.specs.Opening.{IsOpenedOrNoMemory, is_sealed_text, key_with_password, open_key}
-use Rattle.minisign.specs.Opening.{read_unencrypted_key}
+use Rattle.minisign.specs.Signing.{SigningHeadline}
+use Rattle.minisign.specs.Sealing.{IsOpenedOrNoMemory, is_sealed_text, key_with_password, open_key}
+use Rattle.minisign.specs.Sealing.{read_unencrypted_key}
 use Rattle.minisign.specs.Reading.{IsAhead}
 use Rattle.minisign.specs.Records.{SecretKeyRecord}
 use Rattle.minisign_vectors.proofs.passwords.sign_with_password.Goals as goal

@@ -2,7 +2,7 @@ use Rattle.std.proofs.Common.{Ok, Err, string_bytes, sym, subst}
 use Rattle.minisign.proofs.Common.{prompt_call, second_ended, stopped_first, typed_is, ConversationEnds}
 use Rattle.minisign.proofs.Common.{asking_steps, typed_password}
 use Rattle.minisign.proofs.Beginnings.{passed_up, told_fault, told_value}
-use Rattle.minisign.specs.Opening.{telling_steps, asking_text}
+use Rattle.minisign.specs.Sealing.{telling_steps, asking_text}
 use Rattle.minisign.proofs.secret_key.SecretKey.open_asking.Goals as goal
 
 pub returns-in_err-password-clause-refused : goal.returns-in_err-password-clause-refused

@@ -1,4 +1,4 @@
-use Rattle.minisign.specs.SecretKeyText.{default_secret_key_comment, secret_key_text}
+use Rattle.minisign.specs.KeyTexts.{default_secret_key_comment, secret_key_text}
 use Rattle.minisign.proofs.WrittenKeys.{default_lacks}
 use Rattle.minisign.proofs.secret_key.SecretKey.to_box.Goals as goal
 

@@ -1,6 +1,6 @@
 use Rattle.std.proofs.Common.{◌∙◌, refl, rules}
 use Rattle.minisign.specs.Records.{ReadsSecretKey, secret_key_bytes}
-use Rattle.minisign.specs.SecretKeyText.{secret_key_text}
+use Rattle.minisign.specs.KeyTexts.{secret_key_text}
 use Rattle.minisign.specs.Texts.{IsBase64Of, base64_of, untrusted_comment_label}
 use Rattle.minisign.proofs.SecretKeyTexts.{bytes_read_as}
 use Rattle.minisign.proofs.WrittenKeys.{secret_key_size, written_secret_key}
@@ -19,11 +19,11 @@ returns-clause-reads_back c = λ lacks.
       each = rw (c.deref.ensures.value ∙ c.in_ok-bytes.ensures.bytes) at c.in_ok-encoded.ensures.base64.each;
       encoded = refl;
     } in
-    written_secret_key _ _ _ _ k lacks base64 (((bytes_read_as _).value k).0
+    written_secret_key _ _ _ _ k lacks base64 ((bytes_read_as _ k).0
     (rw c.in_ok-bytes.ensures.bytes at c.in_ok-bytes.ensures.reads_back)) (returns-clause-text c)
 
 pub returns-clause-size : goal.returns-clause-size
 returns-clause-size c =
     let k = c.args.self.now in
-    secret_key_size _ _ k (((bytes_read_as _).value k).0
+    secret_key_size _ _ k ((bytes_read_as _ k).0
     (rw c.in_ok-bytes.ensures.bytes at c.in_ok-bytes.ensures.reads_back)) (returns-clause-text c)
