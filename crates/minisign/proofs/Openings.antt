@@ -115,7 +115,7 @@ text_opens _ password bound v h =
     (ap (λ m. open_sealed m password bound) same ∙ opened) in
     record {
       sealed = l;
-      read = (read_as _ l).0 read;
+      read = ((read_as _).value l).0 read;
       kdf = kdf;
       allowed = allowed;
       key =
@@ -130,14 +130,14 @@ some_work (Err e) ok = absurd (true≢false (sym ok))
 opens_text : (text password : List ℕ) (bound : Option ℕ) (v : SecretKeyRecord)
     → IsOpened text password bound v → open_key text password bound ≡ Ok v
 opens_text text _ _ v h =
-    let read = (read_as text h.sealed).1 h.read in
+    let read = ((read_as text).value h.sealed).1 h.read in
     let (w, work) = some_work _ h.allowed in
     open_text _ _ _ _ (sealed_text _ _ _ read (sealed_taken _ h.kdf))
     ∙ opened_so _ v _ _ w h.key work (rw ((bytes_eq-Decides _ _).1 h.restored) refl)
 
 pub opened_as : (text password : List ℕ) (bound : Option ℕ)
     → IsReading (IsOpened text password bound) (open_key text password bound)
-opened_as _ _ _ v = (text_opens _ _ _ v, opens_text _ _ _ v)
+opened_as _ _ _ = record { value = λ v. (text_opens _ _ _ v, opens_text _ _ _ v) }
 
 -- a key is taken as one that was never sealed exactly where it is one
 pub unencrypted_taken : (k : SecretKeyRecord) → k.kdf ≡ no_kdf → k.checksum ≡ checksum_of k
@@ -172,16 +172,18 @@ text_is_unencrypted _ v h =
     let (k, read, taken) = read_before _ _ v h in
     let (same, kdf, checksum) = unencrypted_held k v taken in
     record {
-      read = (read_as _ v).0 (read ∙ ap Ok same);
+      read = ((read_as _).value v).0 (read ∙ ap Ok same);
       kdf = ap (λ l. l.kdf) (sym same) ∙ kdf;
       checksum = rw same at checksum;
     }
 
 pub unencrypted_as : (text : List ℕ) → IsReading (IsUnencryptedText text) (read_unencrypted_key text)
-unencrypted_as _ v = (
-  text_is_unencrypted _ v,
-  λ h. unencrypted_text _ v _ ((read_as _ v).1 h.read) (unencrypted_taken v h.kdf h.checksum),
-)
+unencrypted_as _ = record {
+  value = λ v. (
+    text_is_unencrypted _ v,
+    λ h. unencrypted_text _ v _ (((read_as _).value v).1 h.read) (unencrypted_taken v h.kdf h.checksum),
+  );
+}
 
 -- how taking a key ends that was never sealed
 module _ (text : List ℕ) (k : SecretKeyRecord) (read : Ok k ≡ read_secret_key text) where
@@ -227,7 +229,8 @@ given_opening p _ _ _ k r same read (inr memory) = (same, inr (memory.0, rw read
 -- the headline of an opening
 pub headline_of : {R W : Type 0} (p : PromptCall R W) (given : Option (List ℕ)) (text : List ℕ)
     (bound : Option ℕ) (r : Result SecretKeyRecord Fault)
-    → IsOpening p given text bound r → IfSome given (λ p. IsOpenedOrNoMemory text bound r (open_key text p bound))
+    → IsOpening p given text bound r
+    → IfSome given (λ p. IsOpenedOrNoMemory text bound r (open_key text p bound))
 headline_of p None _ _ r h = tt
 headline_of p (Some _) _ _ r h = h.1
 

@@ -108,7 +108,7 @@ unfolding read_public_key
 read_text _ k h = read_lines _ _ k refl h
 
 pub read_as : (text : List ℕ) → IsReading (PublicKeyText text) (read_public_key text)
-read_as _ k = (read_text _ k, text_is_read _ k)
+read_as _ = record { value = λ k. (read_text _ k, text_is_read _ k) }
 
 -- a text is read by its lines
 pub of_lines : (text : List ℕ) (ls : List (List ℕ)) → lines text ≡ ls → read_public_key text ≡ key_in_lines ls
@@ -143,7 +143,7 @@ unfolding read_bare_public_key
 bare_length _ same = rw (eq-eqb _ 56 same) refl
 
 pub bare_read_as : (text : List ℕ) → IsReading (BarePublicKey text) (read_bare_public_key text)
-bare_read_as _ k = (read_bare _ k, bare_is_read _ k)
+bare_read_as _ = record { value = λ k. (read_bare _ k, bare_is_read _ k) }
 
 shown_label : AllShown (untrusted_comment_label ++ public_key_label)
 unfolding untrusted_comment_label public_key_label

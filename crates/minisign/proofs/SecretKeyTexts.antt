@@ -81,7 +81,7 @@ read_bytes bytes k h =
     rw (same_value _ k long.1) at (key_in_front bytes (leb-true 158 _ long.0))
 
 pub bytes_read_as : (bytes : List ℕ) → IsReading (ReadsSecretKey bytes) (read_secret_key_bytes bytes)
-bytes_read_as _ k = (read_bytes _ k, bytes_are_read _ k)
+bytes_read_as _ = record { value = λ k. (read_bytes _ k, bytes_are_read _ k) }
 
 -- a line is read by the bytes that it is the base64 of
 pub line_is_read : (line bytes : List ℕ) → IsBase64Of line bytes
@@ -123,7 +123,7 @@ unfolding read_secret_key
 read_text _ k h = read_lines _ _ k refl h
 
 pub read_as : (text : List ℕ) → IsReading (SecretKeyText text) (read_secret_key text)
-read_as _ k = (read_text _ k, text_is_read _ k)
+read_as _ = record { value = λ k. (read_text _ k, text_is_read _ k) }
 
 -- bytes whose front begins with the record of a key begin with it
 longer : (bytes : List ℕ) (n : ℕ) (k : SecretKeyRecord) → ReadsSecretKey (take n bytes) k

@@ -205,7 +205,7 @@ unfolding read_signature
 read_text _ t h = read_lines _ _ t refl h
 
 pub read_as : (text : List ℕ) → IsReading (SignatureText text) (read_signature text)
-read_as _ t = (read_text _ t, text_is_read _ t)
+read_as _ = record { value = λ t. (read_text _ t, text_is_read _ t) }
 
 -- a text is read by its lines
 pub of_lines : (text : List ℕ) (ls : List (List ℕ)) → lines text ≡ ls

@@ -60,7 +60,7 @@ genuine_box accepts sign public_of own sk message chosen first second keynum sig
       allowed = inl refl;
       signed = rw (key, same_signature, genuine.secret) digest_accepted;
       comment_signed = rw (
-        le-leb 64 _ (omega (arith, long)),
+        le-leb 64 (length global) (omega (arith, long)),
         take_all 64 global (omega (arith, long)),
         key,
         same_global,

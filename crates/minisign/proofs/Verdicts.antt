@@ -231,7 +231,7 @@ module _ (accepts : Verifier) (pk_text sig_text message : List ℕ) (legacy : Bo
       ∙ ap Ok (ap (λ c. option_map_or (λ c. c.trusted) c []) v.both ∙ v.trusted)
 
   pub verdict_decided : IsReading (TextsVouchWith accepts pk_text sig_text message legacy) answer
-  verdict_decided comment = (vouched _, vouched_verdict _)
+  verdict_decided = record { value = λ comment. (vouched _, vouched_verdict _) }
 
   -- the comment of the text is the one that was signed, where the texts vouch for the message
   pub signed_comment : (comment : List ℕ) → TextsVouchFor accepts pk_text sig_text message legacy

@@ -55,8 +55,8 @@ IsGivenOrNoMemory answer given = (answer ≡ given) ⊎ (answer ≡ Err (Named O
 
 -- what is read is a value exactly where the text reads as this value, by the relation: so as one at most, and
 -- as none where there is an error
-abbrev pub IsReading : {V E : Type 0} → (V → Type 0) → Result V E → Type 0
-IsReading {V = V} reads read = (v : V) → (read ≡ Ok v) ↔ reads v
+pub record IsReading {V E : Type 0} (reads : V → Type 0) (read : Result V E) : Type 0 where
+  pub value : (v : V) → (read ≡ Ok v) ↔ reads v
 
 -- how the first line of a written text begins
 unfoldable pub untrusted_comment_label : List ℕ

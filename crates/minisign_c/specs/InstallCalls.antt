@@ -35,8 +35,8 @@ IsAnswerNumber first second old new n =
     ⊎ (IsAnswer first × IsAnswer second
     × IsRejectionNumber (IsAnswerRefusal (first == answer_yes) (second == answer_yes) old new) n)
 
--- the number is that of what the comment is rejected for by itself: the two texts are not UTF-8, or this is
--- the first reason
+-- the number is that of what the comment is rejected for by itself: one of the two texts is not UTF-8, or
+-- both are, and this is the first reason
 abbrev pub IsJudgedNumber : List ℕ → List ℕ → Terms → ℕ → ℕ → Type 0
 IsJudgedNumber comment file terms kept n = (e : InstallFault) × (n ≡ install_number e)
     × TextsAreRead comment file (IsWorth terms kept comment) (Err e)

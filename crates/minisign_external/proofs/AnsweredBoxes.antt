@@ -28,7 +28,7 @@ answered_vouches accepts public message key_id chosen first second long answers 
       allowed = inl refl;
       signed = rw key answers.to_first;
       comment_signed =
-          rw (le-leb 64 _ (omega (arith, long)), take_all 64 second (omega (arith, long)), key)
+          rw (le-leb 64 (length second) (omega (arith, long)), take_all 64 second (omega (arith, long)), key)
           answers.to_second;
     })
 

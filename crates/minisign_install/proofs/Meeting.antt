@@ -2,7 +2,7 @@
 use Rattle.std.specs.Prelude.{bytes_eq, codes}
 use Rattle.std.proofs.Common.{Bool, Err, List, None, Ok, Result, Some, [], ap, append-nil, arith, cond, false}
 use Rattle.std.proofs.Common.{inl, inr, length, refl, subst, sym, true, ℕ, ⊎_elim, ◌++◌, ◌==◌, ◌∙◌, ◌∷◌, ◌≡◌}
-use Rattle.std.proofs.Common.{◌≢◌, le-leb}
+use Rattle.std.proofs.Common.{◌≢◌}
 use Rattle.std.proofs.lemmas.Bool.{cases_Bool, eq-eqb, eqb-true}
 use Rattle.std.specs.Bool.{Decides}
 use Rattle.std.proofs.lemmas.Slice.Eq.{bytes_eq-Decides}
@@ -491,7 +491,7 @@ vouched = record {
           same_key = signature_of_text.3 ∙ sym key_of_text.2;
           allowed = inl signature_of_text.4;
           signed = refl;
-          comment_signed = rw (le-leb 64 _ (omega (arith, signature_of_text.5))) refl;
+          comment_signed = rw signature_of_text.5 refl;
         };
   };
   comments = signature_of_text.0.comments;

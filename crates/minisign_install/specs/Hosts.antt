@@ -222,10 +222,12 @@ abbrev pub OutcomeIsExplained : (Due InstallFault → InstallFault → Host → 
 OutcomeIsExplained fails fine s due (Failed e) h h' = FindingIsRejected s due e h h' ⊎ fails due e h h'
 OutcomeIsExplained fails fine s due outcome h h' = fine h h'
 
--- of devices that count their errors: none was counted, and what is said of a call that failed is why
+-- of devices that count their errors: none was counted
 abbrev pub CountsStay : Host → Host → Type 0
 CountsStay h h' = h'.faults ≡ h.faults
 
+-- what is said of a call that failed is why it did, or why what was found is rejected; and of any other that
+-- no error was counted
 abbrev pub CountsExplain : Setting → Due InstallFault → Outcome InstallFault → Host → Host → Type 0
 CountsExplain s = OutcomeIsExplained (CallFailsFor s) CountsStay s
 

@@ -19,11 +19,11 @@ returns-clause-reads_back c = λ lacks.
       each = rw (c.deref.ensures.value ∙ c.in_ok-bytes.ensures.bytes) at c.in_ok-encoded.ensures.base64.each;
       encoded = refl;
     } in
-    written_secret_key _ _ _ _ k lacks base64 ((bytes_read_as _ k).0
+    written_secret_key _ _ _ _ k lacks base64 (((bytes_read_as _).value k).0
     (rw c.in_ok-bytes.ensures.bytes at c.in_ok-bytes.ensures.reads_back)) (returns-clause-text c)
 
 pub returns-clause-size : goal.returns-clause-size
 returns-clause-size c =
     let k = c.args.self.now in
-    secret_key_size _ _ k ((bytes_read_as _ k).0
+    secret_key_size _ _ k (((bytes_read_as _).value k).0
     (rw c.in_ok-bytes.ensures.bytes at c.in_ok-bytes.ensures.reads_back)) (returns-clause-text c)
