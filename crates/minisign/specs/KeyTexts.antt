@@ -63,12 +63,12 @@ pub record BarePublicKey (text : List ℕ) (k : PublicKeyRecord) : Type 0 where
 unfoldable pub public_key_label : List ℕ
 public_key_label = codes "minisign public key: "
 
--- the text that is written for a key with a comment of the caller's: the comment, and the record in base64
+-- the text of a key with a comment of the caller's: the comment, and the record in base64
 abbrev pub commented_public_key_text : List ℕ → PublicKeyRecord → List ℕ
 commented_public_key_text comment k = line (untrusted_comment_label ++ comment)
     ++ line (base64_of (public_key_bytes k))
 
--- the text that is written for a key: the comment says its key ID
+-- the text that is written for a key, whose comment says its key ID
 abbrev pub public_key_text : PublicKeyRecord → List ℕ
 public_key_text k = commented_public_key_text (public_key_label ++ key_id_text k.keynum) k
 

@@ -28,13 +28,6 @@ pub record SignatureTextRecord : Type 0 where
 abbrev pub box_of : SignatureTextRecord → SignatureBoxRecord
 box_of t = record { signature = t.signature; comments = Some t.comments }
 
--- a signature, an untrusted comment, a trusted one, and the signature of the comment
-abbrev pub with_comments : SignatureRecord → List ℕ → List ℕ → List ℕ → SignatureTextRecord
-with_comments s untrusted trusted signature = record {
-  signature = s;
-  comments = record { untrusted = untrusted; trusted = trusted; signature = signature };
-}
-
 -- there are four lines; later ones do not matter; the first and the third line are a label and a comment, the
 -- trusted one trimmed; the second and the fourth, trimmed, are base64, the second of bytes that begin with
 -- the 74 of the signature, of an algorithm that is known
@@ -53,12 +46,18 @@ signature_in_lines (first ∷ second ∷ third ∷ fourth ∷ later) =
     (require (bytes_eq algorithm legacy_algorithm || bytes_eq algorithm prehashed_algorithm)
     named.UnsupportedSignatureAlgorithm
     (require (is_base64 (trim fourth)) named.SignatureNotBase64
-    (Ok (with_comments (record {
-      algorithm = algorithm;
-      keynum = take 8 (drop 2 bytes);
-      signature = take 64 (drop 8 (drop 2 bytes));
-    }) (drop (length untrusted_comment_label) first) (trim (drop (length trusted_comment_label) third))
-    (base64_bytes (trim fourth)))))))))
+    (Ok (record {
+      signature = record {
+        algorithm = algorithm;
+        keynum = take 8 (drop 2 bytes);
+        signature = take 64 (drop 8 (drop 2 bytes));
+      };
+      comments = record {
+        untrusted = drop (length untrusted_comment_label) first;
+        trusted = trim (drop (length trusted_comment_label) third);
+        signature = base64_bytes (trim fourth);
+      };
+    })))))))
 
 -- what a text reads as
 unfoldable pub read_signature : List ℕ → Result SignatureTextRecord Fault
@@ -69,6 +68,13 @@ abbrev pub read_signature_box : List ℕ → Result SignatureBoxRecord Fault
 read_signature_box text = map_ok box_of (read_signature text)
 
 -- == The grammar as a relation ==
+
+-- a signature, an untrusted comment, a trusted one, and the signature of the comment
+abbrev pub with_comments : SignatureRecord → List ℕ → List ℕ → List ℕ → SignatureTextRecord
+with_comments s untrusted trusted signature = record {
+  signature = s;
+  comments = record { untrusted = untrusted; trusted = trusted; signature = signature };
+}
 
 -- the text reads as the signature with its comments, in the same four lines
 pub record SignatureText (text : List ℕ) (t : SignatureTextRecord) : Type 0 where

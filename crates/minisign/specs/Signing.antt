@@ -143,7 +143,7 @@ abbrev pub GivesKey : {R W : Type 0} → PromptCall R W → Option (List ℕ) �
 GivesKey p password text answer = ((is_sealed_text text ≡ true) × IsOpening p password text None answer)
     ⊎ ((is_sealed_text text ≡ false) × (p.new ≡ p.old) × (answer ≡ read_unencrypted_key text))
 
--- the text of the box that the key signs the message with, with random bytes that were drawn
+-- the text of the box that signing makes of the message with random bytes that were drawn
 pub record IsSignedText {Z : Type 0} (sign : Signer) (sk : SecretKeyRecord) (message : List ℕ)
     (chosen : ChosenComments) (z : RandomCall Z) (text : List ℕ) : Type 0 where
   pub box : SignatureBoxRecord

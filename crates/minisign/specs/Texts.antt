@@ -1,5 +1,4 @@
--- What texts of keys and signatures are made of: lines, base64 as RFC 4648 section 4 has it, and tests in an
--- order.
+-- What texts of keys and signatures are made of: lines, base64 by RFC 4648 section 4, and tests in an order.
 use Rattle.std.specs.Prelude.{◌≡◌, ◌↔◌, ◌⊎◌, ℕ, ◌%◌, Bool, if◌then◌else◌, bytes_eq, map, List, Result, Ok}
 use Rattle.std.specs.Prelude.{Err, codes, [], ◌∷◌, ◌++◌}
 use Rattle.minisign_base.specs.Fault.{Fault, Named}
