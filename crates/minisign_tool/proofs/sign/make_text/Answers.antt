@@ -27,11 +27,11 @@ returns-clause-signed g c =
       read = rw c.deref.ensures c.in_ok-sk_text.ensures.text;
       signs = record {
         key = h.0;
-        message = h.1;
-        given = h.2;
-        read = h.3;
-        signed = h.4.0;
-        vouched = λ seed genuine. h.4.1 seed genuine c.default_comments_are_read_back.ensures.one_line;
+        message = h.2.0;
+        given = h.1;
+        read = h.2.1;
+        signed = h.2.2.0;
+        vouched = λ seed genuine. h.2.2.1 seed genuine c.default_comments_are_read_back.ensures.one_line;
       };
     })
     c.sign_texts.ensures.signed

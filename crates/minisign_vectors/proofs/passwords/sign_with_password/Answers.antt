@@ -28,7 +28,7 @@ same_key old new text password sk key (inr (plain, same, h)) opens =
 pub returns : goal.returns
 returns g c = λ key opened.
     IfOk-weaker c.sign_texts.result _ _
-    (λ t (sk, message, given, read, (signed, headline)).
+    (λ t (sk, given, (message, read, (signed, headline))).
     let same = subst (λ known. IsAhead known message) c.new.ensures.ahead read.given in
     let this = same_key _ _ c.args.sk_text.now (string_bytes c.args.password) sk key given opened in
     subst (λ k. SigningHeadline (g.S.Scheme.accepts c.args.scheme.now)
