@@ -1,20 +1,17 @@
 #!/usr/bin/env python3
 """Tries the module of `bindings/go` as its user has it: packed, unpacked into an empty directory, and built by
-Debian's Go without network and kit, by a program of another module, also from its directory `vendor` alone.
+Debian's Go without network and kit, by a program of another module, also from its directory `vendor` alone, and as a
+dependency by a git path, in a path with blanks, with no make in PATH.
 
     tests/bindings/go.py
 
 Its own tests and examples run under `go vet` and under the race detector, over each copy of the calls for x86-64, and
-for AArch64 in an emulator. Over the calls as C it answers the same here, for ARM with pointers of 32 bits, and for
-Windows under wine. As a dependency by a git path it is built in a path with blanks, with no make in PATH; without cgo
-a sentence says so. Its answers to kept keys and signatures, to damaged ones, to data in pieces and in files, and to
-signatures that implementations of Ed25519 differ in are compared with `c/minisign` and with libsodium; its reasons,
-with the numbers of the header. `c/minisign` reads the keys and signatures that it makes, and the other way; no key
-shows its secret, none is left of one that was cleared, and none is sealed weakly. 20,000 damaged texts, and keys and
-signatures that the caller has changed since they were read, or put together, get the verdict of go-minisign, which is
-run beside, but for differences that tables name. Many calls take no more memory, and threads get the same answers,
-under the race detector too. The program of README.md is built. Each of some planted bugs is noticed. It prints a line
-for each failure; the last line is `N passed, M failed`.
+for AArch64 in an emulator; over the calls as C it answers the same here, for ARM with pointers of 32 bits, and for
+Windows under wine; without cgo a sentence says so. What it answers is compared with `c/minisign`, with libsodium and
+with the header (`ask_all`). 20,000 damaged texts, and keys and signatures that the caller has changed since they were
+read, or put together, get the verdict of go-minisign, which is run beside, but for differences that tables name. The
+program of README.md is built. Each of some planted bugs is noticed. It prints a line for each failure; the last line
+is `N passed, M failed`.
 
 Needs Python 3.9 or later, golang-go, make, a C compiler, binutils and libsodium with its header, and of Debian
 golang-github-jedisct1-go-minisign-dev, gcc-aarch64-linux-gnu, libc6-dev-arm64-cross, gcc-arm-linux-gnueabihf,
@@ -22,6 +19,7 @@ libc6-dev-armhf-cross, qemu-user-static, gcc-mingw-w64-x86-64, wine64 and git. I
 """
 
 import base64
+import glob
 import os
 import re
 import shutil
@@ -38,36 +36,18 @@ import portable
 import shared_cases
 import static_library
 from emulated import Kind
-from shared_cases import TOP, run, write
+from shared_cases import TOP, Program, read, run, write
 
 PACKAGE = os.path.join(TOP, "bindings", "go")
 LINES = 500
 # What tools/bindings.py makes.
 MADE = ("errors.go", "header.go")
-CALLS = 100_000
-# How many pages of 4 KiB may be in memory after all calls that were not after a tenth of them.
-PAGES = 512
+# How many pages of 4 KiB may be in memory after so many calls that were not after a tenth of them; and after so many keys.
+CALLS, KEYS, PAGES = 20_000, 5_000, 256
 # go-minisign, as Debian has it, below a directory of sources.
 SOURCES, GO_MINISIGN = "/usr/share/gocode", "github.com/jedisct1/go-minisign"
-
-# The changes of go/changed.go, each with the header's name of why it is rejected.
-CHANGES = {
-    "none": None, "a copy": None, "put together from fields": None, "written as JSON and read": None,
-    "a key of zeros": "UNSUPPORTED_ALGORITHM", "a signature of zeros": "UNTRUSTED_COMMENT_PREFIX",
-    "another algorithm of the key": "UNSUPPORTED_ALGORITHM", "another identifier of the key": "DIFFERENT_KEY_IDS",
-    "another key": "SIGNATURE_REFUSED", "another untrusted comment": None, "no untrusted comment": "UNTRUSTED_COMMENT_PREFIX",
-    "another first line": "UNTRUSTED_COMMENT_PREFIX", "an untrusted comment of two lines": "SIGNATURE_NOT_BASE64",
-    "another trusted comment behind a genuine text": "BAD_COMMENT", "the older algorithm": "SIGNATURE_REFUSED",
-    "another algorithm": "UNSUPPORTED_ALGORITHM", "another identifier": "DIFFERENT_KEY_IDS", "another signature": "SIGNATURE_REFUSED",
-    "another trusted comment": "COMMENT_SIGNATURE_REFUSED", "a longer trusted comment": "COMMENT_SIGNATURE_REFUSED",
-    "a blank behind the trusted comment": "BAD_COMMENT", "a line feed behind the trusted comment": "BAD_COMMENT",
-    "a carriage return behind the trusted comment": "BAD_COMMENT", "no trusted comment": "TRUSTED_COMMENT_PREFIX",
-    "another third line": "TRUSTED_COMMENT_PREFIX", "a trusted comment that is no UTF-8": "NOT_UTF8",
-    "another signature of the comment": "COMMENT_SIGNATURE_REFUSED", "no signature of the comment": "COMMENT_SIGNATURE_REFUSED",
-}
-# Of these go-minisign, which does not look at the first line, says that they are good.
+# Of the changes of go/changed.go go-minisign, which does not look at the first line, says that these are good.
 OTHERWISE = ["no untrusted comment", "another first line", "an untrusted comment of two lines"]
-
 # How many damaged texts are asked of both.
 DAMAGED = 20_000
 
@@ -102,7 +82,7 @@ REJECTED_HERE = {
     "UNTRUSTED_COMMENT_PREFIX": lambda case: not case.signature.startswith(b"untrusted comment: "),
     "PUBLIC_KEY_LENGTH": lambda case: len(line_of(case.key, 2)) != 56,
     "SIGNATURE_NOT_BASE64": lambda case: not all(is_canonical(line_of(case.signature, number)) for number in (2, 4)),
-    "SIGNATURE_REFUSED": lambda case: case in shared_cases.vector_cases(),
+    "SIGNATURE_REFUSED": lambda case: case in [vector for vector, _ in shared_cases.vector_texts()],
 }
 # Which cases go-minisign rejects, by its words, and this package accepts.
 REJECTED_THERE = {
@@ -115,190 +95,142 @@ REJECTED_THERE = {
 
 
 class Go:
-    """Runs go with what it keeps in a directory of its own, and no network."""
+    """Runs go with what it keeps in a directory of its own, and no network. C that is not to be tried by running it is compiled without
+    optimizing; `AS_USUAL` compiles it as go does."""
 
-    def __init__(self, room):
+    AS_USUAL = {"CGO_CFLAGS": "-g -O2"}
+
+    def __init__(self, room, **environment):
         self.go = needs.program("go", "golang-go")
         self.environment = {"GOPROXY": "off", "GOFLAGS": "", "GOCACHE": f"{room}/cache", "GOPATH": f"{room}/path",
-                            "GOTOOLCHAIN": "local", "CGO_ENABLED": "1", "CC": needs.c_compiler(),
-                            "PATH": static_library.path_without_kit()}
+                            "GOTOOLCHAIN": "local", "CGO_ENABLED": "1", "CC": needs.c_compiler(), "CGO_CFLAGS": "-O0",
+                            "PATH": static_library.path_without_kit(), **environment}
 
-    def run(self, directory, *words, environment=None):
-        status, said, why = run([self.go, *words], directory, {**self.environment, **(environment or {})})
+    def run(self, directory, *words, **environment):
+        status, said, why = run([self.go, *words], directory, {**self.environment, **environment})
         if status != 0:
             raise static_library.NotBuilt(f"go {' '.join(words)}: {said.decode(errors='replace')[-1500:]}{why[-1500:]}")
         return said.decode(errors="replace")
 
-    def build(self, source, directory, package, *words):
+    def begin(self, directory, package):
+        """Begins a module that uses the package, as README.md tells a user."""
+        self.run(directory, "mod", "init", "user")
+        self.run(directory, "mod", "edit", "-require=proved/minisign@v0.0.0", f"-replace=proved/minisign={package}")
+
+    def build(self, source, directory, package, *words, **environment):
         """A program over the package, of one source of this directory, built in a module of its own."""
         os.makedirs(directory)
         self.begin(directory, package)
         shutil.copy(os.path.join(HERE, "go", source), directory)
-        self.run(directory, "build", "-o", "program", *words)
+        self.run(directory, "build", "-o", "program", *words, **environment)
         return os.path.join(directory, "program")
 
     def build_their(self, source, directory):
         """The program of a source over go-minisign."""
         needs.need(lambda: os.path.isdir(f"{SOURCES}/src/{GO_MINISIGN}") or None, "go-minisign", "golang-github-jedisct1-go-minisign-dev")
         os.makedirs(directory)
-        text = shared_cases.read(os.path.join(HERE, "go", source)).decode()
-        write(directory, source, text.replace('"proved/minisign"', f'"{GO_MINISIGN}"').encode())
-        self.run(directory, "build", "-o", "program", environment={"GO111MODULE": "off", "GOPATH": SOURCES})
+        write(directory, source, read(HERE, "go", source).replace(b'"proved/minisign"', f'"{GO_MINISIGN}"'.encode()))
+        self.run(directory, "build", "-o", "program", GO111MODULE="off", GOPATH=SOURCES)
         return os.path.join(directory, "program")
-
-    def begin(self, directory, package):
-        """Begins a module that uses the package, as README.md tells a user."""
-        self.run(directory, "mod", "init", os.path.basename(directory))
-        self.run(directory, "mod", "edit", "-require=proved/minisign@v0.0.0", f"-replace=proved/minisign={package}")
 
 
 def check_sources(checks):
-    """The package is small, calls C in one file alone, and has the errors of the header."""
+    """The package is small, and calls C in one file alone."""
     shared_cases.check_readme(checks, "go")
     lines = 0
-    for name in sorted(os.listdir(PACKAGE)):
-        if not name.endswith(".go") or name.endswith("_test.go"):
-            continue
-        text = shared_cases.read(os.path.join(PACKAGE, name)).decode()
-        if name in MADE:
-            status, said, _ = run([sys.executable, os.path.join(TOP, "tools", "bindings.py"), "--check"])
-            checks.check(status == 0, said.decode())
-            continue
-        lines += sum(1 for line in text.splitlines() if line.strip() and not line.strip().startswith("//"))
-        checks.check(name == "raw.go" or 'import "C"' not in text and '"unsafe"' not in text, f"{name}: it calls C")
+    for path in sorted(glob.glob(f"{PACKAGE}/*.go")):
+        name, text = os.path.basename(path), read(path).decode()
+        if name not in MADE and not name.endswith("_test.go"):
+            lines += sum(1 for line in text.splitlines() if line.strip() and not line.strip().startswith("//"))
+            checks.check(name == "raw.go" or 'import "C"' not in text and '"unsafe"' not in text, f"{name}: it calls C")
     checks.check(lines <= LINES, f"the package has {lines} lines")
 
 
-def check_answers(checks, program, room, minisign):
-    """The program answers kept and damaged texts as `c/minisign` does."""
-    cases = shared_cases.corpus() + shared_cases.damaged() + shared_cases.large(minisign, room)
-    any_kind, strict = (shared_cases.answers_of(minisign, room, cases, allow) for allow in (True, False))
-    checks.check(60 <= sum(comment is not None for comment in any_kind) <= 200, "of the cases too few, or too many, are accepted")
-    checks.check(strict[-2:] == [b"large", None], f"c/minisign answers {strict[-2:]} to the large data")
-    runs = [("at once", ["verify"], any_kind), ("from files", ["files", room], any_kind)]
-    runs += [(f"in pieces of {length}", ["pieces", str(length)], strict) for length in (1, 128, 1000, 0)]
-    for what, words, wanted in runs:
-        status, said, why = run([program, *words], data=shared_cases.lines_of(cases))
-        checks.check(status == 0, f"{what}: the program ended with {status}: {why}")
-        shared_cases.compare(checks, what, cases, said, wanted)
+# ---- What its programs answer ----
 
 
-def check_vectors(checks, program):
-    """Its Ed25519 answers as libsodium does: which of the two signatures of a text is rejected tells what it answered to the first."""
-    cases, numbers = shared_cases.vector_cases(), shared_cases.error_numbers()
-    wanted = [vector[-1] for vector in shared_cases.vectors()] + [False] * 3
-    said = run([program, "verify"], data=shared_cases.lines_of(cases))[1].decode().splitlines()
-    checks.check(len(said) == len(cases) == 296, f"{len(said)} answers to {len(cases)} vectors")
-    for case, line, accepted in zip(cases, said, wanted):
-        number = numbers["COMMENT_SIGNATURE_REFUSED" if accepted else "SIGNATURE_REFUSED"]
-        checks.check(line.startswith(f"rejected {number} "), f"the vector {case.name}: {line}")
-
-
-def check_rejections(checks, program):
-    """What is rejected is so for the reason that the header names, told by its number."""
-    numbers, cases = shared_cases.error_numbers(), list(shared_cases.rejections())
-    said = run([program, "pieces", "7"], data=shared_cases.lines_of([case for case, _ in cases]))[1].decode().splitlines()
-    checks.check(len(said) == len(cases), f"{len(said)} answers to {len(cases)} rejections")
-    for (case, name), line in zip(cases, said):
-        checks.check(line.startswith(f'rejected {numbers[name]} "minisign: '), f"{case.name}: {line} in place of {name}")
-    bare = shared_cases.read(os.path.join(shared_cases.CORPUS, "published.pub")).decode().split("\n")[1]
-    record = base64.b64decode(bare)
-    said = run([program, "bare", bare])[1].decode()
-    checks.check(said == f"{record[2:10].hex()} {record[10:].hex()} <nil>\n", f"a key alone: {said}")
-    for text in (bare[:-1], bare[:-1] + "!", f"x\n{bare}"):
-        said = run([program, "bare", text])[1].decode()
-        checks.check("minisign: base64 conversion failed" in said, f"the key {text!r} alone: {said}")
-
-
-def check_read(checks, program):
-    """The program tells key IDs and algorithms before anything is asked."""
-    lines = shared_cases.lines_of([reading.case for reading in shared_cases.readings()])
-    form = lambda reading: f"{reading.key_id.hex()} {reading.signature_key_id.hex()} {'Ed' if reading.is_legacy else 'ED'}"
-    shared_cases.check_readings(checks, "what is read", run([program, "read"], data=lines)[1], form)
+def ask_all(program, room, minisign, cases):
+    """All that is asked of a program that verifies; data in pieces has no legacy signatures."""
+    told = lambda name: rf'rejected {name} "minisign: .*"'
+    program.ask_answers(minisign, cases, (["verify"], True), (["files", room], True),
+                        *((["pieces", str(length)], False) for length in (1, 128, 1000, 0)))
+    program.ask_reasons(["verify"], shared_cases.vector_texts(), told)
+    program.ask_reasons(["pieces", "7"], shared_cases.rejections(), told)
+    program.ask_readings(["read"], lambda reading: f"{reading.key_id.hex()} {reading.signature_key_id.hex()} {'Ed' if reading.is_legacy else 'ED'}")
+    key = shared_cases.LETTERS
+    record, wrong = base64.b64decode(key), "minisign: base64 conversion failed"
+    for text, wanted in ((key, f"{record[2:10].hex()} {record[10:].hex()} <nil>\n"), (key[:-1], wrong), (key[:-1] + "!", wrong), (f"x\n{key}", wrong)):
+        said = program.run("bare", text)[1].decode()
+        program.checks.check(said == wanted or wanted == wrong in said, f"the key {text!r} alone: {said}")
 
 
 def verdicts(program):
-    """What a program of go/changed.go says of each change: the verdict, and the error."""
-    said = run([program, *(os.path.join(shared_cases.CORPUS, name) for name in ("published.pub", "test", "published.minisig"))])
-    return dict(re.findall("^(.*): ((?:true|false), .*)$", said[1].decode(), re.M))
+    """What a program of go/changed.go says of each change: for what it has to be rejected, if it has, the verdict, and the error."""
+    said = run([program, *shared_cases.PATHS])[1].decode()
+    return re.findall(r"^(.*): (\w*): (true|false), (.*)$", said, re.M)
 
 
 def check_changed(checks, program):
     """What the caller changes in a key or a signature is what is verified."""
-    said, texts = verdicts(program), shared_cases.error_texts()
-    wanted = {name: "true, <nil>" if why is None else f"false, minisign: {texts[why]}" for name, why in CHANGES.items()}
-    for name in {**said, **wanted}:
-        checks.check(said.get(name) == wanted.get(name), f"changed, {name}: {said.get(name)} in place of {wanted.get(name)}")
+    found, texts = verdicts(program), shared_cases.error_texts()
+    checks.check(len(found) >= 28, f"{len(found)} changes")
+    for name, why, verdict, error in found:
+        wanted = ("false", f"minisign: {texts[why]}") if why else ("true", "<nil>")
+        checks.check((verdict, error) == wanted, f"changed, {name}: {verdict}, {error} in place of {wanted}")
 
 
 def check_go_minisign(checks, go, room, program):
     """go-minisign has the same verdicts on texts, and on what the caller changes, but for those of the tables."""
-    cases, numbers = shared_cases.corpus() + shared_cases.damaged(DAMAGED) + shared_cases.vector_cases(), shared_cases.error_numbers()
-    names, lines, found = {str(number): name for name, number in numbers.items()}, shared_cases.lines_of(cases), set()
-    ours, theirs = (run(words, data=lines)[1].decode().splitlines() for words in ([program, "verify"], [go.build_their("verdicts.go", f"{room}/verdicts")]))
+    cases = shared_cases.corpus() + shared_cases.damaged(DAMAGED) + [case for case, _ in shared_cases.vector_texts()]
+    their = Program(checks, go.build_their("verdicts.go", f"{room}/verdicts"))
+    ours, theirs = (asked.run("verify", cases=cases)[1].decode().splitlines() for asked in (program, their))
     checks.check(len(ours) == len(theirs) == len(cases) > DAMAGED, f"{len(ours)} and {len(theirs)} answers to {len(cases)} cases")
+    found = set()
     for case, here, there in zip(cases, ours, theirs):
         if here.startswith("accepted") != there.startswith("true"):
-            why, table = (names[here.split()[1]], REJECTED_HERE) if here.startswith("rejected") else (there.partition(", ")[2], REJECTED_THERE)
+            why, table = (here.split()[1], REJECTED_HERE) if here.startswith("rejected") else (there.partition(", ")[2], REJECTED_THERE)
             found.add(why)
             checks.check(why in table and table[why](case), f"go-minisign, {case.name}: {here}, and {there}")
     checks.check(found == {*REJECTED_HERE, *REJECTED_THERE}, f"go-minisign differs in {found}")
-    said = verdicts(go.build_their("changed.go", f"{room}/their"))
-    for name, why in CHANGES.items():
-        wanted = "true" if why is None or name in OTHERWISE else "false"
-        checks.check(said.get(name, "").partition(",")[0] == wanted, f"changed, {name}: go-minisign says {said.get(name)}")
+    for name, why, verdict, _ in verdicts(go.build_their("changed.go", f"{room}/their")):
+        checks.check(verdict == ("false" if why and name not in OTHERWISE else "true"), f"changed, {name}: go-minisign says {verdict}")
 
 
-def check_errors(checks, program):
+def check_errors(program):
     """Each error has the number, the name and the text of the header, and is found where another error wraps it."""
-    texts, names = shared_cases.error_texts(), {number: name for name, number in shared_cases.error_numbers().items() if number != 0}
-    said = run([program, "errors"])[1].decode().splitlines()
-    checks.check(len(said) == 1000 and len(names) > 50, f"{len(said)} numbers of errors")
+    names, said = {number: name for name, number in shared_cases.error_numbers().items() if number != 0}, program.run("errors")[1].decode().splitlines()
+    program.checks.check(len(said) == 1000 and len(names) > 50, f"{len(said)} numbers of errors")
     for number, line in enumerate(said):
         name = names.get(number)
-        wanted = f'{number} "{name}" true minisign: {texts[name]}' if name else f'{number} "" true '
-        checks.check(line.startswith(wanted) and (name is None or line == wanted), f"the error {number}: {line}")
+        wanted = f'{number} "{name}" true minisign: {shared_cases.error_texts()[name]}' if name else f'{number} "" true '
+        program.checks.check(line == wanted if name else line.startswith(wanted), f"the error {number}: {line}")
 
 
-# What stands around the examples of README.md.
-README_PROGRAM = """package main
+# What signing.go says of how a key is shown, of what is left of it, and of arguments that are none.
+SHOWN = [*(f"{verb} true" for verb in ("%v", "%+v", "%#v", "%s", "%q", "%x", "%d") for _ in range(2)), "true", "false", "true",
+         "KEY_NOT_OPENED", "KEY_NOT_OPENED", "[0 0 0 0 0 0 0 0 0]"]
+WRONG = ["minisign: reader is nil", "minisign: key is nil", *["minisign: password is empty: EncodeUnsealed makes a key that takes none"] * 2,
+         "MISSING_SECRET_KEY_COMMENT", "KEY_NOT_OPENED", "KEY_NOT_OPENED", "NOT_BEGUN", "NOT_BEGUN"]
 
-import (
-	"bytes"
-	"fmt"
-	"io"
-	"log"
-	"os"
 
-	"proved/minisign"
-)
-
-func stream(key minisign.PublicKey, signature minisign.Signature, reader io.Reader, progress io.Writer) error {
-STREAM}
-
-func sign(password []byte) error {
-SIGN}
-
-func main() {
-	if len(os.Args) > 1 {
-		if err := sign(nil); err != nil {
-			log.Fatal(err)
-		}
-		return
-	}
-VERIFY	file, _ := os.Open("app")
-	var seen bytes.Buffer
-	fmt.Println(signature.TrustedComment, stream(key, signature, file, &seen), seen.Len())
-}
-"""
+def check_signing(program, room, minisign, opens=True):
+    """The program and `c/minisign` read each other's keys and signatures; no key shows its secret, and nothing is left of one that was
+    cleared."""
+    for word, wanted in (("shown", SHOWN), ("wrong", WRONG)):
+        status, said, why = program.run(word)
+        program.checks.check(said.decode().splitlines() == wanted, f"{word}: {status}, {said.decode()}, {why[-500:]}")
+    shared_cases.check_signing(program, room, minisign, opens=opens)
 
 
 def check_readme(checks, go, room, package, minisign):
     """The examples of README.md accept a file that its key has signed, and no other one; and sign one."""
     directory = os.path.join(room, "readme")
     os.makedirs(directory)
-    verify, sign, stream = re.findall(r"```go\n(.*?)```", shared_cases.read(os.path.join(package, "README.md")).decode(), re.S)
-    write(directory, "main.go", README_PROGRAM.replace("VERIFY", verify).replace("SIGN", sign).replace("STREAM", stream).encode())
+    verify, sign, stream = re.findall(r"```go\n(.*?)```", read(package, "README.md").decode(), re.S)
+    program = read(HERE, "go", "readme.go").decode()
+    for mark, example in (("VERIFY", verify), ("SIGN", sign), ("STREAM", stream)):
+        program = program.replace(f"\t// {mark}\n", example)
+    write(directory, "main.go", program.encode())
     go.begin(directory, package)
     # (it is built of what Go has put into its directory `vendor`, as if nothing else were there)
     go.run(directory, "mod", "vendor")
@@ -306,31 +238,19 @@ def check_readme(checks, go, room, package, minisign):
     os.rename(package, away)
     go.run(directory, "build", "-mod=vendor", "-o", "readme")
     os.rename(away, package)
-    shutil.copy(os.path.join(shared_cases.CORPUS, "test"), os.path.join(directory, "app"))
+    shutil.copy(shared_cases.PATHS[1], os.path.join(directory, "app"))
     run([minisign, "-G", "-W", "-s", "app.key", "-p", "app.pub"], directory)
-    status, said, told = run([os.path.join(directory, "readme"), "sign"], directory)
+    ran = run([os.path.join(directory, "readme"), "sign"], directory)
     verified = run([minisign, "-V", "-Q", "-p", "app.pub", "-m", "app"], directory)
-    checks.check((status, verified[1]) == (0, b"version:2\tfile:app\n"), f"the example of README.md that signs: {status} {said!r} {told} {verified}")
-    refused, none = "Signature verification failed", "no such file or directory"
-    for app, minisig, wanted, why in (("test", "published.minisig", "trusted comment: timestamp:1556193335\tfile:test <nil> 4\n", ""),
-                                      ("hello", "published.minisig", "", refused), ("test", None, "", none)):
+    checks.check((ran[0], verified[1]) == (0, b"version:2\tfile:app\n"), f"the example of README.md that signs: {ran} {verified}")
+    shutil.copy(shared_cases.PATHS[2], os.path.join(directory, "app.minisig"))
+    for app, wanted, why in (("test", "trusted comment: timestamp:1556193335\tfile:test <nil> 4\n", ""), ("hello", "", "Signature verification failed"),
+                             ("test", "", "no such file or directory")):
         shutil.copy(os.path.join(shared_cases.CORPUS, app), os.path.join(directory, "app"))
-        if minisig is None:
+        if why.startswith("no such"):
             os.remove(os.path.join(directory, "app.minisig"))
-        else:
-            shutil.copy(os.path.join(shared_cases.CORPUS, minisig), os.path.join(directory, "app.minisig"))
         status, said, told = run([os.path.join(directory, "readme")], directory)
         checks.check((status, said.decode()) == (int(why != ""), wanted) and why in told, f"the examples of README.md, {app}: {status} {said!r} {told}")
-
-
-def check_arm(checks, go, package):
-    """The package's own tests, built for AArch64 and run in an emulator."""
-    compiler, emulator = needs.program("aarch64-linux-gnu-gcc", "gcc-aarch64-linux-gnu"), needs.program("qemu-aarch64-static", "qemu-user-static")
-    root = "/usr/aarch64-linux-gnu"
-    needs.need(lambda: os.path.exists(f"{root}/include/stdio.h") or None, "the C library for AArch64", "libc6-dev-arm64-cross")
-    said = go.run(package, "test", "-count=1", "-v", "-exec", f"{emulator} -L {root}", "./...",
-                  environment={"GOARCH": "arm64", "CC": compiler})
-    checks.check(said.count("--- PASS: ") >= 6, f"go test for AArch64: {said[-500:]}")
 
 
 # ---- Where it is built ----
@@ -340,156 +260,55 @@ NEEDED = ("go", "gcc", "ld", "as", "git")
 NO_CGO = "minisign calls C: set CGO_ENABLED=1, and CC to a C compiler for this system"
 
 
-def verdicts_of(command, cases):
-    """Whether a program accepts each case."""
-    said = run([*command, "verify"], environment={"WINEDEBUG": "-all"}, data=shared_cases.lines_of(cases))
-    return said[1].replace(b"\r", b"")
+def check_own_tests(checks, go, package):
+    """The package's own tests and examples: under the race detector, over the other archive for x86-64, and for AArch64 in an emulator."""
+    checks.check(go.run(package, "vet", "./...") == "", "go vet has words")
+    arm = emulated.AARCH64
+    in_emulator = ["-exec", " ".join(emulated.emulator(arm))], {"GOARCH": "arm64", "CC": emulated.compiler(arm)}
+    for words, environment in ((["-race"], {}), (["-tags", "amd64.v3"], {}), in_emulator):
+        said = go.run(package, "test", "-count=1", "-v", *words, "./...", **environment)
+        checks.check(said.count("--- PASS: ") >= 6 and "--- SKIP" not in said, f"go test {words}: {said[-500:]}")
 
 
-# What signing.go says of how a key is shown, of what is left of it, and of arguments that are none.
-SHOWN = [*(f"{verb} true" for verb in ("%v", "%+v", "%#v", "%s", "%q", "%x", "%d") for _ in range(2)), "true", "false", "true",
-         "KEY_NOT_OPENED", "KEY_NOT_OPENED", "[0 0 0 0 0 0 0 0 0]"]
-WRONG = ["minisign: reader is nil", "minisign: key is nil", *["minisign: password is empty: EncodeUnsealed makes a key that takes none"] * 2,
-         "MISSING_SECRET_KEY_COMMENT", "KEY_NOT_OPENED", "KEY_NOT_OPENED", "NOT_BEGUN", "NOT_BEGUN"]
-KEYS = 20_000
-
-
-def check_signing(checks, program, room, minisign, opens=True):
-    """The program and `c/minisign` read each other's keys and signatures; no key shows its secret, and nothing is left of one that was
-    cleared."""
-    os.makedirs(room)
-    shared_cases.check_signing(checks, [program], room, minisign, opens=opens)
-    for word, wanted in (("shown", SHOWN), ("wrong", WRONG)):
-        status, said, why = run([program, word])
-        checks.check(said.decode().splitlines() == wanted, f"{word}: {status}, {said.decode()}, {why[-500:]}")
-
-
-def check_many_keys(checks, program, racing):
-    """Many keys take no more memory, and threads sign at once."""
-    status, said, why = run([program, "growth", str(KEYS)])
-    checks.check(status == 0 and int(said) <= PAGES, f"after {KEYS} keys {said!r} pages more are in memory: {why}")
-    for what, of in (("threads", program), ("threads under the race detector", racing)):
-        status, said, why = run([of, "threads"])
-        checks.check((status, said, why) == (0, b"true\n", ""), f"signing, {what}: {said!r}, {why[-1000:]}")
+def names_in(program):
+    return run([needs.program("nm", "binutils"), program])[1]
 
 
 def check_as_c(checks, go, room, package, minisign):
     """Over the calls as C: here, for ARM with pointers of 32 bits, and for Windows, under wine."""
-    cases = shared_cases.corpus()
-    wanted = shared_cases.answers_of(minisign, room, cases)
     windows, arm = portable.Windows(room), Kind("armhf", "arm-linux-gnueabihf", "armhf", "arm", "ARM", has_32_bits=True)
-    kinds = {
-        "as C": ([], ["-tags", "portable"], {}),
-        "for ARM": (emulated.emulator(arm), [], {"GOOS": "linux", "GOARCH": "arm", "CC": emulated.compiler(arm)}),
-        "for Windows": ([windows.program], [], {"GOOS": "windows", "CC": needs.program("x86_64-w64-mingw32-gcc", "gcc-mingw-w64-x86-64")}),
-    }
-    for what, (before, words, environment) in kinds.items():
-        directory = os.path.join(room, what.replace(" ", "-"))
-        os.makedirs(directory)
-        go.begin(directory, package)
-        shutil.copy(os.path.join(HERE, "go", "answers.go"), directory)
-        go.run(directory, "build", "-o", "program", *words, environment=environment)
-        os.environ["WINEPREFIX"] = f"{room}/wine"
-        shared_cases.compare(checks, what, cases, verdicts_of([*before, os.path.join(directory, "program")], cases), wanted)
-        if what == "as C":
-            signing = go.build("signing.go", os.path.join(directory, "signing"), package, *words)
-            check_signing(checks, signing, os.path.join(directory, "signed"), minisign, opens=False)
-        names = run([needs.program("nm", "binutils"), os.path.join(directory, "program")])[1]
-        checks.check(what == "for Windows" or b"machine_minisign_update" in names, f"{what}: it is not built of dist/calls.c")
+    for what, before, words, environment in (
+            ("as C", [], ["-tags", "portable"], Go.AS_USUAL),
+            ("for ARM", emulated.emulator(arm), [], {"GOOS": "linux", "GOARCH": "arm", "CC": emulated.compiler(arm)}),
+            ("for Windows", [windows.program], [], {"GOOS": "windows", "CC": needs.program("x86_64-w64-mingw32-gcc", "gcc-mingw-w64-x86-64")})):
+        program = go.build("answers.go", os.path.join(room, what.replace(" ", "-")), package, *words, **environment)
+        asked = Program(checks, *before, program, name=what, WINEDEBUG="-all", WINEPREFIX=f"{room}/wine")
+        asked.ask_answers(minisign, shared_cases.corpus(), (["verify"], True))
+        checks.check(what == "for Windows" or b"machine_minisign_update" in names_in(program), f"{what}: it is not built of dist/calls.c")
     windows.end()
-
-
-class Bare(Go):
-    """Go with few programs in PATH, and a directory that a git path of `example.com` leads to."""
-
-    def __init__(self, room):
-        super().__init__(room)
-        programs = os.path.join(room, "programs")
-        os.mkdir(programs)
-        for name in NEEDED:
-            os.symlink(os.path.join(needs.DEBIAN, name), os.path.join(programs, name))
-        config = write(room, "gitconfig", f'[url "file://{room}/"]\n\tinsteadOf = https://example.com/\n'.encode())
-        self.environment = {**self.environment, "PATH": programs, "GIT_CONFIG_GLOBAL": config, "GOSUMDB": "off", "GOFLAGS": "-mod=mod -modcacherw"}
+    signing = go.build("signing.go", os.path.join(room, "signing-as-c"), package, "-tags", "portable", **Go.AS_USUAL)
+    check_signing(Program(checks, signing, name="as C"), os.path.join(room, "signed-as-c"), minisign, opens=False)
 
 
 def check_by_git(checks, room):
-    """As a dependency by a git path, in a path with blanks, with no make; over the archives."""
-    needs.git()
-    go, own, directory = Bare(room), os.path.join(room, "repository.git"), os.path.join(room, "a user's module")
-    run(["git", "clone", "-q", "--bare", TOP, own])
+    """As a dependency by a git path of `example.com`, in a path with blanks, with few programs in PATH and no make; over the archives."""
+    own = shared_cases.repository(room)
+    config = write(room, "gitconfig", f'[url "file://{room}/"]\n\tinsteadOf = https://example.com/\n'.encode())
+    go = Go(room, PATH=shared_cases.few_programs(room, *NEEDED), GIT_CONFIG_GLOBAL=config, GOSUMDB="off", GOFLAGS="-mod=mod -modcacherw", GOPROXY="direct")
     commit = run(["git", "-C", own, "rev-parse", "HEAD"])[1].decode().strip()
-    os.makedirs(directory)
-    shutil.copy(os.path.join(HERE, "go", "answers.go"), directory)
-    go.run(directory, "mod", "init", "user")
-    go.run(directory, "mod", "edit", "-require=proved/minisign@v0.0.0", f"-replace=proved/minisign=example.com/repository.git/bindings/go@{commit}")
-    go.run(directory, "build", "-o", "program", environment={"GOPROXY": "direct"})
-    program = os.path.join(directory, "program")
-    said = verdicts_of([program], shared_cases.corpus()[:1])
-    names = run([needs.program("nm", "binutils"), program])[1]
-    checks.check(said.startswith(b"accepted") and b"machine_minisign_update" not in names, f"by a git path: {said!r}")
-
-
-def without_cgo(go, package):
-    """What the compiler says where there is no cgo."""
-    return run([go.go, "build", "."], package, {**go.environment, "CGO_ENABLED": "0"})[2]
+    program = go.build("answers.go", os.path.join(room, "a user's module"), f"example.com/repository.git/bindings/go@{commit}")
+    said = Program(checks, program).run("verify", cases=shared_cases.corpus()[:1])[1]
+    checks.check(said.startswith(b"accepted") and b"machine_minisign_update" not in names_in(program), f"by a git path: {said!r}")
 
 
 def check_without_cgo(checks, go, room, package):
     """Without cgo a sentence says so first; where it is taken away, that is noticed."""
-    said = without_cgo(go, package)
-    checks.check(NO_CGO in (said.splitlines() + ["", ""])[1], f"without cgo: {said}")
+    without_cgo = lambda at: (run([go.go, "build", "."], at, {**go.environment, "CGO_ENABLED": "0"})[2].splitlines() + ["", ""])[1]
+    checks.check(NO_CGO in without_cgo(package), f"without cgo: {without_cgo(package)}")
     bare = os.path.join(room, "without-sentence")
     shutil.copytree(package, bare)
     os.remove(os.path.join(bare, "cgo_needed.go"))
-    checks.check(NO_CGO not in without_cgo(go, bare), "without cgo: the sentence is in another file")
-
-
-def check_copies(checks, package):
-    """What is packed is what dist/, c/ and include/ have."""
-    for name in [*carried.COPIES, carried.ARCHIVE]:
-        checks.check(shared_cases.read(os.path.join(package, name)) == carried.copy(name), f"{name} is not what tools/carried.py makes: run it")
-
-
-def check_many(checks, program, racing):
-    """Many calls take no more memory, and threads get the answers that one gets."""
-    lines = shared_cases.lines_of([case for case in shared_cases.corpus() + shared_cases.damaged(60) if len(case.data) < 20_000])
-    status, said, why = run([program, "growth", str(CALLS)], data=lines)
-    checks.check(status == 0 and int(said) <= PAGES, f"after {CALLS} calls {said!r} pages more are in memory: {why}")
-    for what, of in (("threads", program), ("threads under the race detector", racing)):
-        status, said, why = run([of, "threads"], data=lines)
-        checks.check((status, said, why) == (0, b"true\n", ""), f"{what}: {said!r}, {why[-1000:]}")
-
-
-def check_all(checks, room):
-    minisign = shared_cases.c_minisign(room)
-    package, go = shared_cases.packed("go", room), Go(room)
-    checks.check(go.run(package, "vet", "./...") == "", "go vet has words")
-    formatted = run([shutil.which("gofmt") or os.path.join(os.path.dirname(go.go), "gofmt"), "-l", package])[1]
-    checks.check(formatted == b"", f"gofmt would change {formatted}")
-    for words in (["-race"], ["-tags", "amd64.v3"]):
-        said = go.run(package, "test", "-count=1", "-v", *words, "./...")
-        checks.check(said.count("--- PASS: ") >= 6 and "--- SKIP" not in said, f"go test {words}: {said[-500:]}")
-    program = go.build("answers.go", os.path.join(room, "answers"), package)
-    racing = go.build("answers.go", os.path.join(room, "racing"), package, "-race")
-    checks.check(go.run(os.path.dirname(program), "vet", "./...") == "", "go vet has words of the program")
-    check_answers(checks, program, room, minisign)
-    check_vectors(checks, program)
-    check_rejections(checks, program)
-    check_read(checks, program)
-    check_errors(checks, program)
-    signing = go.build("signing.go", os.path.join(room, "signing"), package)
-    check_signing(checks, signing, os.path.join(room, "signed"), minisign)
-    check_many_keys(checks, signing, go.build("signing.go", os.path.join(room, "signing-racing"), package, "-race"))
-    check_changed(checks, go.build("changed.go", os.path.join(room, "changed"), package))
-    check_go_minisign(checks, go, room, program)
-    check_many(checks, program, racing)
-    check_readme(checks, go, room, package, minisign)
-    check_planted(checks, go, package, room, minisign)
-    check_arm(checks, go, package)
-    check_copies(checks, package)
-    check_without_cgo(checks, go, room, package)
-    check_as_c(checks, go, room, package, minisign)
-    check_by_git(checks, room)
+    checks.check(NO_CGO not in without_cgo(bare), "without cgo: the sentence is in another file")
 
 
 # The file, and what is changed in it.
@@ -524,31 +343,68 @@ SIGNING_BUGS = [
 ]
 
 
+def with_compiled_c(go, package, room):
+    """A copy of the package whose C stands there compiled, as go links it: the bugs are in what is Go."""
+    copied = shutil.copytree(package, os.path.join(room, "with-compiled-c"))
+    sources = glob.glob(f"{copied}/*.c")
+    for command in ([go.environment["CC"], "-O2", "-I.", "-c", *sources], ["ld", "-r", "-o", "compiled.syso", *(path[:-1] + "o" for path in sources)]):
+        status, _, why = run(command, copied)
+        if status != 0:
+            raise static_library.NotBuilt(f"the package's C: {why[-1000:]}")
+    for path in [*sources, *glob.glob(f"{copied}/*.o")]:
+        os.remove(path)
+    return copied
+
+
 def check_planted(checks, go, package, room, minisign):
     """Each planted bug is noticed by what is asked of a program over the changed package."""
-    cases = shared_cases.corpus()
-    lines = shared_cases.lines_of(cases)
-    wanted, strict = (shared_cases.answers_of(minisign, room, cases, allow) for allow in (True, False))
-
     def ask(found, changed, directory):
-        program = go.build("answers.go", os.path.join(directory, "using"), changed)
-        yield shared_cases.compare(found, "kept", cases, run([program, "files", directory], data=lines)[1], wanted)
-        yield shared_cases.compare(found, "in pieces", cases, run([program, "pieces", "7"], data=lines)[1], strict)
-        for check in (check_vectors, check_rejections, check_read):
-            yield check(found, program)
-        yield check_changed(found, go.build("changed.go", os.path.join(directory, "changing"), changed))
+        ask_all(Program(found, go.build("answers.go", os.path.join(directory, "answers"), changed)), directory, minisign, shared_cases.corpus())
+        check_changed(found, go.build("changed.go", os.path.join(directory, "changed"), changed))
 
     def ask_to_sign(found, changed, directory):
-        program = go.build("signing.go", os.path.join(directory, "using"), changed)
-        yield check_signing(found, program, os.path.join(directory, "signed"), minisign)
+        check_signing(Program(found, go.build("signing.go", os.path.join(directory, "signing"), changed)), os.path.join(directory, "signed"), minisign)
 
-    shared_cases.check_planted(checks, package, BUGS, room, ask)
-    shared_cases.check_planted(checks, package, SIGNING_BUGS, room, ask_to_sign)
+    compiled = with_compiled_c(go, package, room)
+    shared_cases.check_planted(checks, compiled, BUGS, room, ask)
+    shared_cases.check_planted(checks, compiled, SIGNING_BUGS, room, ask_to_sign)
 
 
 def run_all(checks, room):
     check_sources(checks)
-    check_all(checks, room)
+    minisign = shared_cases.c_minisign(room)
+    package, go = shared_cases.packed("go", room), Go(room)
+    for name in [*carried.COPIES, carried.ARCHIVE]:
+        checks.check(read(package, name) == carried.copy(name), f"{name} is not what tools/carried.py makes: run it")
+    check_own_tests(checks, go, package)
+
+    def programs(source, name):
+        """A program as its user has it, and under the race detector."""
+        built = go.build(source, os.path.join(room, name), package, **Go.AS_USUAL), go.build(source, os.path.join(room, f"{name}-racing"), package, "-race")
+        return [Program(checks, path, name=os.path.basename(os.path.dirname(path))) for path in built]
+
+    program, racing = programs("answers.go", "answers")
+    checks.check(go.run(os.path.join(room, "answers"), "vet", "./...") == "", "go vet has words of the program")
+    cases = shared_cases.corpus() + shared_cases.damaged()
+    shared_cases.check_cases(checks, minisign, cases)
+    ask_all(program, room, minisign, cases + shared_cases.large(minisign))
+    check_errors(program)
+    few = shared_cases.corpus() + shared_cases.damaged(60)
+    program.ask_growth(CALLS, PAGES, few)
+    program.ask_threads(few)
+    racing.ask_threads(few)
+    signing, racing = programs("signing.go", "signing")
+    check_signing(signing, os.path.join(room, "signed"), minisign)
+    signing.ask_growth(KEYS, PAGES)
+    signing.ask_threads()
+    racing.ask_threads()
+    check_changed(checks, go.build("changed.go", os.path.join(room, "changed"), package, **Go.AS_USUAL))
+    check_go_minisign(checks, go, room, program)
+    check_readme(checks, go, room, package, minisign)
+    check_planted(checks, go, package, room, minisign)
+    check_without_cgo(checks, go, room, package)
+    check_as_c(checks, go, room, package, minisign)
+    check_by_git(checks, room)
 
 
 if __name__ == "__main__":

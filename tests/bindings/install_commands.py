@@ -30,75 +30,39 @@ from shared_cases import TOP, read, run, write
 CLONE = "minisign-in-rattle"
 # What is left out: it changes the system.
 LEFT_OUT = "apt install "
-# What verifies `app` by the published key, in each language: the files of a user's project, and how the program is run.
-KEY = "RWQf6LRCGA9i53mlYecO4IzT51TGPpvWucNSCh1CBM0QTaLn73Y7GFO3"
-GO = f"""package main
-
-import (
-	"fmt"
-
-	"proved/minisign"
-)
-
-func main() {{
-	key, _ := minisign.NewPublicKey("{KEY}")
-	signature, _ := minisign.NewSignatureFromFile("app.minisig")
-	good, _ := key.VerifyFromFile("app", signature)
-	fmt.Println(good)
-}}
-"""
-RUST = f"""fn main() {{
-    let key = minisign_verify::PublicKey::from_base64("{KEY}").unwrap();
-    let signature = minisign_verify::Signature::from_file("app.minisig").unwrap();
-    println!("{{}}", key.verify(&std::fs::read("app").unwrap(), &signature, false).is_ok());
-}}
-"""
-PYTHON = f"""import minisign_proved
-try:
-    minisign_proved.verify("app", minisign_proved.PublicKey.from_base64("{KEY}"))
-    print("true")
-except minisign_proved.MinisignError:
-    print("false")
-"""
-JAVASCRIPT = f"""import {{ verify }} from "minisign-proved";
-import {{ readFileSync }} from "node:fs";
-const [data, signature] = ["app", "app.minisig"].map((name) => readFileSync(name));
-verify(data, signature, "{KEY}").then(() => console.log("true"), () => console.log("false"));
-"""
-CARGO = '[package]\nname = "user"\nversion = "1.0.0"\nedition = "2021"\n\n'
+# In each language a user's project: what describes it, its program and the place of that, and how that is run.
 USERS = {
-    "go": ({"go.mod": "module user\n", "main.go": GO}, "go run ."),
-    "rust": ({"Cargo.toml": CARGO, "src/main.rs": RUST}, "cargo run --quiet --offline"),
-    "python": ({"user.py": PYTHON}, "env/bin/python user.py"),
-    "javascript": ({"package.json": "{}", "user.mjs": JAVASCRIPT}, "node --no-warnings user.mjs"),
+    "go": ({"go.mod": "module user\n"}, "installed.go", "main.go", "go run ."),
+    "rust": ({"Cargo.toml": '[package]\nname = "user"\nversion = "1.0.0"\nedition = "2021"\n\n'}, "installed.rs", "src/main.rs", "cargo run --quiet --offline"),
+    "python": ({}, "installed.py", "installed.py", "env/bin/python installed.py"),
+    "javascript": ({"package.json": "{}"}, "installed.mjs", "installed.mjs", "node --no-warnings installed.mjs"),
 }
 
 
-def blocks_of(package, language):
+def lines_of(package, language):
     """What the README of a package has between fences of a language."""
-    text = read(os.path.join(TOP, "bindings", package, "README.md")).decode()
-    return re.findall(rf"^```{language}\n(.*?)^```$", text, re.M | re.S)
+    text = read(TOP, "bindings", package, "README.md").decode()
+    return [line for block in re.findall(rf"^```{language}\n(.*?)^```$", text, re.M | re.S) for line in block.splitlines(keepends=True)]
 
 
 def check_package(checks, package, room):
     """Each command of a README succeeds, and the user's program accepts what the key has signed, and nothing else."""
-    files, program = USERS[package]
-    for name, text in files.items():
-        os.makedirs(os.path.dirname(os.path.join(room, name)), exist_ok=True)
-        write(room, name, text.encode())
-    for name, kept in (("app", "test"), ("app.minisig", "published.minisig")):
-        shutil.copy(os.path.join(shared_cases.CORPUS, kept), os.path.join(room, name))
+    described, source, place, program = USERS[package]
+    os.makedirs(os.path.dirname(os.path.join(room, place)))
+    shutil.copy(os.path.join(HERE, package, source), os.path.join(room, place))
+    for name, text in described.items():
+        write(room, name, (text + "".join(lines_of(package, "toml"))).encode())
+    shutil.copy(shared_cases.PATHS[2], os.path.join(room, "app.minisig"))
     os.symlink(os.path.join("..", CLONE), os.path.join(room, CLONE))
+    # (C is compiled without optimizing, to take less time)
     environment = {"PATH": static_library.path_without_kit(), "HOME": room, "GOPROXY": "off", "GOFLAGS": "", "GOTOOLCHAIN": "local",
-                   "CARGO_HOME": f"{room}/cargo", "CARGO_NET_OFFLINE": "true"}
-    lines = [line for block in blocks_of(package, "sh") for line in block.splitlines()]
+                   "CARGO_HOME": f"{room}/cargo", "CARGO_NET_OFFLINE": "true", "CFLAGS": "-O0", "CGO_CFLAGS": "-O0"}
+    lines = lines_of(package, "sh")
     checks.check(any(line.startswith(f"make -C {CLONE}/bindings {package}") for line in lines), f"{package}: README does not pack it")
     for line in lines:
         if not line.startswith(LEFT_OUT):
             status, said, why = run(["sh", "-c", line], room, environment)
             checks.check(status == 0, f"{package}: {line}: status {status}: {said.decode(errors='replace')[-500:]}{why[-800:]}")
-    for block in blocks_of(package, "toml"):
-        write(room, "Cargo.toml", read(os.path.join(room, "Cargo.toml")) + block.encode())
     for data, wanted in ((b"test", "true\n"), (b"another", "false\n")):
         write(room, "app", data)
         status, said, why = run(["sh", "-c", program], room, environment)
@@ -114,14 +78,11 @@ def run_all(checks, room):
     python()
     clone = commands.Clone(room)
     os.rename(clone.top, os.path.join(room, CLONE))
-    has_npm = shutil.which("npm", path=static_library.path_without_kit()) is not None
     for package in USERS:
-        if package == "javascript" and not has_npm:
+        if package == "javascript" and not shutil.which("npm", path=static_library.path_without_kit()):
             print("left out: the commands for JavaScript: npm is not here")
-            continue
-        directory = os.path.join(room, package)
-        os.mkdir(directory)
-        check_package(checks, package, directory)
+        else:
+            check_package(checks, package, os.path.join(room, package))
     new = clone.git("status", "--porcelain", at=os.path.join(room, CLONE))
     checks.check(not new, f"git finds in the clone: {new}")
 

@@ -22,23 +22,14 @@ import needs
 from browser import Chromium
 from firefox import Firefox
 
-PAGE = b"""<!doctype html><meta charset="utf-8"><title>Answers</title><body><script type="module" src="browser.mjs"></script>"""
+PAGE = """<!doctype html><meta charset="utf-8"><title>Answers</title><body><script type="module" src="browser.mjs"></script>"""
 SECONDS = 600
 
 
 class Handler(http.server.SimpleHTTPRequestHandler):
     """Hands out the files of the directory, and the page."""
 
-    extensions_map = {".js": "text/javascript", ".mjs": "text/javascript", ".json": "application/json", "": "text/plain"}
-
-    def do_GET(self):
-        if self.path != "/":
-            super().do_GET()
-            return
-        self.send_response(200)
-        self.send_header("Content-Type", "text/html; charset=utf-8")
-        self.end_headers()
-        self.wfile.write(PAGE)
+    extensions_map = {".js": "text/javascript", ".mjs": "text/javascript", ".json": "application/json", ".html": "text/html"}
 
     def log_message(self, *words):
         pass
@@ -55,8 +46,10 @@ def answers_in(begin, address):
         browser.quit()
 
 
-def main():
-    server = http.server.ThreadingHTTPServer(("127.0.0.1", 0), functools.partial(Handler, directory=sys.argv[1]))
+def main(directory):
+    with open(os.path.join(directory, "index.html"), "w", encoding="ascii") as file:
+        file.write(PAGE)
+    server = http.server.ThreadingHTTPServer(("127.0.0.1", 0), functools.partial(Handler, directory=directory))
     threading.Thread(target=server.serve_forever, daemon=True).start()
     address = f"http://127.0.0.1:{server.server_address[1]}/"
     with tempfile.TemporaryDirectory(prefix="javascript-browsers-") as room:
@@ -67,4 +60,4 @@ def main():
 
 
 if __name__ == "__main__":
-    main()
+    main(sys.argv[1])

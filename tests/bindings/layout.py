@@ -19,21 +19,22 @@ import os
 import re
 import shutil
 import sys
-import tempfile
 
 HERE = os.path.dirname(os.path.realpath(__file__))
 sys.path.append(os.path.join(HERE, "..", "shared"))
 
+import ending
 import needs
-from shared_cases import TOP, Checks, read, run
+from shared_cases import TOP, check_planted, read, run
 
-# The files of each language from the top of the repository, and how wide its lines are.
-RUST = ["bindings/rust/build.rs", "bindings/rust/src/lib.rs", "examples/rust/src/main.rs"]
-FILES = {
-    "Rust": (["bindings/rust/build.rs", "bindings/rust/src/**/*.rs", "examples/rust/src/*.rs"], 100),
-    "Go": (["bindings/go/*.go"], None),
-    "Python": (["bindings/python/setup.py", "bindings/python/src/**/*.py"], 88),
-    "JavaScript": (["bindings/javascript/*.js", "bindings/javascript/*.ts"], 80),
+# The files of each language from the top of the repository, how wide its lines are, and its formatter and the package that has that:
+# it says nothing and ends well where all is as it writes it.
+LANGUAGES = {
+    "Rust": (["bindings/rust/build.rs", "bindings/rust/src/**/*.rs", "examples/rust/src/*.rs"], 100,
+             ["rustfmt", "rustfmt", "--check", "--edition", "2021"]),
+    "Go": (["bindings/go/*.go"], None, ["gofmt", "golang-go", "-l"]),
+    "Python": (["bindings/python/setup.py", "bindings/python/src/**/*.py"], 88, ["black", "black", "--check", "--quiet"]),
+    "JavaScript": (["bindings/javascript/*.js", "bindings/javascript/*.ts"], 80, None),
 }
 # (the modules, each of one line)
 MODULES = ["bindings/javascript/module.js", "bindings/javascript/signing_module.js"]
@@ -56,16 +57,10 @@ IN_CODE = {
 }
 
 
-def files_of(language, top=TOP):
-    """The paths of a language's files, below the top."""
-    found = [path for pattern in FILES[language][0] for path in glob.glob(os.path.join(top, pattern), recursive=True)]
-    return sorted(path for path in found if os.path.relpath(path, top) not in MODULES)
-
-
-def asked(checks, what, *command):
-    """Asks a formatter, which says nothing and ends well where all is as it writes it."""
-    status, said, why = run(list(command))
-    checks.check(status == 0 and said.strip() == b"", f"{what}: {said.decode(errors='replace')[:600]}{why[:600]}")
+def files_of(language, top):
+    """The files of a language, from the top."""
+    found = [path for pattern in LANGUAGES[language][0] for path in glob.glob(os.path.join(top, pattern), recursive=True)]
+    return sorted({os.path.relpath(path, top) for path in found} - {*MODULES})
 
 
 def bare(text):
@@ -83,25 +78,23 @@ def check_script(checks, name, text):
     checks.check("\n\n\n" not in text and text.endswith("\n") and not text.endswith("\n\n"), f"{name}: too many blank lines")
 
 
-def check_all(checks, top=TOP):
-    """All files below the top."""
-    at = lambda *names: [os.path.join(top, name) for name in names]
-    rustfmt = needs.program("rustfmt", "rustfmt")
-    for path in at(*RUST):
-        asked(checks, f"rustfmt, {os.path.relpath(path, top)}", rustfmt, "--check", "--edition", "2021", path)
-    asked(checks, "gofmt", needs.program("gofmt", "golang-go"), "-l", *files_of("Go", top))
-    asked(checks, "black", needs.program("black", "black"), "--check", "--quiet", *files_of("Python", top))
-    for language, (_, width) in FILES.items():
-        paths = files_of(language, top)
-        checks.check(len(paths) >= 5, f"{language}: only {paths}")
-        for path in paths:
-            name, text = os.path.relpath(path, top), read(path).decode()
-            for number, line in enumerate(text.split("\n"), 1):
-                checks.check(width is None or len(line) <= width, f"{name}, line {number}: it has {len(line)} letters")
-            if language == "JavaScript":
-                check_script(checks, name, text)
-    text = read(os.path.join(top, PACKAGE)).decode()
-    checks.check(text == json.dumps(json.loads(text), indent=2, ensure_ascii=False) + "\n", f"{PACKAGE} is laid out otherwise")
+def check_language(checks, language, top):
+    """All files of a language below the top."""
+    _, width, formatter = LANGUAGES[language]
+    names = files_of(language, top)
+    checks.check(len(names) >= 5, f"{language}: only {names}")
+    if formatter:
+        status, said, why = run([needs.program(*formatter[:2]), *formatter[2:], *names], top)
+        checks.check(status == 0 and said.strip() == b"", f"{formatter[0]}: {said.decode(errors='replace')[:600]}{why[:600]}")
+    for name in names:
+        text = read(top, name).decode()
+        for number, line in enumerate(text.split("\n"), 1):
+            checks.check(width is None or len(line) <= width, f"{name}, line {number}: it has {len(line)} letters")
+        if language == "JavaScript":
+            check_script(checks, name, text)
+    if language == "JavaScript":
+        text = read(top, PACKAGE).decode()
+        checks.check(text == json.dumps(json.loads(text), indent=2, ensure_ascii=False) + "\n", f"{PACKAGE} is laid out otherwise")
 
 
 # A file, and a line of it that is laid out otherwise.
@@ -132,34 +125,17 @@ PLANTED = [
 ]
 
 
-def check_planted(checks, room):
-    """Each line that is laid out otherwise is noticed."""
-    for number, (name, old, new) in enumerate(PLANTED):
-        top = os.path.join(room, str(number))
-        for path in [*(file for language in FILES for file in files_of(language)), os.path.join(TOP, PACKAGE)]:
-            copied = os.path.join(top, os.path.relpath(path, TOP))
-            os.makedirs(os.path.dirname(copied), exist_ok=True)
-            shutil.copy(path, copied)
-        path = os.path.join(top, name)
-        text = read(path).decode()
-        with open(path, "w", encoding="utf-8") as file:
-            file.write(text.replace(old, new, 1))
-        found = Checks()
-        check_all(found, top)
-        checks.check(old in text and len(found.failures) > 0, f"planted in {name}, and not noticed: {new!r}")
-        shutil.rmtree(top)
-
-
-def main():
-    checks = Checks()
-    try:
-        check_all(checks)
-        with tempfile.TemporaryDirectory(prefix="layout-") as room:
-            check_planted(checks, room)
-    except (needs.Missing, OSError, ValueError) as why:
-        checks.check(False, f"it did not go on: {why!r}")
-    return checks.end()
+def run_all(checks, room):
+    for language in LANGUAGES:
+        check_language(checks, language, TOP)
+    copy = os.path.join(room, "copy")
+    for name in [*(name for language in LANGUAGES for name in files_of(language, TOP)), PACKAGE]:
+        os.makedirs(os.path.dirname(os.path.join(copy, name)), exist_ok=True)
+        shutil.copy(os.path.join(TOP, name), os.path.join(copy, name))
+    languages = {name: language for language in LANGUAGES for name in files_of(language, TOP)}
+    planted = [(name, old, new, languages.get(name, "JavaScript")) for name, old, new in PLANTED]
+    check_planted(checks, copy, planted, room, lambda found, changed, _, language: check_language(found, language, changed))
 
 
 if __name__ == "__main__":
-    sys.exit(main())
+    sys.exit(ending.check("layout", run_all, ValueError))

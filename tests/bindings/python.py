@@ -5,8 +5,8 @@ package `cryptography`.
 
     tests/bindings/python.py
 
-The archive is also built where there is no archive of calls for the system (`python_builds.py`). Its answers are
-compared with those of `c/minisign`: the kept corpus, 500 damaged texts, data in pieces; and with those of libsodium:
+The archive is also built where there is no archive of calls for the system, and for others. Its answers are compared
+with those of `c/minisign`: the kept corpus, 500 damaged texts, data in pieces; and with those of libsodium:
 the signatures of Ed25519 that implementations answer differently. Also: the exceptions and structs are those of the
 header; the types hold; each call names the argument that is of another type or value; calls hold no memory in the
 end; threads; keys and signatures of Minisign's own program; the examples of the README; the cases of tests/installer
@@ -20,45 +20,51 @@ gcc-aarch64-linux-gnu, libc6-dev-arm64-cross and qemu-user-static. It installs w
 
 import ast
 import base64
+import functools
 import glob
+import hashlib
 import os
 import re
 import shutil
 import subprocess
 import sys
-import tempfile
 import zipfile
 
 HERE = os.path.dirname(os.path.realpath(__file__))
-sys.path.append(os.path.join(HERE, "..", "shared"))
+sys.path += [HERE, *(os.path.join(HERE, "..", name) for name in ("shared", "c", "tool", "installer"))]
 
+import emulated
 import ending
 import needs
-import python_builds
-import python_installs
+import portable
 import shared_cases as shared
 import static_library
+from checking import check_cases
+from cut_off import BEGINNINGS, CUTS
+from installers import RealInstaller
+from installing import cases
+from running import build_preload, run_cases
+from runs import Installing
+from shared_cases import TOP, read, run, write
+from words import says, word_cases
 
-PYTHON = "/usr/bin/python3"
-USER = os.path.join(HERE, "python_user.py")
+USER, INSTALLER = os.path.join(HERE, "python_user.py"), os.path.join(HERE, "python_installing.py")
 PACKAGE = "minisign_proved"
-KINDS = ("libsodium", "cryptography")
+SOURCES = os.path.join(TOP, "bindings", "python")
 # How many lines are written by hand. Docstrings do not count.
 LINES = 800
 MADE = ("errors.py", "_header.py")
 OLDEST = (3, 9)
-# (another test may have the processor for long)
-SECONDS = 1800
 
 
 def python_with(*modules):
     """Debian's Python, where it has these modules."""
-    if not os.path.exists(PYTHON):
-        return None
+    path = os.path.join(needs.DEBIAN, "python3")
     look = f"import importlib.util, sys; sys.exit(any(importlib.util.find_spec(it) is None for it in {modules}))"
-    return PYTHON if subprocess.run([PYTHON, "-c", look]).returncode == 0 else None
+    return path if os.path.exists(path) and subprocess.run([path, "-c", look]).returncode == 0 else None
 
 
+@functools.lru_cache(maxsize=None)
 def python():
     """The path of Debian's Python with all that the package is built and tried with."""
     return needs.need(lambda: python_with("pip", "venv", "ensurepip", "setuptools", "wheel", "cryptography"),
@@ -66,27 +72,106 @@ def python():
                       "python3-setuptools", "python3-wheel", "python3-cryptography")
 
 
+def class_name(name):
+    return "".join(word.capitalize() for word in name.split("_"))
+
+
+# ---- How it is built ----
+
+# All that building runs, beside Python: no make.
+NEEDED = ("gcc", "x86_64-linux-gnu-gcc", "ld", "as", "objcopy")
+NO_COMPILER = "minisign-proved is built by a C compiler with GNU's options, as gcc and clang have them: {} is none, so name one in CC"
+# What is changed in setup.py for a library without the host, as other systems have it, and what its user does.
+NO_HOST = ('if "__linux__" in macros:\n            sources += HOST', 'if "none" in macros:\n            sources += HOST')
+WITHOUT_HOST = """
+import sys, minisign_proved as m
+key, signature = (open(sys.argv[number], "rb").read() for number in (1, 3))
+m.PublicKey(key).verify(b"test", m.Signature(signature))
+try:
+    m.install(m.PublicKey(key), sys.argv[2], m.Signature(signature), sys.argv[2] + "-there", first=True)
+except NotImplementedError as why:
+    print(why)
+"""
+# What is changed in setup.py, and with which of its libraries that is noticed: with C alone, or with the archives.
+SETUP_BUGS = [("setup.py", 'if not archives:\n            flags.append("-DMINISIGN_PORTABLE")', 'if not archives:\n            flags.append("-DMINISIGN_NO")', "1"),
+              ("setup.py", "f\"--redefine-sym={name}={prefix}_{name}\"", "f\"--redefine-sym={name}=v2_{name}\"", "")]
+
+
+def build(sources, programs, **environment):
+    """Builds the library of these sources, without optimizing, and a wheel: how that ended, and what was said; and the library's path."""
+    words = ["-q", "build", "--build-lib", "built", "bdist_wheel", "--dist-dir", "made"]
+    status, _, why = run([python(), "setup.py", *words], sources, {"PATH": programs, "MINISIGN_PORTABLE": "", "CFLAGS": "-O0", **environment})
+    return status, why, os.path.join(sources, "built", PACKAGE, "libminisign.so")
+
+
+def check_loaded(checks, what, compiler, library, before=(), host=True):
+    """The library is loaded, and hashes."""
+    room = os.path.dirname(library)
+    program = os.path.join(room, "loaded.exe")
+    status, _, why = run([compiler, "-std=c11", "-w", "-I", os.path.join(TOP, "include"), "-o", program, os.path.join(HERE, "python", "loaded.c")])
+    checks.check(status == 0, f"{what}: loaded.c: {why[-500:]}")
+    said = run([*before, program, library], environment={"WINEDEBUG": "-all", "WINEPREFIX": f"{room}/wine"})[1].decode()
+    wanted = rf"\d+ {hashlib.blake2b(bytes([7]) * 1000).hexdigest()} with{'' if host else 'out'} a host\r?\n"
+    checks.check(re.fullmatch(wanted, said), f"{what}: {said}")
+
+
+def check_builds(checks, archive, room):
+    """The archive of sources is built, in a path with blanks, over the archives of calls and where there is none: as C by Debian's
+    compiler and over musl, for AArch64, and for Windows. A compiler without GNU's options is an error that says so."""
+    programs, arm, windows = shared.few_programs(room, *NEEDED), emulated.AARCH64, portable.Windows(room)
+
+    def unpacked(name):
+        directory = os.path.join(room, f"of {name}")
+        shutil.unpack_archive(archive, directory)
+        return glob.glob(f"{glob.escape(directory)}/*")[0]
+
+    gcc, mingw = needs.c_compiler(), needs.program("x86_64-w64-mingw32-gcc", "gcc-mingw-w64-x86-64")
+    for what, compiler, before, is_portable, machine in (
+            ("the archives", gcc, [], "", "linux_x86_64"), ("C alone", gcc, [], "1", "linux_x86_64"),
+            ("musl", needs.program("musl-gcc", "musl-tools"), [], "1", "linux_x86_64"),
+            ("AArch64", emulated.compiler(arm), emulated.emulator(arm), "", "linux_aarch64"), ("Windows", mingw, [windows.program], "", "win_amd64")):
+        sources = unpacked(what)
+        status, why, library = build(sources, programs, CC=compiler, MINISIGN_PORTABLE=is_portable)
+        if checks.check(status == 0, f"{what}: it was not built: {why[-1000:]}"):
+            check_loaded(checks, what, compiler, library, before, host=what != "Windows")
+            names = run([needs.program("nm", "binutils"), library])[1]
+            checks.check((b"v3_minisign_update" in names) == (what == "the archives"), f"{what}: the archives")
+            wheel, = os.listdir(os.path.join(sources, "made"))
+            checks.check(wheel.endswith(f"-none-{machine}.whl"), f"{what}: the wheel is {wheel}")
+    windows.end()
+    status, why, _ = build(unpacked("another compiler"), programs, CC="cl")
+    checks.check(status != 0 and NO_COMPILER.format("cl") in why, f"a compiler without GNU's options: {why[-500:]}")
+    sources = unpacked("no host")
+    text = read(sources, "setup.py").decode()
+    write(sources, "setup.py", text.replace(*NO_HOST).encode())
+    status, why, library = build(sources, programs, CC=gcc)
+    _, said, wrong = run([python(), "-c", WITHOUT_HOST, *shared.PATHS], environment={"PYTHONPATH": os.path.dirname(os.path.dirname(library))})
+    checks.check(NO_HOST[0] in text and status == 0 and said.startswith(b"installing is for Linux: "), f"without a host: {said!r} {why[-300:]}{wrong[-500:]}")
+
+    def ask(found, changed, directory, is_portable):
+        status, why, library = build(changed, programs, CC=gcc, MINISIGN_PORTABLE=is_portable)
+        found.check(status == 0, why)
+        check_loaded(found, "planted", gcc, library)
+
+    shared.check_planted(checks, unpacked("planted"), SETUP_BUGS, room, ask)
+    return programs
+
+
 def build_wheel(checks, room):
-    """The wheel, built from the packed archive; None where it was not built."""
-    own = os.path.join(room, "packing")
-    os.mkdir(own)
-    package = shared.packed("python", own, PYTHON=python())
-    archive = glob.glob(os.path.join(own, "packed", "*.tar.gz"))[0]
+    """The wheel, built from the packed archive."""
+    package = shared.packed("python", room, PYTHON=python())
+    archive, = glob.glob(os.path.join(room, "packed", "*.tar.gz"))
     command = [python(), "-m", "pip", "wheel", "-q", "--no-index", "--no-build-isolation", "--no-deps", "-w", room, archive]
-    building = os.path.join(room, "builds")
-    os.mkdir(building)
-    python_builds.run_all(checks, python(), archive, building)
-    status, _, why = shared.run(command, environment={"PATH": os.path.join(building, "programs")}, seconds=SECONDS)
+    status, _, why = run(command, environment={"PATH": check_builds(checks, archive, room)})
     wheels = glob.glob(os.path.join(room, "*.whl"))
     if status != 0 or len(wheels) != 1:
-        checks.check(False, f"the wheel was not built: {why[-2000:]}")
-        return None
+        raise static_library.NotBuilt(f"the wheel was not built: {why[-2000:]}")
     with zipfile.ZipFile(wheels[0]) as wheel:
         names = {name.partition("/")[2] for name in wheel.namelist() if name.startswith(PACKAGE + "/")}
-        told = [wheel.read(name).decode() for name in wheel.namelist() if name.endswith("METADATA")][0]
+        told, = (wheel.read(name).decode() for name in wheel.namelist() if name.endswith("METADATA"))
     sources = {os.path.basename(path) for path in glob.glob(os.path.join(package, "src", PACKAGE, "*.p*"))}
     checks.check(names == sources | {"libminisign.so", "py.typed"}, f"the wheel has {sorted(names)}")
-    version = re.search(r'VERSION_TEXT "([^"]+)"', shared.read(shared.HEADER).decode())[1]
+    version = re.search(r'VERSION_TEXT "([^"]+)"', read(shared.HEADER).decode())[1]
     checks.check(f"\nVersion: {version}\n" in told, f"the header is of version {version}, and the wheel says {told[:200]}")
     checks.check("Requires-Dist" not in told and "Name: minisign-proved\n" in told, f"the wheel says {told[:300]}")
     checks.check(re.search(r"-py3-none-linux_(x86_64|aarch64)\.whl$", wheels[0]) is not None, f"the wheel is {wheels[0]}")
@@ -94,46 +179,21 @@ def build_wheel(checks, room):
 
 
 def environment(room, name, wheel, *words):
-    """A fresh environment that has the wheel: its Python."""
+    """A fresh environment that has the wheel: its Python, and where the package stands in it."""
     path = os.path.join(room, name)
     for command in ([python(), "-m", "venv", *words, path], [f"{path}/bin/pip", "install", "-q", "--no-index", wheel]):
-        status, _, why = shared.run(command, seconds=SECONDS)
+        status, _, why = run(command)
         if status != 0:
             raise static_library.NotBuilt(f"{command}: {why[-1000:]}")
-    return os.path.join(path, "bin", "python")
+    return os.path.join(path, "bin", "python"), glob.glob(f"{path}/lib/python3*/site-packages/{PACKAGE}")[0]
 
 
-class User:
-    """Runs the program of a user, by one kind of Ed25519."""
-
-    def __init__(self, python_path, kind, changed=""):
-        self.kind = kind
-        self.python, self.environment = python_path, {"PYTHONPATH": changed, "PYTHONDONTWRITEBYTECODE": "1",
-                                                      "PATH": static_library.path_without_kit()}
-
-    def run(self, word, *rest, data=b""):
-        return shared.run([self.python, USER, word, self.kind, *rest], environment=self.environment, data=data, seconds=SECONDS)
-
-    def checks(self, checks, word, room):
-        """What the program checks itself."""
-        status, said, why = self.run(word, room)
-        lines = said.decode(errors="replace").splitlines()
-        last = re.fullmatch(r"(\d+) passed, (\d+) failed", lines[-1] if lines else "")
-        if last is None or status not in (0, 1):
-            checks.check(False, f"{word}, {self.kind}: it ended with status {status}: {why[-500:]}")
-            return
-        for _ in range(int(last[1])):
-            checks.check(True, word)
-        for line in lines[:-1]:
-            checks.check(False, f"{word}, {self.kind}: {line.removeprefix('FAILED: ')}")
-
-
-# ---- What is compared ----
+# ---- What it is made of ----
 
 
 def lines_of(path):
     """How many lines a source has, without blank ones, comments and docstrings."""
-    text = shared.read(path).decode()
+    text = read(path).decode()
     told = set()
     for node in ast.walk(ast.parse(text)):
         if isinstance(node, (ast.Module, ast.ClassDef, ast.FunctionDef)) and ast.get_docstring(node, False) is not None:
@@ -141,10 +201,10 @@ def lines_of(path):
     return sum(1 for number, line in enumerate(text.splitlines(), 1) if line.strip() and not line.strip().startswith("#") and number not in told)
 
 
-def is_of(text, version):
-    """Whether a text is a program of a version of Python."""
+def is_of_oldest(text):
+    """Whether a text is a program of the oldest version of Python that the package is for."""
     try:
-        return ast.parse(text, feature_version=version) is not None
+        return ast.parse(text, feature_version=OLDEST) is not None
     except SyntaxError:
         return False
 
@@ -152,21 +212,18 @@ def is_of(text, version):
 def check_sources(checks):
     """The package is small, and its README too."""
     shared.check_readme(checks, "python")
-    sources = os.path.join(shared.TOP, "bindings", "python")
-    lines = {name: lines_of(path) for path in glob.glob(os.path.join(sources, "src", PACKAGE, "*.py")) if (name := os.path.basename(path)) not in MADE}
-    count = sum(lines.values()) + lines_of(os.path.join(sources, "setup.py"))
-    checks.check(count <= LINES, f"the package has {count} lines: {lines}")
-    for path in glob.glob(os.path.join(sources, "src", PACKAGE, "*.py")):
-        checks.check(is_of(shared.read(path).decode(), OLDEST), f"{os.path.basename(path)} is not for Python {OLDEST}")
+    sources = glob.glob(os.path.join(SOURCES, "src", PACKAGE, "*.py"))
+    by_hand = [path for path in sources if os.path.basename(path) not in MADE]
+    lines = {os.path.basename(path): lines_of(path) for path in [*by_hand, os.path.join(SOURCES, "setup.py")]}
+    checks.check(sum(lines.values()) <= LINES, f"the package has {lines} lines")
+    for path in sources:
+        checks.check(is_of_oldest(read(path).decode()), f"{os.path.basename(path)} is not for Python {OLDEST}")
 
 
-def check_header(checks, room, python_path):
-    """The exceptions, the numbers, the structs and their fields are the header's."""
-    status, said, why = shared.run([python_path, os.path.join(shared.TOP, "tools", "bindings.py"), "--check"])
-    checks.check(status == 0, f"made from the header: {said.decode()}{why}")
-    told = f"""
+# A program that prints what the package has of the headers: each number behind its name.
+TOLD = f"""
 import ctypes
-from {PACKAGE} import _header, errors
+from {PACKAGE} import _header, errors, installing
 from {PACKAGE}._calls import error_of
 for number, kind in errors.BY_NUMBER.items():
     print("error", number, kind.__name__, error_of(number))
@@ -175,155 +232,156 @@ for name, struct in vars(_header).items():
         print("place", name, ctypes.sizeof(struct))
         for field, _ in struct._fields_:
             print("place", f"{{name}}.{{field}}", getattr(struct, field).offset)
-"""
-    _, said, why = shared.run([python_path, "-c", told])
-    lines = [line.split(" ", 3) for line in said.decode().splitlines()]
-    errors, texts = {int(line[1]): line[2:] for line in lines if line[0] == "error"}, shared.error_texts()
-    wanted = {number: [class_name(name), texts[name]] for name, number in shared.error_numbers().items() if number != 0}
-    checks.check(errors == wanted, f"the exceptions are {errors}: {why}")
-    places = {line[1]: int(line[2]) for line in lines if line[0] == "place"}
-    layout = {class_name(name.partition(".")[0].removeprefix("minisign_")) + "".join(name.partition(".")[1:]): at
-              for name, at in shared.layout(room).items()}
-    checks.check(places == layout, f"the structs are {places}, and in C {layout}")
-
-
-def check_host(checks, room, python_path):
-    """The structs of the installing host are those of c/install/installing.h, as far as the package has them."""
-    told = f"""
-import ctypes
-from {PACKAGE} import installing
 for struct in (installing.Wanted, installing.Installing):
     for field, _ in struct._fields_:
-        print(struct.__name__.lower(), field, getattr(struct, field).offset, getattr(struct, field).size)
-print("wanted", ctypes.sizeof(installing.Wanted), installing.LONGEST)
+        print("host", f"{{struct.__name__.lower()}}.{{field}}", getattr(struct, field).offset)
+        print("size", f"{{struct.__name__.lower()}}.{{field}}", getattr(struct, field).size)
+print("host", "wanted", ctypes.sizeof(installing.Wanted))
+print("host", "longest", installing.LONGEST)
 """
-    _, said, why = shared.run([python_path, "-c", told])
-    fields = [line.split() for line in said.decode().splitlines()[:-1]]
-    inside = {"shown": "directory.trouble.shown", "cause": "directory.trouble.cause", "number": "directory.trouble.number"}
-    lines = ""
-    for struct, field, *_ in fields:
-        of = inside.get(field, field) if struct == "installing" else field
-        size = f"sizeof(((struct {struct} *) 0)->{of})"
-        lines += f'printf("{struct} {field} %zu %zu\\n", offsetof(struct {struct}, {of}), {size});\n'
-    lines += 'printf("wanted %zu %lld\\n", sizeof(struct wanted), (long long) INT64_MAX);\n'
-    path = shared.write(room, "host.c", f"#include <stdio.h>\n#include \"install/installing.h\"\nint main(void) {{\n{lines}return 0; }}\n".encode())
-    directories = [f"-I{os.path.join(shared.TOP, directory)}" for directory in ("c", "include")]
-    status, _, unbuilt = shared.run([needs.c_compiler(), *directories, "-o", f"{room}/host", path])
-    checks.check(status == 0 and len(fields) > 15, f"the program of the host's structs: {unbuilt[-500:]}{why[-500:]}")
-    wanted = shared.run([f"{room}/host"])[1] if status == 0 else b""
-    checks.check(said == wanted, f"the host's structs are {said.decode()}, and in C {wanted.decode()}")
+# The fields of the installing host's struct that stand inside of others in C.
+INSIDE = {"installing.shown": "directory.trouble.shown", "installing.cause": "directory.trouble.cause", "installing.number": "directory.trouble.number"}
 
 
-def class_name(name):
-    return "".join(word.capitalize() for word in name.split("_"))
+def check_headers(checks, room, python_path):
+    """The exceptions, the numbers, the structs and their fields are those of the headers, and of c/install/installing.h as far as the
+    package has them."""
+    status, said, why = run([python_path, "-c", TOLD])
+    lines = [line.split(" ", 3) for line in said.decode().splitlines()]
+    numbers = lambda kind: {line[1]: int(line[2]) for line in lines if line[0] == kind}
+    errors, texts = {int(line[1]): line[2:] for line in lines if line[0] == "error"}, shared.error_texts()
+    wanted = {number: [class_name(name), texts[name]] for name, number in shared.error_numbers().items() if number != 0}
+    checks.check(status == 0 and errors == wanted, f"the exceptions are {errors}: {why}")
+    layout = {class_name(name.partition(".")[0].removeprefix("minisign_")) + "".join(name.partition(".")[1:]): at
+              for name, at in shared.layout(room).items()}
+    checks.check(numbers("place") == layout, f"the structs are {numbers('place')}, and in C {layout}")
+    struct_of, field_of = lambda name: name.partition(".")[0], lambda name: INSIDE.get(name, name.partition(".")[2])
+    rows = [(name, f"offsetof(struct {struct_of(name)}, {field_of(name)})") for name in numbers("host") if "." in name]
+    sizes = [(name, f"sizeof(((struct {struct_of(name)} *) 0)->{field_of(name)})") for name in numbers("size")]
+    more = [("wanted", "sizeof(struct wanted)"), ("longest", "INT64_MAX")]
+    for kind, expressions in (("host", [*rows, *more]), ("size", sizes)):
+        in_c = shared.numbers_in_c(room, ['"install/installing.h"'], expressions)
+        checks.check(numbers(kind) == in_c and len(in_c) > 15, f"the host's structs are {numbers(kind)}, and in C {in_c}")
 
 
-def check_types(checks, python_path):
+def check_types(checks, python_path, package):
     mypy = needs.program("mypy", "mypy")
-    installed = glob.glob(os.path.join(os.path.dirname(python_path), "..", "lib", "python3*", "site-packages", PACKAGE))[0]
-    for what in (installed, USER):
-        status, said, why = shared.run([mypy, "--strict", "--cache-dir=/dev/null", "--python-executable", python_path, what])
+    for what in (package, USER):
+        status, said, why = run([mypy, "--strict", "--cache-dir=/dev/null", "--python-executable", python_path, what])
         checks.check(status == 0, f"types of {os.path.basename(what)}: {said.decode()[-1000:]}{why[-300:]}")
 
 
-def wanted_answers(program, room):
-    """What `c/minisign` answers: to the corpus, to damaged texts, to vectors of Ed25519 as cases, and to large data, with legacy
-    signatures or without."""
-    kinds = (("corpus", shared.corpus()), ("damaged", shared.damaged()), ("vectors as texts", shared.vector_cases()),
-             ("large", shared.large(program, room)))
-    return [(what, cases, word, shared.answers_of(program, room, cases, word == "allow")) for what, cases in kinds
-            for word in ("allow", "reject")]
+# ---- What its user is told ----
 
 
-def check_answers(checks, user, answered):
-    """The corpus, the damaged texts, data in pieces, and each rejection by its name."""
-    for what, cases, word, wanted in answered:
-        _, said, why = user.run("answers", word, data=shared.lines_of(cases))
-        shared.compare(checks, f"{what}, {user.kind}, {word} {why[-300:]}", cases, said, wanted)
-        if what in ("corpus", "large") and word == "allow":
-            _, said, why = user.run("pieces", data=shared.lines_of(cases))
-            shared.compare(checks, f"pieces, {user.kind} {why[-300:]}", cases, said, wanted)
-    rejected = list(shared.rejections())
-    _, said, why = user.run("answers", "reject", data=shared.lines_of([case for case, _ in rejected]))
-    for (case, name), line in zip(rejected, said.decode().splitlines()):
-        checks.check(line == f"rejected {class_name(name)}", f"{user.kind}, {case.name}: {line} in place of {name}")
-    checks.check(said.count(b"\n") == len(rejected), f"{user.kind}: not an answer to each rejection: {why[-300:]}")
+class User(shared.Program):
+    """Runs the program of a user, by one kind of Ed25519, over the package of its Python or a changed one."""
+
+    def __init__(self, checks, python_path, kind, changed=""):
+        super().__init__(checks, python_path, USER, kind, name=kind, PYTHONPATH=changed, PYTHONDONTWRITEBYTECODE="1", PATH=static_library.path_without_kit())
+
+    def check_itself(self, word, room):
+        """What the program checks itself."""
+        status, said, why = self.run(word, room)
+        lines = said.decode(errors="replace").splitlines()
+        last = re.fullmatch(r"(\d+) passed, (\d+) failed", lines[-1] if lines else "")
+        self.checks.check(last and status in (0, 1), f"{word}, {self.name}: it ended with status {status}: {why[-500:]}")
+        for _ in range(int(last[1]) if last else 0):
+            self.checks.check(True, word)
+        for line in lines[:-1]:
+            self.checks.check(False, f"{word}, {self.name}: {line.removeprefix('FAILED: ')}")
+
+    def ask_reasons(self, words, rows, told=lambda name: shared.rejected(class_name(name))):
+        super().ask_reasons(words, rows, told)
+
+    def ask_readings(self):
+        super().ask_readings(["read"], lambda it: f"{shared.shown_id(it.key_id)} {shared.shown_id(it.signature_key_id)} {it.is_legacy}")
 
 
-def check_read(checks, user):
-    """Key IDs and legacy signatures, before anything is asked."""
-    said = user.run("read", data=shared.lines_of([reading.case for reading in shared.readings()]))[1]
-    shared.check_readings(checks, f"what is read, {user.kind}", said,
-                          lambda reading: f"{shared.shown_id(reading.key_id)} {shared.shown_id(reading.signature_key_id)} {reading.is_legacy}")
-
-
-def check_vectors(checks, user):
-    vectors = shared.vectors()
-    lines = "".join(f"{key.hex()} {message.hex() or '-'} {signature.hex()}\n" for _, key, signature, message, _ in vectors)
-    _, said, why = user.run("vectors", data=lines.encode())
-    answers = said.decode().splitlines()
-    checks.check(len(answers) == len(vectors) >= 293, f"vectors, {user.kind}: {len(answers)} answers: {why[-500:]}")
-    for (name, *_, is_accepted), line in zip(vectors, answers):
-        checks.check(line == ("yes" if is_accepted else "no"), f"vectors, {user.kind}, {name}: {line}")
-
-
-# ---- Keys ----
+def ask_all(user, minisign):
+    """The corpus, damaged texts, vectors of Ed25519 and large data, with legacy signatures or without; data in pieces, each rejection by
+    its name, and what is read before anything is asked."""
+    kept, large, vectors = shared.corpus(), shared.large(minisign), [case for case, _ in shared.vector_texts()]
+    user.ask_answers(minisign, kept + shared.damaged() + large + vectors, (["answers", "allow"], True), (["answers", "reject"], False))
+    user.ask_answers(minisign, kept + large, (["pieces"], True))
+    user.ask_reasons(["answers", "reject"], shared.rejections())
+    user.ask_reasons(["answers", "allow"], shared.vector_texts())
+    user.ask_readings()
+    user.ask_vectors(["vectors"])
 
 
 def prepare_keys(room):
     """What the checks of keys find: a key and a signature of Minisign's own program, a damaged one, one that asks for much, and such
     as are sealed weakly or not."""
-    minisign = needs.minisign()
-    shared.write(room, "data", b"what is signed")
+    os.mkdir(room)
+    write(room, "data", b"what is signed")
     for words in (["-G", "-W", "-p", "theirs.pub", "-s", "theirs.key"],
                   ["-S", "-s", "theirs.key", "-m", "data", "-x", "theirs.minisig", "-t", "by Minisign"]):
-        if shared.run([minisign, *words], directory=room)[0] != 0:
-            raise static_library.NotBuilt(f"minisign {words}")
-    first, second = shared.read(os.path.join(room, "theirs.key")).splitlines()
-    record = bytearray(base64.b64decode(second))
-    record[94] ^= 1
-    shared.write(room, "damaged.key", first + b"\n" + base64.b64encode(record) + b"\n")
+        run([needs.minisign(), *words], room)
+    theirs = read(room, "theirs.key")
+    write(room, "damaged.key", shared.with_other_half(theirs))
     # (the limits of a derivation that is made many times)
     sealed = b"EdScB2" + bytes(32) + (2**40).to_bytes(8, "little") + (2**24).to_bytes(8, "little") + bytes(104)
-    shared.write(room, "many.key", first + b"\n" + base64.b64encode(sealed) + b"\n")
+    write(room, "many.key", theirs.splitlines()[0] + b"\n" + base64.b64encode(sealed) + b"\n")
     for number, limits in enumerate(shared.LIMITS):
-        name = f"limits-{number}-{'weak' if limits[-1] else 'strong'}.key"
-        shared.write(room, name, shared.sealed(shared.read(os.path.join(room, "theirs.key")), limits))
+        write(room, f"limits-{number}-{'weak' if limits[-1] else 'strong'}.key", shared.sealed(theirs, limits))
 
 
-def check_keys(checks, user, room):
-    """The checks of keys; then Minisign's own program looks at what they have made."""
-    os.mkdir(room)
+def check_keys(user, room):
+    """The checks of keys; then Minisign's own program looks at what they have made, and signs with a key of them."""
     prepare_keys(room)
-    user.checks(checks, "keys", room)
-    minisign = needs.minisign()
-    for key, signature in (("theirs.pub", "ours-by-theirs.minisig"), ("theirs-again.pub", "ours-by-theirs.minisig"), ("ours.pub", "data.minisig")):
-        status, _, why = shared.run([minisign, "-V", "-q", "-p", key, "-m", "data", "-x", signature], directory=room)
-        checks.check(status == 0, f"keys, {user.kind}: Minisign rejects {signature} under {key}: {why}")
-    status, _, why = shared.run([minisign, "-S", "-s", "ours.key", "-m", "data", "-x", "theirs-by-ours.minisig"], directory=room)
-    checks.check(status == 0, f"keys, {user.kind}: Minisign does not sign with our key: {why}")
-    status, _, why = shared.run([minisign, "-V", "-p", "ours.pub", "-m", "data", "-x", "theirs-by-ours.minisig"], directory=room)
-    checks.check(status == 0, f"keys, {user.kind}: Minisign rejects what it has signed with our key: {why}")
-
-
-# ---- The README ----
+    user.check_itself("keys", room)
+    verify = lambda key, signature: ["-V", "-q", "-p", key, "-m", "data", "-x", signature]
+    for words in (verify("theirs.pub", "ours-by-theirs.minisig"), verify("theirs-again.pub", "ours-by-theirs.minisig"), verify("ours.pub", "data.minisig"),
+                  ["-S", "-s", "ours.key", "-m", "data", "-x", "theirs-by-ours.minisig"], verify("ours.pub", "theirs-by-ours.minisig")):
+        status, _, why = run([needs.minisign(), *words], room)
+        user.checks.check(status == 0, f"keys, {user.name}: Minisign, {words}: {why}")
 
 
 def check_examples(checks, python_path, room):
     """The examples of the README, one after the other, in a directory with what they name."""
-    text = shared.read(os.path.join(shared.TOP, "bindings", "python", "README.md")).decode()
-    examples = "\n".join(re.findall(r"^```python\n(.*?)^```$", text, re.M | re.S))
+    examples = "\n".join(re.findall(r"^```python\n(.*?)^```$", read(SOURCES, "README.md").decode(), re.M | re.S))
     os.makedirs(os.path.join(room, "there"))
-    minisign = needs.minisign()
     for name, data in (("app-2", b"version 2"), ("app-3", b"version 3"), ("data", b"data")):
-        shared.write(room, name, data)
-    shared.run([minisign, "-G", "-W", "-p", "app.pub", "-s", "app.key"], directory=room)
+        write(room, name, data)
+    minisign = lambda *words: run([needs.minisign(), *words], room)
+    minisign("-G", "-W", "-p", "app.pub", "-s", "app.key")
     for name, comment in (("app-2", "version:2\tfile:app"), ("data", "data")):
-        shared.run([minisign, "-S", "-s", "app.key", "-m", name, "-t", comment], directory=room)
-    status, _, why = shared.run([python_path, "-c", examples], directory=room)
-    checks.check(status == 0 and shared.read(os.path.join(room, "there", "app")) == b"version 2", f"the examples of the README: {why[-500:]}")
-    status, _, why = shared.run([minisign, "-V", "-p", "new.pub", "-m", "app-3"], directory=room)
+        minisign("-S", "-s", "app.key", "-m", name, "-t", comment)
+    status, _, why = run([python_path, "-c", examples], room)
+    checks.check(status == 0 and read(room, "there", "app") == b"version 2", f"the examples of the README: {why[-500:]}")
+    status, _, why = minisign("-V", "-p", "new.pub", "-m", "app-3")
     checks.check(status == 0, f"what the example has signed: {why}")
+
+
+# ---- The cases of tests/installer ----
+
+# What needs the words or the messages of a program, and not of a function.
+LEFT_OUT = ("progress at a terminal", "a closed error stream", "an allocation that fails", "an error stream that nobody reads", "what a check shows",
+            "what a check shows of what it rejects", "the script of the document", "the unit of the document",
+            "a check: the same, that is asked for again", "a mode that is asked for, of what is there already")
+
+
+def chosen_cases(installing):
+    words = {name for name, *_ in word_cases(installing)} | {name for name, case, *_ in check_cases(installing) if case is says} | set(LEFT_OUT)
+    kept = {"a name that begins with a dash", "another name than the signed one"}
+    # (what the host does after a cut over other beginnings, the cases of the program show)
+    cut_off = {f"cut off by {cut}, over {begin}" for begin, *_ in BEGINNINGS[1:] for cut, _ in CUTS}
+    return [case for case in cases(installing) if case[0] not in (words - kept) | cut_off]
+
+
+def check_installing(checks, python_path, room):
+    """The cases of `install` and `check` over the package, by a program of it."""
+    os.mkdir(room)
+    program = write(room, "installing.py", f"#!{python_path}\n".encode() + read(INSTALLER))
+    os.chmod(program, 0o755)
+    installing = Installing(program, RealInstaller(room), room)
+    # (what Python itself calls is neither broken nor traced)
+    installing.preload = build_preload(installing.room, "disturbed_calls", "libminisign.so")
+    failures, count = run_cases(chosen_cases(installing))
+    checks.passed += count - len(failures)
+    for failure in failures:
+        checks.check(False, f"installing: {failure}")
 
 
 # ---- Planted bugs ----
@@ -384,66 +442,38 @@ BUGS = [
 ]
 
 
-def is_noticed(user, word, room):
-    """Whether a check fails over a changed package."""
-    checks = shared.Checks()
-    if word == "answers":
-        rejected = list(shared.rejections())
-        said = user.run("answers", "reject", data=shared.lines_of([case for case, _ in rejected]))[1].decode().splitlines()
-        return said != [f"rejected {class_name(name)}" for _, name in rejected]
-    if word == "pieces":
-        return b"differs" in user.run("pieces", data=shared.lines_of(shared.corpus()))[1]
-    if word == "vectors":
-        check_vectors(checks, user)
-    elif word == "read":
-        check_read(checks, user)
-    elif word == "keys":
-        check_keys(checks, user, os.path.join(room, "keys"))
-    else:
-        user.checks(checks, word, room)
-    return bool(checks.failures)
+def check_planted(checks, python_path, package, room):
+    """Each planted bug is noticed by the checks of its row."""
+    def ask(found, changed, directory, word):
+        user = User(found, python_path, "cryptography", os.path.dirname(changed))
+        asked = {"answers": lambda: user.ask_reasons(["answers", "reject"], shared.rejections()), "read": user.ask_readings,
+                 "pieces": lambda: user.ask(["pieces"], shared.corpus(), ["(accepted|rejected) .*"] * len(shared.corpus())),
+                 "vectors": lambda: user.ask_vectors(["vectors"]), "keys": lambda: check_keys(user, os.path.join(directory, "keys"))}
+        asked.get(word, lambda: user.check_itself(word, directory))()
 
-
-def check_planted(checks, python_path, room):
-    installed = glob.glob(os.path.join(os.path.dirname(python_path), "..", "lib", "python3*", "site-packages", PACKAGE))[0]
-    for file, old, new, word in BUGS:
-        with tempfile.TemporaryDirectory(dir=room) as own:
-            shutil.copytree(installed, os.path.join(own, PACKAGE))
-            path = os.path.join(own, PACKAGE, file)
-            text = shared.read(path).decode()
-            shared.write(os.path.dirname(path), file, text.replace(old, new).encode())
-            found = text.count(old) == 1 and is_noticed(User(python_path, "cryptography", own), word, own)
-            checks.check(found, f"planted in {file}, and not noticed by {word}: {new.strip()[:80]}")
+    shared.check_planted(checks, package, BUGS, room, ask)
 
 
 def run_all(checks, room):
     # (some runs are made as nobody)
     os.chmod(room, 0o711)
-    program = shared.c_minisign(room)
-    wheel = build_wheel(checks, room)
-    if wheel is None:
-        return
-    alone = environment(room, "alone", wheel)
-    beside = environment(room, "beside", wheel, "--system-site-packages")
+    minisign, wheel = shared.c_minisign(room), build_wheel(checks, room)
+    alone, _ = environment(room, "alone", wheel)
+    beside, package = environment(room, "beside", wheel, "--system-site-packages")
     check_sources(checks)
-    check_header(checks, room, alone)
-    check_host(checks, room, alone)
-    check_types(checks, beside)
+    check_headers(checks, room, alone)
+    check_types(checks, beside, package)
     check_examples(checks, alone, os.path.join(room, "examples"))
-    answered = wanted_answers(program, room)
-    for kind, python_path in zip(KINDS, (alone, beside)):
-        user, own = User(python_path, kind), os.path.join(room, kind)
+    shared.check_cases(checks, minisign, shared.corpus() + shared.damaged())
+    for kind, python_path, more in (("libsodium", alone, ("passwords", "documentation")), ("cryptography", beside, ())):
+        user, own = User(checks, python_path, kind), os.path.join(room, kind)
         os.mkdir(own)
-        check_vectors(checks, user)
-        check_read(checks, user)
-        check_answers(checks, user, answered)
-        for word in ("memory", "threads", "installing", "signals", "arguments", "parts", *(["passwords", "documentation"] if kind == KINDS[0] else [])):
-            user.checks(checks, word, own)
-        check_keys(checks, user, os.path.join(own, "keys"))
-    check_planted(checks, beside, room)
-    inside = os.path.join(room, "installs")
-    os.mkdir(inside)
-    python_installs.run_all(checks.check, alone, inside)
+        ask_all(user, minisign)
+        for word in ("memory", "threads", "installing", "signals", "arguments", "parts", *more):
+            user.check_itself(word, own)
+        check_keys(user, os.path.join(own, "keys"))
+    check_planted(checks, beside, package, room)
+    check_installing(checks, alone, os.path.join(room, "installs"))
 
 
 if __name__ == "__main__":

@@ -8,10 +8,10 @@ import array
 import enum
 import inspect
 import io
-import itertools
 import os
 import pathlib
 import re
+import shutil
 from typing import Any, Callable, Dict, Iterator, List, NamedTuple, Sequence, Tuple
 
 import minisign_proved as minisign
@@ -59,11 +59,9 @@ BAD_PATHS = ("", b"", "a\0b", b"\0", pathlib.PurePath("a\0b"))
 KINDS = {
     "bytes": Kind((None, "", "text", *NUMBERS, *OTHERS), same=SAME_BYTES),
     "text": Kind((None, *NUMBERS, *OTHERS), same=FORMS_OF_A_TEXT),
-    "text or none": Kind((*NUMBERS, *OTHERS), same=FORMS_OF_A_TEXT),
     "password": Kind((*NUMBERS, *OTHERS)),
     "new password": Kind((*NUMBERS, *OTHERS), bad=("", b"", bytearray())),
     "path": Kind((None, bytearray(b"data"), NoPath(), *NUMBERS, *OTHERS), bad=BAD_PATHS, same=FORMS_OF_A_PATH),
-    "path or none": Kind((bytearray(b"data"), NoPath(), *NUMBERS, *OTHERS), bad=BAD_PATHS, same=FORMS_OF_A_PATH),
     "target": Kind((None, bytearray(b"data"), NoPath(), *NUMBERS, *OTHERS), bad=(*BAD_PATHS, ".", "..", b"/", "there/"), same=FORMS_OF_A_PATH),
     "path or file": Kind((None, NoPath(), io.StringIO(""), io.StringIO("data"), *NUMBERS, *OTHERS), bad=BAD_PATHS,
                          same=(*FORMS_OF_A_PATH, lambda path: open(path, "rb"), lambda path: io.BytesIO(open(path, "rb").read()))),
@@ -73,103 +71,105 @@ KINDS = {
     "rows": Kind((None, True, 1.0, "1", b"1", *OTHERS), bad=(0, -1, 2**64, 2**64 + 1)),
     "operations": Kind((None, True, 1.0, "1", b"1", *OTHERS), bad=(0, -1, 524287, 2**64), same=(lambda _: 524288, lambda _: 2**64 - 1)),
     "memory": Kind((None, True, 1.0, "1", b"1", *OTHERS), bad=(0, -1, 2**24 - 1, 2**30 + 1), same=(lambda _: 2**24, lambda _: 2**30)),
-    "mode or none": Kind((True, False, 0o755 + 0.0, "755", "rwx", b"755", *OTHERS), bad=(-1, 0o1000, 755, 0o100755, 2**32 + 0o755), same=(lambda _: 0, lambda _: 0o777)),
-    "size or none": Kind((True, False, 1e6, "1M", b"1", *OTHERS), bad=(-1, 2**64), same=(lambda _: 4, lambda _: 2**64 - 1)),
+    "mode": Kind((None, True, False, 0o755 + 0.0, "755", "rwx", b"755", *OTHERS), bad=(-1, 0o1000, 755, 0o100755, 2**32 + 0o755), same=(lambda _: 0, lambda _: 0o777)),
+    "size": Kind((None, True, False, 1e6, "1M", b"1", *OTHERS), bad=(-1, 2**64), same=(lambda _: 4, lambda _: 2**64 - 1)),
     "seconds": Kind((None, True, 1.0, "1", b"1", *OTHERS), bad=(-1, 24 * 60 * 60 + 1), same=(lambda _: 0, lambda _: 24 * 60 * 60)),
-    "function or none": Kind(("f", b"f", *NUMBERS, *OTHERS)),
+    "function": Kind((None, "f", b"f", *NUMBERS, *OTHERS)),
     "numbering": Kind((None, b"version", *NUMBERS, *OTHERS), bad=("", "date", "Version", "version ")),
     "Ed25519": Kind((None, b"libsodium", *NUMBERS, *OTHERS), bad=("", "sodium", "Libsodium")),
     "public keys": Kind((None, "RWQ", b"RWQ", *NUMBERS, *OTHERS), bad=([], ()), same=(lambda value: [value], lambda value: (value, value))),
     "public key": Kind((None, "RWQ", b"RWQ", "theirs", *NUMBERS, *OTHERS)),
     "secret key": Kind((None, b"key", *NUMBERS, *OTHERS)),
-    "signature": Kind((None, "", "text", b"text", *NUMBERS, *OTHERS)),
-    "signature or none": Kind(("", "text", b"", b"text", *NUMBERS, *OTHERS)),
+    "signature": Kind((None, "", "text", b"", b"text", *NUMBERS, *OTHERS)),
 }
+# What is added to the name of a kind where none will do too.
+OR_NONE = " or none"
 
 
 class Row(NamedTuple):
-    """A function or a method: what each argument is, and how it is called with arguments that it takes."""
+    """A function or a method, and of what; of each argument its kind, and what it takes. What is a function here is called for one anew."""
 
     name: str
-    kinds: Dict[str, str]
-    call: Callable[[], Tuple[Callable[..., object], Dict[str, Any]]]
+    of: object
+    arguments: Dict[str, Tuple[str, object]]
+
+    def call(self) -> Tuple[Callable[..., object], Dict[str, Any]]:
+        """What is called, and with which arguments."""
+        called: Callable[..., object] = getattr(anew(self.of), self.name.rpartition(".")[2])
+        return called, {argument: anew(value) for argument, (_, value) in self.arguments.items()}
+
+
+def anew(value: object) -> Any:
+    return value() if inspect.isfunction(value) else value
 
 
 def table(room: str) -> List[Row]:
     """All functions and methods, over a directory with a key, data and a signature."""
-    secret, fresh = SecretKey.generate(), itertools.count()
-    public, path, key_path = secret.public_key, os.path.join(room, "data"), os.path.join(room, "data.key")
+    secret, path, key_path = SecretKey.generate(), os.path.join(room, "data"), os.path.join(room, "data.key")
+    public = secret.public_key
     with open(path, "wb") as file:
         file.write(b"data")
     minisign.write_new(key_path, secret.to_bytes(None))
     minisign.write_new(os.path.join(room, "data.pub"), secret.public_bytes())
     signature = minisign.sign(path, secret, trusted_comment="version:1\tfile:app")
     kind = "libsodium" if isinstance(_calls.ed25519(), _calls.Sodium) else "cryptography"
-    letters = secret.public_bytes().split(b"\n")[1].decode()
 
     def there() -> str:
-        directory = os.path.join(room, f"there-{next(fresh)}")
+        directory = os.path.join(room, "fresh")
+        shutil.rmtree(directory, ignore_errors=True)
         os.mkdir(directory)
         return os.path.join(directory, "app")
 
-    opening = {"password": "password", "low_memory": "truth", "most_rows": "rows"}
-    usual = {"password": None, "low_memory": False, "most_rows": 1}
-    comments = {"trusted_comment": "text or none", "untrusted_comment": "text", "progress": "function or none"}
-    signed = {"trusted_comment": "comment \u00e9", "untrusted_comment": "other", "progress": None}
+    def other_data() -> str:
+        with open(there(), "wb") as file:
+            file.write(b"data")
+        return str(file.name)
+
+    def verifier() -> Verifier:
+        return Verifier(public, signature)
+
+    def fed() -> Verifier:
+        made = verifier()
+        made.update(b"data")
+        return made
+
+    def row(name: str, of: object, /, **arguments: Tuple[str, object]) -> Row:
+        return Row(name, of, arguments)
+
+    opening: Dict[str, Any] = {"password": ("password", None), "low_memory": ("truth", False), "most_rows": ("rows", 1)}
+    limits: Dict[str, Any] = {"operations_limit": ("operations", 2**20), "memory_limit": ("memory", 2**25)}
+    comments: Dict[str, Any] = {"trusted_comment": ("text or none", "comment \u00e9"), "untrusted_comment": ("text", "other")}
+    progress: Dict[str, Any] = {"progress": ("function or none", None)}
+    update: Dict[str, Any] = {"must_expire": ("truth", False), "numbering": ("numbering", "version"), "name": ("path or none", "app")}
     return [
-        Row("Signature", {"text": "bytes"}, lambda: (Signature, {"text": signature.text})),
-        Row("Signature.from_file", {"path": "path"}, lambda: (Signature.from_file, {"path": path + ".minisig"})),
-        Row("PublicKey", {"text": "bytes"}, lambda: (PublicKey, {"text": secret.public_bytes()})),
-        Row("PublicKey.from_file", {"path": "path"}, lambda: (PublicKey.from_file, {"path": os.path.join(room, "data.pub")})),
-        Row("PublicKey.from_base64", {"letters": "text"}, lambda: (PublicKey.from_base64, {"letters": letters})),
-        Row("PublicKey.verify", {"data": "data", "signature": "signature", "allow_legacy": "truth"},
-            lambda: (public.verify, {"data": b"data", "signature": signature, "allow_legacy": False})),
-        Row("Verifier", {"key": "public key", "signature": "signature", "allow_legacy": "truth"},
-            lambda: (Verifier, {"key": public, "signature": signature, "allow_legacy": True})),
-        Row("Verifier.update", {"piece": "bytes"}, lambda: (Verifier(public, signature).update, {"piece": b"data"})),
-        Row("Verifier.trusted_comment", {}, lambda: (Verifier(public, signature).trusted_comment, {})),
-        Row("Verifier.finish", {}, lambda: (fed(Verifier(public, signature)).finish, {})),
-        Row("verify", {"path": "path", "key": "public key", "signature": "signature or none", "allow_legacy": "truth", "progress": "function or none"},
-            lambda: (minisign.verify, {"path": path, "key": public, "signature": None, "allow_legacy": False, "progress": None})),
-        Row("SecretKey", {"opened": "secret key"}, lambda: (SecretKey, {"opened": secret._opened})),
-        Row("SecretKey.generate", {}, lambda: (SecretKey.generate, {})),
-        Row("SecretKey.from_bytes", {"text": "bytes", **opening}, lambda: (SecretKey.from_bytes, {"text": secret.to_bytes(None), **usual})),
-        Row("SecretKey.from_file", {"path": "path", **opening}, lambda: (SecretKey.from_file, {"path": key_path, **usual})),
-        Row("SecretKey.to_bytes", {"password": "new password", "comment": "text", "low_memory": "truth", "operations_limit": "operations",
-                                   "memory_limit": "memory"},
-            lambda: (secret.to_bytes, {"password": None, "comment": "comment \u00e9", "low_memory": False, "operations_limit": 2**20,
-                                       "memory_limit": 2**25})),
-        Row("SecretKey.public_bytes", {"comment": "text or none"}, lambda: (secret.public_bytes, {"comment": "comment \u00e9"})),
-        Row("SecretKey.sign", {"path": "path", **comments}, lambda: (secret.sign, {"path": path, **signed})),
-        Row("SecretKey.sign_data", {"data": "data", "trusted_comment": "text or none", "untrusted_comment": "text"},
-            lambda: (secret.sign_data, {"data": b"data", "trusted_comment": "comment \u00e9", "untrusted_comment": "other"})),
-        Row("SecretKey.clear", {}, lambda: (SecretKey.generate().clear, {})),
-        Row("sign", {"path": "path", "key": "secret key", **comments}, lambda: (minisign.sign, {"path": there_with(there(), b"data"), "key": secret, **signed})),
-        Row("write_new", {"path": "path", "text": "bytes"}, lambda: (minisign.write_new, {"path": there(), "text": b"text"})),
-        Row("change_password", {"path": "path", "old": "password", "new": "new password", "low_memory": "truth"},
-            lambda: (minisign.change_password, {"path": key_path, "old": None, "new": None, "low_memory": False})),
-        Row("use_ed25519", {"name": "Ed25519"}, lambda: (minisign.use_ed25519, {"name": kind})),
-        Row("check", {"key": "public keys", "signature": "signature", "target": "target", "first": "truth", "must_expire": "truth", "numbering": "numbering",
-                      "name": "path or none"},
-            lambda: (minisign.check, {"key": public, "signature": signature, "target": there(), "first": True, "must_expire": False, "numbering": "version", "name": "app"})),
-        Row("install", {"key": "public keys", "data": "path or file", "signature": "signature", "target": "target", "first": "truth", "again": "truth",
-                        "must_expire": "truth", "numbering": "numbering", "name": "path or none", "mode": "mode or none", "most": "size or none",
-                        "wait": "seconds", "progress": "function or none"},
-            lambda: (minisign.install, {"key": public, "data": path, "signature": signature, "target": there(), "first": True, "again": False,
-                                        "must_expire": False, "numbering": "version", "name": "app", "mode": 0o640, "most": 4, "wait": 1,
-                                        "progress": None})),
+        row("Signature", minisign, text=("bytes", signature.text)),
+        row("Signature.from_file", Signature, path=("path", path + ".minisig")),
+        row("PublicKey", minisign, text=("bytes", secret.public_bytes())),
+        row("PublicKey.from_file", PublicKey, path=("path", os.path.join(room, "data.pub"))),
+        row("PublicKey.from_base64", PublicKey, letters=("text", secret.public_bytes().split(b"\n")[1].decode())),
+        row("PublicKey.verify", public, data=("data", b"data"), signature=("signature", signature), allow_legacy=("truth", False)),
+        row("Verifier", minisign, key=("public key", public), signature=("signature", signature), allow_legacy=("truth", True)),
+        row("Verifier.update", verifier, piece=("bytes", b"data")),
+        row("Verifier.trusted_comment", verifier),
+        row("Verifier.finish", fed),
+        row("verify", minisign, path=("path", path), key=("public key", public), signature=("signature or none", None), allow_legacy=("truth", False), **progress),
+        row("SecretKey", minisign, opened=("secret key", secret._opened)),
+        row("SecretKey.generate", SecretKey),
+        row("SecretKey.from_bytes", SecretKey, text=("bytes", secret.to_bytes(None)), **opening),
+        row("SecretKey.from_file", SecretKey, path=("path", key_path), **opening),
+        row("SecretKey.to_bytes", secret, password=("new password", None), comment=("text", "comment \u00e9"), low_memory=("truth", False), **limits),
+        row("SecretKey.public_bytes", secret, comment=("text or none", "comment \u00e9")),
+        row("SecretKey.sign", secret, path=("path", path), **comments, **progress),
+        row("SecretKey.sign_data", secret, data=("data", b"data"), **comments),
+        row("SecretKey.clear", lambda: SecretKey.generate()),
+        row("sign", minisign, path=("path", other_data), key=("secret key", secret), **comments, **progress),
+        row("write_new", minisign, path=("path", there), text=("bytes", b"text")),
+        row("change_password", minisign, path=("path", key_path), old=("password", None), new=("new password", None), low_memory=("truth", False)),
+        row("use_ed25519", minisign, name=("Ed25519", kind)),
+        row("check", minisign, key=("public keys", public), signature=("signature", signature), target=("target", there), first=("truth", True), **update),
+        row("install", minisign, key=("public keys", public), data=("path or file", path), signature=("signature", signature), target=("target", there),
+            first=("truth", True), again=("truth", False), **update, mode=("mode or none", 0o640), most=("size or none", 4), wait=("seconds", 1), **progress),
     ]
-
-
-def fed(verifier: Verifier) -> Verifier:
-    verifier.update(b"data")
-    return verifier
-
-
-def there_with(path: str, data: bytes) -> str:
-    with open(path, "wb") as file:
-        file.write(data)
-    return path
 
 
 def public_calls() -> Iterator[Tuple[str, Callable[..., object]]]:
@@ -205,25 +205,25 @@ def told(result: object) -> object:
 def check_row(row: Row, check: Check, room: str) -> None:
     call, good = row.call()
     wanted = told(call(**good))
-    for argument, name in row.kinds.items():
-        kind = KINDS[name]
-        for error, values in ((TypeError, kind.wrong), (ValueError, kind.bad)):
-            for value in values:
-                what = f"{row.name}, {argument}={value!r}"
-                call, good = row.call()
-                before = files(room)
-                try:
-                    call(**{**good, argument: value})
-                except BaseException as why:
-                    check(type(why) is error and re.search(rf"\b{argument}\b", str(why)) is not None, f"{what}: {why!r}")
-                else:
-                    check(False, f"{what}: it is not rejected")
-                check(files(room) == before, f"{what}: something is written")
+    for argument, (name, _) in row.arguments.items():
+        kind = KINDS[name.replace(OR_NONE, "")]
+        wrong = [(TypeError, value) for value in kind.wrong if value is not None or OR_NONE not in name]
+        for error, value in [*wrong, *((ValueError, value) for value in kind.bad)]:
+            what = f"{row.name}, {argument}={value!r}"
+            call, good = row.call()
+            before = files(room)
+            try:
+                call(**{**good, argument: value})
+            except BaseException as why:
+                check(type(why) is error and re.search(rf"\b{argument}\b", str(why)) is not None, f"{what}: {why!r}")
+            else:
+                check(False, f"{what}: it is not rejected")
+            check(files(room) == before, f"{what}: something is written")
         for number, form in enumerate(kind.same):
             call, good = row.call()
             try:
                 said = told(call(**{**good, argument: form(good[argument])}))
-                check(said == wanted or row.name == "SecretKey.generate", f"{row.name}, form {number} of {argument}: {said!r} in place of {wanted!r}")
+                check(said == wanted, f"{row.name}, form {number} of {argument}: {said!r} in place of {wanted!r}")
             except BaseException as why:
                 check(False, f"{row.name}, form {number} of {argument}: {why!r}")
 
@@ -236,8 +236,8 @@ def check_arguments(room: str, check: Check) -> None:
     calls = dict(public_calls())
     check({row.name for row in rows} == set(calls), f"the table and the package differ in {set(calls) ^ {row.name for row in rows}}")
     for row in rows:
-        taken = [parameter.name for parameter in inspect.signature(calls[row.name]).parameters.values() if parameter.name != "self" and parameter.name[0] != "_"]
-        check(taken == list(row.kinds), f"the arguments of {row.name}: {taken}")
+        taken = [name for name in inspect.signature(calls[row.name]).parameters if name != "self" and name[0] != "_"]
+        check(taken == list(row.arguments), f"the arguments of {row.name}: {taken}")
         check_row(row, check, room)
     place = os.path.join(room, "there", "app")
     os.mkdir(os.path.dirname(place))

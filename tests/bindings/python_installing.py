@@ -15,15 +15,21 @@ OFFERS = {minisign.Offer.NEWER: 0, minisign.Offer.THERE: THERE, minisign.Offer.O
 UNITS = {"K": 10, "M": 20, "G": 30, "T": 40}
 
 
-def status_of(error):
-    """The exit status that `minisign-install` has for an error."""
-    for kinds, status in (((minisign.TooLong,), REJECTED), ((minisign.OlderUpdate,), OLDER), ((minisign.Expired,), EXPIRED), ((minisign.TargetInUse,), IN_USE),
-                          ((minisign.DirectoryNotSynced,), NOT_ON_DISK), ((minisign.SameNumber,), SAME),
-                          ((minisign.NoRecord, minisign.DamagedRecord, minisign.KeptByTimestamp, minisign.KeptByVersion), UNRECORDED),
-                          ((minisign.OutOfMemory, minisign.ReadingFailed, minisign.WritingFailed, minisign.RandomSourceFailed), FAILED)):
-        if isinstance(error, kinds):
-            return status
-    return REJECTED
+# The exit status that `minisign-install` has for an error, where it is not that of a rejected update.
+STATUSES = {
+    minisign.OlderUpdate: OLDER, minisign.Expired: EXPIRED, minisign.TargetInUse: IN_USE, minisign.DirectoryNotSynced: NOT_ON_DISK,
+    minisign.SameNumber: SAME,
+    **dict.fromkeys((minisign.NoRecord, minisign.DamagedRecord, minisign.KeptByTimestamp, minisign.KeptByVersion), UNRECORDED),
+    **dict.fromkeys((minisign.OutOfMemory, minisign.ReadingFailed, minisign.WritingFailed, minisign.RandomSourceFailed), FAILED),
+}
+# What it says to type after some of them.
+REMEDIES = {
+    minisign.NoRecord: "{record} is missing: --first installs all the same", minisign.DamagedRecord: "{record} is damaged: --first installs all the same",
+    minisign.SameNumber: "--again installs all the same", minisign.OtherFile: "{name} is wanted: --name gives another name",
+    minisign.KeptByVersion: "it was installed by version: add --numbering version",
+    minisign.KeptByTimestamp: "it was installed by timestamp: add --numbering timestamp",
+}
+NO_NUMBER = {"version": "without --numbering version the number is its timestamp", "timestamp": "--numbering version takes the number from its version"}
 
 
 def failure_text(why):
@@ -40,23 +46,11 @@ def rejection_text(data, signature, place, name, numbering, error):
     at = signature
     if isinstance(error, (minisign.SignatureRefused, minisign.OlderUpdate, minisign.OtherSize)):
         at = data
-    if status_of(error) in (FAILED, IN_USE, NOT_ON_DISK, UNRECORDED, SAME):
+    elif STATUSES.get(type(error)) in (FAILED, IN_USE, NOT_ON_DISK, UNRECORDED, SAME):
         at = place
-    more = ""
-    if isinstance(error, (minisign.NoRecord, minisign.DamagedRecord)):
-        record = os.path.join(os.path.dirname(place) or ".", f".{os.path.basename(place)}.number")
-        more = f"\n{record} is {'missing' if isinstance(error, minisign.NoRecord) else 'damaged'}: --first installs all the same"
-    if isinstance(error, minisign.SameNumber):
-        more = "\n--again installs all the same"
-    if isinstance(error, minisign.NoNumber):
-        more = ("\nwithout --numbering version the number is its timestamp" if numbering == "version"
-                else "\n--numbering version takes the number from its version")
-    if isinstance(error, minisign.OtherFile):
-        more = f"\n{name} is wanted: --name gives another name"
-    if isinstance(error, (minisign.KeptByVersion, minisign.KeptByTimestamp)):
-        kept = "version" if isinstance(error, minisign.KeptByVersion) else "timestamp"
-        more = f"\nit was installed by {kept}: add --numbering {kept}"
-    return f"error: {at}: {error}{more}"
+    more = NO_NUMBER[numbering] if isinstance(error, minisign.NoNumber) else REMEDIES.get(type(error), "")
+    record = os.path.join(os.path.dirname(place) or ".", f".{os.path.basename(place)}.number")
+    return "\n".join(filter(None, (f"error: {at}: {error}", more.format(record=record, name=name))))
 
 
 def read_key(kind, word):
@@ -106,7 +100,7 @@ def main():
         is_new = minisign.install(public_keys, data, text, place, again="again" in options, mode=None if mode is None else int(mode, 8), most=most,
                                   wait=int(options.get("wait", 0)), **wanted)
     except minisign.MinisignError as error:
-        status = status_of(error)
+        status = STATUSES.get(type(error), REJECTED)
         if status == FAILED and isinstance(error.__cause__, OSError):
             print(failure_text(error.__cause__), file=sys.stderr)
         else:

@@ -105,7 +105,7 @@ def read() -> None:
 def vectors() -> None:
     kind = _calls.ed25519()
     for key, message, signature in read_cases():
-        print("yes" if kind.accepts(signature, message, key) is True else "no")
+        print("true" if kind.accepts(signature, message, key) is True else "false")
 
 
 # ---- Memory and threads ----
@@ -336,55 +336,59 @@ def passwords(room: str) -> None:
 def installing(room: str) -> None:
     """What the cases of tests/installer cannot say: files of other kinds, and what stops a run from within Python."""
     key, directory = SecretKey.generate(), os.path.join(room, "there")
+    public, other = key.public_key, SecretKey.generate().public_key
     os.mkdir(directory)
-    place = os.path.join(directory, "app")
+    place, path = os.path.join(directory, "app"), os.path.join(room, "update")
 
     def signed(data: bytes, comment: str) -> Signature:
         return key.sign(write(room, "update", data), trusted_comment=comment)
 
-    def state() -> Tuple[object, object, List[str]]:
-        read = [open(path, "rb").read() if os.path.exists(path) else None for path in (place, os.path.join(directory, ".app.number"))]
-        return read[0], read[1] and read[1].split(b"\n")[0], [name for name in os.listdir(directory) if "stage" in name]
+    one, two, another = (signed(data, comment) for data, comment in (
+        (b"one", "version:1\tfile:app"), (b"two", "version:2\tfile:app"), (b"another one", "version:1\tfile:app")))
+    write(room, "update", b"two")
 
-    one, two = signed(b"one", "version:1\tfile:app"), signed(b"two", "version:2\tfile:app")
+    def install(data: Any = path, update: Signature = two, keys: Any = public, **how: Any) -> bool:
+        how.setdefault("numbering", "version")
+        return minisign.install(keys, data, update, place, **how)
+
+    def offer(update: Signature, keys: Any = public) -> minisign.Offer:
+        return minisign.check(keys, update, place, numbering="version").status
+
+    def stands(data: bytes, number: int, what: str) -> None:
+        found = [open(name, "rb").read() if os.path.exists(name) else b"" for name in (place, os.path.join(directory, ".app.number"))]
+        left = [name for name in os.listdir(directory) if "stage" in name]
+        check((found[0], found[1].split(b"\n")[0], left) == (data, b"version:%d" % number, []), f"{what}: {found}, {left}")
+
+    def stops(kind: Type[BaseException], what: str, *given: Any, **how: Any) -> None:
+        rejects(kind, lambda: install(*given, **how), what)
+        stands(b"one", 1, f"after {what}")
+
     seen: List[Tuple[int, int]] = []
-    minisign.install(key.public_key, io.BytesIO(b"one"), one, place, first=True, numbering="version", progress=lambda done, size: seen.append((done, size)))
-    check(state() == (b"one", b"version:1", []), f"data in memory: {state()}")
-    check(minisign.check(key.public_key, one, place, numbering="version").status is minisign.Offer.THERE, "a check of what is there")
+    install(io.BytesIO(b"one"), one, first=True, progress=lambda done, size: seen.append((done, size)))
+    stands(b"one", 1, "data in memory")
+    check(offer(one) is minisign.Offer.THERE, "a check of what is there")
     write(directory, "app", b"changed")
-    check(minisign.check(key.public_key, one, place, numbering="version").status is minisign.Offer.NEWER, "a check of a changed file")
-    check(minisign.install(key.public_key, io.BytesIO(b"one"), one, place, numbering="version") is True, "a changed file")
-    other_one = signed(b"another one", "version:1\tfile:app")
-    rejects(minisign.SameNumber, lambda: minisign.check(key.public_key, other_one, place, numbering="version"), "a check of another update of the number")
+    check(offer(one) is minisign.Offer.NEWER, "a check of a changed file")
+    check(install(io.BytesIO(b"one"), one) is True, "a changed file")
+    rejects(minisign.SameNumber, lambda: offer(another), "a check of another update of the number")
     check(bool(seen), "progress of an installation")
 
     class Stops(Exception):
         pass
 
-    def stop(done: int, size: int) -> None:
-        raise Stops()
+    for raised in (Stops, minisign.SignatureRefused):
+        def stop(done: int, size: int) -> None:
+            raise raised()
 
-    path = write(room, "update", b"two")
-    rejects(Stops, lambda: minisign.install(key.public_key, path, two, place, numbering="version", progress=stop), "what progress raises")
-    check(state() == (b"one", b"version:1", []), f"after progress raised: {state()}")
-
-    def reject(done: int, size: int) -> None:
-        raise minisign.SignatureRefused()
-
-    rejects(minisign.SignatureRefused, lambda: minisign.install(key.public_key, path, two, place, numbering="version", progress=reject),
-            "an error of the package that progress raises")
-    check(state() == (b"one", b"version:1", []), f"after progress raised an error of the package: {state()}")
+        stops(raised, f"progress that raises {raised.__name__}", progress=stop)
     for most, source in ((2, io.BytesIO(b"two")), (2, path), (0, path)):
-        rejects(minisign.TooLong, lambda most=most, source=source: minisign.install(key.public_key, source, two, place, numbering="version", most=most),  # type: ignore[misc]
-                f"data of more than {most} bytes")
-    check(state() == (b"one", b"version:1", []), f"after data that was too long: {state()}")
-    rejects(minisign.SignatureRefused, lambda: minisign.install(key.public_key, io.BytesIO(b"2"), two, place, numbering="version", most=3), "other data")
+        stops(minisign.TooLong, f"data of more than {most} bytes", source, most=most)
+    stops(minisign.SignatureRefused, "other data", io.BytesIO(b"2"), most=3)
     waits, end = os.pipe()
     os.set_blocking(waits, False)
     with open(waits, "rb", buffering=0) as pipe:
-        rejects(TypeError, lambda: minisign.install(key.public_key, pipe, two, place, numbering="version"), "a pipe that has nothing yet")
+        stops(TypeError, "a pipe that has nothing yet", pipe)
     os.close(end)
-    check(state() == (b"one", b"version:1", []), f"after a pipe that had nothing yet: {state()}")
 
     class Interrupted(io.RawIOBase):
         def fileno(self) -> int:
@@ -394,9 +398,7 @@ def installing(room: str) -> None:
             raise KeyboardInterrupt()
 
     with open(path, "rb") as file:
-        rejects(KeyboardInterrupt, lambda: minisign.install(key.public_key, cast("IO[bytes]", Interrupted()), two, place, numbering="version"),
-                "a run that is interrupted")
-    check(state() == (b"one", b"version:1", []), f"after an interruption: {state()}")
+        stops(KeyboardInterrupt, "a run that is interrupted", cast("IO[bytes]", Interrupted()))
 
     class Unable:
         def accepts(self, *asked: bytes) -> bool:
@@ -404,47 +406,45 @@ def installing(room: str) -> None:
 
     chosen, sys.unraisablehook = _calls._chosen[:], lambda told: None
     _calls._chosen[:] = [cast(_calls.Sodium, Unable())]
-    rejects(minisign.ReadingFailed, lambda: minisign.install(key.public_key, path, two, place, numbering="version"), "an Ed25519 that raises")
+    stops(minisign.ReadingFailed, "an Ed25519 that raises")
     _calls._chosen[:], sys.unraisablehook = chosen, sys.__unraisablehook__
-    check(state() == (b"one", b"version:1", []), f"after an Ed25519 that raised: {state()}")
     with open(path, "rb") as file:
-        minisign.install(key.public_key, file, two, place, numbering="version", mode=0o755, most=3)
-    check(state() == (b"two", b"version:2", []) and os.stat(place).st_mode & 0o777 == 0o755, f"a file that is open: {state()}")
-    rejects(minisign.OlderUpdate, lambda: minisign.install(key.public_key, io.BytesIO(b"one"), one, place, numbering="version"), "an older update")
-    rejects(minisign.KeptByVersion, lambda: minisign.install(key.public_key, path, two, place), "the other field")
+        install(file, mode=0o755, most=3)
+    stands(b"two", 2, "a file that is open")
+    check(os.stat(place).st_mode & 0o777 == 0o755, "the mode of what is installed of a file that is open")
+    rejects(minisign.OlderUpdate, lambda: install(io.BytesIO(b"one"), one), "an older update")
+    rejects(minisign.KeptByVersion, lambda: install(numbering="timestamp"), "the other field")
     tells_of_updates(key, path, place)
-    newer, older = [minisign.check(key.public_key, update, place, numbering="version").status for update in (signed(b"3", "version:3\tfile:app"), one)]
-    check([newer, older] == [minisign.Offer.NEWER, minisign.Offer.OLDER] and state()[0] == b"two", f"a check says {newer} and {older}")
-    other = SecretKey.generate().public_key
-    for keys in ([other, key.public_key], (key.public_key, other)):
-        check(minisign.check(keys, two, place, numbering="version").status is minisign.Offer.THERE, "a check with two keys")
-        check(minisign.install(keys, path, two, place, numbering="version") is False, "an installation with two keys")
-    rejects(minisign.DifferentKeyIds, lambda: minisign.check([other, other], two, place, numbering="version"), "two keys of others")
-    rejects(ValueError, lambda: minisign.check([other] * 3, two, place, numbering="version"), "three keys")
+    found = [offer(signed(b"3", "version:3\tfile:app")), offer(one)]
+    check(found == [minisign.Offer.NEWER, minisign.Offer.OLDER], f"a check says {found}")
+    stands(b"two", 2, "checks")
+    write(room, "update", b"two")
+    for keys in ([other, public], (public, other)):
+        check(offer(two, keys) is minisign.Offer.THERE, "a check with two keys")
+        check(install(keys=keys) is False, "an installation with two keys")
+    rejects(minisign.DifferentKeyIds, lambda: offer(two, [other, other]), "two keys of others")
+    rejects(ValueError, lambda: offer(two, [other] * 3), "three keys")
     for wrong in ("", ".", "..", directory + "/"):
-        rejects(ValueError, lambda wrong=wrong: minisign.install(key.public_key, path, two, wrong), f"the place {wrong!r}")  # type: ignore[misc]
-    rejects(FileNotFoundError, lambda: minisign.install(key.public_key, path, two, os.path.join(room, "none", "app")), "no directory")
+        rejects(ValueError, lambda wrong=wrong: minisign.install(public, path, two, wrong), f"the place {wrong!r}")  # type: ignore[misc]
+    rejects(FileNotFoundError, lambda: minisign.install(public, path, two, os.path.join(room, "none", "app")), "no directory")
     opened = len(os.listdir("/proc/self/fd"))
     for _ in range(20):
-        minisign.install(key.public_key, path, two, place, numbering="version")
+        install()
     check(len(os.listdir("/proc/self/fd")) == opened, "descriptors stay open")
 
 
 def tells_of_updates(key: SecretKey, path: str, place: str) -> None:
     """What a check tells of updates over the number 2; and of one that has to expire."""
-    offers = {minisign.Offer.NEWER: 3, minisign.Offer.THERE: 2, minisign.Offer.OLDER: 1}
-    for offer, number in offers.items():
+    for offer, number in ((minisign.Offer.NEWER, 3), (minisign.Offer.THERE, 2), (minisign.Offer.OLDER, 1)):
         comment = f"version:{number}\tfile:app\tnote:\u00e9"
         update = key.sign(path, trusted_comment=comment)
         found = minisign.check(key.public_key, update, place, numbering="version")
-        check(found == offer and found.status is offer and offers[found.status] == number and hash(found) == hash(offer) and found != 9, f"it is {found!r}")
-        check((found.number, found.comment) == (number, comment), f"its comment is {found.comment!r}")
-        copied = pickle.loads(pickle.dumps(found))
-        check((copied, copied.status, copied.number, copied.comment) == (found, offer, number, found.comment), f"a copy is {copied!r}")
-        rejects(minisign.NoExpiry, lambda update=update: minisign.check(key.public_key, update, place, must_expire=True, numbering="version"),  # type: ignore[misc]
-                "a check of one that does not expire")
-        rejects(minisign.NoExpiry, lambda update=update: minisign.install(key.public_key, path, update, place, must_expire=True, numbering="version"),  # type: ignore[misc]
-                "one that does not expire")
+        check(found == offer and found.status is offer and hash(found) == hash(offer) and found != 9, f"it is {found!r}")
+        for told in (found, pickle.loads(pickle.dumps(found))):
+            check((told, told.status, told.number, told.comment) == (found, offer, number, comment), f"it tells {told!r}")
+        expires: Dict[str, Any] = {"must_expire": True, "numbering": "version"}
+        rejects(minisign.NoExpiry, lambda: minisign.check(key.public_key, update, place, **expires), "a check of one that does not expire")
+        rejects(minisign.NoExpiry, lambda: minisign.install(key.public_key, path, update, place, **expires), "one that does not expire")
 
 
 class Ends:
@@ -493,7 +493,7 @@ def arguments(room: str) -> None:
 
 
 def main() -> int:
-    word, kind, *rest = sys.argv[1:]
+    kind, word, *rest = sys.argv[1:]
     if kind != "default":
         minisign.use_ed25519(kind)
     if word in ("answers", "pieces", "read", "vectors"):

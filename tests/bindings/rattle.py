@@ -16,17 +16,17 @@ import glob
 import os
 import re
 import shutil
-import subprocess
 import sys
-import tempfile
 
 HERE = os.path.dirname(os.path.realpath(__file__))
 sys.path += [os.path.join(HERE, "..", name) for name in ("shared", "c")]
 
+import edges
+import ending
 import needs
 import proved
-import shared_cases as shared
 from commands import commands_of
+from shared_cases import TOP, read, run, write
 
 NAME = "verify_with_sodium"
 EXAMPLE = "examples/rattle"
@@ -42,9 +42,9 @@ exec ./{NAME} "$@"
 
 def build(room, libsodium):
     """The program, proved in a copy over the libraries as they stand proved, and built: its path, and what the prover said."""
-    shutil.copytree(os.path.join(shared.TOP, EXAMPLE), room, ignore=shutil.ignore_patterns("out", "*.a"))
+    shutil.copytree(os.path.join(TOP, EXAMPLE), room, ignore=shutil.ignore_patterns("out", "*.a"))
     proved.hold(proved.run(["sh", "-c", RENAMING], room), RENAMING)
-    lines = shared.read(os.path.join(room, "crates.txt")).decode().splitlines()
+    lines = read(os.path.join(room, "crates.txt")).decode().splitlines()
     crate = proved.Crate(next(line for line in lines if line.startswith(f"{NAME}:")), proved.crates())
     why = proved.supply(crate.below)
     if why:
@@ -66,27 +66,28 @@ def find_archive():
 
 
 def check_files(checks, program, room):
-    """A file that was signed, and what is not what was signed."""
-    minisign = needs.minisign()
+    """A file that was signed, and what is not what was signed. The signature that fits every file where small orders are accepted is over
+    the data itself: it is rejected before libsodium is asked."""
+    minisign = lambda *words: run([needs.minisign(), *words], room)
     for name in ("one", "two"):
-        if shared.run([minisign, "-G", "-W", "-p", f"{name}.pub", "-s", f"{name}.key"], directory=room)[0] != 0:
-            raise proved.NotBuilt("no key was made")
-    shared.write(room, "data", os.urandom(300_000))
-    shared.run([minisign, "-S", "-s", "one.key", "-m", "data", "-t", "version:1\tfile:data"], directory=room)
-    text = shared.read(os.path.join(room, "data.minisig"))
-    shared.write(room, "changed", b"x" + shared.read(os.path.join(room, "data")))
-    shared.write(room, "comment.minisig", text.replace(b"version:1", b"version:2"))
-    shared.run([minisign, "-S", "-l", "-s", "one.key", "-m", "data", "-x", "legacy.minisig"], directory=room)
-    status, said, why = shared.run([program, "one.pub", "data.minisig", "data"], directory=room)
+        minisign("-G", "-W", "-p", f"{name}.pub", "-s", f"{name}.key")
+    write(room, "data", os.urandom(300_000))
+    minisign("-S", "-s", "one.key", "-m", "data", "-t", "version:1\tfile:data")
+    minisign("-S", "-l", "-s", "one.key", "-m", "data", "-x", "legacy.minisig")
+    write(room, "changed", b"x" + read(room, "data"))
+    write(room, "comment.minisig", read(room, "data.minisig").replace(b"version:1", b"version:2"))
+    for name, text in zip(("every.pub", "every.minisig"), edges.texts_for_every_file()):
+        write(room, name, text)
+    status, said, why = run([program, "one.pub", "data.minisig", "data"], room)
     checks.check((status, said) == (0, b"version:1\tfile:data\n"), f"a file that was signed: {status}, {said}, {why}")
     for words, reason in ((("one.pub", "data.minisig", "changed"), "Signature verification failed"),
                           (("one.pub", "comment.minisig", "data"), "Comment signature verification failed"),
                           (("two.pub", "data.minisig", "data"), "key"), (("one.pub", "legacy.minisig", "data"), "Legacy"),
                           (("data.minisig", "data.minisig", "data"), ""), (("one.pub", "data.minisig", "none"), ""),
-                          (("none", "data.minisig", "data"), "")):
-        status, said, why = shared.run([program, *words], directory=room)
+                          (("none", "data.minisig", "data"), ""), (("every.pub", "every.minisig", "data"), "")):
+        status, said, why = run([program, *words], room)
         checks.check(status == 1 and said == b"" and reason in why, f"{words}: {status}, {said}, {why}")
-    status, said, _ = shared.run([program], directory=room)
+    status, said, _ = run([program], room)
     checks.check(status == 2 and said == b"", f"no words: {status}, {said}")
 
 
@@ -95,39 +96,21 @@ def check_document(checks, room):
     for name, signed in (("app.pub", "one.pub"), ("app.minisig", "data.minisig"), ("app", "data")):
         shutil.copy(os.path.join(room, signed), os.path.join(room, "copy", "crates", NAME, name))
     os.mkdir(os.path.join(room, "kit"))
-    shared.write(room, "kit/rt", RT.encode())
+    write(room, "kit/rt", RT.encode())
     os.chmod(os.path.join(room, "kit", "rt"), 0o755)
     path = os.pathsep.join([os.path.join(room, "kit"), os.environ["PATH"]])
-    status, said, why = shared.run(["sh", "-ec", "\n".join(RUNNING)], os.path.join(room, "copy"), {"PATH": path})
+    status, said, why = run(["sh", "-ec", "\n".join(RUNNING)], os.path.join(room, "copy"), {"PATH": path})
     checks.check((status, said) == (0, b"version:1\tfile:data\n"), f"{EXAMPLE}/README.md: {status}, {said}, {why}")
 
 
-def check_every_file(checks, program, room):
-    """The signature that fits every file where small orders are accepted: as it is over the data itself, it is rejected before
-    libsodium is asked."""
-    key, signature = shared.edges.texts_for_every_file()
-    shared.write(room, "every.pub", key)
-    shared.write(room, "every.minisig", signature)
-    status, said, why = shared.run([program, "every.pub", "every.minisig", "data"], directory=room)
-    checks.check(status == 1 and said == b"", f"a signature for every file: {status}, {said}, {why}")
-
-
-def main():
-    checks = shared.Checks()
-    with tempfile.TemporaryDirectory(prefix="bindings-rattle-") as room:
-        try:
-            needs.libsodium()
-            archive = needs.need(find_archive, "the archive of libsodium", "libsodium-dev")
-            program, said = build(os.path.join(room, "copy"), archive)
-            checks.check(os.path.exists(program) and re.search(r"logic=proved", said) is not None, f"the example was not built: {said[-1500:]}")
-            if os.path.exists(program):
-                check_files(checks, program, room)
-                check_document(checks, room)
-                check_every_file(checks, program, room)
-        except (needs.Missing, proved.NotBuilt, OSError, ValueError, subprocess.SubprocessError) as why:
-            checks.check(False, f"it did not go on: {why!r}")
-    return checks.end()
+def run_all(checks, room):
+    needs.libsodium()
+    archive = needs.need(find_archive, "the archive of libsodium", "libsodium-dev")
+    program, said = build(os.path.join(room, "copy"), archive)
+    checks.check(re.search(r"logic=proved", said) is not None, f"the example was not built: {said[-1500:]}")
+    check_files(checks, program, room)
+    check_document(checks, room)
 
 
 if __name__ == "__main__":
-    sys.exit(main())
+    sys.exit(ending.check("bindings-rattle", run_all, ValueError))

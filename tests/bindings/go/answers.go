@@ -112,7 +112,7 @@ func answer(given line, how way) string {
 	comment, err := verify(given, how)
 	if err != nil {
 		number, _ := err.(minisign.Error)
-		return fmt.Sprintf("rejected %d %q", number, err.Error())
+		return fmt.Sprintf("rejected %s %q", number.Name(), err.Error())
 	}
 	if comment == "" {
 		return "accepted -"

@@ -1,7 +1,8 @@
 // What verifying says of a key and a signature that a program has changed, or put together, since it read them. It makes the calls of
 // go-minisign alone: tests/bindings/go.py builds it over that one too.
 //
-// It takes the paths of a public key, of data and of a signature, and prints a line for each change: its name, the verdict and the error.
+// It takes the paths of a public key, of data and of a signature, and prints a line for each change: its name, why it has to
+// be rejected, the verdict and the error.
 package main
 
 import (
@@ -12,18 +13,19 @@ import (
 	"proved/minisign"
 )
 
+// A change, and the name in minisign.h of why what was changed has to be rejected, or "" where it is good.
 type change struct {
-	name string
-	make func(key *minisign.PublicKey, signature *minisign.Signature)
+	name, why string
+	make      func(key *minisign.PublicKey, signature *minisign.Signature)
 }
 
 var changes = []change{
-	{"none", func(key *minisign.PublicKey, signature *minisign.Signature) {}},
-	{"a copy", func(key *minisign.PublicKey, signature *minisign.Signature) {
+	{"none", "", func(key *minisign.PublicKey, signature *minisign.Signature) {}},
+	{"a copy", "", func(key *minisign.PublicKey, signature *minisign.Signature) {
 		keys, signatures := []minisign.PublicKey{*key}, map[string]minisign.Signature{"": *signature}
 		*key, *signature = keys[0], signatures[""]
 	}},
-	{"put together from fields", func(key *minisign.PublicKey, signature *minisign.Signature) {
+	{"put together from fields", "", func(key *minisign.PublicKey, signature *minisign.Signature) {
 		*key = minisign.PublicKey{SignatureAlgorithm: key.SignatureAlgorithm, KeyId: key.KeyId, PublicKey: key.PublicKey}
 		*signature = minisign.Signature{
 			UntrustedComment: signature.UntrustedComment, SignatureAlgorithm: signature.SignatureAlgorithm,
@@ -31,7 +33,7 @@ var changes = []change{
 			TrustedComment: signature.TrustedComment, GlobalSignature: signature.GlobalSignature,
 		}
 	}},
-	{"written as JSON and read", func(key *minisign.PublicKey, signature *minisign.Signature) {
+	{"written as JSON and read", "", func(key *minisign.PublicKey, signature *minisign.Signature) {
 		keyText, _ := json.Marshal(key)
 		signatureText, _ := json.Marshal(signature)
 		*key, *signature = minisign.PublicKey{}, minisign.Signature{}
@@ -39,48 +41,48 @@ var changes = []change{
 			panic("JSON")
 		}
 	}},
-	{"a key of zeros", func(key *minisign.PublicKey, signature *minisign.Signature) { *key = minisign.PublicKey{} }},
-	{"a signature of zeros", func(key *minisign.PublicKey, signature *minisign.Signature) { *signature = minisign.Signature{} }},
-	{"another algorithm of the key", func(key *minisign.PublicKey, signature *minisign.Signature) { key.SignatureAlgorithm[1] = 'D' }},
-	{"another identifier of the key", func(key *minisign.PublicKey, signature *minisign.Signature) { key.KeyId[7] ^= 1 }},
-	{"another key", func(key *minisign.PublicKey, signature *minisign.Signature) { key.PublicKey[31] ^= 1 }},
-	{"another untrusted comment", func(key *minisign.PublicKey, signature *minisign.Signature) {
+	{"a key of zeros", "UNSUPPORTED_ALGORITHM", func(key *minisign.PublicKey, signature *minisign.Signature) { *key = minisign.PublicKey{} }},
+	{"a signature of zeros", "UNTRUSTED_COMMENT_PREFIX", func(key *minisign.PublicKey, signature *minisign.Signature) { *signature = minisign.Signature{} }},
+	{"another algorithm of the key", "UNSUPPORTED_ALGORITHM", func(key *minisign.PublicKey, signature *minisign.Signature) { key.SignatureAlgorithm[1] = 'D' }},
+	{"another identifier of the key", "DIFFERENT_KEY_IDS", func(key *minisign.PublicKey, signature *minisign.Signature) { key.KeyId[7] ^= 1 }},
+	{"another key", "SIGNATURE_REFUSED", func(key *minisign.PublicKey, signature *minisign.Signature) { key.PublicKey[31] ^= 1 }},
+	{"another untrusted comment", "", func(key *minisign.PublicKey, signature *minisign.Signature) {
 		signature.UntrustedComment = "untrusted comment: other"
 	}},
-	{"no untrusted comment", func(key *minisign.PublicKey, signature *minisign.Signature) { signature.UntrustedComment = "" }},
-	{"another first line", func(key *minisign.PublicKey, signature *minisign.Signature) { signature.UntrustedComment = "other" }},
-	{"an untrusted comment of two lines", func(key *minisign.PublicKey, signature *minisign.Signature) {
+	{"no untrusted comment", "UNTRUSTED_COMMENT_PREFIX", func(key *minisign.PublicKey, signature *minisign.Signature) { signature.UntrustedComment = "" }},
+	{"another first line", "UNTRUSTED_COMMENT_PREFIX", func(key *minisign.PublicKey, signature *minisign.Signature) { signature.UntrustedComment = "other" }},
+	{"an untrusted comment of two lines", "SIGNATURE_NOT_BASE64", func(key *minisign.PublicKey, signature *minisign.Signature) {
 		signature.UntrustedComment = "untrusted comment: other\nof two lines"
 	}},
-	{"another trusted comment behind a genuine text", func(key *minisign.PublicKey, signature *minisign.Signature) {
+	{"another trusted comment behind a genuine text", "BAD_COMMENT", func(key *minisign.PublicKey, signature *minisign.Signature) {
 		text, err := os.ReadFile(os.Args[3])
 		if err != nil {
 			panic(err)
 		}
 		signature.UntrustedComment, signature.TrustedComment = string(text), "trusted comment: other"
 	}},
-	{"the older algorithm", func(key *minisign.PublicKey, signature *minisign.Signature) { signature.SignatureAlgorithm[1] = 'd' }},
-	{"another algorithm", func(key *minisign.PublicKey, signature *minisign.Signature) { signature.SignatureAlgorithm[0] = 'X' }},
-	{"another identifier", func(key *minisign.PublicKey, signature *minisign.Signature) { signature.KeyId[0] ^= 1 }},
-	{"another signature", func(key *minisign.PublicKey, signature *minisign.Signature) { signature.Signature[63] ^= 1 }},
-	{"another trusted comment", func(key *minisign.PublicKey, signature *minisign.Signature) {
+	{"the older algorithm", "SIGNATURE_REFUSED", func(key *minisign.PublicKey, signature *minisign.Signature) { signature.SignatureAlgorithm[1] = 'd' }},
+	{"another algorithm", "UNSUPPORTED_ALGORITHM", func(key *minisign.PublicKey, signature *minisign.Signature) { signature.SignatureAlgorithm[0] = 'X' }},
+	{"another identifier", "DIFFERENT_KEY_IDS", func(key *minisign.PublicKey, signature *minisign.Signature) { signature.KeyId[0] ^= 1 }},
+	{"another signature", "SIGNATURE_REFUSED", func(key *minisign.PublicKey, signature *minisign.Signature) { signature.Signature[63] ^= 1 }},
+	{"another trusted comment", "COMMENT_SIGNATURE_REFUSED", func(key *minisign.PublicKey, signature *minisign.Signature) {
 		signature.TrustedComment = "trusted comment: other"
 	}},
-	{"a longer trusted comment", func(key *minisign.PublicKey, signature *minisign.Signature) { signature.TrustedComment += "2" }},
-	{"a blank behind the trusted comment", func(key *minisign.PublicKey, signature *minisign.Signature) { signature.TrustedComment += " " }},
-	{"a line feed behind the trusted comment", func(key *minisign.PublicKey, signature *minisign.Signature) {
+	{"a longer trusted comment", "COMMENT_SIGNATURE_REFUSED", func(key *minisign.PublicKey, signature *minisign.Signature) { signature.TrustedComment += "2" }},
+	{"a blank behind the trusted comment", "BAD_COMMENT", func(key *minisign.PublicKey, signature *minisign.Signature) { signature.TrustedComment += " " }},
+	{"a line feed behind the trusted comment", "BAD_COMMENT", func(key *minisign.PublicKey, signature *minisign.Signature) {
 		signature.TrustedComment += "\n"
 	}},
-	{"a carriage return behind the trusted comment", func(key *minisign.PublicKey, signature *minisign.Signature) {
+	{"a carriage return behind the trusted comment", "BAD_COMMENT", func(key *minisign.PublicKey, signature *minisign.Signature) {
 		signature.TrustedComment += "\r"
 	}},
-	{"no trusted comment", func(key *minisign.PublicKey, signature *minisign.Signature) { signature.TrustedComment = "" }},
-	{"another third line", func(key *minisign.PublicKey, signature *minisign.Signature) { signature.TrustedComment = "other" }},
-	{"a trusted comment that is no UTF-8", func(key *minisign.PublicKey, signature *minisign.Signature) {
+	{"no trusted comment", "TRUSTED_COMMENT_PREFIX", func(key *minisign.PublicKey, signature *minisign.Signature) { signature.TrustedComment = "" }},
+	{"another third line", "TRUSTED_COMMENT_PREFIX", func(key *minisign.PublicKey, signature *minisign.Signature) { signature.TrustedComment = "other" }},
+	{"a trusted comment that is no UTF-8", "NOT_UTF8", func(key *minisign.PublicKey, signature *minisign.Signature) {
 		signature.TrustedComment += "\xff"
 	}},
-	{"another signature of the comment", func(key *minisign.PublicKey, signature *minisign.Signature) { signature.GlobalSignature[0] ^= 1 }},
-	{"no signature of the comment", func(key *minisign.PublicKey, signature *minisign.Signature) {
+	{"another signature of the comment", "COMMENT_SIGNATURE_REFUSED", func(key *minisign.PublicKey, signature *minisign.Signature) { signature.GlobalSignature[0] ^= 1 }},
+	{"no signature of the comment", "COMMENT_SIGNATURE_REFUSED", func(key *minisign.PublicKey, signature *minisign.Signature) {
 		signature.GlobalSignature = [64]byte{}
 	}},
 }
@@ -112,6 +114,6 @@ func main() {
 		if good != fromFile || fmt.Sprint(err) != fmt.Sprint(fileErr) {
 			panic(change.name)
 		}
-		fmt.Printf("%s: %t, %v\n", change.name, good, err)
+		fmt.Printf("%s: %s: %t, %v\n", change.name, change.why, good, err)
 	}
 }

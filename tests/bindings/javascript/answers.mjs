@@ -4,15 +4,18 @@
 //     node answers.mjs pieces [legacy]   the same, whose data comes in pieces in each way that there is
 //     node answers.mjs read [legacy]     the same, whose signature is read first: the identifier that it names and whether it is
 //                                        legacy, and what comes of verifying with it
-//     node answers.mjs vectors           the vectors of Ed25519 of standard input, as JSON: a list of answers
+//     node answers.mjs vectors           whether Ed25519 accepts each case, a key, a message and a signature
 //     node answers.mjs threads           the same cases in four threads: what all of them answer, if it is the same
-//     node answers.mjs calls COUNT       so many calls: the memory in bytes after a tenth of them, and after all
+//     node answers.mjs growth COUNT      how many bytes more are in memory after so many calls than after a tenth of them
 //     node answers.mjs comment           the same cases: their trusted comments, before there is data
-//     node answers.mjs verifier          what one verifier tells of the first case, step by step
+//
+// Of the published texts, whose data has four bytes, a line for each thing that is tried: what has to come of it, and what comes.
+//
+//     node answers.mjs verifier          what one verifier tells, step by step
 //     node answers.mjs wrong             what it says of arguments of other types, and of options that there are not
+//     node answers.mjs letters           which strings of one line are a key's letters alone
 
 import {Readable} from "node:stream";
-import {setFlagsFromString} from "node:v8";
 import {runInNewContext} from "node:vm";
 import {isMainThread, parentPort, Worker, workerData} from "node:worker_threads";
 
@@ -116,9 +119,9 @@ async function answersInPieces(cases, options) {
   return answers;
 }
 
-async function vectorAnswers(vectors) {
+async function vectorAnswers(cases) {
   const {accepts} = await import(new URL("node_modules/minisign-proved/ed25519.js", import.meta.url));
-  return Promise.all(vectors.map(vector => accepts(...[vector.A, vector.sig, vector.msg].map(bytesOf))));
+  return Promise.all(cases.map(([key, message, signature]) => accepts(key, signature, message)));
 }
 
 async function answersInThreads(text) {
@@ -131,9 +134,7 @@ async function answersInThreads(text) {
   return found.every(each => each.join() === found[0].join()) ? found[0] : ["different answers"];
 }
 
-async function memoryOf(count, [[key, data, signature], [, other]]) {
-  setFlagsFromString("--expose-gc");
-  const collect = runInNewContext("gc");
+async function growth(count, [[key, data, signature], [, other]]) {
   const called = async () => {
     if (await answerOf(data, signature, key) === await answerOf(other, signature, key)) {
       throw new Error("the same answer to different data");
@@ -143,50 +144,77 @@ async function memoryOf(count, [[key, data, signature], [, other]]) {
     for (let at = 0; at < times; at += 50) {
       await Promise.all(Array.from({length: 25}, called));
     }
-    collect();
+    globalThis.gc();
     return process.memoryUsage().rss;
   };
-  return [await some(count / 10), await some(count - count / 10)];
+  const early = await some(count / 10);
+  return [await some(count - count / 10) - early];
 }
 
+// How it begins what it says of arguments of other types.
+const DATA = "data has to be bytes, a Blob, a stream or pieces of bytes, and not";
+const SIGNATURE = "signature has to be a text, as a string or bytes, and not", KEY = "key has to be a text, as a string or bytes, and not";
+
+// Each of these calls rejects with a TypeError that names an argument: what has to come, and what comes.
 async function wrongAnswers([[key, data, signature]]) {
+  const read = await readSignature(signature), {signal} = new AbortController(), given = options => verify(data, signature, key, options);
   const tried = [
-    ["text", signature, key], [7, signature, key], [null, signature, key], [undefined, signature, key], [{}, signature, key],
-    [["text"], signature, key], [data, 7, key], [data, null, key], [data, signature, undefined], [data, new Uint8Array(65536), key],
-    [data, signature, "x".repeat(65536)], [data, {keyId: "E7620F1842B4E81F", isLegacy: false}, key],
+    [`${DATA} string`, verify("text", signature, key)], [`${DATA} number`, verify(7, signature, key)], [`${DATA} null`, verify(null, signature, key)],
+    [`${DATA} undefined`, verify(undefined, signature, key)], [`${DATA} object`, verify({}, signature, key)],
+    ["a piece of data has to be bytes, and not string", verify(["text"], signature, key)],
+    [`${SIGNATURE} number`, verify(data, 7, key)], [`${SIGNATURE} null`, verify(data, null, key)],
+    [`${SIGNATURE} object`, verify(data, {keyId: "E7620F1842B4E81F", isLegacy: false}, key)],
+    ["signature has 65536 bytes or more", verify(data, new Uint8Array(65536), key)],
+    [`${KEY} undefined`, verify(data, signature, undefined)], ["key has 65536 bytes or more", verify(data, signature, "x".repeat(65536))],
+    [`${SIGNATURE} number`, readSignature(7)], [`${SIGNATURE} null`, readSignature(null)], [`${SIGNATURE} undefined`, readSignature(undefined)],
+    [`${SIGNATURE} object`, readSignature({})], [`${SIGNATURE} object`, readSignature(read)],
+    ["signature has 65536 bytes or more", readSignature(new Uint8Array(65536))],
+    [`${KEY} number`, readPublicKey(7)], [`${KEY} null`, readPublicKey(null)], [`${KEY} object`, readPublicKey({})], [`${KEY} object`, readPublicKey(read)],
+    ["options has to be an object, and not null", given(null)], ["options has to be an object, and not number", given(7)],
+    ["options has no allowlegacy", given({allowlegacy: true})], ["options has no toString", given({toString: true})],
+    ["allowLegacy has to be true or false, and not number", given({allowLegacy: 1})],
+    ["allowLegacy has to be true or false, and not string", given({allowLegacy: "no"})],
+    ["progress has to be a function, and not number", given({progress: 7})],
+    ["signal has to be an AbortSignal, and not boolean", given({signal: true})], ["signal has to be an AbortSignal, and not object", given({signal: {aborted: false}})],
+    ["options has no signal", createVerifier(signature, key, {signal})],
   ];
-  const read = [7, null, undefined, {}, new Uint8Array(65536), await readSignature(signature)];
-  const keys = [7, null, {}, await readSignature(signature)];
-  const options = [
-    null, 7, {allowlegacy: true}, {toString: true}, {allowLegacy: 1}, {allowLegacy: "no"}, {progress: 7}, {signal: true}, {signal: {aborted: false}},
-  ];
-  return Promise.all([
-    ...tried.map(words => verify(...words)), ...read.map(text => readSignature(text)), ...keys.map(text => readPublicKey(text)),
-    ...options.map(given => verify(data, signature, key, given)), createVerifier(signature, key, {signal: new AbortController().signal}),
-  ].map(promise => promise.then(() => "accepted", why => `${why.name}: ${why.message}`)));
+  return Promise.all(tried.map(async ([wanted, promise]) => `TypeError: ${wanted}\t${await promise.then(() => "accepted", String)}`));
 }
 
 // What a verifier tells, step by step.
 async function verifierAnswers([[key, data, signature]]) {
-  const answers = [], tell = async run => answers.push(await (async () => run())().catch(why => why.code ?? why.name));
+  const answers = [], tell = async (wanted, run) => answers.push(`${wanted}\t${await (async () => run())().catch(why => why.code ?? why.name)}`);
   const verifier = await createVerifier(signature, key), told = [];
-  await tell(() => `${verifier.keyId} ${verifier.isLegacy} ${verifier.bytes}`);
-  await tell(() => verifier.update("text"));
+  await tell("E7620F1842B4E81F false 0", () => `${verifier.keyId} ${verifier.isLegacy} ${verifier.bytes}`);
+  await tell("TypeError", () => verifier.update("text"));
   for (const piece of cut(data, [1])) {
     verifier.update(piece);
   }
-  await tell(() => verifier.bytes - data.length);
-  await tell(() => verifier.end().then(JSON.stringify));
+  await tell(data.length, () => verifier.bytes);
+  const trustedComment = "timestamp:1556193335\tfile:test";
+  await tell(JSON.stringify({trustedComment, keyId: "E7620F1842B4E81F", isLegacy: false}), () => verifier.end().then(JSON.stringify));
   for (const call of [() => verifier.end(), () => verifier.update(data), () => verifier.trustedComment()]) {
-    await tell(call);
+    await tell("NOT_BEGUN", call);
   }
-  await tell(() => { "use strict"; verifier.keyId = "another"; });
+  await tell("TypeError", () => { "use strict"; verifier.keyId = "another"; });
   for (const way of [data, new Blob([data]), [...cut(data, [1])]]) {
     await verify(way, signature, key, {progress: (...seen) => told.push(seen)});
   }
-  await tell(() => JSON.stringify(told));
-  await tell(() => verify(data, signature, key, {progress: () => { throw new RangeError(); }}));
+  await tell("[[4,4],[4,4],[1,null],[2,null],[3,null],[4,null]]", () => JSON.stringify(told));
+  await tell("RangeError", () => verify(data, signature, key, {progress: () => { throw new RangeError(); }}));
   return answers;
+}
+
+// Which strings are a key: of one line its letters alone.
+async function letterAnswers([[key, data, signature]]) {
+  const text = Buffer.from(key).toString(), letters = text.split("\n")[1], good = "E7620F1842B4E81F false";
+  const tried = [
+    [good, letters], [good, `${letters}\n`], [good, `${letters}\r\n`], [good, text],
+    ["BARE_PUBLIC_KEY_LENGTH", letters.slice(0, -1)], ["BARE_PUBLIC_KEY_LENGTH", ""], ["BARE_PUBLIC_KEY_NOT_BASE64", `-${letters.slice(1)}`],
+    ["BARE_PUBLIC_KEY_NOT_BASE64", ` ${letters}`], ["PUBLIC_KEY_LENGTH", `x\n${letters.slice(0, -1)}\n`],
+  ];
+  const answer = given => verify(data, Buffer.from(signature).toString(), given).then(({keyId, isLegacy}) => `${keyId} ${isLegacy}`, why => why.code);
+  return Promise.all(tried.map(async ([wanted, given]) => `${wanted}\t${await answer(given)}`));
 }
 
 if (isMainThread) {
@@ -196,12 +224,13 @@ if (isMainThread) {
     cases: () => answersOf(casesOf(text), {allowLegacy: word === "legacy"}),
     pieces: () => answersInPieces(casesOf(text), {allowLegacy: word === "legacy"}),
     read: () => readAnswers(casesOf(text), {allowLegacy: word === "legacy"}),
-    vectors: () => vectorAnswers(JSON.parse(text)),
+    vectors: () => vectorAnswers(casesOf(text)),
     threads: () => answersInThreads(text),
-    calls: () => memoryOf(Number(word), casesOf(text)),
+    growth: () => growth(Number(word), casesOf(text)),
     comment: () => Promise.all(casesOf(text).map(([key, data, signature]) => commentOf(data, signature, key))),
     verifier: () => verifierAnswers(casesOf(text)),
     wrong: () => wrongAnswers(casesOf(text)),
+    letters: () => letterAnswers(casesOf(text)),
   }[what];
   process.stdout.write((await run()).map(line => `${line}\n`).join(""));
 } else {

@@ -5,7 +5,7 @@ import {
 } from "./minisign-proved/index.js";
 import {accepts} from "./minisign-proved/ed25519.js";
 
-const bytesOf = digits => Uint8Array.from((digits === "-" ? "" : digits).match(/../g) ?? [], pair => parseInt(pair, 16));
+const bytesOf = digits => Uint8Array.from(digits.match(/../g) ?? [], pair => parseInt(pair, 16));
 const hexOf = text => Array.from(new TextEncoder().encode(text), byte => byte.toString(16).padStart(2, "0")).join("") || "-";
 
 async function answerOf(data, signature, key, options) {
@@ -71,8 +71,8 @@ async function answersOf({cases, pieces, vectors}) {
   for (const [key, data, signature] of pieces.map(parts => parts.map(bytesOf))) {
     answers.pieces.push(await answerInPieces(data, signature, key));
   }
-  for (const [key, signature, message] of vectors.map(parts => parts.map(bytesOf))) {
-    answers.vectors.push(await accepts(key, signature, message));
+  for (const [key, message, signature] of vectors.map(parts => parts.map(bytesOf))) {
+    answers.vectors.push(`${await accepts(key, signature, message)}`);
   }
   return answers;
 }

@@ -3,11 +3,14 @@
 //     node signing.mjs make DIRECTORY [PASSWORD]                   makes a pair of keys there
 //     node signing.mjs sign KEY DATA TO COMMENT [PASSWORD]         signs a file with a key, in each way
 //     node signing.mjs opened KEY [PASSWORD]                       says whether a key is weak
+//     node signing.mjs growth COUNT                                how many bytes more are in memory after so many keys
+//     node signing.mjs threads                                     whether three threads sign at once
+//
+// A line for each thing that is tried: what has to come of it, and what comes.
+//
 //     node signing.mjs shown                                       how a key is shown, and what is left of it once it was cleared
 //     node signing.mjs wrong                                       calls with arguments that are none
-//     node signing.mjs streams DATA                                progress, a signal, and streams that fail
-//     node signing.mjs growth COUNT                                how many bytes more are in memory after so many keys
-//     node signing.mjs threads                                     whether two threads sign at once
+//     node signing.mjs streams DATA                                progress, a signal, and streams of four bytes that fail
 
 import {createReadStream, readFileSync, writeFileSync} from "node:fs";
 import {inspect} from "node:util";
@@ -61,6 +64,7 @@ async function opened(file, password) {
   return (await readSecretKey(readFileSync(file), {password})).isWeak ? "weak" : "strong";
 }
 
+// How a key is shown, in which its secret is not.
 async function shown() {
   const key = await generateSecretKey(), digits = (await writeSecretKey(key, null)).split("\n")[1];
   const secret = Buffer.from(digits, "base64").subarray(62, 94);
@@ -70,46 +74,58 @@ async function shown() {
   const signer = await createSigner(key);
   lines.push(hides(inspect(signer, {showHidden: true, depth: 9})));
   clearSecretKey(key);
-  const rejected = [() => signer.end(), () => sign(new Uint8Array(1), key), () => writeSecretKey(key, null), () => writePublicKey(key)];
-  for (const run of rejected) {
-    lines.push(await run().catch(told));
-  }
   const [, , line] = (await sign(new Uint8Array(1), await generateSecretKey())).split("\n");
-  return [...lines, /^trusted comment: timestamp:\d{10,}\thashed$/.test(line)];
+  lines.push(/^trusted comment: timestamp:\d{10,}\thashed$/.test(line));
+  const cleared = [() => signer.end(), () => sign(new Uint8Array(1), key), () => writeSecretKey(key, null), () => writePublicKey(key)];
+  return [...lines.map(line => `true\t${line}`), ...await tried(cleared.map(run => ["KEY_NOT_OPENED", run]))];
+}
+
+// What has to come of each call, and what comes.
+function tried(rows) {
+  return Promise.all(rows.map(async ([wanted, run]) => `${wanted}\t${await run().then(() => "accepted", told)}`));
 }
 
 async function wrong() {
-  const key = await generateSecretKey(), bytes = new Uint8Array(1), text = await writeSecretKey(key, null), lines = [];
-  const calls = [
-    () => sign(bytes, "a key"), () => sign(bytes, null), () => sign(bytes, {...key}), () => sign(7, key), () => sign("data", key),
-    () => sign(["data"], key), () => sign(bytes, key, {comment: "c"}), () => sign(bytes, key, {trustedComment: 7}), () => sign(bytes, key, null),
-    () => sign(bytes, key, {untrustedComment: null}), () => sign(bytes, key, {allowLegacy: true}), () => createSigner(key, {progress() {}}),
-    () => createSigner(), () => writeSecretKey(key), () => writeSecretKey(key, ""), () => writeSecretKey(key, 7),
-    () => writeSecretKey(key, "p", {low: true}), () => writeSecretKey(key, "p", {lowMemory: 1}), () => writePublicKey({}),
-    () => readSecretKey(null), () => readSecretKey(text, {password: 7}), () => readSecretKey(text, {mostRows: "2"}),
-    () => readSecretKey(text, {mostRows: 0.5}), () => readSecretKey(text, "password"), async () => clearSecretKey(7),
-    async () => (await createSigner(key)).update("data"), () => readSecretKey(""), () => readSecretKey("x\ny"), () => sign(bytes, key, {trustedComment: "a\nb"}),
-    () => sign(bytes, key, {untrustedComment: "a\rb"}), () => sign(bytes, key, {trustedComment: "x".repeat(65536)}),
-  ];
-  for (const call of calls) {
-    lines.push(await call().then(() => "accepted", told));
-  }
-  return lines;
+  const key = await generateSecretKey(), bytes = new Uint8Array(1), text = await writeSecretKey(key, null);
+  const aKey = "TypeError: secretKey has to be a secret key that was read, and not", anObject = "TypeError: options has to be an object, and not";
+  const someData = "TypeError: data has to be bytes, a Blob, a stream or pieces of bytes, and not", aPiece = "TypeError: a piece of data has to be bytes, and not";
+  const aText = name => `TypeError: ${name} has to be a text, as a string or bytes, and not`, rows = "TypeError: mostRows has to be a number of rows, and not";
+  return tried([
+    [`${aKey} string`, () => sign(bytes, "a key")], [`${aKey} null`, () => sign(bytes, null)], [`${aKey} object`, () => sign(bytes, {...key})],
+    [`${aKey} undefined`, () => createSigner()], [`${aKey} object`, () => writePublicKey({})], [`${aKey} number`, async () => clearSecretKey(7)],
+    [`${someData} number`, () => sign(7, key)], [`${someData} string`, () => sign("data", key)], [`${aPiece} string`, () => sign(["data"], key)],
+    [`${aPiece} string`, async () => (await createSigner(key)).update("data")],
+    [`${anObject} null`, () => sign(bytes, key, null)], [`${anObject} string`, () => readSecretKey(text, "password")],
+    ["TypeError: options has no comment", () => sign(bytes, key, {comment: "c"})],
+    ["TypeError: options has no allowLegacy", () => sign(bytes, key, {allowLegacy: true})],
+    ["TypeError: options has no progress", () => createSigner(key, {progress() {}})],
+    ["TypeError: options has no low", () => writeSecretKey(key, "p", {low: true})],
+    [`${aText("trustedComment")} number`, () => sign(bytes, key, {trustedComment: 7})],
+    [`${aText("untrustedComment")} null`, () => sign(bytes, key, {untrustedComment: null})],
+    [`${aText("password")} undefined`, () => writeSecretKey(key)], [`${aText("password")} number`, () => writeSecretKey(key, 7)],
+    [`${aText("password")} number`, () => readSecretKey(text, {password: 7})], [`${aText("text")} null`, () => readSecretKey(null)],
+    ["TypeError: password is empty: null says that it is not sealed", () => writeSecretKey(key, "")],
+    ["TypeError: lowMemory has to be true or false, and not number", () => writeSecretKey(key, "p", {lowMemory: 1})],
+    [`${rows} string`, () => readSecretKey(text, {mostRows: "2"})], [`${rows} number`, () => readSecretKey(text, {mostRows: 0.5})],
+    ["MISSING_SECRET_KEY_COMMENT", () => readSecretKey("")], ["SECRET_KEY_NOT_BASE64", () => readSecretKey("x\ny")],
+    ["BAD_COMMENT", () => sign(bytes, key, {trustedComment: "a\nb"})], ["UNREADABLE_COMMENT", () => sign(bytes, key, {untrustedComment: "a\rb"})],
+    ["TypeError: trustedComment has 65536 bytes or more", () => sign(bytes, key, {trustedComment: "x".repeat(65536)})],
+  ]);
 }
 
 async function streams(path) {
   const key = await generateSecretKey(), lines = [], seen = [], bytes = readFileSync(path), gone = Object.assign(new Error(), {code: "GONE"});
   await sign(bytes, key, {progress: (...told) => seen.push(told)});
   await sign([bytes, bytes], key, {progress: (...told) => seen.push(told)});
-  lines.push(JSON.stringify(seen));
-  lines.push(await sign(createReadStream(`${path}.absent`), key).catch(why => why.code));
+  lines.push(`[[4,4],[4,null],[8,null]]\t${JSON.stringify(seen)}`);
+  lines.push(`ENOENT\t${await sign(createReadStream(`${path}.absent`), key).catch(why => why.code)}`);
   const controller = new AbortController(), stopped = {cancelled: null};
   const stream = new ReadableStream({cancel: why => { stopped.cancelled = why.code; }});
   const ending = sign(stream, key, {signal: controller.signal}).catch(why => why.code);
   setTimeout(() => controller.abort(gone), 50);
-  lines.push(`${await ending} ${stopped.cancelled}`);
+  lines.push(`GONE GONE\t${await ending} ${stopped.cancelled}`);
   const refused = new ReadableStream({cancel: why => { stopped.cancelled = why.name; }});
-  lines.push(`${await sign(refused, "no key").catch(why => why.name)} ${stopped.cancelled}`);
+  lines.push(`TypeError TypeError\t${await sign(refused, "no key").catch(why => why.name)} ${stopped.cancelled}`);
   return lines;
 }
 
@@ -140,7 +156,7 @@ if (isMainThread) {
   const [what, ...words] = process.argv.slice(2);
   const threads = async () => {
     const workers = [1, 2].map(() => new Promise(resolve => new Worker(new URL(import.meta.url)).on("message", resolve)));
-    return (await Promise.all([manySigned(), ...workers])).join();
+    return (await Promise.all([manySigned(), ...workers])).every(Boolean);
   };
   const run = {make, sign: signFile, opened, shown, wrong, streams, growth, threads}[what];
   const lines = await run(...words).catch(told);

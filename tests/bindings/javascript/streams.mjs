@@ -1,6 +1,7 @@
 // What becomes of the stream that a verification was given, in Node: it stands in a directory beside `node_modules`.
 //
-//     node streams.mjs WHAT KEY DATA SIGNATURE    tries this, of TRIED, over files that verify: a line for each thing seen
+//     node streams.mjs WHAT KEY DATA SIGNATURE    tries this, of TRIED, over files that verify: a line for each thing seen, with what
+//                                                 has to be seen before it
 //
 // Nobody listens here to an error of a stream: one that does not reject the promise ends the program.
 
@@ -70,6 +71,23 @@ class Endless extends EventEmitter {
     await new Promise(() => {});
   }
 }
+
+// What has to be seen.
+const WANTED = {
+  descriptors: ["MISSING_SIGNATURE 0", "BARE_PUBLIC_KEY_LENGTH 0", "TypeError 0", "TypeError 0", "TypeError 0"],
+  opening: ["MISSING_SIGNATURE 0"],
+  cancelled: [
+    "MISSING_SIGNATURE MISSING_SIGNATURE false", "BARE_PUBLIC_KEY_LENGTH BARE_PUBLIC_KEY_LENGTH false", "TypeError TypeError false",
+    "TypeError TypeError false", "TypeError TypeError false", "TypeError TypeError false", "MISSING_SIGNATURE undefined",
+  ],
+  absent: ["ENOENT"], both: ["rejected"], begun: ["BEGUN"], between: ["BETWEEN"], event: ["EVENT"], late: ["MISSING_SIGNATURE true"],
+  web: ["start", "pull", "MISSING_SIGNATURE ERR_INVALID_STATE"],
+  aborted: [
+    "before web GONE GONE", "before node GONE true", "before own GONE undefined", "meanwhile web GONE GONE", "meanwhile node GONE true",
+    "meanwhile own GONE undefined", "between GONE 1 0",
+  ],
+  accepted: ["accepted,accepted 0 false"],
+};
 
 const TRIED = {
   // Files that are open, for each reason.
@@ -174,4 +192,5 @@ const TRIED = {
   },
 };
 
-process.stdout.write((await TRIED[what]()).map(line => `${line}\n`).join(""));
+const seen = await TRIED[what]();
+process.stdout.write(WANTED[what].map((wanted, number) => `${wanted}\t${seen[number]}\n`).join(""));
