@@ -6,11 +6,11 @@
 With the limits of `minisign -G` and the random bytes that it drew (`known_random.c` is preloaded into it), the texts
 have to be those that it wrote, byte for byte. Minisign uses keys that the library makes. The library opens keys of
 `minisign -G`, and makes them again under another password, for Minisign to use, and writes their public keys again.
-Opening is bounded in work and in memory, and each rejection has its number, in the order that the header says.
-It prints a line for each failure; the last line is `N passed, M failed`.
+Opening is bounded in work and in memory, and each rejection has its number, in the order that the header says (more
+of them, and of how opening is bounded, is in `usage_errors.c`). It prints a line for each failure; the last line is
+`N passed, M failed`.
 
-Needs Python 3.9 or later, a C compiler, libsodium with its header and minisign 0.11. It installs what is missing if
-it may.
+Needs a C compiler, libsodium with its header and minisign 0.11, and installs what is missing if it may.
 """
 
 import base64
@@ -36,8 +36,8 @@ LITTLE, FOUR_PARTS = (32768, 1048576), (131072, 1048576)
 TOO_MUCH = (33554432, 1073741825)
 ROWS = 1024
 
-# How many rows may be made of a key of Minisign's own limits, and of any.
-USUAL_ROWS, ANY_ROWS = 1 << 20, (1 << 64) - 1
+# How many rows may be made of a key of Minisign's own limits.
+USUAL_ROWS = 1 << 20
 
 SECRET_COMMENT = "minisign encrypted secret key"
 ROOM = 4096
@@ -180,16 +180,13 @@ def made_again(keys):
 
 
 def other_limits(keys):
-    """Keys with limits of the caller's, and how they are bounded."""
+    """Keys with limits of the caller's."""
     for limits, p in ((LITTLE, 1), (FOUR_PARTS, 4)):
         text = keys.secret(SECRET, "pässword", limits=limits)
         for how in ("open", "place"):
-            for what, wanted, password, keep_every, most_rows in (
-                    *((f"every {keep_every}-th row kept", (KEY_ID, SECRET), "pässword", keep_every, p * ROWS) for keep_every in (0, 1, 16, 1 << 63)),
-                    ("less rows", 43, "pässword", 1, p * ROWS - 1), ("any rows", (KEY_ID, SECRET), "pässword", 1, ANY_ROWS),
-                    ("another password", 42, "password", 16, ANY_ROWS), ("not UTF-8", 8, b"\xff", 16, 0)):
-                answer, _ = keys.opened(text, password, keep_every=keep_every, most_rows=most_rows, how=how)
-                keys.holds(f"limits {limits}, {how}, {what}: {answer}", answer == wanted)
+            for keep_every in (0, 1, 16, 1 << 63):
+                answer, _ = keys.opened(text, "pässword", keep_every=keep_every, most_rows=p * ROWS, how=how)
+                keys.holds(f"limits {limits}, {how}, every {keep_every}-th row kept: {answer}", answer == (KEY_ID, SECRET))
         keys.holds(f"limits {limits}: what the text says", record_of(text)[:54] == b"EdScB2" + SALT + packed(limits))
     most, public = keys.secret(SECRET, "pw", comment="c" * 1003), keys.public(comment="c" * 1003)
     keys.holds("the longest comment", (len(most), len(public)) == (1003 + 233, 1003 + 77))
@@ -238,26 +235,18 @@ def comments(keys):
 
 def rejections(keys):
     """Each rejection has its number, and comes before those after it."""
-    room = 233 + len(SECRET_COMMENT)
     for name, wanted, password, arguments in (
-            ("a comment that is not UTF-8", 8, "pw", {"comment": b"\n\xff"}),
             ("a password that is not UTF-8", 8, b"\xff", {"comment": "\n"}),
-            ("a comment of two lines", 9, "pw", {"comment": "a\nb", "room": 0}),
             ("a comment with a carriage return", 11, "pw", {"comment": "a\rb"}),
             ("a comment that is too long", 11, "pw", {"comment": "c" * 1004, "room": 0}),
-            ("no room", 5, "pw", {"room": room - 1, "limits": TOO_MUCH}),
             ("a limit of memory that is too high", 40, "pw", {"limits": TOO_MUCH}),
             ("limits that scrypt does not take", 41, "pw", {"limits": (1 << 44, 1 << 20)})):
         answer = keys.secret(SECRET, password, **arguments)
         keys.holds(f"secret, {name}: {answer}, and not {wanted}", answer == wanted)
-    keys.holds("secret, just room", isinstance(keys.secret(SECRET, "pw", room=room), bytes))
     keys.holds("secret, limits without a password", isinstance(keys.secret(limits=TOO_MUCH), bytes))
-    for name, wanted, comment, room in (
-            ("a comment that is not UTF-8", 8, b"\n\xff", ROOM), ("a comment of two lines", 9, "a\nb", 0),
-            ("a comment with a carriage return", 11, "\r", 77), ("no room", 5, "c", 77)):
+    for name, wanted, comment, room in (("not UTF-8", 8, b"\n\xff", ROOM), ("of two lines", 9, "a\nb", 0), ("with a carriage return", 11, "\r", 77)):
         answer = keys.public(comment=comment, room=room)
-        keys.holds(f"public, {name}: {answer}, and not {wanted}", answer == wanted)
-    keys.holds("public, just room", isinstance(keys.public(comment="c", room=78), bytes))
+        keys.holds(f"public, a comment {name}: {answer}, and not {wanted}", answer == wanted)
 
 
 def run_all(checks, room):
