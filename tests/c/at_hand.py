@@ -9,8 +9,8 @@ changed since `dist/` was made, or an archive is damaged, make stops with a sent
 that was only touched stops nothing, and you can name other archives. Where the kit is needed one sentence says so. It
 prints a line for each failure; the last line is `N passed, M failed`.
 
-Needs Python 3.9 or later, git where this is a clone, make, binutils, a C compiler and libsodium with its header. It
-installs what is missing if it may.
+Needs git where this is a clone, make, binutils, a C compiler and libsodium with its header, and installs what is
+missing if it may.
 """
 
 import os

@@ -10,9 +10,9 @@ built and nothing else, also where OUT has files of others under names of ours. 
 target is rejected in one sentence, before anything is written or removed. It prints a line for each failure; the last
 line is `N passed, M failed`.
 
-Needs Python 3.9 or later, git where this is a clone, make, binutils, pkg-config, groff, a C compiler, rustc, cargo,
-golang-go, libsodium with its header, and Debian's Python with pip, setuptools and wheel, and, where npm is, clang and
-lld. It installs what is missing if it may. Without npm the package for JavaScript is left out.
+Needs git where this is a clone, make, binutils, pkg-config, groff, a C compiler, rustc, cargo, golang-go, libsodium
+with its header, and Debian's Python with pip, setuptools and wheel, and, where npm is, clang and lld, and installs
+what is missing if it may. Without npm the package for JavaScript is left out.
 """
 
 import glob

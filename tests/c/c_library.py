@@ -13,7 +13,7 @@ program also with sanitizers, where the compiler has them. The library is built 
 once more with the copy of the calls for processors without AVX2 alone, and once more with -DMINISIGN_NO_THREADS: such
 a library names no call for threads. It prints a line for each failure; the last line is `N passed, M failed`.
 
-Needs Python 3.9 or later, binutils, a C compiler and a C++ compiler. It installs what is missing if it may.
+Needs binutils, a C compiler and a C++ compiler, and installs what is missing if it may.
 """
 
 import os
@@ -41,7 +41,7 @@ PROGRAMS = {"usage_errors": [], "asked_texts": [], "error_texts": [], "public_ke
 # The libraries, with what make is told of each, and the flags that the programs are built with once each.
 NO_THREADS = "-DMINISIGN_NO_THREADS"
 LIBRARIES = {"both copies": ([], ([], SANITIZED)), "for x86-64-v2": ([f"V3={static_library.DIST}/calls-x86-64-v2.a"], ([],)),
-             "without threads": ([f"CPPFLAGS=-D_FORTIFY_SOURCE=2 {NO_THREADS}"], ([NO_THREADS],))}
+             "without threads": (["C_CALLS=", f"CPPFLAGS=-D_FORTIFY_SOURCE=2 {NO_THREADS}"], ([NO_THREADS],))}
 
 
 def compiled(checks, what, name, compiler, library, *flags):

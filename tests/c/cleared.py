@@ -14,8 +14,8 @@ makes, opens, changes and signs with keys, and is searched so whenever it opens,
 end: nothing is found outside of the pages that it keeps secrets in, and at the end nothing there. It prints a line
 for each failure; the last line is `N passed, M failed`.
 
-Needs Python 3.9 or later, make, binutils, a C compiler, libsodium with its header, and of Debian musl-tools,
-gcc-aarch64-linux-gnu, libc6-dev-arm64-cross and qemu-user-static. It installs what is missing if it may.
+Needs make, binutils, a C compiler, clang, libsodium with its header, and of Debian musl-tools, gcc-aarch64-linux-gnu,
+libc6-dev-arm64-cross and qemu-user-static, and installs what is missing if it may.
 """
 
 import hashlib
@@ -172,8 +172,6 @@ def check_copies(checks, builder):
         check_run(checks, f"AArch64, C by {compiler}", Run([*emulator, builder.program(compiler, "-O2", "PORTABLE=1", linking=["-static"])]))
 
 
-# ---- The program ----
-
 # How it is run, and what is typed: the password of a key, and new ones.
 TYPED, NEW = PASSWORD + b"\n", b"another password\n"
 RUNS = ((("-G", "-p", "a.pub", "-s", "a.key"), TYPED + TYPED), (("-G", "-W", "-p", "a.pub", "-s", "a.key"), b""),
@@ -234,8 +232,6 @@ def check_program(checks, builder):
         wrong = [misplaced(searched.search(arguments, typed)[1]) for arguments, typed in RUNS]
         checks.check(all(wrong), f"minisign with {new!r} in place of {old!r}: {wrong}")
 
-
-# ---- What is taken away ----
 
 # What is taken away, of which file, in whose place what stands, and where something is found then.
 REGISTERS, STACK, ELSEWHERE = 0, 1, 2

@@ -8,8 +8,8 @@ Each ends with the status that its document says, and leaves what that says. Aft
 in the clone, and no secret key lies outside of the directories that git ignores. Commands that need the kit are left
 out, and named. It prints a line for each failure; the last line is `N passed, M failed`.
 
-Needs Python 3.9 or later, git, make, binutils, a C compiler, cargo, rustc and libsodium with its header. It installs
-what is missing if it may.
+Needs git, make, binutils, a C compiler, cargo, rustc and libsodium with its header, and installs what is missing if
+it may.
 """
 
 import base64

@@ -1,18 +1,18 @@
 #!/usr/bin/env python3
-"""Builds all of `c/` with the flags by which distributions package, by several compilers, and by `make -j`.
+"""Builds all of `c/` with the flags by which distributions package, and by `make -j`. (`releases.py` builds it by clang, and over
+musl.)
 
     tests/c/flags.py
 
 It takes those of Debian (`dpkg-buildflags`, all hardening and LTO), of Ubuntu (LTO, in objects that have the
-processor's code too) and of Fedora (its specs files are written here, as rpm's are), by clang, and by musl. What was
-built verifies the kept signatures and warns of nothing, and the library has no code but the processor's, so that any
-compiler links it. With -fcf-protection and -mbranch-protection the library's object has their notes, by which the
-linker and the system turn the checks on where all else has them, and the assembly begins as they want it; the
-archives of dist/ have none, so that is with PORTABLE=1. It prints a line for each failure; the last line is `N
-passed, M failed`.
+processor's code too) and of Fedora (its specs files are written here, as rpm's are). What was built verifies the kept
+signatures and warns of nothing, and the library has no code but the processor's, so that any compiler links it. With
+-fcf-protection and -mbranch-protection the library's object has their notes, by which the linker and the system turn
+the checks on where all else has them, and the assembly begins as they want it; the archives of dist/ have none, so
+that is with PORTABLE=1. It prints a line for each failure; the last line is `N passed, M failed`.
 
-Needs Python 3.9 or later, make, gcc, clang, binutils, libsodium with its header, and of Debian dpkg-dev, musl-tools
-and gcc-aarch64-linux-gnu. It installs what is missing if it may.
+Needs make, gcc, binutils, libsodium with its header, and of Debian dpkg-dev and gcc-aarch64-linux-gnu, and installs
+what is missing if it may.
 """
 
 import os
@@ -23,7 +23,6 @@ HERE = os.path.dirname(os.path.realpath(__file__))
 sys.path.append(os.path.join(HERE, "..", "shared"))
 
 import ending
-import musl
 import needs
 import static_library
 from process import run
@@ -88,8 +87,6 @@ def run_all(checks, room):
     building.verifies("Debian's flags", CC=compiler, **debian())
     building.verifies("Ubuntu's flags", CC=compiler, **UBUNTU, C_CALLS="")
     building.verifies("Fedora's flags", CC=compiler, **fedora, C_CALLS="")
-    building.verifies("clang", CC=needs.program("clang", "clang"), C_CALLS="")
-    building.verifies("musl", **musl.variables(room), C_CALLS="")
     building.has_notes("-fcf-protection=full", ("IBT", "SHSTK"), "endbr64", compiler)
     building.has_notes("-mbranch-protection=standard", ("BTI", "PAC"), "bti\tc", needs.program("aarch64-linux-gnu-gcc", "gcc-aarch64-linux-gnu"))
 

@@ -10,9 +10,9 @@ has its soname, and like the static one the names of the header and no other; a 
 in C++; the manual pages are read without a warning. It prints a line for each failure; the last line is
 `N passed, M failed`.
 
-Needs Python 3.9 or later, make, binutils, pkg-config, groff, a C and a C++ compiler, rustc, libsodium with its header
-and minisign. It installs what is missing if it may. The library is built over `dist/` (`static_library.py`);
-`packaging.py` uses what a release installs in the same way.
+Needs make, binutils, pkg-config, groff, a C and a C++ compiler, rustc, libsodium with its header and minisign, and
+installs what is missing if it may. The library is built over `dist/` (`static_library.py`); `packaging.py` uses what
+a release installs in the same way.
 """
 
 import base64

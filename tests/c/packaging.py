@@ -9,8 +9,7 @@ verifies nothing. `uninstall` removes what was installed under another name, or 
 `minisign.pc` can be moved. Where the loader does not find the library a sentence says so. (`releases.py` tries
 releases.) It prints a line for each failure; the last line is `N passed, M failed`.
 
-Needs Python 3.9 or later, make, binutils, pkg-config, gcc and libsodium with its header. It installs what is missing
-if it may.
+Needs make, binutils, pkg-config, gcc and libsodium with its header, and installs what is missing if it may.
 """
 
 import os

@@ -15,9 +15,9 @@ line for each failure; the last line is `N passed, M failed`.
 PART may also be Debian's name of another processor that it has a cross compiler for, which the gate does not try (and
 of which the library clears no registers). Under Debian 12's emulator of sh4 no program runs at all.
 
-Needs Python 3.9 or later, make, binutils, gcc, clang, tcc, musl-gcc, libsodium with its header, minisign, and of
-Debian qemu-user-static, wine64, gcc-mingw-w64-x86-64 and cross compilers with their C libraries for s390x, armhf and
-riscv64, or of the processors that are named. It installs what is missing if it may.
+Needs make, binutils, gcc, clang, tcc, musl-gcc, libsodium with its header, minisign, and of Debian qemu-user-static,
+wine64, gcc-mingw-w64-x86-64 and cross compilers with their C libraries for s390x, armhf and riscv64, or of the
+processors that are named, and installs what is missing if it may.
 """
 
 import glob
@@ -77,9 +77,6 @@ class Answers:
         self.check(what, *run_apart([*before, program, self.file])[:2])
 
 
-# ---- Here ----
-
-
 def libraries():
     """The libraries by their names: with what make is told, how a program is linked to each, and the programs."""
     # (with -g gcc takes twice as long for the calls; without -O1 all that is run takes several times as long)
@@ -119,8 +116,6 @@ def check_strict(checks, room):
             checks.ended(f"{os.path.basename(source)} by {compiler}", run(command))
 
 
-# ---- Elsewhere ----
-
 KINDS = [Kind("s390x", "s390x-linux-gnu", "s390x", "s390x", "IBM S/390"), Kind("armhf", "arm-linux-gnueabihf", "armhf", "arm", "ARM", has_32_bits=True),
          Kind("riscv64", "riscv64-linux-gnu", "riscv64", "riscv64", "RISC-V", has_sodium=False)]
 # Those that the gate does not try; for some of them gcc has no stack protector.
@@ -155,9 +150,6 @@ def check_elsewhere(checks, room, answers):
         built = check_kind(checks, room, answers, kind)
         program = cleared.Builder(built.room).linked(built.compiler, "-O2", built.library, linking=["-static"])
         cleared.check_run(checks, kind.name, cleared.Run([*built.emulator, program]))
-
-
-# ---- Windows, Apple and the BSDs ----
 
 
 WINE = "/usr/lib/wine"

@@ -9,7 +9,7 @@ They call nothing that Linux alone has. All cases of `tests/command_line/command
 that passes is a failure too. In none of them a stranger gets a key. It prints a line for each failure; the last line
 is `N passed, M failed`.
 
-Needs what these two scripts need. It installs what is missing if it may.
+Needs what these two scripts need, and installs what is missing if it may.
 """
 
 import collections

@@ -13,9 +13,9 @@ are those of the library for x86-64, and Minisign's own program verifies what it
 an older one is not. Where a compiler builds for a processor without an archive, a sentence says what to do. It prints
 a line for each failure; the last line is `N passed, M failed`.
 
-Needs Python 3.9 or later, make, binutils, a C compiler, libsodium with its header, minisign, and of Debian
-gcc-aarch64-linux-gnu, libc6-dev-arm64-cross and qemu-user-static. It installs what is missing if it may; apt-get
-fetches Debian's libsodium for AArch64 once (`emulated.py`).
+Needs make, binutils, a C compiler, libsodium with its header, minisign, and of Debian gcc-aarch64-linux-gnu,
+libc6-dev-arm64-cross and qemu-user-static, and installs what is missing if it may; apt-get fetches Debian's libsodium
+for AArch64 once (`emulated.py`).
 """
 
 import os

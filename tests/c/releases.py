@@ -6,15 +6,14 @@
 A release has the same bytes twice, and the moment of the commit. It has the sources of what is built in it, and each
 document that a text of it names. Where RELEASE_KEY names a secret key its own program signs it, which Minisign's own
 program verifies; otherwise it says that it is not signed. Where it is unpacked there is no kit, no Python and no
-repository. There it is built by gcc and by clang, checked, installed, and used from what was installed: by gcc also
-from C++, Rust and Python (`installed.py`). It writes the same release again. Debian's tools build packages of it by
-`packaging/debian.sh`, in which lintian finds no error; the steps of Alpine's build file go over musl, and
-`packaging/others` packs what is installed. No maintainer is made up, and no file of the repository is a secret key.
-It prints a line for each failure; the last line is `N passed, M failed`.
+repository. There it is built by gcc and by clang, and without what stands built, checked, installed, and used from
+what was installed: by gcc also from C++, Rust and Python (`installed.py`). It writes the same release again. Debian's
+tools build packages of it by `packaging/debian.sh`, in which lintian finds no error; the steps of Alpine's build file
+go over musl, and `packaging/others` packs what is installed. No maintainer is made up, and no file of the repository
+is a secret key. It prints a line for each failure; the last line is `N passed, M failed`.
 
-Needs Python 3.9 or later, git where this is a clone, make, binutils, clang, musl-gcc, minisign, libsodium with its
-header and archive, Debian's dpkg-dev, debhelper and lintian, and what `installed.py` needs. It installs what is
-missing if it may.
+Needs git where this is a clone, make, binutils, clang, musl-gcc, minisign, libsodium with its header and archive,
+Debian's dpkg-dev, debhelper and lintian, and what `installed.py` needs, and installs what is missing if it may.
 """
 
 import glob
@@ -87,16 +86,6 @@ def check_verifying(checks, what, *command):
         checks.ended(f"{what} on {data}", run([data if word == "DATA" else word for word in command], CORPUS), status)
 
 
-# ---- What it has ----
-
-
-def moment():
-    """The moment of the commit; where this is no clone, of the file that tells what changed."""
-    if not os.path.exists(os.path.join(TOP, ".git")):
-        return int(os.stat(os.path.join(TOP, "CHANGELOG.md")).st_mtime)
-    return int(run([needs.git(), "-C", TOP, "log", "-1", "--format=%ct"])[1])
-
-
 def check_release(checks, room):
     """A release, in a place without anything else: what is unpacked."""
     archives = [release(checks, f"{room}/{name}") for name in ("one", "two")]
@@ -105,7 +94,10 @@ def check_release(checks, room):
     with tarfile.open(archives[0]) as archive:
         moments = {member.mtime for member in archive.getmembers()}
         archive.extractall(room)
-    checks.check(moments == {moment()}, f"the moments of a release's files are {moments}, and not {moment()}")
+    # (that of the commit; where this is no clone, of the file that tells what changed)
+    is_clone, changes = os.path.exists(os.path.join(TOP, ".git")), os.path.join(TOP, "CHANGELOG.md")
+    moment = int(run([needs.git(), "-C", TOP, "log", "-1", "--format=%ct"])[1] if is_clone else os.stat(changes).st_mtime)
+    checks.check(moments == {moment}, f"the moments of a release's files are {moments}, and not {moment}")
     return glob.glob(f"{room}/minisign-in-rattle-*")[0]
 
 
@@ -150,9 +142,6 @@ def check_licence(checks):
         checks.check(re.search(rf"\b{name}\b", terms), f"LICENSE does not say of the kit's crate {name} under which terms it stands")
 
 
-# ---- Signed ----
-
-
 def check_signed(checks, room, program, minisign):
     """With a key archive and sums are signed by the program that is in the release, and without one that is there not at all."""
     key = f"{room}/own key"
@@ -169,9 +158,6 @@ def check_signed(checks, room, program, minisign):
     checks.check(not glob.glob(f"{room}/one/*.minisig"), "with a key that is not there a release is signed")
     release(checks, f"{room}/one")
     checks.check(read(archive) == read(archive_in(f"{room}/two")), "a key changes the archive")
-
-
-# ---- Where it is unpacked ----
 
 
 def check_compiler(checks, room, top, name):
@@ -195,12 +181,6 @@ def check_compiler(checks, room, top, name):
     return tree, root
 
 
-def check_again(checks, room, tree):
-    """A release that is made in a release is the same."""
-    checks.ended("a release of a release", tree.run(f"make -s -C c release CC=gcc OUT={room}/again"))
-    checks.check(read(archive_in(f"{room}/again")) == read(archive_in(f"{room}/two")), "a release of a release differs from it")
-
-
 def check_bare(checks, room, top):
     """A release without what stands built, by PORTABLE=1, and with calls that were changed."""
     for archive in glob.glob(f"{top}/dist/*.a"):
@@ -211,9 +191,6 @@ def check_bare(checks, room, top):
     with open(f"{top}/dist/calls.c", "a", encoding="utf-8") as file:
         file.write("/* changed */\n")
     checks.ended("a changed calls.c", run([*words, f"OUT={room}/changed", "library"]), status=2, says=DAMAGED)
-
-
-# ---- Packages ----
 
 
 def check_debian(checks, room, archive):
@@ -279,7 +256,8 @@ def run_all(checks, room):
     tree, root = check_compiler(checks, room, top, "gcc")
     installed.use(checks, root, f"{room}/by-gcc", minisign)
     check_signed(checks, room, f"{root}/bin/minisign", minisign)
-    check_again(checks, room, tree)
+    checks.ended("a release of a release", tree.run(f"make -s -C c release CC=gcc OUT={room}/again"))
+    checks.check(read(archive_in(f"{room}/again")) == read(archive_in(f"{room}/two")), "a release of a release differs from it")
     check_others(checks, room, top)
     check_alpine(checks, room, top)
     check_debian(checks, room, archive_in(f"{room}/two"))

@@ -10,8 +10,8 @@ message of the programs is Minisign's own or stands in a test. The manual pages 
 What is built needs only names that glibc 2.31 has. Without libsodium's header make says so in one sentence. It prints
 a line for each failure; the last line is `N passed, M failed`.
 
-Needs Python 3.9 or later, make, gcc, binutils, mandoc, minisign 0.11 and libsodium with its header. It installs what
-is missing if it may.
+Needs make, gcc, binutils, mandoc, minisign 0.11 and libsodium with its header, and installs what is missing if it
+may.
 """
 
 import collections

@@ -11,7 +11,7 @@ by a C compiler with and without a sanitizer of undefined behaviour: what Node a
 that are planted in machine.h, in the table and in the stack is noticed. What the translator does not know is an error
 that names it. It prints a line for each failure; the last line is `N passed, M failed`.
 
-Needs Python 3.9 or later, a C compiler and Node. It installs what is missing if it may.
+Needs a C compiler and Node, and installs what is missing if it may.
 """
 
 import json
@@ -46,6 +46,9 @@ EDGES = [0, 1, 2, 3, 7, 8, 31, 32, 33, 63, 64, 127, 128, 255, 256, 0x7FFF, 0x800
 DRAWN_PAIRS, DRAWN_FUNCTIONS = 1500, 120
 # Where the buffer of a call begins in Node's memory, the data, and the end of the stack.
 BUFFER, BUFFER_BYTES, DATA, STACK_END = 4096, 64, 1024, 3072
+# The data of each module, and where in it the address of which of its bytes stands.
+POINTER_AT, POINTS_TO = 16, 3
+DATA_BYTES = bytes(range(100, 116)) + (DATA + POINTS_TO).to_bytes(8, "little") + b"\x2a" * 8
 # A call is the number of a function, three numbers for it, and the buffer. An answer is whether the program ended, what the function
 # gave, and the buffer.
 CALL_BYTES, ANSWER_BYTES = 32 + BUFFER_BYTES, 9 + BUFFER_BYTES
@@ -79,16 +82,12 @@ def section(which, *parts):
     return bytes([which]) + sized(b"".join(parts))
 
 
-def label_list(labels):
-    """The labels of a branch by a table, the last for all other numbers."""
-    *first, last = map(number, map(int, labels.split(",")))
-    return listed(first) + last
-
-
 # The codes of instructions by their names, with what follows each, and how that is written.
 CODES = {name: (code, operand) for code, (name, operand) in wasm_object.INSTRUCTIONS.items()}
+# (of labels the last is for all other numbers, and not counted)
 OPERANDS = {"block": lambda word, _: bytes([TYPE[word]]), "index": lambda word, _: number(int(word)), "place": lambda word, _: b"\0" + number(int(word)),
-            "labels": lambda word, _: label_list(word), "number": lambda word, name: number(int(word), BITS[name[:3]])}
+            "labels": lambda word, _: number(word.count(",")) + b"".join(number(int(label)) for label in word.split(",")),
+            "number": lambda word, name: number(int(word), BITS[name[:3]])}
 WITHOUT_WORD = {"": b"", "memory": b"\0", "memories": b"\0\0"}
 # The address of the data, in as many bytes as any has.
 ADDRESS = bytes(DATA >> shift & 127 | (128 if shift < 63 else 0) for shift in range(0, 70, 7))
@@ -114,10 +113,10 @@ def assembled(code):
 
 
 class Module:
-    """Functions: of each its name, the kinds of its parameters, of what it gives and of its locals, and its code."""
+    """Functions: of each its name, the kinds of its parameters, and of what it gives, its code, and the kinds of its locals."""
 
     def __init__(self):
-        self.functions, self.data, self.pointers = [], b"", []
+        self.functions = []
 
     def add(self, name, parameters, gives, code, locals_=()):
         """Adds a function: its number."""
@@ -138,50 +137,36 @@ class Module:
             begun = len(number(count)) + sum(map(len, bodies)) + len(body) - len(instructions)
             addresses += [bytes([wasm_object.CONSTANT]) + number(begun + place) + number(count) + b"\0" for place in places]
             bodies.append(body)
-        data = bytearray(self.data)
-        for at, to in self.pointers:
-            data[at:at + 8] = (DATA + to).to_bytes(8, "little")
-        segment = b"\0" + assembled(f"i64.const {DATA} end")[0] + sized(bytes(data))
-        in_data = len(segment) - len(data) + 1
-        pointers = [bytes([wasm_object.DATA]) + number(in_data + at) + number(count) + number(to, 64) for at, to in self.pointers]
+        segment = b"\0" + assembled(f"i64.const {DATA} end")[0] + sized(DATA_BYTES)
+        pointer = bytes([wasm_object.DATA]) + number(len(segment) - len(DATA_BYTES) + 1 + POINTER_AT) + number(count) + number(POINTS_TO, 64)
         symbols = [b"\0\0" + number(index) + text(name) for index, name in enumerate(self.names())]
-        symbols += [b"\1\0" + text("data") + b"\0\0" + number(len(data))] if data else []
+        symbols.append(b"\1\0" + text("data") + b"\0\0" + number(len(DATA_BYTES)))
         exports = [text(name) + b"\0" + number(index) for index, name in enumerate(self.names())]
         return b"\0asm\1\0\0\0" + b"".join([
             section(1, listed(types)), section(2, listed([text("env") + text(wasm_to_c.STACK_POINTER) + b"\3" + bytes([TYPE["i64"], 1])])),
             section(3, listed([number(index) for index in range(count)])), section(5, listed([b"\4" + number(2)])),
-            section(7, listed([*exports, text("memory") + b"\2\0"])), section(10, listed(bodies)),
-            *([section(11, listed([segment]))] if data else []),
-            section(0, text("linking"), b"\2", *([b"\5", sized(listed([text("data") + b"\4\0"]))] if data else []), b"\x08", sized(listed(symbols))),
-            section(0, text("reloc.CODE"), number(5), listed(addresses)),
-            *([section(0, text("reloc.DATA"), number(6), listed(pointers))] if data else [])])
+            section(7, listed([*exports, text("memory") + b"\2\0"])), section(10, listed(bodies)), section(11, listed([segment])),
+            section(0, text("linking"), b"\2", b"\5", sized(listed([text("data") + b"\4\0"])), b"\x08", sized(listed(symbols))),
+            section(0, text("reloc.CODE"), number(5), listed(addresses)), section(0, text("reloc.DATA"), number(6), listed([pointer]))])
 
 
 # ---- Running it ----
 
 RUNNER = """#include <stdio.h>
 #include <stdint.h>
-#include <string.h>
 %s
-static uint64_t got(const unsigned char *bytes)
-{
-    uint64_t value = 0;
-    for (int i = 7; i >= 0; i--) { value = value << 8 | bytes[i]; }
-    return value;
-}
 int main(void)
 {
-    static unsigned char call[%d];
-    while (fread(call, 1, sizeof call, stdin) == sizeof call) {
-        const uint64_t base = (uint64_t) (uintptr_t) (call + 32), a = got(call + 8), b = got(call + 16), c = got(call + 24);
+    static struct { uint64_t function, a, b, c; unsigned char buffer[%d]; } call;
+    while (fread(&call, sizeof call, 1, stdin) == 1) {
+        const uint64_t base = (uint64_t) (uintptr_t) call.buffer, a = call.a, b = call.b, c = call.c;
         uint64_t made = 0;
-        switch (got(call)) {
+        switch (call.function) {
 %s
         }
-        for (int i = 0; i < 8; i++) { call[i] = (unsigned char) (made >> 8 * i); }
         putchar(0);
-        fwrite(call, 1, 8, stdout);
-        fwrite(call + 32, 1, sizeof call - 32, stdout);
+        fwrite(&made, sizeof made, 1, stdout);
+        fwrite(call.buffer, sizeof call.buffer, 1, stdout);
     }
     return 0;
 }
@@ -233,7 +218,7 @@ class Runners:
                  f"{', '.join('base' if kind == 'base' else given for given, kind in zip('abc', parameters))}); break;"
                  for at, (name, parameters, gives, *_) in enumerate(module.functions)]
         files = {"calls.c": wasm_to_c.translate(module.bytes(), module.names()), "machine.h": machine,
-                 "runner.c": RUNNER % ("\n".join(declared), CALL_BYTES, "\n".join(cases))}
+                 "runner.c": RUNNER % ("\n".join(declared), BUFFER_BYTES, "\n".join(cases))}
         sources = [write(place, name, words.encode()) for name, words in files.items()]
         status, said = run([self.compiler, "-std=c99", "-w", *flags, "-I", place, "-o", f"{place}/run", sources[0], sources[2]])
         if status:
@@ -299,10 +284,8 @@ def add_memory(module, drawn):
 def add_places(module, _):
     """A function that reads data by an address, one that goes on from an address that data holds, and two with frames, with calls; what
     an address is a multiple of is seen as well."""
-    module.data = bytes(range(100, 116)) + bytes(8) + b"\x2a" * 8
-    module.pointers = [(16, 3)]
     data = module.add("data_read", ["i64"], "i64", "i64.const data local.get 0 i64.add i64.load8_u 0")
-    followed = module.add("data_followed", ["i64"], "i64", "i64.const data i64.load 16 i64.load8_u 2")
+    followed = module.add("data_followed", ["i64"], "i64", f"i64.const data i64.load {POINTER_AT} i64.load8_u 2")
     below = module.add("frame_below", ["i64"], "i64", f"{FRAME} local.get 1 i64.load32_u 8 {LEAVE}", ["i64"])
     above = module.add("frame_above", ["i64"], "i64", f"{FRAME} local.get 0 i64.const 77 i64.add call {below} local.get 1 i64.load 8 i64.xor "
                                                       f"local.get 1 i64.const 15 i64.and i64.add {LEAVE}", ["i64"])
@@ -331,7 +314,7 @@ class Drawn:
         return self.choice([at for at, kind in enumerate(self.locals) if kind in kinds and at not in self.counters])
 
     def below(self, most):
-        """A number of up to so many, which is one less than a power of 2."""
+        """A number of the bits of this one, and so up to it."""
         return f"{self.value('i64', 1)} i64.const {most} i64.and"
 
     def place(self):
