@@ -1,7 +1,7 @@
 #!/usr/bin/env python3
 """Compiles and runs programs that call the static library of `c/` through `include/minisign.h` alone.
 
-    tests/c/c_library.py [LIBRARY]
+    tests/c/c_library.py
 
 They try the declarations beside the exports of the sources, the layout of its structs as C and as C++ (`exports.py`),
 usage errors (`usage_errors.c`), the questions about texts and the number of each rejection (`asked_texts.c`), the
@@ -9,15 +9,15 @@ text of each number (`error_texts.c`), an installation at each of its calls (`in
 keys (`public_keys.c`), memory from malloc, which is cleared before it is given back (`allocations.c`), each
 allocation failing, of which verifying makes none (`out_of_memory.c`), buffers beside pages without access
 (`guard_pages.c`), NULL (`null.c`), threads (`threads.c`), and random calls beside a model (`random_calls.c`); each
-program also with sanitizers, where the compiler has them. LIBRARY is a `libminisign.a`. By default it is built over
-`dist/` (`static_library.py`), once more with the copy of the calls for processors without AVX2 alone, and once more
-with -DMINISIGN_NO_THREADS: such a library names no call for threads. It prints a line for each failure; the last line
-is `N passed, M failed`.
+program also with sanitizers, where the compiler has them. The library is built over `dist/` (`static_library.py`),
+once more with the copy of the calls for processors without AVX2 alone, and once more with -DMINISIGN_NO_THREADS: such
+a library names no call for threads. It prints a line for each failure; the last line is `N passed, M failed`.
 
-Needs Python 3.9 or later, a C compiler and a C++ compiler. It installs what is missing if it may.
+Needs binutils, a C compiler and a C++ compiler, and installs what is missing if it may.
 """
 
 import os
+import re
 import sys
 
 HERE = os.path.dirname(os.path.realpath(__file__))
@@ -33,99 +33,53 @@ INCLUDE = os.path.join(HERE, "..", "..", "include")
 STRICT = ["-Wall", "-Wextra", "-Wpedantic", "-Werror"]
 SANITIZED = ["-fsanitize=address,undefined", "-fno-sanitize-recover=all"]
 WRAPPED = ["-Wl,--wrap=malloc", "-Wl,--wrap=realloc", "-Wl,--wrap=free"]
-THREADS = "-Wl,--wrap=pthread_create"
 
 # The programs, with what each is linked with.
-PROGRAMS = {"usage_errors": [], "asked_texts": [], "error_texts": [], "public_keys": WRAPPED, "out_of_memory": [*WRAPPED, THREADS],
+PROGRAMS = {"usage_errors": [], "asked_texts": [], "error_texts": [], "public_keys": WRAPPED, "out_of_memory": [*WRAPPED, "-Wl,--wrap=pthread_create"],
             "allocations": [*WRAPPED, "-Wl,--wrap=madvise"], "installations": WRAPPED, "null": [], "guard_pages": [], "threads": ["-pthread"],
             "random_calls": []}
+# The libraries, with what make is told of each, and the flags that the programs are built with once each.
+NO_THREADS = "-DMINISIGN_NO_THREADS"
+LIBRARIES = {"both copies": ([], ([], SANITIZED)), "for x86-64-v2": ([f"V3={static_library.DIST}/calls-x86-64-v2.a"], ([],)),
+             "without threads": (["C_CALLS=", f"CPPFLAGS=-D_FORTIFY_SOURCE=2 {NO_THREADS}"], ([NO_THREADS],))}
 
 
-def header_failures(compiler, cpp, room):
-    """What does not fit the exports, and what the compilers say of the layout, as C and as C++."""
-    source, failures = exports.write_layout(room), exports.unfit_declarations()
-    for command in ([compiler, "-x", "c", "-std=c11"], [cpp, "-x", "c++", "-std=c++11"]):
-        status, said = run([*command, *STRICT, "-I", INCLUDE, "-fsyntax-only", source])
-        if status != 0:
-            failures.append(f"layout.c by {command[-1]}: {said[-1000:]}")
-    return failures, 3
+def compiled(checks, what, name, compiler, library, *flags):
+    """The path of a program of this directory that is built over a library, beside which it stands."""
+    program = os.path.join(os.path.dirname(library), name)
+    checks.ended(f"{what}: {name}.c", run([compiler, "-std=c11", *STRICT, "-g", "-O1", "-I", INCLUDE, "-o", program, os.path.join(HERE, f"{name}.c"),
+                                           library, *flags]))
+    return program
 
 
-def program_failures(compiler, library, name, flags, room, programs=PROGRAMS):
-    """What is wrong with a program, and how many of its checks hold."""
-    program = os.path.join(room, name)
-    source = os.path.join(HERE, f"{name}.c")
-    status, said = run([compiler, "-std=c11", *STRICT, "-g", "-O1", *flags, "-I", INCLUDE, "-o", program, source,
-                        library, *programs[name]])
-    if status != 0:
-        return [f"{name}.c was not built: {said[-1000:]}"], 0
-    status, said = run([program])
-    if status != 0:
-        return [f"{name}: status {status}: {said[-2000:]}"], 0
-    return [], int(said.splitlines()[-1].split()[0])
+def check_program(checks, what, name, compiler, library, *flags, before=()):
+    """A program that counts what it checks: by these words before it, it is run."""
+    said = checks.ended(f"{what}: {name}", run([*before, compiled(checks, what, name, compiler, library, *flags)]))
+    checks.passed += int((re.findall(r"(?m)^(\d+) passed, 0 failed$", said) or [0])[-1])
 
 
-def has_sanitizers(compiler, room):
-    source = os.path.join(room, "empty.c")
-    with open(source, "w", encoding="utf-8") as file:
-        file.write(needs.HELLO)
-    return run([compiler, *SANITIZED, "-o", os.path.join(room, "empty"), source])[0] == 0
+def check_declarations(checks, room):
+    """The declarations fit the exports, and the structs are laid out so, as C and as C++."""
+    unfit, layout = exports.unfit_declarations(), exports.write_layout(room)
+    checks.check(not unfit, *unfit)
+    for command in ([needs.c_compiler(), "-x", "c", "-std=c11"], [needs.cpp_compiler(), "-x", "c++", "-std=c++11"]):
+        checks.ended(f"layout.c by {command[-1]}", run([*command, *STRICT, "-I", INCLUDE, "-fsyntax-only", layout]))
 
 
-def run_all(library, room):
-    """Runs everything: the failures, and how many checks hold."""
-    compiler, cpp = needs.c_compiler(), needs.cpp_compiler()
-    failures, count = header_failures(compiler, cpp, room)
-    count -= len(failures)
-    kinds = [[]]
-    if has_sanitizers(compiler, room):
-        kinds.append(SANITIZED)
-    else:
-        print("skipped: the programs with sanitizers, which the compiler lacks")
-    for name in PROGRAMS:
+def run_all(checks, room):
+    compiler = needs.c_compiler()
+    check_declarations(checks, room)
+    for number, (what, (words, kinds)) in enumerate(LIBRARIES.items()):
+        library = static_library.library(os.path.join(room, str(number)), *words)
+        named = {*re.findall(r"\w*pthread\w*", run([needs.program("nm", "binutils"), "--undefined-only", library])[1])}
+        checks.check(bool(named) != (what == "without threads"), f"{what}: the library calls for threads {named}")
         for flags in kinds:
-            some, ran = program_failures(compiler, library, name, flags, room)
-            failures += some
-            count += ran
-    return failures, count
-
-
-# Other libraries, with what make is told of them: with the copy of the calls for processors without AVX2 alone, and
-# without threads.
-OTHERS = {"for x86-64-v2": f"V3={static_library.DIST}/calls-x86-64-v2.a",
-          "without threads": "CPPFLAGS=-D_FORTIFY_SOURCE=2 -DMINISIGN_NO_THREADS"}
-
-
-def threads_named(library):
-    """The calls for threads that a library makes."""
-    _, said = run([needs.program("nm", "binutils"), "--undefined-only", library])
-    return sorted({line.split()[-1] for line in said.splitlines() if "pthread" in line})
-
-
-def run_other(kind, room):
-    """Runs the programs over another library: the failures, and how many checks hold."""
-    library = static_library.library(os.path.join(room, kind.replace(" ", "-")), OTHERS[kind])
-    failures, count = [], 0
-    if bool(threads_named(library)) == (kind == "without threads"):
-        failures.append(f"{kind}: the library calls {', '.join(threads_named(library)) or 'nothing for threads'}")
-    else:
-        count += 1
-    flags = ["-DMINISIGN_NO_THREADS"] if kind == "without threads" else []
-    for name in PROGRAMS:
-        some, ran = program_failures(needs.c_compiler(), library, name, flags, room)
-        failures += [f"{kind}: {failure}" for failure in some]
-        count += ran
-    return failures, count
-
-
-def main(room):
-    library = sys.argv[1] if len(sys.argv) > 1 else static_library.library(os.path.join(room, "c"))
-    failures, count = run_all(os.path.realpath(library), room)
-    for kind in OTHERS if len(sys.argv) <= 1 else ():
-        some, ran = run_other(kind, room)
-        failures, count = failures + some, count + ran
-    return failures, count + len(failures)
+            if flags == SANITIZED and not needs.compiles(compiler, needs.HELLO, SANITIZED):
+                print("skipped: the programs with sanitizers, which the compiler lacks")
+                continue
+            for name, linking in PROGRAMS.items():
+                check_program(checks, what, name, compiler, library, *flags, *linking)
 
 
 if __name__ == "__main__":
-    sys.exit(ending.main("c-library", main))
+    sys.exit(ending.check("c-library", run_all))

@@ -14,15 +14,14 @@ makes, opens, changes and signs with keys, and is searched so whenever it opens,
 end: nothing is found outside of the pages that it keeps secrets in, and at the end nothing there. It prints a line
 for each failure; the last line is `N passed, M failed`.
 
-Needs Python 3.9 or later, make, binutils, a C compiler, libsodium with its header, and of Debian musl-tools,
-gcc-aarch64-linux-gnu, libc6-dev-arm64-cross and qemu-user-static. It installs what is missing if it may.
+Needs make, binutils, a C compiler, clang, libsodium with its header, and of Debian musl-tools, gcc-aarch64-linux-gnu,
+libc6-dev-arm64-cross and qemu-user-static, and installs what is missing if it may.
 """
 
 import hashlib
 import os
 import re
 import shutil
-import subprocess
 import sys
 import tempfile
 
@@ -30,21 +29,23 @@ HERE = os.path.dirname(os.path.realpath(__file__))
 SHARED = os.path.join(HERE, "..", "shared")
 sys.path += [SHARED, os.path.join(HERE, "..", "command_line")]
 
+import emulated
 import ending
+import musl
 import needles
 import needs
 import proved
 import static_library
-from running import build_preload
+from c_library import STRICT
 from command_running import put_files, record_of, sealed
+from process import run, run_program
+from running import build_preload, read, write
 
-SECONDS = 1800
-STRICT = ["-std=c11", "-Wall", "-Wextra", "-Wpedantic", "-Werror"]
 SEED, PUBLIC_HALF = (hashlib.sha256(part).digest() for part in (b"the seed", b"the public half"))
 PASSWORD = b"correct horse battery staple 42"
 SALT = bytes(range(32))
-# The limits of a key, and what scrypt's N and p are then; the rows of the second take 4 MiB, which is a large block.
-LITTLE, LARGE = ((32768, 1048576, 1024, 1), (131072, 4194304, 4096, 1))
+# The limits of keys by their names, and what scrypt's N is then; the rows of the second take 4 MiB, which is a large block.
+LIMITS = {"LITTLE": (32768, 1048576, 1024), "LARGE": (131072, 4194304, 4096)}
 LEVELS = ("-O0", "-O2")
 # (of the calls as C their compiler decides what is left)
 COPIES = {"x86-64-v2": ["V3=../dist/calls-x86-64-v2.a", "C_CALLS="], "x86-64-v3": ["C_CALLS="], "C": ["PORTABLE=1"]}
@@ -54,18 +55,13 @@ STEPS = 19
 OWN = ("seed", "half of the seed", "password")
 
 
-def derived(limits):
-    """What scrypt derives of the password for a key of these limits."""
-    _, _, rows, times = limits
-    return hashlib.scrypt(PASSWORD, salt=SALT, n=rows, r=8, p=times, maxmem=1 << 26, dklen=104)
-
-
 def wanted():
     """What is looked for, by its names."""
     record = b"EdScB2" + bytes(48) + b"12345678" + SEED + PUBLIC_HALF + bytes(32)
     found = {**needles.of_secret_key(record), **needles.of_password(PASSWORD)}
-    for what, limits in (("derived", LITTLE), ("derived with more work", LARGE)):
-        found[what], found[f"half of what is {what}"] = derived(limits)[:32], derived(limits)[:16]
+    for name, (_, _, rows) in LIMITS.items():
+        derived = hashlib.scrypt(PASSWORD, salt=SALT, n=rows, r=8, p=1, maxmem=1 << 26, dklen=104)
+        found[f"derived by {name}"], found[f"half of what is derived by {name}"] = derived[:32], derived[:16]
     return found
 
 
@@ -75,7 +71,7 @@ def needles_text():
              f"static const uint8_t masked_secret_key[64] = {{ {needles.masked(SEED + PUBLIC_HALF)} }};",
              f"static const uint8_t masked_password[PASSWORD_LEN] = {{ {needles.masked(PASSWORD)} }};",
              f"static const uint8_t SALT[32] = {{ {', '.join(map(str, SALT))} }};"]
-    for name, (operations, memory, *_) in (("LITTLE", LITTLE), ("LARGE", LARGE)):
+    for name, (operations, memory, _) in LIMITS.items():
         lines += [f"#define {name}_OPERATIONS {operations}", f"#define {name}_MEMORY {memory}"]
     return "\n".join([*lines, ""])
 
@@ -85,13 +81,12 @@ class Run:
     the caller's; how deep the stack was written; and what else it said."""
 
     def __init__(self, command):
-        ran = subprocess.run(command, stdin=subprocess.DEVNULL, stdout=subprocess.PIPE, stderr=subprocess.STDOUT, timeout=SECONDS)
-        self.found, self.depths, self.wrong = {}, {}, [] if ran.returncode == 0 else [f"status {ran.returncode}"]
-        for line in ran.stdout.decode(errors="replace").splitlines():
+        status, said = run(command)
+        self.found, self.depths, self.wrong = {}, {}, [f"status {status}"] * (status != 0)
+        for line in said.splitlines():
             parts = line.split("\t")
             if len(parts) == 6:
-                key, counts = needles.counts_of(line)
-                self.found[key] = counts
+                key, self.found[key] = needles.counts_of(line)
             elif len(parts) == 3 and parts[0] == "deepest":
                 self.depths[parts[1]] = int(parts[2])
             else:
@@ -102,66 +97,47 @@ class Run:
         return {key: counts[:3] for key, counts in self.found.items() if any(counts[:3]) and key[0] != LEFT}
 
 
-def run(command):
-    """Runs a command that has to succeed."""
-    ran = subprocess.run(command, env=dict(os.environ, PATH=static_library.path_without_kit()), stdin=subprocess.DEVNULL,
-                         stdout=subprocess.PIPE, stderr=subprocess.STDOUT, timeout=SECONDS)
-    if ran.returncode != 0:
-        raise static_library.NotBuilt(f"{' '.join(command)}: {ran.stdout.decode(errors='replace')[-800:]}")
-
-
 class Builder:
     """Builds the library and cleared.c, from a copy of the sources or from themselves."""
 
     def __init__(self, room):
-        self.room, self.count = room, 0
-        with open(os.path.join(room, "needles.h"), "w", encoding="utf-8") as file:
-            file.write(needles_text())
+        self.room = room
+        write(room, "needles.h", needles_text().encode())
 
-    def copy(self, *changes):
-        """A copy of what is built, in which files are changed."""
-        self.count += 1
-        top = os.path.join(self.room, f"copy{self.count}")
-        for name in ("c", "include", "dist"):
-            shutil.copytree(os.path.join(proved.ROOT, name), os.path.join(top, name), ignore=shutil.ignore_patterns("out"))
-        for name, old, new in changes:
-            path = os.path.join(top, "c", name)
-            with open(path, encoding="utf-8") as file:
-                text = file.read()
-            if not re.search(old, text):
-                raise static_library.NotBuilt(f"c/{name} has nothing like {old!r}")
-            with open(path, "w", encoding="utf-8") as file:
-                file.write(re.sub(old, new, text))
+    def copy(self, name, old, new):
+        """A copy of what is built, in which a file is changed."""
+        top = tempfile.mkdtemp(dir=self.room)
+        for part in ("c", "include", "dist"):
+            shutil.copytree(os.path.join(proved.ROOT, part), os.path.join(top, part), ignore=shutil.ignore_patterns("out"))
+        text = read(top, "c", name).decode()
+        if not re.search(old, text):
+            raise static_library.NotBuilt(f"c/{name} has nothing like {old!r}")
+        write(top, f"c/{name}", re.sub(old, new, text).encode())
         return top
 
-    def program(self, compiler, level, *flags, top=proved.ROOT, linking=()):
-        """The path of the program."""
-        self.count += 1
-        out = os.path.join(self.room, f"out{self.count}")
-        run(["make", "-s", "-C", os.path.join(top, "c"), f"CC={compiler}", f"CFLAGS={level}", "CPPFLAGS=", f"OUT={out}", *flags,
-             f"{out}/libminisign.a"])
-        return self.linked(compiler, level, os.path.join(out, "libminisign.a"), top, linking)
+    def make(self, goal, *words, top=proved.ROOT):
+        """What make builds, in a directory of its own."""
+        out = tempfile.mkdtemp(dir=self.room)
+        static_library.run_make("-C", os.path.join(top, "c"), "CPPFLAGS=", f"OUT={out}", *words, f"{out}/{goal}")
+        return f"{out}/{goal}"
+
+    def program(self, compiler, level, *words, top=proved.ROOT, linking=()):
+        """The path of the program, over a library that is built for it."""
+        return self.linked(compiler, level, self.make("libminisign.a", f"CC={compiler}", f"CFLAGS={level}", *words, top=top), top, linking)
 
     def linked(self, compiler, level, library, top=proved.ROOT, linking=()):
         """The path of the program, over a library that was built."""
         made = os.path.join(os.path.dirname(library), "cleared")
-        run([*compiler.split(), *STRICT, level, "-I", os.path.join(top, "include"), "-I", self.room, "-I", SHARED, "-o", made,
-             os.path.join(HERE, "cleared.c"), library, *linking])
+        status, said = run([*compiler.split(), "-std=c11", *STRICT, level, "-I", os.path.join(top, "include"), "-I", self.room, "-I", SHARED, "-o", made,
+                            os.path.join(HERE, "cleared.c"), library, *linking])
+        if status != 0:
+            raise static_library.NotBuilt(f"cleared.c by {compiler}: {said[-800:]}")
         return made
-
-    def minisign(self, level, top=proved.ROOT):
-        """The path of the program minisign."""
-        self.count += 1
-        out = os.path.join(self.room, f"out{self.count}")
-        static_library.run_make("-C", os.path.join(top, "c"), f"OUT={out}", f"CC={needs.libsodium()}", f"CFLAGS={level}", "CPPFLAGS=",
-                                "C_CALLS=", f"{out}/minisign")
-        return f"{out}/minisign"
 
 
 def cleared_bytes():
     """How much of the stack is cleared."""
-    with open(os.path.join(static_library.DIRECTORY, "library/clearing.h"), encoding="utf-8") as file:
-        return int(re.search(r"^#define CLEARED_BYTES (\d+)$", file.read(), re.M)[1])
+    return int(re.search(r"(?m)^#define CLEARED_BYTES (\d+)$", read(static_library.DIRECTORY, "library", "clearing.h").decode())[1])
 
 
 def check_run(checks, what, run):
@@ -181,7 +157,20 @@ def check_run(checks, what, run):
         checks.check(depth < cleared_bytes() + 1024 or "signals" in step, f"{what}, {step}: {depth} bytes of the stack were written")
 
 
-# ---- The program ----
+def check_copies(checks, builder):
+    """Each copy of the calls, with each C library, by each compiler, for both processors."""
+    for compiler, linking in ((needs.c_compiler(), ["-Wl,-z,lazy"]), (musl.compiler(), ["-static"])):
+        for copy, words in COPIES.items():
+            for level in LEVELS:
+                check_run(checks, f"{compiler}, {copy}, {level}", Run([builder.program(compiler, level, *words, linking=linking)]))
+    clang, arm, emulator = needs.program("clang", "clang"), emulated.compiler(emulated.AARCH64), emulated.emulator(emulated.AARCH64)
+    for level in LEVELS:
+        check_run(checks, f"C by clang, {level}", Run([builder.program(clang, level, "PORTABLE=1")]))
+        check_run(checks, f"AArch64, its archive, {level}", Run([*emulator, builder.program(arm, level, linking=["-static"])]))
+    # (as make builds it: without -O2 it takes half a minute in the emulator, and is seen on x86-64)
+    for compiler in (arm, f"{clang} --target=aarch64-linux-gnu"):
+        check_run(checks, f"AArch64, C by {compiler}", Run([*emulator, builder.program(compiler, "-O2", "PORTABLE=1", linking=["-static"])]))
+
 
 # How it is run, and what is typed: the password of a key, and new ones.
 TYPED, NEW = PASSWORD + b"\n", b"another password\n"
@@ -194,53 +183,32 @@ RUNS = ((("-G", "-p", "a.pub", "-s", "a.key"), TYPED + TYPED), (("-G", "-W", "-p
 class Searched:
     """The program, and the key that it is run with, whose bytes are looked for."""
 
-    def __init__(self, room, program, level):
-        self.program, self.level = program, level
-        self.room = tempfile.mkdtemp(dir=room)
+    def __init__(self, builder, level, top=proved.ROOT):
+        self.program = builder.make("minisign", f"CC={needs.libsodium()}", f"CFLAGS={level}", "C_CALLS=", top=top)
+        self.room = os.path.dirname(self.program)
         # A key of random bytes that are known is drawn again.
         self.draws = build_preload(self.room, "fixed_sources")
-        self.files = {"data": b"some data\n", "more": b"more data\n"}
-        self.run(("-G", "-W", "-p", "first.pub", "-s", "first.key"), b"", self.draws, self.room)
-        with open(os.path.join(self.room, "first.key"), "rb") as file:
-            self.files["first.key"] = file.read()
-        self.files["closed.key"] = sealed(self.files["first.key"], PASSWORD)
-        record = record_of(self.files["first.key"])
-        signed = hashlib.blake2b(self.files["data"]).digest()
-        self.needles = {**needles.of_secret_key(record), **needles.of_ed25519(record[needles.SEED_AT:][:32], signed),
-                        **needles.of_password(PASSWORD), "new password": NEW[:-1]}
-        with open(os.path.join(self.room, "needles.h"), "w", encoding="utf-8") as file:
-            file.write(needles.text(self.needles))
+        self.run(self.room, ("-G", "-W", "-p", "first.pub", "-s", "first.key"), b"", LD_PRELOAD=self.draws)
+        first, data = read(self.room, "first.key"), b"some data\n"
+        self.files = {"data": data, "more": b"more data\n", "first.key": first, "closed.key": sealed(first, PASSWORD)}
+        record = record_of(first)
+        found = {**needles.of_secret_key(record), **needles.of_password(PASSWORD), "new password": NEW[:-1],
+                 **needles.of_ed25519(record[needles.SEED_AT:][:32], hashlib.blake2b(data).digest())}
+        write(self.room, "needles.h", needles.text(found).encode())
         self.finder = os.path.join(self.room, "search_calls.so")
-        subprocess.run([needs.c_compiler(), "-shared", "-fPIC", "-O1", "-I", self.room, "-o", self.finder, os.path.join(SHARED, "search_calls.c")],
-                       check=True)
+        run([needs.c_compiler(), "-shared", "-fPIC", "-O1", "-I", self.room, "-o", self.finder, os.path.join(SHARED, "search_calls.c")])
 
-    def run(self, arguments, typed, preloaded, directory, **variables):
-        """Runs it in a directory."""
-        return subprocess.run([self.program, *arguments], cwd=directory, input=typed, env={"HOME": directory, "LD_PRELOAD": preloaded, **variables},
-                              stdout=subprocess.PIPE, stderr=subprocess.PIPE, timeout=SECONDS)
+    def run(self, directory, arguments, typed, **variables):
+        return run_program([self.program, *arguments], directory, typed, env={"HOME": directory, **variables})
 
     def search(self, arguments, typed):
-        """Runs it while it is searched: its status, what it said of trouble, and what is found each time."""
+        """Runs it while it is searched: how it ended, and what is found each time."""
         # (salt that is drawn of the known bytes would be taken for the seed)
         preloaded = f"{self.finder} {self.draws if arguments[0] == '-G' else ''}"
         with tempfile.TemporaryDirectory(dir=self.room) as directory:
             put_files(directory, self.files)
-            says = os.path.join(directory, "found")
-            ran = self.run(arguments, typed, preloaded, directory, SEARCH_SAYS=says)
-            with open(says, encoding="ascii") as file:
-                return ran.returncode, ran.stderr, [needles.counts_of(line) for line in file]
-
-    def check(self, checks, arguments, typed):
-        """Nothing is found but in its place."""
-        what = f"minisign, {self.level}, {' '.join(arguments)}"
-        status, said, found = self.search(arguments, typed)
-        checks.check(status == 0, f"{what}: status {status}: {said[-300:]!r}")
-        wrong = misplaced(found)
-        checks.check(not wrong, f"{what}: {wrong}")
-        doings = {doing for (doing, _), _ in found}
-        seen = {needle for (_, needle), counts in found if counts[3]}
-        checks.check(doings == {"open", "write", "close", "end"}, f"{what}: it was searched at {doings}")
-        checks.check("seed" in seen, f"{what}: the seed was nowhere: {seen}")
+            ran = self.run(directory, arguments, typed, LD_PRELOAD=preloaded, SEARCH_SAYS=f"{directory}/found")
+            return ran, [needles.counts_of(line) for line in read(directory, "found").decode().splitlines()]
 
 
 def misplaced(found):
@@ -251,63 +219,48 @@ def misplaced(found):
 def check_program(checks, builder):
     """The program keeps its secrets in their place, and where they have another one or stay there, that is seen."""
     for level in LEVELS:
-        searched = Searched(builder.room, builder.minisign(level), level)
+        searched = Searched(builder, level)
         for arguments, typed in RUNS:
-            searched.check(checks, arguments, typed)
+            what, (ran, found) = f"minisign, {level}, {' '.join(arguments)}", searched.search(arguments, typed)
+            checks.check(ran.status == 0, f"{what}: {ran}")
+            checks.check(not misplaced(found), f"{what}: {misplaced(found)}")
+            doings, seen = {doing for (doing, _), _ in found}, {needle for (_, needle), counts in found if counts[3]}
+            checks.check(doings == {"open", "write", "close", "end"}, f"{what}: it was searched at {doings}")
+            checks.check("seed" in seen, f"{what}: the seed was nowhere: {seen}")
     for old, new in ((r"sodium_malloc\(sizeof \*secrets\)", "malloc(sizeof *secrets)"), (r"clean_at_end\(clear_secrets\);", "")):
-        searched = Searched(builder.room, builder.minisign("-O2", builder.copy(("minisign/keys.c", old, new))), new)
-        wrong = [misplaced(searched.search(arguments, typed)[2]) for arguments, typed in RUNS]
+        searched = Searched(builder, "-O2", builder.copy("minisign/keys.c", old, new))
+        wrong = [misplaced(searched.search(arguments, typed)[1]) for arguments, typed in RUNS]
         checks.check(all(wrong), f"minisign with {new!r} in place of {old!r}: {wrong}")
 
 
-# ---- What is taken away ----
-
-# What is taken away, of which file, in whose place what stands, and what is found then.
-STACK, REGISTERS, ELSEWHERE = 1, 0, 2
+# What is taken away, of which file, in whose place what stands, and where something is found then.
+REGISTERS, STACK, ELSEWHERE = 0, 1, 2
+NOTHING_CLEARED = "nothing is cleared after a call"
 BUGS = {
-    "nothing is cleared after a call": ([("library/boundary.c", r"    minisign_clear_used\(\);\n", "")], STACK),
-    "too little of the stack is cleared": ([("library/clearing.h", r"CLEARED_BYTES 16384", "CLEARED_BYTES 256")], STACK),
-    "registers are not cleared": ([("library/clearing.c", r'"(?:pxor|vpxorq|vzeroall)[^"]*"', '""')], REGISTERS),
-    "what is given back is not cleared": ([("library/allocation.c", r"    clear\(block, front\.len\);\n", "    (void) clear;\n")], ELSEWHERE),
+    NOTHING_CLEARED: ("library/boundary.c", r"    minisign_clear_used\(\);\n", "", STACK),
+    "too little of the stack is cleared": ("library/clearing.h", r"CLEARED_BYTES 16384", "CLEARED_BYTES 256", STACK),
+    "registers are not cleared": ("library/clearing.c", r'"(?:pxor|vpxorq|vzeroall)[^"]*"', '""', REGISTERS),
+    "what is given back is not cleared": ("library/allocation.c", r"    clear\(block, front\.len\);\n", "    (void) clear;\n", ELSEWHERE),
 }
 
 
 def check_bugs(checks, builder):
     """Where the clearing is taken away, something is found; how deep a call goes without it."""
-    compiler = needs.c_compiler()
-    for what, (changes, place) in BUGS.items():
-        run = Run([builder.program(compiler, "-O2", "C_CALLS=", top=builder.copy(*changes))])
+    for what, (*change, place) in BUGS.items():
+        run = Run([builder.program(needs.c_compiler(), "-O2", "C_CALLS=", top=builder.copy(*change))])
         left = run.left()
         checks.check(not run.wrong and any(counts[place] for counts in left.values()), f"where {what}: {run.wrong[:5]}, left: {left}")
-        if place == STACK and "nothing" in what:
+        if what == NOTHING_CLEARED:
             # (a signal is not the call's)
             depths = {step: depth for step, depth in run.depths.items() if "signals" not in step}
             deepest = max(depths, key=depths.get)
             print(f"deepest: {deepest}, {depths[deepest]} bytes; with signals {max(run.depths.values())}")
-            checks.check(2 * max(depths.values()) < cleared_bytes(), f"the calls take so much of the stack: {depths}")
+            checks.check(2 * depths[deepest] < cleared_bytes(), f"the calls take so much of the stack: {depths}")
 
 
 def run_all(checks, room):
     builder = Builder(room)
-    needs.program("make", "make")
-    compilers = {"glibc": (needs.c_compiler(), ["-Wl,-z,lazy"]), "musl": (needs.program("musl-gcc", "musl-tools"), ["-static"])}
-    for library, (compiler, linking) in compilers.items():
-        for copy, flags in COPIES.items():
-            for level in LEVELS:
-                program = builder.program(compiler, level, *flags, linking=linking)
-                check_run(checks, f"{library}, {copy}, {level}", Run([program]))
-    for level in LEVELS:
-        check_run(checks, f"C by clang, {level}", Run([builder.program(needs.program("clang", "clang"), level, "PORTABLE=1")]))
-    compiler = needs.program("aarch64-linux-gnu-gcc", "gcc-aarch64-linux-gnu")
-    needs.need(lambda: True if os.path.exists("/usr/aarch64-linux-gnu/include/stdio.h") else None, "the C library for AArch64",
-               "libc6-dev-arm64-cross")
-    emulator = [needs.program("qemu-aarch64-static", "qemu-user-static"), "-L", "/usr/aarch64-linux-gnu"]
-    for level in LEVELS:
-        check_run(checks, f"AArch64, its archive, {level}", Run([*emulator, builder.program(compiler, level, linking=["-static"])]))
-    # (as make builds it: without -O2 it takes half a minute in the emulator, and is seen on x86-64)
-    for by in (compiler, f"{needs.program('clang', 'clang')} --target=aarch64-linux-gnu"):
-        program = builder.program(by, "-O2", "PORTABLE=1", linking=["-static"])
-        check_run(checks, f"AArch64, C by {os.path.basename(by)}", Run([*emulator, program]))
+    check_copies(checks, builder)
     check_program(checks, builder)
     check_bugs(checks, builder)
 

@@ -8,8 +8,8 @@ Each ends with the status that its document says, and leaves what that says. Aft
 in the clone, and no secret key lies outside of the directories that git ignores. Commands that need the kit are left
 out, and named. It prints a line for each failure; the last line is `N passed, M failed`.
 
-Needs Python 3.9 or later, git, make, binutils, a C compiler, cargo, rustc and libsodium with its header. It installs
-what is missing if it may.
+Needs git, make, binutils, a C compiler, cargo, rustc and libsodium with its header, and installs what is missing if
+it may.
 """
 
 import base64
@@ -17,17 +17,18 @@ import binascii
 import os
 import re
 import shutil
-import subprocess
 import sys
 
 HERE = os.path.dirname(os.path.realpath(__file__))
-sys.path += [os.path.join(HERE, "..", name) for name in ("shared", "command_line")]
+sys.path.append(os.path.join(HERE, "..", "shared"))
 
 import ending
 import needs
 import static_library
 from at_hand import TOP, copy_tree
-from command_running import AtTerminal
+from at_terminal import AtTerminal
+from process import run_apart
+from running import read, write
 
 DOCUMENTS = ("README.md", "examples/README.md", "docs/INSTALLING.md")
 # What is left out, by how it begins, and why.
@@ -38,11 +39,11 @@ STATUSES = {"../c/out/minisign-install --check ": 10, "../c/out/minisign-install
 # What each of these says: nothing; but a check the number, and the signed comment.
 SILENT = ("mkdir ", "cp ", "echo ", "cd ", "../c/out/minisign-install ")
 SAID = {"../c/out/minisign-install --check ": "2\r\nversion:2\tfile:app\r\n"}
-# What is there afterwards.
+# What is there afterwards; of a record, which has a key and a digest in two more lines, the first line.
 LEFT = {"try-signing/copy": b"test", "try-signing/there/app": b"version 3\n", "try-signing/there/.app.number": b"version:3",
         "try-installing/there/app": b"version 2\n", "try-installing/there/.app.number": b"version:2",
         "try-installing/there/.release.pub.number": b"version:1"}
-IGNORED = ("try-signing", "try-installing")
+SECRET_KEYS = {"try-signing/my.key", "try-installing/my.key", "try-installing/root.key"}
 # A command has ended, or asks for a password.
 ENDED = "--- ended with status "
 STOP = re.compile(rb"\r?\n" + ENDED.encode() + rb"(\d+)\r\n|Password[^\n:]*: $")
@@ -52,17 +53,14 @@ SECRET_KEY_BYTES = 158
 
 def commands_of(document):
     """The commands that a document has between fences, in order."""
-    with open(os.path.join(TOP, document), encoding="utf-8") as file:
-        blocks = re.findall(r"^```sh\n(.*?)^```$", file.read(), re.M | re.S)
+    blocks = re.findall(r"^```sh\n(.*?)^```$", read(TOP, document).decode(), re.M | re.S)
     return [line for block in blocks for line in block.splitlines()]
 
 
 def run_in_shell(directory, commands, room, path=None):
     """Runs commands in one shell, by a person at its terminal, with this PATH or that without the kit: of each its status, and
     what it said."""
-    script = os.path.join(room, "script")
-    with open(script, "w", encoding="utf-8") as file:
-        file.writelines(f"{command}\nprintf '\\n{ENDED}%s\\n' $?\n" for command in commands)
+    script = write(room, "script", "".join(f"{command}\nprintf '\\n{ENDED}%s\\n' $?\n" for command in commands).encode())
     home = os.path.join(room, "home")
     os.mkdir(home)
     terminal = AtTerminal(["sh", script], shutil.which("sh"), directory, {"PATH": path or static_library.path_without_kit(), "HOME": home})
@@ -89,56 +87,40 @@ class Clone:
     """A clone of the repository as it stands here."""
 
     def __init__(self, room):
-        self.top = os.path.join(room, "clone")
-        origin = os.path.join(room, "origin")
+        self.top, origin = os.path.join(room, "clone"), os.path.join(room, "origin")
         copy_tree(origin)
-        self.git("init", "-q", at=origin)
-        self.git("add", "-A", at=origin)
-        self.git("-c", "user.name=Ann", "-c", "user.email=ann@example.com", "commit", "-q", "-m", "as it stands", at=origin)
-        self.git("clone", "-q", origin, self.top, at=room)
+        for words in (["init", "-q"], ["add", "-A"], ["-c", "user.name=Ann", "-c", "user.email=ann@example.com", "commit", "-q", "-m", "as it stands"],
+                      ["clone", "-q", origin, self.top]):
+            self.git(*words, at=origin)
 
     def git(self, *words, at=None):
         """What git says."""
-        environment = dict(os.environ, GIT_CONFIG_GLOBAL=os.devnull, GIT_CONFIG_NOSYSTEM="1")
-        ran = subprocess.run([needs.git(), *words], cwd=at or self.top, env=environment, stdout=subprocess.PIPE, stderr=subprocess.PIPE)
-        if ran.returncode != 0:
-            raise static_library.NotBuilt(f"git {' '.join(words)}: {ran.stderr.decode(errors='replace')[-600:]}")
-        return ran.stdout.decode()
+        status, said, why = run_apart([needs.git(), *words], at or self.top, GIT_CONFIG_GLOBAL=os.devnull, GIT_CONFIG_NOSYSTEM="1")
+        if status != 0:
+            raise static_library.NotBuilt(f"git {' '.join(words)}: {why[-600:]}")
+        return said
 
     def new_secret_keys(self):
         """Where files with a secret key lie that the repository does not have."""
-        kept = {*self.git("ls-files").splitlines()}
-        return {*self.secret_keys()} - kept
-
-    def secret_keys(self):
-        """Where files with a secret key lie."""
-        for at, directories, names in os.walk(self.top):
-            directories[:] = [directory for directory in directories if directory != ".git"]
-            for name in names:
-                if has_secret_key(os.path.join(at, name)):
-                    yield os.path.relpath(os.path.join(at, name), self.top)
-
-
-def read(path):
-    """The first bytes of a file, or None."""
-    if not os.path.isfile(path):
-        return None
-    with open(path, "rb") as file:
-        return file.read(1024)
+        paths = [os.path.join(at, name) for at, _, names in os.walk(self.top) for name in names if ".git" not in at.split(os.sep)]
+        return {os.path.relpath(path, self.top) for path in paths if has_secret_key(path)} - {*self.git("ls-files").splitlines()}
 
 
 def has_secret_key(path):
     """Whether a file is the text of a secret key."""
-    lines = (read(path) or b"").splitlines()
+    if not os.path.isfile(path):
+        return False
+    with open(path, "rb") as file:
+        lines = file.read(1024).splitlines()
     try:
         return len(lines) >= 2 and len(base64.b64decode(lines[1], validate=True)) == SECRET_KEY_BYTES
     except binascii.Error:
         return False
 
 
-def is_left_out(command):
-    """Whether a command begins as one that is left out."""
-    return command.startswith(tuple(LEFT_OUT))
+def of_beginning(table, command, other):
+    """What a table has for commands that begin so, or else something other."""
+    return next((found for begins, found in table.items() if command.startswith(begins)), other)
 
 
 def check_commands(checks, clone, room):
@@ -147,32 +129,29 @@ def check_commands(checks, clone, room):
     for command, why in LEFT_OUT.items():
         print(f"commands: left out, since {why}: {command}")
         checks.check(any(line.startswith(command) for line in commands), f"no document has the command {command}")
-    wanted = [command for command in commands if not is_left_out(command)]
+    wanted = [command for command in commands if not command.startswith(tuple(LEFT_OUT))]
     for command, status, said in run_in_shell(clone.top, wanted, room):
-        right = next((number for begins, number in STATUSES.items() if command.startswith(begins)), 0)
+        right = of_beginning(STATUSES, command, 0)
         checks.check(status == right, f"{command}: status {status}, and not {right}: {said[-600:]}")
-        wanted_words = next((words for begins, words in SAID.items() if command.startswith(begins)), "")
-        checks.check(said == wanted_words or not command.startswith(SILENT), f"{command}: it says {said[-600:]}")
+        checks.check(said == of_beginning(SAID, command, "") or not command.startswith(SILENT), f"{command}: it says {said[-600:]}")
 
 
 def check_left(checks, clone):
     """What the commands have left, and where."""
     for name, data in LEFT.items():
-        found = read(os.path.join(clone.top, name))
-        # (a record has a key and a digest in two more lines)
-        found = found.partition(b"\n")[0] if found and name.endswith(".number") else found
+        found = read(clone.top, name) if os.path.isfile(os.path.join(clone.top, name)) else b"nothing"
+        found = found.partition(b"\n")[0] if name.endswith(".number") else found
         checks.check(found == data, f"{name} has {found} in place of {data}")
     new = clone.git("status", "--porcelain")
     checks.check(not new, f"git finds in the clone: {new}")
     keys = clone.new_secret_keys()
-    checks.check(keys == {f"{directory}/my.key" for directory in IGNORED} | {"try-installing/root.key"}, f"secret keys lie at {sorted(keys)}")
+    checks.check(keys == SECRET_KEYS, f"secret keys lie at {sorted(keys)}")
 
 
 def run_all(checks, room):
     needs.libsodium()
     needs.rust_compiler()
-    needs.program("cargo", "cargo")
-    for name, package in (("make", "make"), ("ld", "binutils")):
+    for name, package in (("make", "make"), ("ld", "binutils"), ("cargo", "cargo")):
         needs.program(name, package)
     clone = Clone(room)
     check_commands(checks, clone, room)

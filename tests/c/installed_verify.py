@@ -4,45 +4,28 @@
 import ctypes
 import ctypes.util
 import sys
+from ctypes import byref, c_char_p, c_size_t, c_uint8, c_uint32, c_uint64, c_void_p
 
 YES, NO = 0x796573, 0x6E6F
 
 
 class Signature(ctypes.Structure):
-    _fields_ = [("mark", ctypes.c_uint64), ("key_id", ctypes.c_uint8 * 8), ("signature", ctypes.c_uint8 * 64),
-                ("comment_signature", ctypes.c_uint8 * 64), ("comment_offset", ctypes.c_uint64), ("comment_len", ctypes.c_uint64),
-                ("text_digest", ctypes.c_uint8 * 32), ("algorithm", ctypes.c_uint8 * 2), ("legacy", ctypes.c_uint8),
-                ("whole", ctypes.c_uint8), ("reserved", ctypes.c_uint32)]
+    _fields_ = [("mark", c_uint64), ("key_id", c_uint8 * 8), ("signature", c_uint8 * 64), ("comment_signature", c_uint8 * 64),
+                ("comment_offset", c_uint64), ("comment_len", c_uint64), ("text_digest", c_uint8 * 32), ("algorithm", c_uint8 * 2),
+                ("legacy", c_uint8), ("whole", c_uint8), ("reserved", c_uint32)]
 
 
 class Questions(ctypes.Structure):
-    _fields_ = [("public_key", ctypes.c_uint8 * 32), ("digest", ctypes.c_uint8 * 64), ("signature", ctypes.c_uint8 * 64),
-                ("comment_signature", ctypes.c_uint8 * 64), ("message_len", ctypes.c_uint64),
-                ("comment_offset", ctypes.c_uint64), ("comment_len", ctypes.c_uint64),
-                ("legacy", ctypes.c_uint32), ("reserved", ctypes.c_uint32)]
+    _fields_ = [("public_key", c_uint8 * 32), ("digest", c_uint8 * 64), ("signature", c_uint8 * 64), ("comment_signature", c_uint8 * 64),
+                ("message_len", c_uint64), ("comment_offset", c_uint64), ("comment_len", c_uint64), ("legacy", c_uint32), ("reserved", c_uint32)]
 
 
-def opened(path):
-    """The library, its calls with the types of their arguments."""
-    library = ctypes.CDLL(path)
-    text, size = ctypes.c_char_p, ctypes.c_size_t
-    library.minisign_init.argtypes = [ctypes.c_void_p]
-    library.minisign_init.restype = None
-    library.minisign_update.argtypes = [ctypes.c_void_p, text, size]
-    library.minisign_read_public_key.argtypes = [text, size, ctypes.c_void_p]
-    library.minisign_read_signature.argtypes = [text, size, ctypes.c_void_p]
-    library.minisign_ask.argtypes = [ctypes.c_void_p, ctypes.c_void_p, ctypes.c_void_p, text, size, ctypes.c_uint32,
-                                     ctypes.c_void_p, ctypes.c_void_p, size]
-    library.minisign_digest.argtypes = [ctypes.c_void_p, ctypes.c_void_p]
-    library.minisign_verdict.argtypes = [ctypes.c_void_p, ctypes.c_uint32, ctypes.c_uint32]
-    library.minisign_error_text.argtypes = [ctypes.c_uint32, ctypes.c_void_p, size]
-    library.minisign_error_text.restype = size
-    return library
-
-
-def read(name):
-    with open(name, "rb") as file:
-        return file.read()
+# What each call answers and takes.
+CALLS = {
+    "init": (None, c_void_p), "update": (c_uint32, c_void_p, c_char_p, c_size_t), "read_public_key": (c_uint32, c_char_p, c_size_t, c_void_p),
+    "read_signature": (c_uint32, c_char_p, c_size_t, c_void_p), "digest": (c_uint32, c_void_p, c_void_p),
+    "ask": (c_uint32, c_void_p, c_void_p, c_void_p, c_char_p, c_size_t, c_uint32, c_void_p, c_void_p, c_size_t),
+    "verdict": (c_uint32, c_void_p, c_uint32, c_uint32), "error_text": (c_size_t, c_uint32, c_void_p, c_size_t)}
 
 
 def opened_sodium():
@@ -57,39 +40,50 @@ def answer(sodium, signature, message, length, key):
     return YES if accepted else NO
 
 
+class Rejected(Exception):
+    """What a call answers where it does not take what it is given."""
+
+
+def call(library, name, *arguments):
+    """Makes a call."""
+    function = getattr(library, f"minisign_{name}")
+    function.restype, *function.argtypes = CALLS[name]
+    error = function(*arguments)
+    if error and function.restype is c_uint32:
+        why = ctypes.create_string_buffer(128)
+        call(library, "error_text", error, why, 128)
+        raise Rejected(why.value.decode())
+
+
+def verified(library, sodium, key, data, signature):
+    """The trusted comment. For no bytes NULL is handed over, as other languages do."""
+    state, key_value, signature_value, questions = (c_uint64 * 64)(), ctypes.create_string_buffer(40), Signature(), Questions()
+    message = ctypes.create_string_buffer(max(len(signature), 1))
+    call(library, "init", state)
+    call(library, "read_public_key", key or None, len(key), key_value)
+    call(library, "read_signature", signature or None, len(signature), byref(signature_value))
+    call(library, "ask", state, key_value, byref(signature_value), signature or None, len(signature), 0, byref(questions), message, len(signature))
+    call(library, "update", state, data or None, len(data))
+    call(library, "digest", state, byref(questions, Questions.digest.offset))
+    call(library, "verdict", state, answer(sodium, questions.signature, questions.digest, 64, questions.public_key),
+         answer(sodium, questions.comment_signature, message, questions.message_len, questions.public_key))
+    return message.raw[questions.comment_offset:][:questions.comment_len]
+
+
+def read(name):
+    with open(name, "rb") as file:
+        return file.read()
+
+
 def main():
     path, *names = sys.argv[1:]
-    library, sodium = opened(path), opened_sodium()
+    sodium = opened_sodium()
     if sodium is None:
         return "libsodium could not be started"
     try:
-        key, data, signature = map(read, names)
-    except OSError as why:
+        sys.stdout.buffer.write(verified(ctypes.CDLL(path), sodium, *map(read, names)) + b"\n")
+    except (OSError, Rejected) as why:
         return str(why)
-    state, read_signature, questions = (ctypes.c_uint64 * 64)(), Signature(), Questions()
-    message = ctypes.create_string_buffer(max(len(signature), 1))
-    library.minisign_init(state)
-    # NULL where there are no bytes, as other languages hand it over.
-    pk = ctypes.create_string_buffer(40)
-    error = library.minisign_read_public_key(key or None, len(key), pk)
-    if error == 0:
-        error = library.minisign_read_signature(signature or None, len(signature), ctypes.byref(read_signature))
-    if error == 0:
-        error = library.minisign_ask(state, pk, ctypes.byref(read_signature), signature or None, len(signature), 0,
-                                     ctypes.byref(questions), message, len(signature))
-    if error == 0:
-        error = library.minisign_update(state, data or None, len(data))
-    if error == 0:
-        error = library.minisign_digest(state, ctypes.byref(questions, Questions.digest.offset))
-    if error == 0:
-        error = library.minisign_verdict(
-            state, answer(sodium, questions.signature, questions.digest, 64, questions.public_key),
-            answer(sodium, questions.comment_signature, message, questions.message_len, questions.public_key))
-    if error != 0:
-        why = ctypes.create_string_buffer(128)
-        library.minisign_error_text(error, why, 128)
-        return why.value.decode()
-    sys.stdout.buffer.write(message.raw[questions.comment_offset:][:questions.comment_len] + b"\n")
     return 0
 
 

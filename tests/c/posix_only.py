@@ -9,7 +9,7 @@ They call nothing that Linux alone has. All cases of `tests/command_line/command
 that passes is a failure too. In none of them a stranger gets a key. It prints a line for each failure; the last line
 is `N passed, M failed`.
 
-Needs what these two scripts need. It installs what is missing if it may.
+Needs what these two scripts need, and installs what is missing if it may.
 """
 
 import collections
@@ -24,21 +24,22 @@ sys.path.append(os.path.join(HERE, "..", "shared"))
 import ending
 import needs
 import static_library
+from process import run
 
 LISTS = "POSIX has no access control lists: none is copied, and one that a directory gives stays"
 EXCHANGE = "no two names are exchanged, so a failure or a signal leaves the first of a pair in place of an older one"
 UNNAMED = "each new file has a name from the start, which a kill leaves there until the next run"
 DIRECTORY = "a directory is gone to by its name, which one that was removed has not"
 
-# Patterns of the names of cases, and what is weaker.
+# Patterns of the names of cases, and what is weaker, by the script that has them.
 WEAKER = {
-    "command_line.py": {
+    "command_line/command_line.py": {
         r"the permissions of a replaced file: a list ": LISTS,
         r"a pair over an older one, and (a call fails|signal \d+ at each call)": EXCHANGE,
         r"a new pair, killed: no stage": UNNAMED,
         r"a directory without a name": DIRECTORY,
     },
-    "real_installing.py": {
+    "installer/real_installing.py": {
         r"the permissions of a replaced file: a (list|mode that is asked for over a list) ": LISTS,
         r"f(get|remove)xattr (fails|is interrupted)": LISTS,
         r"a list that the directory gives to a first file": LISTS,
@@ -51,43 +52,39 @@ OF_LINUX = {"renameat2", "syscall", "sync_file_range", "getrandom", "fstatfs", "
 
 def check_calls(checks, program):
     """A program calls nothing that Linux alone has."""
-    said = subprocess.run([needs.program("nm", "binutils"), "-D", "--undefined-only", program], stdout=subprocess.PIPE, check=True).stdout
-    taken = set(re.findall(r" U (\w+)", said.decode()))
+    taken = set(re.findall(r" U (\w+)", run([needs.program("nm", "binutils"), "-D", "--undefined-only", program])[1]))
     checks.check("openat" in taken and not taken & OF_LINUX, f"{program} calls {sorted(taken & OF_LINUX)}")
 
 
 def check_script(checks, script, *arguments):
     """Runs a script over a program: each of its failures has to be named, and each name has to be of one."""
-    weaker = WEAKER[os.path.basename(script)]
-    ran = subprocess.run([sys.executable, script, *arguments], stdin=subprocess.DEVNULL, stdout=subprocess.PIPE, stderr=subprocess.STDOUT)
+    # (it takes longer than any other program that is run)
+    ran = subprocess.run([sys.executable, os.path.join(HERE, "..", script), *arguments], stdin=subprocess.DEVNULL, stdout=subprocess.PIPE,
+                         stderr=subprocess.STDOUT)
     lines = ran.stdout.decode(errors="replace").splitlines()
     ended = re.fullmatch(r"(\d+) passed, (\d+) failed", lines[-1] if lines else "")
+    checks.passed += int(ended[1]) if ended else 0
     if not ended:
         checks.check(False, f"{script} ended with {ran.returncode}: {lines[-5:]}")
-        return
-    checks.passed += int(ended[1])
     found = collections.Counter()
-    for line in lines:
-        if line.startswith("FAILED: "):
-            name = line.removeprefix("FAILED: ").removeprefix("minisign-install: ")
-            pattern = next((pattern for pattern in weaker if re.match(pattern, name)), None)
-            found[pattern] += 1
-            checks.check(pattern is not None, line)
-    for pattern, why in weaker.items():
+    for line in (line for line in lines if line.startswith("FAILED: ")):
+        name = line.removeprefix("FAILED: ").removeprefix("minisign-install: ")
+        pattern = next((pattern for pattern in WEAKER[script] if re.match(pattern, name)), None)
+        found[pattern] += 1
+        checks.check(pattern is not None, line)
+    for pattern, why in WEAKER[script].items():
         checks.check(found[pattern] > 0, f"no case fails that is named {pattern}, of which it is said: {why}")
-    print(f"weaker in {os.path.basename(script)}: {found.total() - found[None]} cases")
+    print(f"weaker in {script}: {found.total() - found[None]} cases")
 
 
 def run_all(checks, room):
     os.chmod(room, 0o711)
     programs = [f"{room}/c/minisign", f"{room}/c/minisign-install"]
-    static_library.run_make(f"OUT={room}/c", f"CC={needs.libsodium()}", "CPPFLAGS=-D_FORTIFY_SOURCE=2 -DPOSIX_ONLY", "C_CALLS=",
-                            "-j4", *programs)
+    static_library.run_make(f"OUT={room}/c", f"CC={needs.libsodium()}", "CPPFLAGS=-D_FORTIFY_SOURCE=2 -DPOSIX_ONLY", "C_CALLS=", "-j4", *programs)
     for program in programs:
         check_calls(checks, program)
-    tests = os.path.join(HERE, "..")
-    check_script(checks, os.path.join(tests, "command_line", "command_line.py"), "--posix-only", programs[0])
-    check_script(checks, os.path.join(tests, "installer", "real_installing.py"), programs[1])
+    check_script(checks, "command_line/command_line.py", "--posix-only", programs[0])
+    check_script(checks, "installer/real_installing.py", programs[1])
 
 
 if __name__ == "__main__":

@@ -1,30 +1,37 @@
 #!/usr/bin/env python3
-"""Shows which copy of the proved calls runs on which x86-64 processor, under qemu.
+"""Tries the archives of dist/ on the processors that they are for, under qemu.
 
     tests/c/processors.py
 
-On processors without AVX2, and on one that has it and lacks another part of x86-64-v3, the copy for x86-64-v2 runs,
-and on the others the one for x86-64-v3; on those that lack a part of x86-64-v2, the one of dist/calls.c. Each copy in
-turn has a wrong constant, which shows which one ran. It prints a line for each failure; the last line is `N passed, M
-failed`.
+On x86-64 it shows which copy of the proved calls runs. On processors without AVX2, and on one that has it and lacks
+another part of x86-64-v3, the copy for x86-64-v2 runs, and on the others the one for x86-64-v3; on those that lack a
+part of x86-64-v2, the one of dist/calls.c. Each copy in turn has a wrong constant, which shows which one ran.
 
-Needs Python 3.9 or later, make, binutils, a C compiler, libsodium with its header, and of Debian qemu-user-static. It
-installs what is missing if it may.
+For AArch64 a cross compiler builds `c/`. It asserts the layout of the header's structs, runs `make test` over the
+kept corpus and the programs of tests/c that need no tracing. A key is made, sealed, opened and signed with; its texts
+are those of the library for x86-64, and Minisign's own program verifies what it signed. An update is installed, and
+an older one is not. Where a compiler builds for a processor without an archive, a sentence says what to do. It prints
+a line for each failure; the last line is `N passed, M failed`.
+
+Needs make, binutils, a C compiler, libsodium with its header, minisign, and of Debian gcc-aarch64-linux-gnu,
+libc6-dev-arm64-cross and qemu-user-static, and installs what is missing if it may; apt-get fetches Debian's libsodium
+for AArch64 once (`emulated.py`).
 """
 
 import os
-import subprocess
 import sys
 
 HERE = os.path.dirname(os.path.realpath(__file__))
 sys.path.append(os.path.join(HERE, "..", "shared"))
 
+import emulated
 import ending
 import needs
 import static_library
+from process import run
+from running import read, write
 
 CORPUS = os.path.join(HERE, "..", "corpus")
-SECONDS = 1200
 # Processors by the names of qemu, with the copy that has to run.
 RUNS = {
     "core2duo": "c",
@@ -36,40 +43,41 @@ RUNS = {
     "max": "v3",
     **{f"Haswell,-{part}": "v2" for part in ("avx2", "bmi1", "bmi2", "f16c", "fma", "abm", "movbe", "xsave")},
 }
-# The first initial value of Blake2b, as the archives have it, and as C has it.
-VALUE, IN_C = bytes.fromhex("08c9bcf367e6096a"), (b"0x6a09e667f3bcc908", b"0x6a09e667f3bcc909")
-COPIES = {"v2": "calls-x86-64-v2.a", "v3": "calls-x86-64-v3.a", "c": "calls.c"}
-# By which names make is told of them.
-NAMES = {"v2": "V2", "v3": "V3", "c": "C_CALLS"}
+# The copies, by which names make is told of them, and the first initial value of Blake2b, as archives and as C have it, with another one.
+IN_ARCHIVE = (bytes.fromhex("08c9bcf367e6096a"), bytes.fromhex("09c9bcf367e6096a"))
+IN_C = (b"0x6a09e667f3bcc908", b"0x6a09e667f3bcc909")
+COPIES = {"v2": ("V2", "calls-x86-64-v2.a", IN_ARCHIVE), "v3": ("V3", "calls-x86-64-v3.a", IN_ARCHIVE), "c": ("C_CALLS", "calls.c", IN_C)}
+# Flags under which the compilers build for a processor without an archive, and what they say.
+REJECTED = (("gcc", "-m32"), ("gcc", "-mx32"), ("aarch64-linux-gnu-gcc", "-mbig-endian"), ("aarch64-linux-gnu-gcc", "-mabi=ilp32"))
+REJECTION = "the archives of dist/ are for x86-64 and AArch64, little-endian and with pointers of 64 bits: build with PORTABLE=1"
 
 
-def build(room, wrong):
-    """The program that verifies, over the copies of dist/, of which one has another initial value."""
-    with open(os.path.join(static_library.DIST, COPIES[wrong]), "rb") as file:
-        data = file.read()
-    changed = os.path.join(room, f"wrong-{COPIES[wrong]}")
-    with open(changed, "wb") as file:
-        file.write(data.replace(*IN_C) if wrong == "c" else data.replace(VALUE, bytes([VALUE[0] ^ 1]) + VALUE[1:]))
-    out = os.path.join(room, wrong)
-    static_library.run_make(f"OUT={out}", f"{NAMES[wrong]}={changed}", f"{out}/minisign")
-    return f"{out}/minisign"
+def check_copies(checks, room):
+    """The program that verifies, over the copies of dist/, of which one has another initial value, rejects where that one runs."""
+    emulator = needs.program("qemu-x86_64-static", "qemu-user-static")
+    for wrong, (variable, name, values) in COPIES.items():
+        changed = write(room, f"wrong-{name}", read(static_library.DIST, name).replace(*values))
+        static_library.run_make(f"OUT={room}/{wrong}", f"{variable}={changed}", f"{room}/{wrong}/minisign")
+        for processor, copy in RUNS.items():
+            command = [emulator, "-cpu", processor, f"{room}/{wrong}/minisign", "-Vm", "test", "-p", "published.pub", "-x", "published.minisig"]
+            checks.ended(f"{processor}, {wrong} with a wrong value", run(command, CORPUS), status=int(wrong == copy))
 
 
-def verify(emulator, processor, program):
-    """The exit status of the program that verifies a published signature."""
-    command = [emulator, "-cpu", processor, program, "-Vm", "test", "-p", "published.pub", "-x", "published.minisig"]
-    return subprocess.run(command, cwd=CORPUS, stdin=subprocess.DEVNULL, stdout=subprocess.DEVNULL, stderr=subprocess.DEVNULL,
-                          timeout=SECONDS).returncode
+def check_rejected(checks):
+    source = os.path.join(static_library.DIRECTORY, "library", "boundary.c")
+    for compiler, flag in REJECTED:
+        status, said = run([compiler, flag, "-std=c11", "-I", emulated.INCLUDE, "-c", "-o", os.devnull, source])
+        checks.check(status != 0 and REJECTION in said, f"{compiler} {flag}: status {status}: {said[-300:]}")
 
 
 def run_all(checks, room):
     needs.libsodium()
-    emulator = needs.program("qemu-x86_64-static", "qemu-user-static")
-    programs = {wrong: build(room, wrong) for wrong in COPIES}
-    for processor, copy in RUNS.items():
-        for wrong, program in programs.items():
-            status = verify(emulator, processor, program)
-            checks.check(status == (1 if wrong == copy else 0), f"{processor}, {wrong} with a wrong value: status {status}")
+    check_copies(checks, room)
+    place = os.path.join(room, "aarch64")
+    os.mkdir(place)
+    own = static_library.library(os.path.join(room, "own"))
+    emulated.check_all(checks, emulated.Emulated(checks, place, emulated.AARCH64), own)
+    check_rejected(checks)
 
 
 if __name__ == "__main__":

@@ -6,21 +6,19 @@
 A release has the same bytes twice, and the moment of the commit. It has the sources of what is built in it, and each
 document that a text of it names. Where RELEASE_KEY names a secret key its own program signs it, which Minisign's own
 program verifies; otherwise it says that it is not signed. Where it is unpacked there is no kit, no Python and no
-repository. There it is built by gcc and by clang, checked, installed, and used from what was installed: by gcc also
-from C++, Rust and Python (`installed.py`). It writes the same release again. Debian's tools build packages of it by
-`packaging/debian.sh`, in which lintian finds no error; the steps of Alpine's build file go over musl, and
-`packaging/others` packs what is installed. No maintainer is made up, and no file of the repository is a secret key.
-It prints a line for each failure; the last line is `N passed, M failed`.
+repository. There it is built by gcc and by clang, and without what stands built, checked, installed, and used from
+what was installed: by gcc also from C++, Rust and Python (`installed.py`). It writes the same release again. Debian's
+tools build packages of it by `packaging/debian.sh`, in which lintian finds no error; the steps of Alpine's build file
+go over musl, and `packaging/others` packs what is installed. No maintainer is made up, and no file of the repository
+is a secret key. It prints a line for each failure; the last line is `N passed, M failed`.
 
-Needs Python 3.9 or later, git where this is a clone, make, binutils, clang, musl-gcc, minisign, libsodium with its
-header and archive, Debian's dpkg-dev, debhelper and lintian, and what `installed.py` needs. It installs what is
-missing if it may.
+Needs git where this is a clone, make, binutils, clang, musl-gcc, minisign, libsodium with its header and archive,
+Debian's dpkg-dev, debhelper and lintian, and what `installed.py` needs, and installs what is missing if it may.
 """
 
 import glob
 import os
 import re
-import shlex
 import shutil
 import sys
 import tarfile
@@ -30,15 +28,20 @@ sys.path.append(os.path.join(HERE, "..", "shared"))
 
 import ending
 import installed
+import musl
 import needs
 import proved
 import static_library
-from at_hand import SOURCE, TOP, Tree, listed
+from at_hand import DAMAGED, SOURCE, TOP, Tree, listed
+from c_library import PROGRAMS, check_program
 from commands import has_secret_key
 from packaging import make
 from process import run
+from running import read
 
 CORPUS = os.path.join(TOP, "tests", "corpus")
+# How what was published is verified by a program in CORPUS.
+VERIFYING = ("-V", "-p", "published.pub", "-x", "published.minisig", "-m", "DATA")
 # Sources of what is built in a release: of the calls, of their text in C, of the page.
 SOURCES = (SOURCE, "crates/minisign_c/src/lib.rt", "crates.txt", "tools/wasm_to_c.py", "tools/dist.py",
            "crates/minisign_page/src/lib.rt", "page/page.html", "page/build.py", "bindings/javascript/index.js", "dist/calls.c")
@@ -51,49 +54,50 @@ TOYS = {"crates/minisign_compare/data/plain.key", "crates/minisign_compare/data/
 # Whoever makes a package names themselves: here the name and address are those that no person has.
 MAINTAINER = {"DEBFULLNAME": "Nobody & Co", "DEBEMAIL": "nobody@example.org"}
 UNSIGNED = "the release is not signed, as RELEASE_KEY names no secret key"
-# What an archive of libsodium that is built over another C library asks for.
-OF_GLIBC = """#define _GNU_SOURCE
-#include <string.h>
-void __explicit_bzero_chk(void *data, size_t len, size_t size);
-void __explicit_bzero_chk(void *data, size_t len, size_t size) { (void) size; explicit_bzero(data, len); }
-"""
+# What Debian's packages and Alpine's have.
+OF_DEBIAN = ("usr/include/minisign.h", "usr/share/man/man1/minisign-proved.1.gz", "usr/share/minisign-in-rattle/minisign.html",
+             "usr/share/doc/minisign-in-rattle/copyright", "usr/lib/*/libminisign.so.*.*.*", "usr/lib/*/pkgconfig/minisign.pc")
+OF_ALPINE = ("usr/lib/libminisign.so", "usr/include/minisign.h", "usr/share/man/man1/minisign-proved.1")
+# How Alpine's tool runs the steps of its build file.
+STEPS = """set -eu
+    make() { command make -s CC="$cc" CPPFLAGS="$cppflags" SODIUM="$sodium" "$@"; }
+    srcdir=$PWD/src pkgdir=$PWD/pkg
+    . "$file"
+    test "$pkgver" = "$version"
+    for step in build check package; do ( cd "$builddir" && $step ) done"""
 
 
-def read_bytes(path):
-    with open(path, "rb") as file:
-        return file.read()
+def archive_in(place):
+    archive, = glob.glob(f"{place}/*.tar.gz")
+    return archive
 
 
 def release(checks, out, *words):
-    """Has a release made: its archive, and what was said."""
-    status, said = make("-s", "release", f"OUT={out}", *words)
-    if status != 0:
-        raise static_library.NotBuilt(f"make release {' '.join(words)}: {said[-600:]}")
-    checks.check((UNSIGNED in said) == (not words), f"make release {' '.join(words)} says: {said}")
-    return glob.glob(f"{out}/*.tar.gz")[0]
+    """Has a release made: its archive."""
+    said = checks.ended(f"make release {words}", make("-s", "release", f"OUT={out}", *words))
+    checks.check((UNSIGNED in said) == (not words), f"make release {words} says: {said}")
+    checks.check(words or not glob.glob(f"{out}/*.minisig"), "a release without a key is signed, or has older signatures beside it")
+    return archive_in(out)
 
 
-# ---- What it has ----
-
-
-def moment():
-    """The moment of the commit; where this is no clone, of the file that tells what changed."""
-    if not os.path.exists(os.path.join(TOP, ".git")):
-        return int(os.stat(os.path.join(TOP, "CHANGELOG.md")).st_mtime)
-    return int(run([needs.git(), "-C", TOP, "log", "-1", "--format=%ct"])[1])
+def check_verifying(checks, what, *command):
+    """A command verifies what was published, and not with other data."""
+    for data, status in (("test", 0), ("hello", 1)):
+        checks.ended(f"{what} on {data}", run([data if word == "DATA" else word for word in command], CORPUS), status)
 
 
 def check_release(checks, room):
     """A release, in a place without anything else: what is unpacked."""
     archives = [release(checks, f"{room}/{name}") for name in ("one", "two")]
-    checks.check(read_bytes(archives[0]) == read_bytes(archives[1]), "two releases of the same sources differ")
-    checks.check(not glob.glob(f"{room}/one/*.minisig"), "a release without a key is signed")
-    status, said = run(["sha256sum", "-c", "SHA256SUMS"], f"{room}/one")
-    checks.check(status == 0, f"SHA256SUMS: {said}")
+    checks.check(read(archives[0]) == read(archives[1]), "two releases of the same sources differ")
+    checks.ended("SHA256SUMS", run(["sha256sum", "-c", "SHA256SUMS"], f"{room}/one"))
     with tarfile.open(archives[0]) as archive:
         moments = {member.mtime for member in archive.getmembers()}
         archive.extractall(room)
-    checks.check(moments == {moment()}, f"the moments of a release's files are {moments}, and not {moment()}")
+    # (that of the commit; where this is no clone, of the file that tells what changed)
+    is_clone, changes = os.path.exists(os.path.join(TOP, ".git")), os.path.join(TOP, "CHANGELOG.md")
+    moment = int(run([needs.git(), "-C", TOP, "log", "-1", "--format=%ct"])[1] if is_clone else os.stat(changes).st_mtime)
+    checks.check(moments == {moment}, f"the moments of a release's files are {moments}, and not {moment}")
     return glob.glob(f"{room}/minisign-in-rattle-*")[0]
 
 
@@ -101,12 +105,12 @@ def check_contents(checks, top):
     """What is built in it has its sources there, and each document that a text names is there."""
     for name in SOURCES:
         checks.check(os.path.exists(os.path.join(top, name)), f"a release has no {name}")
-    for part, sums in (("calls", "sources of the calls"), ("page", "sources of the page")):
-        said = run(["sh", os.path.join(top, "tools", "sources.sh"), part])[1].strip()
-        checks.check(f"{sums}: {said}\n" in read_bytes(f"{top}/dist/PROVED").decode(), f"the {sums} of a release have the sum {said}")
+    for part in ("calls", "page"):
+        said = run(["sh", f"{top}/tools/sources.sh", part])[1].strip()
+        checks.check(f"sources of the {part}: {said}\n" in read(top, "dist/PROVED").decode(), f"the sources of the {part} of a release have the sum {said}")
     paths = [path for path in glob.glob(f"{top}/**", recursive=True) if os.path.isfile(path)]
     for path in (path for path in paths if not path.endswith((".a", ".png", ".antt", ".edit")) and "/corpus/" not in path):
-        text, shown = read_bytes(path).decode(errors="replace"), os.path.relpath(path, top)
+        text, shown = read(path).decode(errors="replace"), os.path.relpath(path, top)
         for name in LINK.findall(text) if path.endswith(".md") else ():
             is_there = os.path.exists(os.path.join(os.path.dirname(path), name)) or not name.endswith((".md", ".png"))
             checks.check(is_there, f"{shown} of a release has a link to {name}, which is not there")
@@ -120,7 +124,7 @@ def check_nobody(checks):
         path = os.path.join(TOP, name)
         checks.check(has_secret_key(path) == (name in TOYS), f"{name} is a secret key, or no key of the toy scheme")
         if name.startswith("packaging/") or name in ("SECURITY.md", "CHANGELOG.md", "c/release.md", "README.md"):
-            text = read_bytes(path).decode()
+            text = read(path).decode()
             checks.check(not ADDRESS.findall(text), f"{name} has the address {ADDRESS.findall(text)}")
             for line in re.findall(r"(?m)^(?:Maintainer|Uploaders|# Maintainer|# Contributor|Homepage):.*$", text):
                 checks.check(line == "Maintainer: @MAINTAINER@", f"{name} names somebody: {line}")
@@ -128,159 +132,103 @@ def check_nobody(checks):
 
 def check_licence(checks):
     """LICENSE names each crate of the kit whose functions are in the archives, or that a crate which is built into them calls."""
-    licence, crates = read_bytes(os.path.join(TOP, "LICENSE")).decode(), proved.crates()
-    terms = re.search(r"Of the kit's crates, its files say this:(.*?)\nSo nothing", licence, re.S)[1]
-    within = set()
-    for archive in glob.glob(os.path.join(static_library.DIST, "*.a")):
-        names = run([needs.program("nm", "binutils"), archive])[1]
-        within |= {name for name in re.findall(r" (\w+)::", names) if name not in crates}
-    of_calls = [crates[name] for name in (*crates["minisign_c"].below, "minisign_c")]
-    within |= {name for crate in of_calls for name in crate.of_kit} - {"std"}
-    checks.check(len(within) > 3, f"the archives hold {within}")
-    for name in sorted(within):
+    crates = proved.crates()
+    terms = re.search(r"Of the kit's crates, its files say this:(.*?)\nSo nothing", read(TOP, "LICENSE").decode(), re.S)[1]
+    named = {name for archive in glob.glob(f"{static_library.DIST}/*.a")
+             for name in re.findall(r" (\w+)::", run([needs.program("nm", "binutils"), archive])[1])} - {*crates}
+    called = {name for crate in (*crates["minisign_c"].below, "minisign_c") for name in crates[crate].of_kit} - {"std"}
+    checks.check(len(named | called) > 3, f"the archives hold {named | called}")
+    for name in sorted(named | called):
         checks.check(re.search(rf"\b{name}\b", terms), f"LICENSE does not say of the kit's crate {name} under which terms it stands")
-
-
-# ---- Signed ----
 
 
 def check_signed(checks, room, program, minisign):
     """With a key archive and sums are signed by the program that is in the release, and without one that is there not at all."""
     key = f"{room}/own key"
-    status, said = run([program, "-G", "-W", "-p", f"{key}.pub", "-s", f"{key}.key"])
-    checks.check(status == 0, f"a pair for this run: {said}")
+    checks.ended("a pair for this run", run([program, "-G", "-W", "-p", f"{key}.pub", "-s", f"{key}.key"]))
     archive = release(checks, f"{room}/one", f"RELEASE_KEY={key}.key")
     for name in (archive, f"{room}/one/SHA256SUMS"):
-        for verifying in (minisign, program):
-            status, said = run([verifying, "-V", "-p", f"{key}.pub", "-m", name])
-            checks.check(status == 0 and os.path.basename(os.path.splitext(os.path.splitext(archive)[0])[0]) in said,
-                         f"{os.path.basename(name)} by {verifying}: status {status}: {said}")
+        verifying = ["-V", "-p", f"{key}.pub", "-m", name]
+        for by in (minisign, program):
+            checks.ended(f"{name} by {by}", run([by, *verifying]), says=os.path.basename(archive).removesuffix(".tar.gz"))
         with open(name, "ab") as file:
             file.write(b"\n")
-        status, said = run([minisign, "-V", "-p", f"{key}.pub", "-m", name])
-        checks.check(status != 0, f"a changed {os.path.basename(name)} verifies")
-    status, said = make("-s", "release", f"OUT={room}/one", f"RELEASE_KEY={room}/no.key")
-    checks.check(status != 0 and not glob.glob(f"{room}/one/*.minisig"), f"with a key that is not there: status {status}: {said}")
+        checks.ended(f"a changed {name}", run([minisign, *verifying]), status=1)
+    checks.ended("with a key that is not there", make("-s", "release", f"OUT={room}/one", f"RELEASE_KEY={room}/no.key"), status=2)
+    checks.check(not glob.glob(f"{room}/one/*.minisig"), "with a key that is not there a release is signed")
     release(checks, f"{room}/one")
-    checks.check(not glob.glob(f"{room}/one/*.minisig"), "a release without a key has older signatures beside it")
-    checks.check(read_bytes(archive) == read_bytes(glob.glob(f"{room}/two/*.tar.gz")[0]), "a key changes the archive")
+    checks.check(read(archive) == read(archive_in(f"{room}/two")), "a key changes the archive")
 
 
-# ---- Where it is unpacked ----
-
-
-class Unpacked(Tree):
-    """A release that was unpacked, with few programs in PATH, of which one is this compiler."""
-
-    def __init__(self, room, top, compiler):
-        super().__init__(room, top)
-        for name in ("gcc", "cc"):
-            os.remove(os.path.join(self.bin, name))
-        os.symlink(compiler, os.path.join(self.bin, os.path.basename(compiler)))
-        for name in ("basename", "date", "env", "gzip", "ldconfig", "mktemp", "tar"):
-            os.symlink(shutil.which(name, path=f"{os.environ['PATH']}:/usr/sbin:/sbin"), os.path.join(self.bin, name))
-
-
-def check_compiler(checks, room, top, compiler):
-    """A release that is built by a compiler, checked, installed, and used from what was installed."""
-    name = os.path.basename(compiler)
-    place = os.path.join(room, f"by-{name}")
+def check_compiler(checks, room, top, name):
+    """A release that is built by a compiler, checked, installed, and used from what was installed, with few programs in PATH."""
+    place, compiler = os.path.join(room, f"by-{name}"), needs.program(name, name)
     os.mkdir(place)
-    tree = Unpacked(place, top, compiler)
-    words = f"CC={name} OUT={place}/out"
+    tree = Tree(place, top, compiler)
+    for each in ("basename", "date", "env", "gzip", "ldconfig", "mktemp", "tar"):
+        tree.link(each, shutil.which(each, path=f"{os.environ['PATH']}:/usr/sbin:/sbin"))
     for goal in ("all", "check", f"install DESTDIR={place}/dest PREFIX=/usr"):
-        status, said = tree.run(f"make -C c {words} {goal}")
-        checks.check(status == 0, f"a release by {name}, {goal}: {said[-800:]}")
+        said = checks.ended(f"a release by {name}, {goal}", tree.run(f"make -C c CC={name} OUT={place}/out {goal}"))
         checks.check("warning:" not in said, f"a release by {name}, {goal}: {said[-800:]}")
-        checks.check(goal != "check" or re.search(r"(?m)^(2[5-9]|[3-9]\d) passed, 0 failed$", said), f"a release by {name}, {goal}: {said[-300:]}")
-    include, archive = f"{place}/dest/usr/include", f"{place}/dest/usr/lib/libminisign.a"
-    program = f"{place}/verify"
-    status, said = run([compiler, "-I", include, "-o", program, f"{top}/c/examples/verify.c", archive, "-lsodium"])
-    checks.check(status == 0, f"the example over what {name} installed: {said[-600:]}")
-    for data, wanted in (("test", 0), ("hello", 1)):
-        for command in ([program, "published.pub", data, "published.minisig"],
-                        [f"{place}/dest/usr/bin/minisign", "-Vm", data, "-p", "published.pub", "-x", "published.minisig"]):
-            status, said = run(command, CORPUS)
-            checks.check(status == wanted, f"by {name}, {shlex.join(command)}: status {status}: {said}")
+        checks.check(goal != "check" or static_library.VERIFIED.search(said), f"a release by {name}, {goal}: {said[-300:]}")
+    root, example = f"{place}/dest/usr", f"{place}/verify"
+    checks.ended(f"the example over what {name} installed", run([compiler, "-I", f"{root}/include", "-o", example, f"{top}/c/examples/verify.c",
+                                                                 f"{root}/lib/libminisign.a", "-lsodium"]))
+    check_verifying(checks, f"the example by {name}", example, "published.pub", "DATA", "published.minisig")
+    check_verifying(checks, f"the program by {name}", f"{root}/bin/minisign", *VERIFYING)
     status, said = tree.run("make -C c prove")
     checks.check(status != 0 and "Rattle kit" in said, f"prove in a release without the kit: {said}")
-    return tree, f"{place}/dest/usr"
+    return tree, root
 
 
-def check_again(checks, room, tree):
-    """A release that is made in a release is the same."""
-    status, said = tree.run(f"make -s -C c release CC=gcc OUT={room}/again")
-    checks.check(status == 0, f"a release of a release: {said[-600:]}")
-    made, first = (glob.glob(f"{room}/{name}/*.tar.gz") for name in ("again", "two"))
-    checks.check(made and read_bytes(made[0]) == read_bytes(first[0]), "a release of a release differs from it")
-
-
-# ---- Packages ----
+def check_bare(checks, room, top):
+    """A release without what stands built, by PORTABLE=1, and with calls that were changed."""
+    for archive in glob.glob(f"{top}/dist/*.a"):
+        os.remove(archive)
+    words = ["make", "-s", "-C", f"{top}/c", f"CC={needs.libsodium()}", "PORTABLE=1"]
+    said = checks.ended("a release with nothing prebuilt", run([*words, f"OUT={room}/bare", "all", "test"]))
+    checks.check(static_library.VERIFIED.search(said), f"a release with nothing prebuilt: {said[-600:]}")
+    with open(f"{top}/dist/calls.c", "a", encoding="utf-8") as file:
+        file.write("/* changed */\n")
+    checks.ended("a changed calls.c", run([*words, f"OUT={room}/changed", "library"]), status=2, says=DAMAGED)
 
 
 def check_debian(checks, room, archive):
     """Debian's packages: built, without an error of lintian, and used as they are unpacked."""
     for name, package in (("dpkg-buildpackage", "dpkg-dev"), ("dh", "debhelper"), ("lintian", "lintian")):
         needs.program(name, package)
-    script, place = os.path.join(TOP, "packaging", "debian.sh"), f"{room}/debian"
-    status, said = run(["sh", script, archive, place], **dict.fromkeys(MAINTAINER, ""))
-    checks.check(status == 2 and not os.path.exists(place), f"packages without a maintainer: status {status}: {said[-300:]}")
-    status, said = run(["sh", script, archive, place], DEB_BUILD_OPTIONS="noautodbgsym", **MAINTAINER)
-    checks.check(status == 0, f"packages for Debian: {said[-800:]}")
+    command, place = ["sh", os.path.join(TOP, "packaging", "debian.sh"), archive, f"{room}/debian"], f"{room}/debian"
+    checks.ended("packages without a maintainer", run(command, **dict.fromkeys(MAINTAINER, "")), status=2)
+    checks.check(not os.path.exists(place), "packages without a maintainer are begun")
+    checks.ended("packages for Debian", run(command, DEB_BUILD_OPTIONS="noautodbgsym", **MAINTAINER))
     packages, changes = glob.glob(f"{place}/*.deb"), glob.glob(f"{place}/*.changes")
     checks.check(len(packages) == 3 and len(changes) == 1, f"there are the packages {packages} of {changes}")
-    status, said = run(["lintian", "--allow-root", "--fail-on", "error", *changes])
-    checks.check(status == 0, f"lintian: {said}")
+    checks.ended("lintian", run(["lintian", "--allow-root", "--fail-on", "error", *changes]))
     for package in packages:
         run(["dpkg", "-x", package, f"{place}/unpacked"])
-    checks.check("Maintainer: Nobody & Co <nobody@example.org>" in run(["dpkg", "-I", packages[0]])[1], "the packages have another maintainer")
+    checks.ended("dpkg -I", run(["dpkg", "-I", packages[0]]), says="Maintainer: Nobody & Co <nobody@example.org>")
     program = f"{place}/unpacked/usr/bin/minisign-proved"
-    for data, wanted in (("test", 0), ("hello", 1)):
-        status, said = run([program, "-Vm", data, "-p", "published.pub", "-x", "published.minisig"], CORPUS)
-        checks.check(status == wanted, f"Debian's program on {data}: status {status}: {said}")
-    checks.check("libsodium.so" in run(["readelf", "-d", program])[1], "Debian's program has libsodium taken in")
-    for name in ("usr/include/minisign.h", "usr/share/man/man1/minisign-proved.1.gz", "usr/share/minisign-in-rattle/minisign.html",
-                 "usr/share/doc/minisign-in-rattle/copyright", "usr/lib/*/libminisign.so.*.*.*", "usr/lib/*/pkgconfig/minisign.pc"):
+    check_verifying(checks, "Debian's program", program, *VERIFYING)
+    checks.ended("Debian's program loads libsodium", run(["readelf", "-d", program]), says="libsodium.so")
+    for name in OF_DEBIAN:
         checks.check(glob.glob(f"{place}/unpacked/{name}"), f"Debian's packages have no {name}")
 
 
-def check_alpine(checks, room, top, version):
-    """The steps of Alpine's build file, as its tool runs them, over musl: Debian's compiler and libsodium stand for Alpine's."""
-    compiler = needs.program("musl-gcc", "musl-tools")
-    sodium = needs.need(lambda: next(iter(glob.glob("/usr/lib/*/libsodium.a")), None), "the archive of libsodium", "libsodium-dev")
-    place, file = f"{room}/alpine", os.path.join(TOP, "packaging", "alpine", "APKBUILD")
+def check_alpine(checks, room, top):
+    """The steps of Alpine's build file over musl: Debian's compiler and libsodium stand for Alpine's. What uses the library then is
+    a static program."""
+    place, name = f"{room}/alpine", os.path.basename(top)
     os.makedirs(f"{place}/src")
-    shutil.copytree(top, f"{place}/src/{os.path.basename(top)}")
-    with open(f"{place}/of_glibc.c", "w", encoding="ascii") as source:
-        source.write(OF_GLIBC)
-    status, said = run([compiler, "-c", "-o", f"{place}/of_glibc.o", f"{place}/of_glibc.c"])
-    checks.check(status == 0, f"what libsodium asks for, by musl-gcc: {said}")
-    steps = """set -eu
-        make() { command make -s CC=musl-gcc CPPFLAGS='-idirafter /usr/include' SODIUM="$sodium" "$@"; }
-        srcdir=$PWD/src pkgdir=$PWD/pkg
-        . "$file"
-        test "$pkgver" = "$version"
-        for step in build check package; do ( cd "$builddir" && $step ) done"""
-    status, said = run(["sh", "-c", steps], place, file=file, version=version, sodium=f"{sodium} {place}/of_glibc.o")
-    checks.check(status == 0 and " passed, 0 failed" in said, f"Alpine's build file: status {status}: {said[-800:]}")
-    program = f"{place}/pkg/usr/bin/minisign-proved"
-    checks.check("ld-musl" in run(["readelf", "-l", program])[1], f"Alpine's program is not over musl: {said[-300:]}")
-    for name in ("usr/lib/libminisign.so", "usr/include/minisign.h", "usr/share/man/man1/minisign-proved.1"):
-        checks.check(os.path.exists(f"{place}/pkg/{name}"), f"Alpine's package has no {name}")
-    return f"{place}/src/{os.path.basename(top)}/c/out/libminisign.a"
-
-
-def check_musl(checks, room, top, library):
-    """The library over musl, in a static program that asks about texts."""
-    compiler = needs.program("musl-gcc", "musl-tools")
-    for name in ("asked_texts", "public_keys", "usage_errors"):
-        wrapped = ["-Wl,--wrap=malloc", "-Wl,--wrap=realloc", "-Wl,--wrap=free"] if name == "public_keys" else []
-        program = f"{room}/{name}"
-        status, said = run([compiler, "-std=c11", "-static", "-I", f"{top}/include", "-o", program, os.path.join(HERE, f"{name}.c"),
-                            library, *wrapped])
-        checks.check(status == 0, f"{name}.c by musl-gcc: {said[-600:]}")
-        status, said = run([program])
-        checks.check(status == 0, f"{name} over musl: status {status}: {said[-600:]}")
+    shutil.copytree(top, f"{place}/src/{name}")
+    told = {variable.lower(): value for variable, value in musl.variables(place).items()}
+    said = checks.ended("Alpine's build file", run(["sh", "-c", STEPS], place, file=os.path.join(TOP, "packaging", "alpine", "APKBUILD"),
+                                                   version=name.rpartition("-")[2], **told), says=" passed, 0 failed")
+    checks.check("warning:" not in said, f"Alpine's build file: {said[-800:]}")
+    checks.ended("Alpine's program is over musl", run(["readelf", "-l", f"{place}/pkg/usr/bin/minisign-proved"]), says="ld-musl")
+    for file in OF_ALPINE:
+        checks.check(os.path.exists(f"{place}/pkg/{file}"), f"Alpine's package has no {file}")
+    for program in ("asked_texts", "public_keys", "usage_errors"):
+        check_program(checks, "musl", program, musl.compiler(), f"{place}/src/{name}/c/out/libminisign.a", "-static", *PROGRAMS[program])
 
 
 def check_others(checks, room, top):
@@ -288,34 +236,32 @@ def check_others(checks, room, top):
     words = ["make", "-s", "-C", f"{top}/packaging/others", "PREFIX=/usr/of-minisign", f"OUT={room}/others"]
     archives = []
     for _ in range(2):
-        status, said = run(words)
-        checks.check(status == 0, f"packaging/others: {said[-600:]}")
-        archives += [read_bytes(path) for path in glob.glob(f"{room}/others/*.tar.gz")]
-    checks.check(len(archives) == 2 and archives[0] == archives[1], "packaging/others packs other bytes")
+        checks.ended("packaging/others", run(words))
+        archives.append(read(archive_in(f"{room}/others")))
+    checks.check(archives[0] == archives[1], "packaging/others packs other bytes")
     os.mkdir(f"{room}/unpacked")
-    run(["tar", "-xzf", *glob.glob(f"{room}/others/*.tar.gz"), "-C", f"{room}/unpacked"])
-    status, said = run([f"{room}/unpacked/usr/of-minisign/bin/minisign", "-Vm", "test", "-p", "published.pub", "-x", "published.minisig"], CORPUS)
-    checks.check(status == 0, f"the program of packaging/others: status {status}: {said}")
-    status, said = run([*words, "clean"])
-    checks.check(status == 0 and not os.path.exists(f"{room}/others"), f"packaging/others, clean: {said}")
+    run(["tar", "-xzf", archive_in(f"{room}/others"), "-C", f"{room}/unpacked"])
+    check_verifying(checks, "the program of packaging/others", f"{room}/unpacked/usr/of-minisign/bin/minisign", *VERIFYING)
+    checks.ended("packaging/others, clean", run([*words, "clean"]))
+    checks.check(not os.path.exists(f"{room}/others"), "packaging/others, clean, leaves something")
 
 
 def run_all(checks, room):
     needs.libsodium()
-    top = check_release(checks, room)
-    version = os.path.basename(top).rpartition("-")[2]
+    minisign, top = needs.minisign(), check_release(checks, room)
     check_contents(checks, top)
     check_nobody(checks)
     check_licence(checks)
-    for name, package in (("clang", "clang"), ("gcc", "gcc")):
-        tree, root = check_compiler(checks, room, top, needs.program(name, package))
-    minisign = needs.minisign()
+    check_compiler(checks, room, top, "clang")
+    tree, root = check_compiler(checks, room, top, "gcc")
     installed.use(checks, root, f"{room}/by-gcc", minisign)
     check_signed(checks, room, f"{root}/bin/minisign", minisign)
-    check_again(checks, room, tree)
+    checks.ended("a release of a release", tree.run(f"make -s -C c release CC=gcc OUT={room}/again"))
+    checks.check(read(archive_in(f"{room}/again")) == read(archive_in(f"{room}/two")), "a release of a release differs from it")
     check_others(checks, room, top)
-    check_musl(checks, room, top, check_alpine(checks, room, top, version))
-    check_debian(checks, room, glob.glob(f"{room}/two/*.tar.gz")[0])
+    check_alpine(checks, room, top)
+    check_debian(checks, room, archive_in(f"{room}/two"))
+    check_bare(checks, room, top)
 
 
 if __name__ == "__main__":

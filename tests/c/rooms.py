@@ -10,15 +10,14 @@ message of the programs is Minisign's own or stands in a test. The manual pages 
 What is built needs only names that glibc 2.31 has. Without libsodium's header make says so in one sentence. It prints
 a line for each failure; the last line is `N passed, M failed`.
 
-Needs Python 3.9 or later, make, gcc, binutils, mandoc, minisign 0.11 and libsodium with its header. It installs what
-is missing if it may.
+Needs make, gcc, binutils, mandoc, minisign 0.11 and libsodium with its header, and installs what is missing if it
+may.
 """
 
 import collections
 import glob
 import os
 import re
-import subprocess
 import sys
 
 HERE = os.path.dirname(os.path.realpath(__file__))
@@ -27,12 +26,15 @@ sys.path.append(os.path.join(HERE, "..", "shared"))
 import ending
 import needs
 import static_library
+from process import run
+from running import write
 
 C = static_library.DIRECTORY
 # All but boundary.c and usage.h, which are made, and what the calls as C need besides.
-MADE = "install/usage.h"
+MADE = f"{C}/install/usage.h"
 BY_HAND = ("minisign/*.[ch]", "install/*.[ch]", "shared/*.[ch]", "library/allocation.[ch]", "library/clearing.[ch]")
 MAX_LINES, MAX_FUNCTION = 6583, 50
+OF_PROGRAMS, ROOMS = ("minisign", "install", "shared"), ("minisign", "install", "shared", "library", "library/portable", "examples")
 # Which headers each room takes besides its own: those of a room, or one.
 TAKES = {"minisign": ("shared/", "library/clearing.h"), "install": ("shared/",), "shared": (), "library": ()}
 # What only Linux has, in which file alone, and with which words the names of a place that is written through.
@@ -59,9 +61,10 @@ def read(path):
         return file.read()
 
 
-def code_of(path):
-    """A file without its comments."""
-    return re.sub(r"/\*.*?\*/", lambda found: re.sub(r"[^\n]", " ", found[0]), read(path), flags=re.S)
+def files_of(room):
+    """The files of a room, with their text; and without their comments."""
+    texts = {path: read(path) for path in sorted(glob.glob(f"{C}/{room}/*.[ch]"))}
+    return texts, {path: re.sub(r"/\*.*?\*/", lambda found: re.sub(r"[^\n]", " ", found[0]), text, flags=re.S) for path, text in texts.items()}
 
 
 def names_of(text):
@@ -76,25 +79,21 @@ def names_of(text):
     return found - {"main", "_DEFAULT_SOURCE", "_GNU_SOURCE", "_POSIX_C_SOURCE"}
 
 
-def check_names(checks):
-    rooms = {room: {path: names_of(code_of(path)) for path in glob.glob(f"{C}/{room}/*.[ch]")} for room in ("minisign", "install", "shared")}
-    checks.check(all(len(files) > 5 and set().union(*files.values()) for files in rooms.values()), "a room is empty")
+def check_rooms(checks, texts, code):
+    """What a name means in each room, and what the rooms take from each other."""
+    names = {room: set().union(*map(names_of, code[room].values())) for room in OF_PROGRAMS}
+    checks.check(all(len(code[room]) > 5 and names[room] for room in OF_PROGRAMS), "a room is empty")
     for one, other in (("minisign", "install"), ("minisign", "shared"), ("install", "shared")):
-        doubled = set().union(*rooms[one].values()) & set().union(*rooms[other].values())
+        doubled = names[one] & names[other]
         checks.check(not doubled, f"names mean one thing in {one} and another in {other}: {sorted(doubled)}")
-
-
-def check_includes(checks):
     for room, others in TAKES.items():
-        for path in glob.glob(f"{C}/{room}/*.[ch]"):
-            for taken in re.findall(r'#include "([a-z]+/.+)"', read(path)):
+        for path, text in texts[room].items():
+            for taken in re.findall(r'#include "([a-z]+/.+)"', text):
                 checks.check(taken.startswith(others), f"{path} takes {taken}")
 
 
-def check_sources(checks):
+def check_sources(checks, files):
     """What stands once, and how long functions are."""
-    rooms = ("minisign", "install", "shared", "library", "library/portable", "examples")
-    files = {path: code_of(path) for room in rooms for path in glob.glob(f"{C}/{room}/*.[ch]")}
     for name, file in OF_LINUX.items():
         found = {os.path.basename(path) for path, text in files.items() if name in text}
         checks.check(found == {file}, f"{name} stands in {sorted(found)}, and not in {file} alone")
@@ -106,9 +105,8 @@ def check_sources(checks):
         checks.check(len(functions) == ends, f"{path}: {len(functions)} functions were found, and {ends} end")
         for function in functions:
             length = function.count("\n")
-            checks.check(length <= MAX_FUNCTION or path.endswith("boundary.c"),
-                         f"{path}: {function.splitlines()[0]} has {length} lines")
-    by_hand = {path for pattern in BY_HAND for path in glob.glob(f"{C}/{pattern}")} - {f"{C}/{MADE}"}
+            checks.check(length <= MAX_FUNCTION or path.endswith("boundary.c"), f"{path}: {function.splitlines()[0]} has {length} lines")
+    by_hand = {path for pattern in BY_HAND for path in glob.glob(f"{C}/{pattern}")} - {MADE}
     count = sum(read(path).count("\n") for path in by_hand)
     print(f"lines of C that are written by hand: {count}")
     checks.check(count <= MAX_LINES, f"{count} lines of C are written by hand, of at most {MAX_LINES}")
@@ -117,33 +115,31 @@ def check_sources(checks):
 def messages_of(text):
     """The words of a file's literals between conversions and line ends, where there is a blank in them, and whether
     a line ends there."""
-    for found in re.findall(r'"(?:\\.|[^"\\])*"(?:\s+"(?:\\.|[^"\\])*")*', text):
+    for found in re.findall(r'"(?:\\.|[^"\\])*"(?:\s+"(?:\\.|[^"\\])*")*', re.sub("^#include.*", "", text, flags=re.M)):
         literal = re.sub(r'"\s+"', "", found)[1:-1].encode().decode("unicode_escape")
         for line in literal.split("\n"):
             parts = [part.strip(" :") for part in re.split(r"%[-.*0-9]*[lz]*[A-Za-z]?", line)]
             yield from ((words, line.endswith(words)) for words in parts if " " in words)
 
 
-def check_messages(checks):
-    files = {path for room in NAMING for path in glob.glob(f"{HERE}/../{room}/*.[cp]*")} - {f"{HERE}/../c/rooms.py"}
+def check_messages(checks, files):
+    tests = {path for room in NAMING for path in glob.glob(f"{HERE}/../{room}/*.[cp]*")} - {f"{HERE}/../c/rooms.py"}
     with open(needs.minisign(), encoding="latin-1") as program:
-        named = "".join(map(read, sorted(files))) + program.read()
-    found = set()
-    for room in ("minisign", "install", "shared"):
-        for path in sorted(set(glob.glob(f"{C}/{room}/*.[ch]")) - {f"{C}/{MADE}"}):
-            for words, ends in messages_of(re.sub("^#include.*", "", code_of(path), flags=re.M)):
-                # (`it is too short` is not named where a test has `it is too short or too long`)
-                is_named = re.search(re.escape(words) + (r"(?! ?\w)" if ends else ""), named)
-                checks.check(is_named or words in NOT_CAUSED, f"{path}: no test has the message: {words}")
-                checks.check(not is_named or words not in NOT_CAUSED, f"{path}: a test has it after all: {words}")
-                found.add(words)
+        named, found = "".join(map(read, sorted(tests))) + program.read(), set()
+    for path, text in files.items():
+        for words, ends in messages_of(text) if path != MADE else ():
+            # (`it is too short` is not named where a test has `it is too short or too long`)
+            is_named = re.search(re.escape(words) + (r"(?! ?\w)" if ends else ""), named)
+            checks.check(is_named or words in NOT_CAUSED, f"{path}: no test has the message: {words}")
+            checks.check(not is_named or words not in NOT_CAUSED, f"{path}: a test has it after all: {words}")
+            found.add(words)
     checks.check(found > set(NOT_CAUSED), f"no message of the programs: {sorted(set(NOT_CAUSED) - found)}")
 
 
 def check_pages(checks):
     pages = sorted(glob.glob(f"{C}/man/*.[13]"))
-    ran = subprocess.run([needs.program("mandoc", "mandoc"), "-T", "lint", *pages], stdout=subprocess.PIPE, stderr=subprocess.STDOUT)
-    checks.check(len(pages) == 4 and ran.returncode == 0 and not ran.stdout, f"mandoc: {ran.stdout.decode()[-800:]}")
+    ran = run([needs.program("mandoc", "mandoc"), "-T", "lint", *pages])
+    checks.check(len(pages) == 4 and ran == (0, ""), f"mandoc: {ran}")
     for page in pages:
         checks.check(re.search(r"^\.TH \S+ [13] \d{4}-\d\d-\d\d\b", read(page), re.M), f"{page} has no date")
 
@@ -151,17 +147,16 @@ def check_pages(checks):
 def versions(path, *flags):
     """The names that a file takes of glibc, or with `--defined-only` has, each with its versions."""
     found = collections.defaultdict(set)
-    said = subprocess.run(["nm", "-D", "--with-symbol-versions", *flags, path], stdout=subprocess.PIPE, check=True).stdout.decode()
-    for name, version in re.findall(r" (\w+)@+GLIBC_([\d.]+)$", said, re.M):
+    for name, version in re.findall(r" (\w+)@+GLIBC_([\d.]+)$", run(["nm", "-D", "--with-symbol-versions", *flags, path])[1], re.M):
         found[name].add(tuple(map(int, version.split("."))))
     return found
 
 
 def check_glibc(checks, compiler, files):
     """A name that a newer glibc calls anew, as it does with those of threads, has an older version too; one that is newer has none."""
-    said = subprocess.run([compiler, "-print-file-name=libc.so.6"], stdout=subprocess.PIPE, check=True).stdout.decode().strip()
-    has = versions(said, "--defined-only")
-    checks.check(min(has["malloc"], default=MOST_GLIBC) < MOST_GLIBC, f"{said} has no versions")
+    glibc = run([compiler, "-print-file-name=libc.so.6"])[1].strip()
+    has = versions(glibc, "--defined-only")
+    checks.check(min(has["malloc"], default=MOST_GLIBC) < MOST_GLIBC, f"{glibc} has no versions")
     for file in files:
         taken = versions(file, "--undefined-only")
         newer = sorted(name for name, found in taken.items() if name not in BY_HEADERS and min(found | has[name]) > MOST_GLIBC)
@@ -169,24 +164,23 @@ def check_glibc(checks, compiler, files):
 
 
 def check_built(checks, room):
-    compiler = needs.libsodium()
-    out = os.path.join(room, "c")
+    compiler, out = needs.libsodium(), os.path.join(room, "c")
     static_library.run_make(f"OUT={out}", f"CC={compiler}", "C_CALLS=", "-j4", "all", f"{out}/libminisign-installing.so")
     check_glibc(checks, compiler, [f"{out}/{name}" for name in ("minisign", "minisign-install", "libminisign.so", "libminisign-installing.so")])
-    header = os.path.join(room, "header")
-    os.mkdir(header)
-    with open(os.path.join(header, "sodium.h"), "w", encoding="ascii") as file:
-        file.write("#error it is not there\n")
-    ran = subprocess.run([needs.program("make", "make"), "-s", "-C", C, f"OUT={room}/none", "C_CALLS=", f"CC={compiler} -isystem {header}"],
-                         stdout=subprocess.PIPE, stderr=subprocess.STDOUT)
-    lines = [line for line in ran.stdout.decode().splitlines() if not line.startswith("make: ***")]
-    checks.check(ran.returncode != 0 and len(lines) == 1 and "there is no sodium.h" in lines[0] and "libsodium-dev" in lines[0],
-                 f"without libsodium's header: {lines}")
+    write(room, "sodium.h", b"#error it is not there\n")
+    said = checks.ended("without libsodium's header", run([needs.program("make", "make"), "-s", "-C", C, f"OUT={room}/none", "C_CALLS=",
+                                                           f"CC={compiler} -isystem {room}"]), status=2, says="libsodium-dev")
+    lines = [line for line in said.splitlines() if not line.startswith("make: ***")]
+    checks.check(len(lines) == 1 and "there is no sodium.h" in lines[0], f"without libsodium's header: {lines}")
 
 
 def run_all(checks, room):
-    for check in (check_names, check_includes, check_sources, check_messages, check_pages):
-        check(checks)
+    found = {name: files_of(name) for name in ROOMS}
+    texts, code = ({name: both[at] for name, both in found.items()} for at in (0, 1))
+    check_rooms(checks, texts, code)
+    check_sources(checks, {path: text for files in code.values() for path, text in files.items()})
+    check_messages(checks, {path: text for name in OF_PROGRAMS for path, text in code[name].items()})
+    check_pages(checks)
     check_built(checks, room)
 
 

@@ -30,8 +30,8 @@ from checks import Checks
 SECONDS = 60
 # The scripts of tools/ that compare what they make with what stands there where `--check` is said.
 CHECKING = "--check"
-# What is not listed, as a script of the list runs it, or as what it tries is tried in the gate on the processors of most.
-NOT_LISTED = {"tests/bindings/python_user.py", "tests/c/more_processors.py"}
+# What is not listed, as a script of the list runs it.
+NOT_LISTED = {"tests/bindings/python_user.py"}
 COMMAND = "make -C c check"
 NEEDS = "tests/shared/needs.py"
 # Debian's packages, one a line, and README's line that installs them.

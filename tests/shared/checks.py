@@ -14,6 +14,12 @@ class Checks:
             self.failures.append(": ".join(map(str, what)))
         return bool(holds)
 
+    def ended(self, what, ran, status=0, says=""):
+        """A command ended with this status, and said this, of which `process.run` answered `ran`: what it said."""
+        came, said = ran
+        self.check(came == status and says in said, f"{what}: status {came}: {said[-800:]}")
+        return said
+
     def end(self):
         """Prints the failures and the last line: the exit status."""
         for failure in self.failures:

@@ -6,6 +6,7 @@ import contextlib
 import fcntl
 import hashlib
 import os
+import re
 import shutil
 import subprocess
 
@@ -17,6 +18,8 @@ DIRECTORY = os.path.join(proved.ROOT, "c")
 DIST = os.path.join(proved.ROOT, "dist")
 # Here each warning is an error; a user's compiler may have others.
 STRICT = "WARNINGS=-std=c11 -Wall -Wextra -Wpedantic -Werror"
+# What `make test` says at its end.
+VERIFIED = re.compile(r"(?m)^(2[5-9]|[3-9]\d) passed, 0 failed$")
 
 
 def path_without_kit():
