@@ -80,32 +80,30 @@ static void feed(minisign_state *state)
     CHECK(minisign_digest(state, questions.digest) == MINISIGN_OK && is_hex(questions.digest, DIGEST));
 }
 
-/* Reads the key and asks: the number of the first that rejects. */
-static enum minisign_error ask(minisign_state *state, const char *key, const char *signature, uint32_t allow_legacy)
+/* Reads the key and the signature, and asks: the number of the first that rejects. */
+static enum minisign_error ask(minisign_state *state, const char *key, const char *text, uint32_t allow_legacy)
 {
     minisign_public_key pk;
+    minisign_signature signature;
     enum minisign_error error = minisign_read_public_key(bytes_of(key), strlen(key), &pk);
 
+    if (error == MINISIGN_OK) {
+        error = minisign_read_signature(bytes_of(text), strlen(text), &signature);
+    }
     return error != MINISIGN_OK ? error
-                                : read_and_ask(state, &pk, signature, allow_legacy, &questions, message, sizeof message);
+                                : minisign_ask(state, &pk, &signature, bytes_of(text), strlen(text), allow_legacy, &questions,
+                                               message, sizeof message);
 }
 
-static enum minisign_error open_key(const char *key, const char *password)
+static enum minisign_error open_key(const char *text, const char *password)
 {
-    enum minisign_error error = minisign_read_secret_key(bytes_of(key), strlen(key), &unopened);
-
-    return error != MINISIGN_OK ? error
-           : password == NULL   ? minisign_open_unsealed_key(&unopened, &signing)
-                                : minisign_open_sealed_key(&unopened, bytes_of(password), strlen(password),
-                                                           MINISIGN_KEEP_EVERY_ROW, MINISIGN_USUAL_ROWS, &signing);
+    return read_and_open(text, password, &unopened, &signing);
 }
 
 /* A signature is what its text says, before anything is asked. */
 static void read_as(void)
 {
-    static const char cut[] = "untrusted comment: x\r\n"
-                              "RUS4oO+OTGvmIe/AFUZesFY/ONgyTgR9P0wlXFBD98cDX7Pao0WBeMSBQywks6PdOxlxIHanFJJYpkqO7tBvYfnm/DXVQmwFYQ0=\n"
-                              "trusted comment: \t \xc3\xa9 t \r\nAAAA";
+    static const char cut[] = "untrusted comment: x\r\n" OTHER_RECORD "\ntrusted comment: \t \xc3\xa9 t \r\nAAAA";
     minisign_signature prehashed = signature_of(PREHASHED), legacy = signature_of(LEGACY), short_one = signature_of(cut);
 
     CHECK(is_hex(prehashed.key_id, KEY_ID) && memcmp(prehashed.algorithm, "ED", 2) == 0);
@@ -164,9 +162,7 @@ static void rejected(void)
         { HELLO_KEY, "untrusted comment: x\nRUS4\ntrusted comment: y\nRUS4\n", MINISIGN_RECORD_TOO_SHORT },
         /* Padding may stand at the end alone (RFC 4648, section 4), and not after the 74 bytes that are read. */
         { HELLO_KEY,
-          "untrusted comment: x\n"
-          "RUS4oO+OTGvmIe/AFUZesFY/ONgyTgR9P0wlXFBD98cDX7Pao0WBeMSBQywks6PdOxlxIHanFJJYpkqO7tBvYfnm/DXVQmwFYQ0=AAAA\n"
-          "trusted comment: a trusted comment\n"
+          "untrusted comment: x\n" OTHER_RECORD "AAAA\ntrusted comment: a trusted comment\n"
           "VFXOnLXSP360tFPUt7eqzsSHMo0p1bPS9fRkoO0MOvNy8kHZu0k9okhkkORQyQv79DEl+OdNXurVl1Qt+AMEAQ==\n",
           MINISIGN_SIGNATURE_NOT_BASE64 },
     };

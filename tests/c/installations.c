@@ -18,7 +18,7 @@
 #define NUMBER 1556193335
 /* What is written into the record of it, with the data `abc`: the key's bytes behind its key ID, and the digest below. */
 #define OWN_NUMBER "timestamp:1556193335"
-#define RECORD OWN_NUMBER                                                \
+#define OWN_RECORD OWN_NUMBER                                                \
     "\n79a561e70ee08cd3e754c63e9bd6b9c3520a1d4204cd104da2e7ef763b1853b7" \
     "\n" HEX_OF_ABC
 
@@ -215,13 +215,13 @@ static void written(void)
 {
     for (size_t row = 0; row < ROWS; row++) {
         const minisign_installation begun = at(table[row].due);
-        const size_t len = table[row].due == MINISIGN_DUE_WRITE_RECORD ? sizeof RECORD - 1 : 0;
+        const size_t len = table[row].due == MINISIGN_DUE_WRITE_RECORD ? sizeof OWN_RECORD - 1 : 0;
 
         memset(message, 0xaa, sizeof message);
         CHECK_AT(table[row].due, minisign_install_record_text(&begun, message, MINISIGN_RECORD_TEXT_BYTES) == len);
-        CHECK_AT(table[row].due, memcmp(message, RECORD, len) == 0 && message[len] == 0xaa);
+        CHECK_AT(table[row].due, memcmp(message, OWN_RECORD, len) == 0 && message[len] == 0xaa);
         memset(message, 0xaa, sizeof message);
-        CHECK_AT(table[row].due, minisign_install_record_text(&begun, message, sizeof RECORD - 2) == 0 && message[0] == 0xaa);
+        CHECK_AT(table[row].due, minisign_install_record_text(&begun, message, sizeof OWN_RECORD - 2) == 0 && message[0] == 0xaa);
     }
 }
 
@@ -313,7 +313,7 @@ static void records(void)
     static const char *const numbers[] = { "0", "5", "5\n", "18446744073709551615",
                                            "0000000000000000000000000000000000000000000000000000000000000005",
                                            "000000000000000000000000000000000000000000000000000000000000005\n" };
-    static const char *const timestamps[] = { RECORD, "timestamp:0", "timestamp:5", "timestamp:5\n", "timestamp:18446744073709551615",
+    static const char *const timestamps[] = { OWN_RECORD, "timestamp:0", "timestamp:5", "timestamp:5\n", "timestamp:18446744073709551615",
                                               "timestamp:000000000000000000000000000000000000000000000000000005",
                                               "timestamp:00000000000000000000000000000000000000000000000000005\n" };
     static const char *const versions[] = { "version:0", "version:5", "version:5\n", "version:18446744073709551615" };
@@ -326,7 +326,7 @@ static void records(void)
                                         "timestamp:0000000000000000000000000000000000000000000000000000005",
                                         "00000000000000000000000000000000000000000000000000000000000000005",
                                         "0000000000000000000000000000000000000000000000000000000000000005\n",
-                                        RECORD "\n", RECORD "0", "timestamp:5\n" HEX_OF_ABC, "five" HEX_OF_ABC HEX_OF_ABC,
+                                        OWN_RECORD "\n", OWN_RECORD "0", "timestamp:5\n" HEX_OF_ABC, "five" HEX_OF_ABC HEX_OF_ABC,
                                         "timestamp:5\n" HEX_OF_ABC "\n" HEX_OF_ABC "\n" HEX_OF_ABC };
 
     for (size_t n = 0; n < LENGTH(numbers); n++) {
@@ -394,7 +394,7 @@ static void answers(void)
 
     gives("0", 0, SIGNATURE, "test", by_time, YES, MINISIGN_OK);
     gives(OWN_NUMBER, 0, SIGNATURE, "test", by_time, YES, MINISIGN_OK);
-    gives(RECORD, 0, SIGNATURE, "test", by_time, YES, MINISIGN_OK);
+    gives(OWN_RECORD, 0, SIGNATURE, "test", by_time, YES, MINISIGN_OK);
     gives("1556193336", 0, SIGNATURE, "test", by_time, YES, MINISIGN_OLDER_UPDATE);
     gives("timestamp:1556193336", 0, SIGNATURE, "test", by_time, YES, MINISIGN_OLDER_UPDATE);
     gives("timestamp:1556193336\n" HEX_OF_ABC, 1, SIGNATURE, "test", by_time, YES, MINISIGN_OK);
@@ -660,15 +660,15 @@ static void kept(void)
         const uint32_t on = waits ? MINISIGN_DUE_UNLOCK : MINISIGN_DUE_CLEAR;
 
         for (uint32_t again = 0; again < 2; again++) {
-            kept_gives(RECORD, again, 0, waits, YES, YES, MINISIGN_DUE_SYNC_TARGET, MINISIGN_OK);
+            kept_gives(OWN_RECORD, again, 0, waits, YES, YES, MINISIGN_DUE_SYNC_TARGET, MINISIGN_OK);
             kept_gives(OWN_NUMBER, again, 0, waits, NO, YES, MINISIGN_DUE_SYNC_TARGET, MINISIGN_OK);
-            kept_gives(RECORD, again, 1, waits, YES, YES, MINISIGN_DUE_ALREADY, MINISIGN_OK);
-            kept_gives(RECORD, again, 0, waits, YES, NO, on, MINISIGN_OK);
-            kept_gives(RECORD, again, 1, waits, YES, NO, MINISIGN_DUE_WOULD_INSTALL, MINISIGN_OK);
+            kept_gives(OWN_RECORD, again, 1, waits, YES, YES, MINISIGN_DUE_ALREADY, MINISIGN_OK);
+            kept_gives(OWN_RECORD, again, 0, waits, YES, NO, on, MINISIGN_OK);
+            kept_gives(OWN_RECORD, again, 1, waits, YES, NO, MINISIGN_DUE_WOULD_INSTALL, MINISIGN_OK);
         }
-        kept_gives(RECORD, 1, 0, waits, NO, NO, on, MINISIGN_OK);
-        kept_gives(RECORD, 0, 0, waits, NO, NO, MINISIGN_DUE_REFUSED, MINISIGN_SAME_NUMBER);
-        kept_gives(RECORD, 0, 1, waits, NO, NO, MINISIGN_DUE_REFUSED, MINISIGN_SAME_NUMBER);
+        kept_gives(OWN_RECORD, 1, 0, waits, NO, NO, on, MINISIGN_OK);
+        kept_gives(OWN_RECORD, 0, 0, waits, NO, NO, MINISIGN_DUE_REFUSED, MINISIGN_SAME_NUMBER);
+        kept_gives(OWN_RECORD, 0, 1, waits, NO, NO, MINISIGN_DUE_REFUSED, MINISIGN_SAME_NUMBER);
         /* A record that says nothing of the data is of none, whatever is answered. */
         kept_gives(OWN_NUMBER, 0, 0, waits, YES, NO, MINISIGN_DUE_REFUSED, MINISIGN_SAME_NUMBER);
         kept_gives("1556193335", 0, 1, waits, YES, NO, MINISIGN_DUE_REFUSED, MINISIGN_SAME_NUMBER);
