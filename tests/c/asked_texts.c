@@ -49,23 +49,18 @@ static const char SECRET[] =
     "b2eff9108a88977e738b0f53a6c938bd";
 static const char SECRET_KEY_ID[] = "bbcd807aefe53eab";
 
-/* The same under the identifier of HELLO_KEY, with a checksum that does not match, and under other key derivations. */
-static const char KEY_OF_SIGNATURE[] =
-    "untrusted comment: x\n"
-    "RWQAAEIyAAAAAAAAAAAAAAAAAAAAAAAAAAAAAAAAAAAAAAAAAAAAAAAAAAAAAAAAAAAAAAAAuKDvjkxr5iH5tw414tB2l3S0AV4BthpW"
-    "rWHyA+ItsehisjsR8AROg+V8Ng82TAEWPpchqblhFFay7/kQioiXfnOLD1OmyTi9AAAAAAAAAAAAAAAAAAAAAAAAAAAAAAAAAAAAAAAAAAA=\n";
-static const char CORRUPTED_KEY[] =
-    "untrusted comment: x\n"
-    "RWQAAEIyAAAAAAAAAAAAAAAAAAAAAAAAAAAAAAAAAAAAAAAAAAAAAAAAAAAAAAAAAAAAAAAAu82Aeu/lPqv5tw414tB2l3S0AV4BthpW"
-    "rWHyA+ItsehisjsR8AROg+V8Ng82TAEWPpchqblhFFay7/kQioiXfnOLD1OmyTi9AQAAAAAAAAAAAAAAAAAAAAAAAAAAAAAAAAAAAAAAAAA=\n";
-static const char SEALED_KEY[] =
-    "untrusted comment: x\n"
-    "RWRTY0IyAAAAAAAAAAAAAAAAAAAAAAAAAAAAAAAAAAAAAAAAAAAAABAAAAAAAAAAAAIAAAAAu82Aeu/lPqv5tw414tB2l3S0AV4BthpW"
-    "rWHyA+ItsehisjsR8AROg+V8Ng82TAEWPpchqblhFFay7/kQioiXfnOLD1OmyTi9AAAAAAAAAAAAAAAAAAAAAAAAAAAAAAAAAAAAAAAAAAA=\n";
-static const char OTHER_KEY[] =
-    "untrusted comment: x\n"
-    "RWRYWEIyAAAAAAAAAAAAAAAAAAAAAAAAAAAAAAAAAAAAAAAAAAAAAAAAAAAAAAAAAAAAAAAAu82Aeu/lPqv5tw414tB2l3S0AV4BthpW"
-    "rWHyA+ItsehisjsR8AROg+V8Ng82TAEWPpchqblhFFay7/kQioiXfnOLD1OmyTi9AAAAAAAAAAAAAAAAAAAAAAAAAAAAAAAAAAAAAAAAAAA=\n";
+/* The same with this key derivation, limits, key ID and checksum. */
+#define KEY_TEXT(derivation, limits, key_id, checksum) \
+    "untrusted comment: x\nRW" derivation "IyAAAAAAAAAAAAAAAAAAAAAAAAAAAAAAAAAAAAAAAAAA" limits key_id \
+    "5tw414tB2l3S0AV4BthpWrWHyA+ItsehisjsR8AROg+V8Ng82TAEWPpchqblhFFay7/kQioiXfnOLD1OmyTi9A" checksum \
+    "AAAAAAAAAAAAAAAAAAAAAAAAAAAAAAAAAAAAAAAAA=\n"
+#define NO_LIMITS "AAAAAAAAAAAAAAAAAAAAAA"
+
+/* Under the identifier of HELLO_KEY, with a checksum that does not match, and under other key derivations. */
+static const char KEY_OF_SIGNATURE[] = KEY_TEXT("QAAE", NO_LIMITS, "uKDvjkxr5iH", "A");
+static const char CORRUPTED_KEY[] = KEY_TEXT("QAAE", NO_LIMITS, "u82Aeu/lPqv", "Q");
+static const char SEALED_KEY[] = KEY_TEXT("RTY0", "AAABAAAAAAAAAAAAIAAAAA", "u82Aeu/lPqv", "A");
+static const char OTHER_KEY[] = KEY_TEXT("RYWE", NO_LIMITS, "u82Aeu/lPqv", "A");
 
 static minisign_questions questions;
 static minisign_unopened_key unopened;

@@ -164,8 +164,9 @@ static void open_without_memory(const minisign_secret_key *opened)
     CHECK(words_wanted <= room && bytes_wanted <= sizeof parts);
     CHECK(open_in_place("pw", (size_t) words_wanted - 1) == MINISIGN_NO_ROOM);
     CHECK(open_in_place("wp", room) == MINISIGN_WRONG_PASSWORD);
+    memset(words, 0x5a, sizeof words);
     CHECK(open_in_place("pw", room) == MINISIGN_OK);
-    CHECK(memcmp(&key, opened, sizeof key) == 0);
+    CHECK(memcmp(&key, opened, sizeof key) == 0 && is_zeros(words, sizeof words) && is_zeros(parts, sizeof parts));
     CHECK(requests == 0 && held == 0 && threads == 0);
     greatest = SIZE_MAX;
 }

@@ -43,6 +43,9 @@ static const struct {
 enum { ROWS = LENGTH(rows) };
 enum phase { NONE, FED, TOLD };
 
+/* What feeding and telling the digest answer then. */
+static const enum minisign_error fed_number[] = { MINISIGN_NOT_BEGUN, MINISIGN_OK, MINISIGN_ALREADY_ASKED };
+
 /* What a state is. */
 struct model {
     enum phase phase;
@@ -89,7 +92,7 @@ static void update(int at)
     struct model *model = &models[at];
     uint8_t data[8];
     size_t len = draw(sizeof data + 1);
-    enum minisign_error wanted = model->phase == NONE ? MINISIGN_NOT_BEGUN : model->phase == TOLD ? MINISIGN_ALREADY_ASKED : MINISIGN_OK;
+    enum minisign_error wanted = fed_number[model->phase];
 
     if (model->len + len > MOST) {
         len = 0;
@@ -109,7 +112,7 @@ static void digest(int at)
     struct model *model = &models[at];
     uint8_t told[64], expected[64];
     minisign_state other;
-    enum minisign_error wanted = model->phase == NONE ? MINISIGN_NOT_BEGUN : model->phase == TOLD ? MINISIGN_ALREADY_ASKED : MINISIGN_OK;
+    enum minisign_error wanted = fed_number[model->phase];
 
     memset(told, 0xaa, sizeof told);
     memset(expected, 0xaa, sizeof expected);
