@@ -150,6 +150,7 @@ int __wrap_madvise(void *from, size_t len, int hint)
 
 #endif
 
+/* How many blocks are held, where all that were given back were cleared. */
 static unsigned blocks_held(void)
 {
     unsigned count = 0;
@@ -157,25 +158,30 @@ static unsigned blocks_held(void)
     for (unsigned at = 0; at < MOST; at++) {
         count += held[at].block != NULL;
     }
-    return count;
+    return uncleared == 0 ? count : MOST + 1;
 }
 
 /* A pattern that differs from byte to byte, and is nowhere zero. */
+static char painted(size_t at)
+{
+    return (char) (1 + at * 31 % 251);
+}
+
 static void paint(char *block, size_t len)
 {
     for (size_t at = 0; at < len; at++) {
-        block[at] = (char) (1 + at * 31 % 251);
+        block[at] = painted(at);
     }
 }
 
 static int is_painted(const char *block, size_t len)
 {
-    for (size_t at = 0; at < len; at++) {
-        if (block[at] != (char) (1 + at * 31 % 251)) {
-            return 0;
-        }
+    size_t at = 0;
+
+    while (at < len && block[at] == painted(at)) {
+        at++;
     }
-    return 1;
+    return at == len;
 }
 
 /* One block that is used whole, and grows and shrinks to another length. */
@@ -199,7 +205,7 @@ static void check_block(size_t len, size_t alignment, size_t other)
     paint(one.block, len);
     two = rattle_realloc(one.block, len, other, alignment);
     check_block_of(two.is_granted == 1 && (uintptr_t) two.block % alignment == 0 && is_painted(two.block, kept), "growing", other, alignment);
-    check_block_of(blocks_held() == 1 && uncleared == 0, "the older block", len, alignment);
+    check_block_of(blocks_held() == 1, "the older block", len, alignment);
     paint(two.block, other);
     is_refusing = 1;
     one = rattle_realloc(two.block, other, other + 1, alignment);
@@ -210,7 +216,7 @@ static void check_block(size_t len, size_t alignment, size_t other)
     check_block_of(blocks_held() == 1 && is_painted(two.block, other), "the block that could not grow", other, alignment);
     errno = 77;
     rattle_dealloc(two.block);
-    check_block_of(blocks_held() == 0 && uncleared == 0, "a block that was given back", other, alignment);
+    check_block_of(blocks_held() == 0, "a block that was given back", other, alignment);
     check_block_of(errno == 77, "errno was changed by giving back", other, alignment);
 }
 
@@ -248,12 +254,12 @@ static void check_parts(void)
     check_block_of(at <= len && at + 65536 > len, "all of a block", len, 1);
     paint(grant.block, len);
     rattle_dealloc(grant.block);
-    check_block_of(blocks_held() == 0 && uncleared == 0, "a block of several parts that was given back", len, 1);
+    check_block_of(blocks_held() == 0, "a block of several parts that was given back", len, 1);
     /* One that is given back while its pages are still brought in. */
     grant = rattle_alloc(len, 1);
     paint(grant.block, PART_BYTES);
     rattle_dealloc(grant.block);
-    check_block_of(blocks_held() == 0 && uncleared == 0, "a block that was given back early", len, 1);
+    check_block_of(blocks_held() == 0, "a block that was given back early", len, 1);
     at = hints;
     usleep(20000);
     check_block_of(hints == at, "a thread that has not ended with its block", len, 1);
@@ -296,33 +302,11 @@ static void check_lengths(void)
     }
 }
 
-/* Opening in memory of the caller's, which the system is asked nothing about. */
-static void check_in_place(const minisign_unopened_key *unopened, const minisign_secret_key *key, const uint8_t *password,
-                           size_t len, size_t memory)
-{
-    static uint32_t words[(16 << 18) + 3 * 256];
-    static uint8_t parts[1024];
-    unsigned before = requests, asked = hints;
-    minisign_secret_key opened = { 0 };
-    enum minisign_error error;
-
-    memset(words, 0x5a, sizeof words);
-    memset(parts, 0x5a, sizeof parts);
-    given_back = 0;
-    error = minisign_open_sealed_key_in_place(unopened, password, len, MINISIGN_KEEP_EVERY_ROW, MINISIGN_USUAL_ROWS, words,
-                                              LENGTH(words), parts, sizeof parts, &opened);
-    check_block_of(error == MINISIGN_OK && memcmp(&opened, key, sizeof opened) == 0, "opening it in place", memory, 1);
-    check_block_of(requests == before && given_back == 0 && hints == asked, "memory that was asked for in place", memory, 1);
-    check_block_of(is_zeros(words, sizeof words), "words that are not cleared", memory, 1);
-    check_block_of(is_zeros(parts, sizeof parts), "bytes that are not cleared", memory, 1);
-}
-
 /* The library's calls, with a key sealed in so many bytes of rows. */
 static void check_library(size_t memory)
 {
-    static const uint8_t key_id[8] = { 1 }, password[] = "a long password", comment[] = "c";
+    static const char password[] = "a long password";
     static uint8_t secret_key[64], text[4096], signed_text[4096], digit[64];
-    minisign_sealing sealing = { .operations_limit = memory / 32, .memory_limit = memory };
     minisign_unopened_key unopened;
     minisign_secret_key key, opened;
     size_t len = 0;
@@ -330,21 +314,19 @@ static void check_library(size_t memory)
 
     memset(secret_key, 0x5a, sizeof secret_key);
     given_back = uncleared = 0;
-    minisign_take_secret_key(key_id, secret_key, &key);
-    error = minisign_secret_key_text(&key, 1, password, sizeof password - 1, &sealing, MINISIGN_KEEP_EVERY_ROW,
-                                     comment, 1, text, sizeof text, &len);
-    check_block_of(error == MINISIGN_OK && given_back > 0 && uncleared == 0 && blocks_held() == 0, "making a key", memory, 1);
+    minisign_take_secret_key(bytes_of("12345678"), secret_key, &key);
+    error = seal(&key, password, memory, 1, text, sizeof text, &len);
+    check_block_of(error == MINISIGN_OK && given_back > 0 && blocks_held() == 0, "making a key", memory, 1);
     given_back = 0;
     error = minisign_read_secret_key(text, len, &unopened);
     check_block_of(error == MINISIGN_OK && given_back == 0 && blocks_held() == 0, "reading it", memory, 1);
-    error = minisign_open_sealed_key(&unopened, password, sizeof password - 1, MINISIGN_KEEP_EVERY_ROW, MINISIGN_USUAL_ROWS,
+    error = minisign_open_sealed_key(&unopened, bytes_of(password), strlen(password), MINISIGN_KEEP_EVERY_ROW, MINISIGN_USUAL_ROWS,
                                      &opened);
-    check_block_of(error == MINISIGN_OK && given_back > 0 && uncleared == 0 && blocks_held() == 0, "opening it", memory, 1);
+    check_block_of(error == MINISIGN_OK && given_back > 0 && blocks_held() == 0, "opening it", memory, 1);
     check_block_of(memcmp(&opened, &key, sizeof key) == 0, "another key was opened", memory, 1);
-    check_in_place(&unopened, &key, password, sizeof password - 1, memory);
     given_back = 0;
-    error = make_signed_text(&opened, digit, digit, comment, 1, comment, 1, signed_text, sizeof signed_text, &len);
-    check_block_of(error == MINISIGN_OK && given_back > 0 && uncleared == 0 && blocks_held() == 0, "signing", memory, 1);
+    error = make_signed_text(&opened, digit, digit, bytes_of("c"), 1, bytes_of("c"), 1, signed_text, sizeof signed_text, &len);
+    check_block_of(error == MINISIGN_OK && given_back > 0 && blocks_held() == 0, "signing", memory, 1);
 }
 
 int main(void)

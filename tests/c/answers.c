@@ -26,9 +26,7 @@ static void add(const void *bytes, size_t len)
 static void add_number(uint64_t number)
 {
     for (int i = 0; i < 8; i++) {
-        const unsigned char byte = (unsigned char) (number >> 8 * i);
-
-        add(&byte, 1);
+        add(&(const unsigned char) { (unsigned char) (number >> 8 * i) }, 1);
     }
 }
 

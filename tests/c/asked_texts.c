@@ -49,23 +49,18 @@ static const char SECRET[] =
     "b2eff9108a88977e738b0f53a6c938bd";
 static const char SECRET_KEY_ID[] = "bbcd807aefe53eab";
 
-/* The same under the identifier of HELLO_KEY, with a checksum that does not match, and under other key derivations. */
-static const char KEY_OF_SIGNATURE[] =
-    "untrusted comment: x\n"
-    "RWQAAEIyAAAAAAAAAAAAAAAAAAAAAAAAAAAAAAAAAAAAAAAAAAAAAAAAAAAAAAAAAAAAAAAAuKDvjkxr5iH5tw414tB2l3S0AV4BthpW"
-    "rWHyA+ItsehisjsR8AROg+V8Ng82TAEWPpchqblhFFay7/kQioiXfnOLD1OmyTi9AAAAAAAAAAAAAAAAAAAAAAAAAAAAAAAAAAAAAAAAAAA=\n";
-static const char CORRUPTED_KEY[] =
-    "untrusted comment: x\n"
-    "RWQAAEIyAAAAAAAAAAAAAAAAAAAAAAAAAAAAAAAAAAAAAAAAAAAAAAAAAAAAAAAAAAAAAAAAu82Aeu/lPqv5tw414tB2l3S0AV4BthpW"
-    "rWHyA+ItsehisjsR8AROg+V8Ng82TAEWPpchqblhFFay7/kQioiXfnOLD1OmyTi9AQAAAAAAAAAAAAAAAAAAAAAAAAAAAAAAAAAAAAAAAAA=\n";
-static const char SEALED_KEY[] =
-    "untrusted comment: x\n"
-    "RWRTY0IyAAAAAAAAAAAAAAAAAAAAAAAAAAAAAAAAAAAAAAAAAAAAABAAAAAAAAAAAAIAAAAAu82Aeu/lPqv5tw414tB2l3S0AV4BthpW"
-    "rWHyA+ItsehisjsR8AROg+V8Ng82TAEWPpchqblhFFay7/kQioiXfnOLD1OmyTi9AAAAAAAAAAAAAAAAAAAAAAAAAAAAAAAAAAAAAAAAAAA=\n";
-static const char OTHER_KEY[] =
-    "untrusted comment: x\n"
-    "RWRYWEIyAAAAAAAAAAAAAAAAAAAAAAAAAAAAAAAAAAAAAAAAAAAAAAAAAAAAAAAAAAAAAAAAu82Aeu/lPqv5tw414tB2l3S0AV4BthpW"
-    "rWHyA+ItsehisjsR8AROg+V8Ng82TAEWPpchqblhFFay7/kQioiXfnOLD1OmyTi9AAAAAAAAAAAAAAAAAAAAAAAAAAAAAAAAAAAAAAAAAAA=\n";
+/* The same with this key derivation, limits, key ID and checksum. */
+#define KEY_TEXT(derivation, limits, key_id, checksum) \
+    "untrusted comment: x\nRW" derivation "IyAAAAAAAAAAAAAAAAAAAAAAAAAAAAAAAAAAAAAAAAAA" limits key_id \
+    "5tw414tB2l3S0AV4BthpWrWHyA+ItsehisjsR8AROg+V8Ng82TAEWPpchqblhFFay7/kQioiXfnOLD1OmyTi9A" checksum \
+    "AAAAAAAAAAAAAAAAAAAAAAAAAAAAAAAAAAAAAAAAA=\n"
+#define NO_LIMITS "AAAAAAAAAAAAAAAAAAAAAA"
+
+/* Under the identifier of HELLO_KEY, with a checksum that does not match, and under other key derivations. */
+static const char KEY_OF_SIGNATURE[] = KEY_TEXT("QAAE", NO_LIMITS, "uKDvjkxr5iH", "A");
+static const char CORRUPTED_KEY[] = KEY_TEXT("QAAE", NO_LIMITS, "u82Aeu/lPqv", "Q");
+static const char SEALED_KEY[] = KEY_TEXT("RTY0", "AAABAAAAAAAAAAAAIAAAAA", "u82Aeu/lPqv", "A");
+static const char OTHER_KEY[] = KEY_TEXT("RYWE", NO_LIMITS, "u82Aeu/lPqv", "A");
 
 static minisign_questions questions;
 static minisign_unopened_key unopened;
@@ -80,32 +75,30 @@ static void feed(minisign_state *state)
     CHECK(minisign_digest(state, questions.digest) == MINISIGN_OK && is_hex(questions.digest, DIGEST));
 }
 
-/* Reads the key and asks: the number of the first that rejects. */
-static enum minisign_error ask(minisign_state *state, const char *key, const char *signature, uint32_t allow_legacy)
+/* Reads the key and the signature, and asks: the number of the first that rejects. */
+static enum minisign_error ask(minisign_state *state, const char *key, const char *text, uint32_t allow_legacy)
 {
     minisign_public_key pk;
+    minisign_signature signature;
     enum minisign_error error = minisign_read_public_key(bytes_of(key), strlen(key), &pk);
 
+    if (error == MINISIGN_OK) {
+        error = minisign_read_signature(bytes_of(text), strlen(text), &signature);
+    }
     return error != MINISIGN_OK ? error
-                                : read_and_ask(state, &pk, signature, allow_legacy, &questions, message, sizeof message);
+                                : minisign_ask(state, &pk, &signature, bytes_of(text), strlen(text), allow_legacy, &questions,
+                                               message, sizeof message);
 }
 
-static enum minisign_error open_key(const char *key, const char *password)
+static enum minisign_error open_key(const char *text, const char *password)
 {
-    enum minisign_error error = minisign_read_secret_key(bytes_of(key), strlen(key), &unopened);
-
-    return error != MINISIGN_OK ? error
-           : password == NULL   ? minisign_open_unsealed_key(&unopened, &signing)
-                                : minisign_open_sealed_key(&unopened, bytes_of(password), strlen(password),
-                                                           MINISIGN_KEEP_EVERY_ROW, MINISIGN_USUAL_ROWS, &signing);
+    return read_and_open(text, password, &unopened, &signing);
 }
 
 /* A signature is what its text says, before anything is asked. */
 static void read_as(void)
 {
-    static const char cut[] = "untrusted comment: x\r\n"
-                              "RUS4oO+OTGvmIe/AFUZesFY/ONgyTgR9P0wlXFBD98cDX7Pao0WBeMSBQywks6PdOxlxIHanFJJYpkqO7tBvYfnm/DXVQmwFYQ0=\n"
-                              "trusted comment: \t \xc3\xa9 t \r\nAAAA";
+    static const char cut[] = "untrusted comment: x\r\n" OTHER_RECORD "\ntrusted comment: \t \xc3\xa9 t \r\nAAAA";
     minisign_signature prehashed = signature_of(PREHASHED), legacy = signature_of(LEGACY), short_one = signature_of(cut);
 
     CHECK(is_hex(prehashed.key_id, KEY_ID) && memcmp(prehashed.algorithm, "ED", 2) == 0);
@@ -164,9 +157,7 @@ static void rejected(void)
         { HELLO_KEY, "untrusted comment: x\nRUS4\ntrusted comment: y\nRUS4\n", MINISIGN_RECORD_TOO_SHORT },
         /* Padding may stand at the end alone (RFC 4648, section 4), and not after the 74 bytes that are read. */
         { HELLO_KEY,
-          "untrusted comment: x\n"
-          "RUS4oO+OTGvmIe/AFUZesFY/ONgyTgR9P0wlXFBD98cDX7Pao0WBeMSBQywks6PdOxlxIHanFJJYpkqO7tBvYfnm/DXVQmwFYQ0=AAAA\n"
-          "trusted comment: a trusted comment\n"
+          "untrusted comment: x\n" OTHER_RECORD "AAAA\ntrusted comment: a trusted comment\n"
           "VFXOnLXSP360tFPUt7eqzsSHMo0p1bPS9fRkoO0MOvNy8kHZu0k9okhkkORQyQv79DEl+OdNXurVl1Qt+AMEAQ==\n",
           MINISIGN_SIGNATURE_NOT_BASE64 },
     };

@@ -160,8 +160,7 @@ static minisign_secret_key *opened_key(void)
     minisign_secret_key *key = NEW(minisign_secret_key);
     minisign_unopened_key unopened;
 
-    CHECK(minisign_read_secret_key(bytes_of(SECRET_KEY), sizeof SECRET_KEY - 1, &unopened) == MINISIGN_OK);
-    CHECK(minisign_open_unsealed_key(&unopened, key) == MINISIGN_OK);
+    CHECK(read_and_open(SECRET_KEY, NULL, &unopened, key) == MINISIGN_OK);
     return key;
 }
 
@@ -225,13 +224,12 @@ static void opening_in_place(uint64_t p)
 {
     static const uint8_t secret[64] = { 1 };
     static const uint64_t kept[] = { 9, 16 };
-    const minisign_sealing sealing = { .operations_limit = 32768 * p, .memory_limit = 1 << 20 };
     minisign_secret_key key = { 0 };
-    uint8_t text[MINISIGN_SECRET_KEY_BYTES(0)];
+    uint8_t text[MINISIGN_SECRET_KEY_BYTES(1)];
     size_t text_len = 0;
 
     minisign_take_secret_key(bytes_of("12345678"), secret, &key);
-    CHECK(minisign_secret_key_text(&key, 1, bytes_of("pw"), 2, &sealing, 1, NULL, 0, text, sizeof text, &text_len) == MINISIGN_OK);
+    CHECK(seal(&key, "pw", 1 << 20, p, text, sizeof text, &text_len) == MINISIGN_OK);
     for (size_t i = 0; i < 4 * LENGTH(kept); i++) {
         const char *password = i % 4 == 3 ? "wp" : "pw";
 

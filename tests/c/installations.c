@@ -18,7 +18,7 @@
 #define NUMBER 1556193335
 /* What is written into the record of it, with the data `abc`: the key's bytes behind its key ID, and the digest below. */
 #define OWN_NUMBER "timestamp:1556193335"
-#define RECORD OWN_NUMBER                                                \
+#define OWN_RECORD OWN_NUMBER                                                \
     "\n79a561e70ee08cd3e754c63e9bd6b9c3520a1d4204cd104da2e7ef763b1853b7" \
     "\n" HEX_OF_ABC
 
@@ -215,13 +215,13 @@ static void written(void)
 {
     for (size_t row = 0; row < ROWS; row++) {
         const minisign_installation begun = at(table[row].due);
-        const size_t len = table[row].due == MINISIGN_DUE_WRITE_RECORD ? sizeof RECORD - 1 : 0;
+        const size_t len = table[row].due == MINISIGN_DUE_WRITE_RECORD ? sizeof OWN_RECORD - 1 : 0;
 
         memset(message, 0xaa, sizeof message);
         CHECK_AT(table[row].due, minisign_install_record_text(&begun, message, MINISIGN_RECORD_TEXT_BYTES) == len);
-        CHECK_AT(table[row].due, memcmp(message, RECORD, len) == 0 && message[len] == 0xaa);
+        CHECK_AT(table[row].due, memcmp(message, OWN_RECORD, len) == 0 && message[len] == 0xaa);
         memset(message, 0xaa, sizeof message);
-        CHECK_AT(table[row].due, minisign_install_record_text(&begun, message, sizeof RECORD - 2) == 0 && message[0] == 0xaa);
+        CHECK_AT(table[row].due, minisign_install_record_text(&begun, message, sizeof OWN_RECORD - 2) == 0 && message[0] == 0xaa);
     }
 }
 
@@ -313,7 +313,7 @@ static void records(void)
     static const char *const numbers[] = { "0", "5", "5\n", "18446744073709551615",
                                            "0000000000000000000000000000000000000000000000000000000000000005",
                                            "000000000000000000000000000000000000000000000000000000000000005\n" };
-    static const char *const timestamps[] = { RECORD, "timestamp:0", "timestamp:5", "timestamp:5\n", "timestamp:18446744073709551615",
+    static const char *const timestamps[] = { OWN_RECORD, "timestamp:0", "timestamp:5", "timestamp:5\n", "timestamp:18446744073709551615",
                                               "timestamp:000000000000000000000000000000000000000000000000000005",
                                               "timestamp:00000000000000000000000000000000000000000000000000005\n" };
     static const char *const versions[] = { "version:0", "version:5", "version:5\n", "version:18446744073709551615" };
@@ -326,7 +326,7 @@ static void records(void)
                                         "timestamp:0000000000000000000000000000000000000000000000000000005",
                                         "00000000000000000000000000000000000000000000000000000000000000005",
                                         "0000000000000000000000000000000000000000000000000000000000000005\n",
-                                        RECORD "\n", RECORD "0", "timestamp:5\n" HEX_OF_ABC, "five" HEX_OF_ABC HEX_OF_ABC,
+                                        OWN_RECORD "\n", OWN_RECORD "0", "timestamp:5\n" HEX_OF_ABC, "five" HEX_OF_ABC HEX_OF_ABC,
                                         "timestamp:5\n" HEX_OF_ABC "\n" HEX_OF_ABC "\n" HEX_OF_ABC };
 
     for (size_t n = 0; n < LENGTH(numbers); n++) {
@@ -394,7 +394,7 @@ static void answers(void)
 
     gives("0", 0, SIGNATURE, "test", by_time, YES, MINISIGN_OK);
     gives(OWN_NUMBER, 0, SIGNATURE, "test", by_time, YES, MINISIGN_OK);
-    gives(RECORD, 0, SIGNATURE, "test", by_time, YES, MINISIGN_OK);
+    gives(OWN_RECORD, 0, SIGNATURE, "test", by_time, YES, MINISIGN_OK);
     gives("1556193336", 0, SIGNATURE, "test", by_time, YES, MINISIGN_OLDER_UPDATE);
     gives("timestamp:1556193336", 0, SIGNATURE, "test", by_time, YES, MINISIGN_OLDER_UPDATE);
     gives("timestamp:1556193336\n" HEX_OF_ABC, 1, SIGNATURE, "test", by_time, YES, MINISIGN_OK);
@@ -421,18 +421,19 @@ static void answers(void)
 static const char *with_comment(const char *comment)
 {
     static char text[1024];
-    const char *const begin = strstr(SIGNATURE, COMMENT);
 
-    snprintf(text, sizeof text, "%.*s%s%s", (int) (begin - SIGNATURE), SIGNATURE, comment, begin + sizeof COMMENT - 1);
+    snprintf(text, sizeof text, "%s%s\ntrusted comment: %s\n%s", SIGNATURE_COMMENT, RECORD, comment, COMMENT_RECORD);
     return text;
 }
 
-/* What a comment that the key has signed gives where it has to say when the update expires, or not. */
-static void signed_gives(const char *comment, uint32_t must_expire, enum minisign_error rejected, uint64_t number)
+/* What a comment of this form with this part, which the key has signed, gives where it has to say when the update expires, or not. */
+static void signed_gives(const char *form, const char *part, uint32_t must_expire, enum minisign_error rejected, uint64_t number)
 {
     const minisign_public_key key = key_of(KEY);
     minisign_installation i;
+    char comment[256];
 
+    snprintf(comment, sizeof comment, form, part);
     CHECK(minisign_install_init(&i, &key, &key, 0, 0, 0, 0, must_expire, MINISIGN_NUMBERING_VERSION) == MINISIGN_OK);
     go_to(&i, MINISIGN_DUE_JUDGE, "2");
     CHECK(ask_of(&i, with_comment(comment), "a", sizeof message) == MINISIGN_OK && minisign_install_answer(&i, NO, YES) == rejected);
@@ -447,54 +448,44 @@ static void fields(void)
     static const char *const others[] = { "expire:2000", "expires2000", "xexpires:2000", "expires", "" };
     static const char *const sizes[] = { "size:", "size:x", "size:+5", "size: 5", "size:18446744073709551616", "size:5\tsize:5", "size:5\tsize:x" };
     static const char *const lengths[] = { "size:0", "size:18446744073709551615", "Size:x", "si ze:x", "size" };
-    char text[256];
 
     for (uint32_t must = 0; must < 4; must++) {
-        signed_gives("file:a\tversion:3\texpires:1001", must, MINISIGN_OK, 3);
-        signed_gives("file:a\tversion:3\texpires:1000", must, MINISIGN_EXPIRED, 3);
-        signed_gives("file:a\tversion:3\texpires:x", must, MINISIGN_BAD_EXPIRY, 3);
-        signed_gives("expires:2000\tfile:a\tversion:3\texpires:2000", must, MINISIGN_BAD_EXPIRY, 3);
-        signed_gives("file:b\tversion:3", must, MINISIGN_OTHER_FILE, 3);
-        signed_gives("file:a\tversion:x", must, MINISIGN_NO_NUMBER, 0);
-        signed_gives("file:a\tversion:1\texpires:2000", must, MINISIGN_OLDER_UPDATE, 1);
-        signed_gives("file:a\t expires:2000\tversion:3", must, must ? MINISIGN_BAD_EXPIRY : MINISIGN_OK, 3);
-        for (size_t n = 0; n < sizeof others / sizeof others[0]; n++) {
-            snprintf(text, sizeof text, "file:a\tversion:3\t%s", others[n]);
-            signed_gives(text, must, must ? MINISIGN_NO_EXPIRY : MINISIGN_OK, 3);
-            snprintf(text, sizeof text, "%s\tfile:a\tversion:3\texpires:2000", others[n]);
-            signed_gives(text, must, MINISIGN_OK, 3);
+        const enum minisign_error unsaid = must ? MINISIGN_NO_EXPIRY : MINISIGN_OK, unclear = must ? MINISIGN_BAD_EXPIRY : MINISIGN_OK;
+
+        signed_gives("file:a\tversion:3\texpires:1001", "", must, MINISIGN_OK, 3);
+        signed_gives("file:a\tversion:3\texpires:1000", "", must, MINISIGN_EXPIRED, 3);
+        signed_gives("file:a\tversion:3\texpires:x", "", must, MINISIGN_BAD_EXPIRY, 3);
+        signed_gives("expires:2000\tfile:a\tversion:3\texpires:2000", "", must, MINISIGN_BAD_EXPIRY, 3);
+        signed_gives("file:b\tversion:3", "", must, MINISIGN_OTHER_FILE, 3);
+        signed_gives("file:a\tversion:x", "", must, MINISIGN_NO_NUMBER, 0);
+        signed_gives("file:a\tversion:1\texpires:2000", "", must, MINISIGN_OLDER_UPDATE, 1);
+        signed_gives("file:a\t expires:2000\tversion:3", "", must, unclear, 3);
+        for (size_t n = 0; n < LENGTH(others); n++) {
+            signed_gives("file:a\tversion:3\t%s", others[n], must, unsaid, 3);
+            signed_gives("%s\tfile:a\tversion:3\texpires:2000", others[n], must, MINISIGN_OK, 3);
         }
-        for (size_t n = 0; n < sizeof loose / sizeof loose[0]; n++) {
-            snprintf(text, sizeof text, "file:a\tversion:3\t%s", loose[n]);
-            signed_gives(text, must, must ? MINISIGN_BAD_EXPIRY : MINISIGN_OK, 3);
-            snprintf(text, sizeof text, "%s\tfile:a\tversion:3\texpires:2000", loose[n]);
-            signed_gives(text, must, must ? MINISIGN_BAD_EXPIRY : MINISIGN_OK, 3);
-            snprintf(text, sizeof text, "file:a\tversion:3\texpires:2000\t%s", loose[n]);
-            signed_gives(text, must, must ? MINISIGN_BAD_EXPIRY : MINISIGN_OK, 3);
+        for (size_t n = 0; n < LENGTH(loose); n++) {
+            signed_gives("file:a\tversion:3\t%s", loose[n], must, unclear, 3);
+            signed_gives("%s\tfile:a\tversion:3\texpires:2000", loose[n], must, unclear, 3);
+            signed_gives("file:a\tversion:3\texpires:2000\t%s", loose[n], must, unclear, 3);
         }
     }
-    for (size_t n = 0; n < sizeof sizes / sizeof sizes[0]; n++) {
+    for (size_t n = 0; n < LENGTH(sizes); n++) {
         /* The expiry comes before the size, and the age after it. */
-        snprintf(text, sizeof text, "file:a\tversion:1\t%s", sizes[n]);
-        signed_gives(text, 0, MINISIGN_BAD_SIZE, 1);
-        snprintf(text, sizeof text, "file:a\tversion:3\texpires:1000\t%s", sizes[n]);
-        signed_gives(text, 0, MINISIGN_EXPIRED, 3);
+        signed_gives("file:a\tversion:1\t%s", sizes[n], 0, MINISIGN_BAD_SIZE, 1);
+        signed_gives("file:a\tversion:3\texpires:1000\t%s", sizes[n], 0, MINISIGN_EXPIRED, 3);
     }
-    signed_gives("file:a\tsize:5 \tversion:3", 0, MINISIGN_BAD_SIZE, 3);
-    signed_gives("file:a\t size:x\tversion:3", 0, MINISIGN_OK, 3);
-    for (size_t n = 0; n < sizeof lengths / sizeof lengths[0]; n++) {
-        snprintf(text, sizeof text, "%s\tfile:a\tversion:3", lengths[n]);
-        signed_gives(text, 0, MINISIGN_OK, 3);
+    signed_gives("file:a\tsize:5 \tversion:3", "", 0, MINISIGN_BAD_SIZE, 3);
+    signed_gives("file:a\t size:x\tversion:3", "", 0, MINISIGN_OK, 3);
+    for (size_t n = 0; n < LENGTH(lengths); n++) {
+        signed_gives("%s\tfile:a\tversion:3", lengths[n], 0, MINISIGN_OK, 3);
     }
 }
 
-/* Where this is due, of an update whose comment has this field, what each of two pieces gives, and their end. */
-static void pieces_give(const char *field, uint32_t due, size_t one, enum minisign_error then, size_t two, enum minisign_error second,
-                        enum minisign_error end)
+/* An installation of version 3 over version 2 at which this is due, of an update whose comment has this field. */
+static minisign_installation sized(const char *field, uint32_t due)
 {
-    const uint32_t left = due == MINISIGN_DUE_COPY ? MINISIGN_DUE_REMOVE : MINISIGN_DUE_REFUSED;
-    const uint32_t next = due == MINISIGN_DUE_COPY ? MINISIGN_DUE_READ_BACK : MINISIGN_DUE_LOCK;
-    char comment[128];
+    static char comment[128];
     minisign_installation i;
 
     snprintf(comment, sizeof comment, "file:a\tversion:3\t%s", field);
@@ -502,45 +493,45 @@ static void pieces_give(const char *field, uint32_t due, size_t one, enum minisi
     asked_name = "a";
     CHECK(begin(&i, 0, 0, 0, due == MINISIGN_DUE_RECEIVE, MINISIGN_NUMBERING_VERSION) == MINISIGN_OK);
     go_to(&i, due, "2");
-    CHECK(minisign_install_more(&i, one) == then && minisign_install_due(&i) == (then == MINISIGN_OK ? due : left));
-    if (then == MINISIGN_OK) {
-        CHECK(minisign_install_more(&i, two) == second && minisign_install_due(&i) == (second == MINISIGN_OK ? due : left));
-    }
-    if (then == MINISIGN_OK && second == MINISIGN_OK) {
-        CHECK(minisign_install_done(&i) == end && minisign_install_due(&i) == (end == MINISIGN_OK ? next : left));
+    return i;
+}
+
+/* What two pieces and their end give where this is due: one of these three calls is rejected, or with 3 none. */
+static void pieces_give(const char *field, uint32_t due, size_t one, size_t two, int rejected)
+{
+    const uint32_t left = due == MINISIGN_DUE_COPY ? MINISIGN_DUE_REMOVE : MINISIGN_DUE_REFUSED;
+    const uint32_t next = due == MINISIGN_DUE_COPY ? MINISIGN_DUE_READ_BACK : MINISIGN_DUE_LOCK;
+    minisign_installation i = sized(field, due);
+
+    for (int call = 0; call < 3 && call <= rejected; call++) {
+        const enum minisign_error error = call == 2 ? minisign_install_done(&i) : minisign_install_more(&i, call == 0 ? one : two);
+
+        CHECK(error == (call == rejected ? MINISIGN_OTHER_SIZE : MINISIGN_OK));
+        CHECK(minisign_install_due(&i) == (call == rejected ? left : call == 2 ? next : due));
     }
     if (minisign_install_due(&i) == MINISIGN_DUE_REMOVE) {
         CHECK(minisign_install_more(&i, 0) == MINISIGN_NOT_DUE && minisign_install_done(&i) == MINISIGN_OK);
     }
-    if (then != MINISIGN_OK || second != MINISIGN_OK || end != MINISIGN_OK) {
-        CHECK(minisign_install_due(&i) == MINISIGN_DUE_REFUSED && minisign_install_error(&i) == MINISIGN_OTHER_SIZE);
-    }
-    asked_text = SIGNATURE;
-    asked_name = "test";
+    CHECK(rejected == 3 || (minisign_install_due(&i) == MINISIGN_DUE_REFUSED && minisign_install_error(&i) == MINISIGN_OTHER_SIZE));
 }
 
 /* As many bytes come as the comment says, where it does; they are counted anew where the data is copied. */
 static void sizes(void)
 {
-    const enum minisign_error goes = MINISIGN_OK, other = MINISIGN_OTHER_SIZE;
     minisign_installation i;
 
     for (uint32_t due = MINISIGN_DUE_RECEIVE; due <= MINISIGN_DUE_COPY; due += MINISIGN_DUE_COPY - MINISIGN_DUE_RECEIVE) {
-        pieces_give("size:0", due, 0, goes, 0, goes, goes);
-        pieces_give("size:0", due, 1, other, 0, goes, goes);
-        pieces_give("size:5", due, 3, goes, 2, goes, goes);
-        pieces_give("size:5", due, 5, goes, 0, goes, goes);
-        pieces_give("size:5", due, 3, goes, 1, goes, other);
-        pieces_give("size:5", due, 3, goes, 3, other, goes);
-        pieces_give("size:5", due, 6, other, 0, goes, goes);
-        pieces_give("size:5", due, 5, goes, SIZE_MAX, other, goes);
-        pieces_give("size", due, SIZE_MAX, goes, SIZE_MAX, goes, goes);
+        pieces_give("size:0", due, 0, 0, 3);
+        pieces_give("size:0", due, 1, 0, 0);
+        pieces_give("size:5", due, 3, 2, 3);
+        pieces_give("size:5", due, 5, 0, 3);
+        pieces_give("size:5", due, 3, 1, 2);
+        pieces_give("size:5", due, 3, 3, 1);
+        pieces_give("size:5", due, 6, 0, 0);
+        pieces_give("size:5", due, 5, SIZE_MAX, 1);
+        pieces_give("size", due, SIZE_MAX, SIZE_MAX, 3);
     }
-
-    asked_text = with_comment("file:a\tversion:3\tsize:5");
-    asked_name = "a";
-    CHECK(begin(&i, 0, 0, 0, 1, MINISIGN_NUMBERING_VERSION) == MINISIGN_OK);
-    go_to(&i, MINISIGN_DUE_RECEIVE, "2");
+    i = sized("size:5", MINISIGN_DUE_RECEIVE);
     CHECK(minisign_install_more(&i, 5) == MINISIGN_OK && minisign_install_done(&i) == MINISIGN_OK);
     go_to(&i, MINISIGN_DUE_COPY, "2");
     CHECK(minisign_install_more(&i, 5) == MINISIGN_OK && minisign_install_done(&i) == MINISIGN_OK);
@@ -660,15 +651,15 @@ static void kept(void)
         const uint32_t on = waits ? MINISIGN_DUE_UNLOCK : MINISIGN_DUE_CLEAR;
 
         for (uint32_t again = 0; again < 2; again++) {
-            kept_gives(RECORD, again, 0, waits, YES, YES, MINISIGN_DUE_SYNC_TARGET, MINISIGN_OK);
+            kept_gives(OWN_RECORD, again, 0, waits, YES, YES, MINISIGN_DUE_SYNC_TARGET, MINISIGN_OK);
             kept_gives(OWN_NUMBER, again, 0, waits, NO, YES, MINISIGN_DUE_SYNC_TARGET, MINISIGN_OK);
-            kept_gives(RECORD, again, 1, waits, YES, YES, MINISIGN_DUE_ALREADY, MINISIGN_OK);
-            kept_gives(RECORD, again, 0, waits, YES, NO, on, MINISIGN_OK);
-            kept_gives(RECORD, again, 1, waits, YES, NO, MINISIGN_DUE_WOULD_INSTALL, MINISIGN_OK);
+            kept_gives(OWN_RECORD, again, 1, waits, YES, YES, MINISIGN_DUE_ALREADY, MINISIGN_OK);
+            kept_gives(OWN_RECORD, again, 0, waits, YES, NO, on, MINISIGN_OK);
+            kept_gives(OWN_RECORD, again, 1, waits, YES, NO, MINISIGN_DUE_WOULD_INSTALL, MINISIGN_OK);
         }
-        kept_gives(RECORD, 1, 0, waits, NO, NO, on, MINISIGN_OK);
-        kept_gives(RECORD, 0, 0, waits, NO, NO, MINISIGN_DUE_REFUSED, MINISIGN_SAME_NUMBER);
-        kept_gives(RECORD, 0, 1, waits, NO, NO, MINISIGN_DUE_REFUSED, MINISIGN_SAME_NUMBER);
+        kept_gives(OWN_RECORD, 1, 0, waits, NO, NO, on, MINISIGN_OK);
+        kept_gives(OWN_RECORD, 0, 0, waits, NO, NO, MINISIGN_DUE_REFUSED, MINISIGN_SAME_NUMBER);
+        kept_gives(OWN_RECORD, 0, 1, waits, NO, NO, MINISIGN_DUE_REFUSED, MINISIGN_SAME_NUMBER);
         /* A record that says nothing of the data is of none, whatever is answered. */
         kept_gives(OWN_NUMBER, 0, 0, waits, YES, NO, MINISIGN_DUE_REFUSED, MINISIGN_SAME_NUMBER);
         kept_gives("1556193335", 0, 1, waits, YES, NO, MINISIGN_DUE_REFUSED, MINISIGN_SAME_NUMBER);

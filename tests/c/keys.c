@@ -34,11 +34,12 @@ static void read_hexadecimal(uint8_t *to, size_t len, const char *digits)
     }
 }
 
-static void write_hexadecimal(const uint8_t *from, size_t len)
+static void write_hexadecimal(const uint8_t *from, size_t len, const char *end)
 {
     for (size_t i = 0; i < len; i++) {
         printf("%02x", from[i]);
     }
+    printf("%s", end);
 }
 
 static int status_of(uint32_t error)
@@ -50,25 +51,14 @@ static int status_of(uint32_t error)
     return 0;
 }
 
-/* Whether the buffer and the length are as they were. */
-static int is_untouched(size_t text_len)
-{
-    for (size_t i = 0; i < BYTES; i++) {
-        if (text[i] != 0x5a) {
-            return 0;
-        }
-    }
-    return text_len == BYTES + 1;
-}
-
+/* Writes the text; at an error the buffer and the length are as they were. */
 static int made(uint32_t error, size_t text_len)
 {
-    if (error != MINISIGN_OK && !is_untouched(text_len)) {
-        printf("an error, and the text has changed\n");
-        return 2;
-    }
     if (error == MINISIGN_OK) {
         fwrite(text, 1, text_len, stdout);
+    } else if (text_len != BYTES + 1 || text[0] != 0x5a || memcmp(text, text + 1, BYTES - 1) != 0) {
+        printf("an error, and the text has changed\n");
+        return 2;
     }
     return status_of(error);
 }
@@ -185,10 +175,8 @@ static int open_key(int argc, char **argv)
                            : (uint32_t) minisign_open_unsealed_key(&unopened, &key);
     }
     if (error == MINISIGN_OK) {
-        write_hexadecimal(key.key_id, sizeof key.key_id);
-        putchar(' ');
-        write_hexadecimal(key.secret, sizeof key.secret);
-        putchar('\n');
+        write_hexadecimal(key.key_id, sizeof key.key_id, " ");
+        write_hexadecimal(key.secret, sizeof key.secret, "\n");
     }
     return status_of(error);
 }

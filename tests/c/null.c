@@ -9,32 +9,23 @@
 #include "minisign.h"
 #include "texts_for_tests.h"
 
-static minisign_state begun(void)
-{
-    minisign_state state;
-
-    minisign_init(&state);
-    return state;
-}
-
 static void feeding(void)
 {
-    minisign_state fed = begun(), empty = begun(), never;
+    minisign_state empty = fed_with(""), fed = fed_with("abc"), state, never;
 
-    CHECK(minisign_update(&fed, NULL, 0) == MINISIGN_OK);
-    CHECK(minisign_update(&empty, bytes_of(""), 0) == MINISIGN_OK);
-    CHECK(memcmp(&fed, &empty, sizeof fed) == 0);
-    CHECK(minisign_update(&fed, bytes_of("abc"), 3) == MINISIGN_OK);
-    CHECK(minisign_update(&fed, NULL, 0) == MINISIGN_OK);
-    CHECK(minisign_update(&empty, bytes_of("abc"), 3) == MINISIGN_OK);
-    CHECK(memcmp(&fed, &empty, sizeof fed) == 0);
+    minisign_init(&state);
+    CHECK(minisign_update(&state, NULL, 0) == MINISIGN_OK);
+    CHECK(memcmp(&state, &empty, sizeof state) == 0);
+    CHECK(minisign_update(&state, bytes_of("abc"), 3) == MINISIGN_OK);
+    CHECK(minisign_update(&state, NULL, 0) == MINISIGN_OK);
+    CHECK(memcmp(&state, &fed, sizeof state) == 0);
     memset(&never, 0, sizeof never);
     CHECK(minisign_update(&never, NULL, 0) == MINISIGN_NOT_BEGUN);
 }
 
 static void asking(void)
 {
-    minisign_state state = begun();
+    minisign_state state = fed_with("");
     minisign_public_key key = key_of(KEY);
     minisign_signature signature = { 0 }, read = signature_of(SIGNATURE);
     minisign_questions q;
@@ -57,10 +48,9 @@ static void signing(void)
     size_t text_len = 0, empty_len = 0;
 
     CHECK(minisign_read_secret_key(NULL, 0, &unopened) == MINISIGN_MISSING_SECRET_KEY_COMMENT);
-    CHECK(minisign_read_secret_key(bytes_of(SECRET_KEY), sizeof SECRET_KEY - 1, &unopened) == MINISIGN_OK);
+    CHECK(read_and_open(SECRET_KEY, NULL, &unopened, &key) == MINISIGN_OK);
     CHECK(minisign_open_sealed_key(&unopened, NULL, 0, 1, 1, &key) == MINISIGN_KEY_NOT_SEALED);
     CHECK(minisign_open_sealed_key_in_place(&unopened, NULL, 0, 1, 1, NULL, 0, NULL, 0, &key) == MINISIGN_KEY_NOT_SEALED);
-    CHECK(minisign_open_unsealed_key(&unopened, &key) == MINISIGN_OK);
     CHECK(minisign_public_key_text(&key, NULL, 0, NULL, 0, &text_len) == MINISIGN_NO_ROOM);
     CHECK(minisign_secret_key_text(&key, 0, NULL, 0, &none, 1, NULL, 0, NULL, 0, &text_len) == MINISIGN_NO_ROOM);
     CHECK(minisign_comment_message(first, NULL, 0, message, sizeof message) == MINISIGN_OK);

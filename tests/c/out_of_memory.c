@@ -60,34 +60,10 @@ static enum minisign_error ask(void)
                         sizeof message);
 }
 
-static enum minisign_error open_key(void)
-{
-    enum minisign_error error = minisign_read_secret_key(bytes_of(SECRET_KEY), sizeof SECRET_KEY - 1, &unopened);
-
-    return error != MINISIGN_OK ? error : minisign_open_unsealed_key(&unopened, &key);
-}
-
-static enum minisign_error open_sealed(void)
-{
-    enum minisign_error error = minisign_read_secret_key(bytes_of(SEALED), sizeof SEALED - 1, &unopened);
-
-    return error != MINISIGN_OK ? error : minisign_open_sealed_key(&unopened, bytes_of("pw"), 2, MINISIGN_KEEP_EVERY_ROW,
-                                                                   MINISIGN_USUAL_ROWS, &key);
-}
-
 static enum minisign_error write_secret_key(void)
 {
     static const minisign_sealing none;
     return minisign_secret_key_text(&key, 0, bytes_of(""), 0, &none, MINISIGN_KEEP_EVERY_ROW, bytes_of("c"), 1, message,
-                                    sizeof message, &text_len);
-}
-
-static enum minisign_error write_sealed_key(void)
-{
-    static const minisign_sealing sealing = {
-        .operations_limit = MINISIGN_OPERATIONS_LIMIT, .memory_limit = MINISIGN_MEMORY_LIMIT
-    };
-    return minisign_secret_key_text(&key, 1, bytes_of("pw"), 2, &sealing, MINISIGN_KEEP_EVERY_ROW, bytes_of("c"), 1, message,
                                     sizeof message, &text_len);
 }
 
@@ -160,15 +136,6 @@ enum { LARGE_ROWS = 32768 };
 static uint32_t words[256 * (LARGE_ROWS + 3)];
 static uint8_t parts[1024];
 
-static void seal_large(void)
-{
-    static const minisign_sealing sealing = { .operations_limit = 32 * LARGE_ROWS, .memory_limit = 1024 * LARGE_ROWS };
-
-    CHECK(minisign_secret_key_text(&key, 1, bytes_of("pw"), 2, &sealing, MINISIGN_KEEP_EVERY_ROW, bytes_of("c"), 1, message,
-                                   sizeof message, &text_len) == MINISIGN_OK);
-    CHECK(minisign_read_secret_key(message, text_len, &unopened) == MINISIGN_OK);
-}
-
 static enum minisign_error open_in_place(const char *password, size_t room)
 {
     return minisign_open_sealed_key_in_place(&unopened, bytes_of(password), strlen(password), MINISIGN_KEEP_EVERY_ROW,
@@ -181,8 +148,8 @@ static void open_without_memory(const minisign_secret_key *opened)
     const size_t room = LENGTH(words);
     uint64_t words_wanted = 0, bytes_wanted = 0;
 
-    key = *opened;
-    seal_large();
+    CHECK(seal(opened, "pw", 1024 * LARGE_ROWS, 1, message, sizeof message, &text_len) == MINISIGN_OK);
+    CHECK(minisign_read_secret_key(message, text_len, &unopened) == MINISIGN_OK);
     requests = held = threads = 0;
     CHECK(minisign_open_sealed_key(&unopened, bytes_of("pw"), 2, MINISIGN_KEEP_EVERY_ROW, MINISIGN_USUAL_ROWS, &key) == MINISIGN_OK);
     CHECK(requests > 0 && held == 0);
@@ -197,8 +164,9 @@ static void open_without_memory(const minisign_secret_key *opened)
     CHECK(words_wanted <= room && bytes_wanted <= sizeof parts);
     CHECK(open_in_place("pw", (size_t) words_wanted - 1) == MINISIGN_NO_ROOM);
     CHECK(open_in_place("wp", room) == MINISIGN_WRONG_PASSWORD);
+    memset(words, 0x5a, sizeof words);
     CHECK(open_in_place("pw", room) == MINISIGN_OK);
-    CHECK(memcmp(&key, opened, sizeof key) == 0);
+    CHECK(memcmp(&key, opened, sizeof key) == 0 && is_zeros(words, sizeof words) && is_zeros(parts, sizeof parts));
     CHECK(requests == 0 && held == 0 && threads == 0);
     greatest = SIZE_MAX;
 }
@@ -208,7 +176,7 @@ int main(void)
     minisign_secret_key opened;
 
     verify_without_memory();
-    CHECK(open_key() == MINISIGN_OK);
+    CHECK(read_and_open(SECRET_KEY, NULL, &unopened, &key) == MINISIGN_OK);
     CHECK(requests == 0 && held == 0);
     opened = key;
     open_without_memory(&opened);
@@ -217,10 +185,9 @@ int main(void)
     refuse_each("minisign_public_key_text", write_public_key, &opened);
     greatest = 100000;
     held = 0;
-    CHECK(open_sealed() == MINISIGN_OUT_OF_MEMORY);
+    CHECK(read_and_open(SEALED, "pw", &unopened, &key) == MINISIGN_OUT_OF_MEMORY);
     CHECK(held == 0);
-    key = opened;
-    CHECK(write_sealed_key() == MINISIGN_OUT_OF_MEMORY);
+    CHECK(seal(&opened, "pw", MINISIGN_MEMORY_LIMIT, 1, message, sizeof message, &text_len) == MINISIGN_OUT_OF_MEMORY);
     CHECK(held == 0);
     return ended();
 }

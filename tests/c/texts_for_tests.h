@@ -75,25 +75,23 @@ static inline int is_hex(const uint8_t *at, const char *digits)
     "7d87c5392aab792dc252d5de4533cc9518d38aa8dbf1925ab92386edd4009923"
 
 /* The published key, and its signature of `test`. */
-static const char KEY[] = "untrusted comment: minisign public key E7620F1842B4E81F\n"
-                          "RWQf6LRCGA9i53mlYecO4IzT51TGPpvWucNSCh1CBM0QTaLn73Y7GFO3\n";
+#define KEY_COMMENT "untrusted comment: minisign public key E7620F1842B4E81F\n"
+#define KEY_LINE "RWQf6LRCGA9i53mlYecO4IzT51TGPpvWucNSCh1CBM0QTaLn73Y7GFO3"
+static const char KEY[] = KEY_COMMENT KEY_LINE "\n";
+#define SIGNATURE_COMMENT "untrusted comment: signature from minisign secret key\n"
+#define RECORD "RUQf6LRCGA9i559r3g7V1qNyJDApGip8MfqcadIgT9CuhV3EMhHoN1mGTkUidF/z7SrlQgXdy8ofjb7bNJJylDOocrCo8KLzZwo="
+#define COMMENT_RECORD "y/rUw2y8/hOUYjZU71eHp/Wo1KZ40fGy2VJEDl34XMJM+TX48Ss/17u3IvIfbVR1FkZZSNCisQbuQY+bHwhEBg=="
 #define COMMENT "timestamp:1556193335\tfile:test"
-static const char SIGNATURE[] =
-    "untrusted comment: signature from minisign secret key\n"
-    "RUQf6LRCGA9i559r3g7V1qNyJDApGip8MfqcadIgT9CuhV3EMhHoN1mGTkUidF/z7SrlQgXdy8ofjb7bNJJylDOocrCo8KLzZwo=\n"
-    "trusted comment: " COMMENT "\n"
-    "y/rUw2y8/hOUYjZU71eHp/Wo1KZ40fGy2VJEDl34XMJM+TX48Ss/17u3IvIfbVR1FkZZSNCisQbuQY+bHwhEBg==";
+static const char SIGNATURE[] = SIGNATURE_COMMENT RECORD "\ntrusted comment: " COMMENT "\n" COMMENT_RECORD;
 /* Its signature of `test` over the data itself. */
+#define LEGACY_RECORD "RWQf6LRCGA9i59SLOFxz6NxvASXDJeRtuZykwQepbDEGt87ig1BNpWaVWuNrm73YiIiJbq71Wi+dP9eKL8OC351vwIasSSbXxwA="
 static const char LEGACY_SIGNATURE[] =
-    "untrusted comment: signature from minisign secret key\n"
-    "RWQf6LRCGA9i59SLOFxz6NxvASXDJeRtuZykwQepbDEGt87ig1BNpWaVWuNrm73YiIiJbq71Wi+dP9eKL8OC351vwIasSSbXxwA=\n"
-    "trusted comment: timestamp:1555779966\tfile:test\n"
+    SIGNATURE_COMMENT LEGACY_RECORD "\ntrusted comment: timestamp:1555779966\tfile:test\n"
     "QtKMXWyYcwdpZAlPF7tE2ENJkRd1ujvKjlj1m9RtHTBnZPa5WKU5uWRs5GoP5M/VqE81QFuMKI5k/SfNQUaOAA==";
 /* One of another key, of `hello` and a line feed. */
+#define OTHER_RECORD "RUS4oO+OTGvmIe/AFUZesFY/ONgyTgR9P0wlXFBD98cDX7Pao0WBeMSBQywks6PdOxlxIHanFJJYpkqO7tBvYfnm/DXVQmwFYQ0="
 static const char OTHER_SIGNATURE[] =
-    "untrusted comment: signature from minisign secret key\n"
-    "RUS4oO+OTGvmIe/AFUZesFY/ONgyTgR9P0wlXFBD98cDX7Pao0WBeMSBQywks6PdOxlxIHanFJJYpkqO7tBvYfnm/DXVQmwFYQ0=\n"
-    "trusted comment: a trusted comment\n"
+    SIGNATURE_COMMENT OTHER_RECORD "\ntrusted comment: a trusted comment\n"
     "VFXOnLXSP360tFPUt7eqzsSHMo0p1bPS9fRkoO0MOvNy8kHZu0k9okhkkORQyQv79DEl+OdNXurVl1Qt+AMEAQ==\n";
 #define MESSAGE_LEN (64 + sizeof COMMENT - 1)
 
@@ -117,17 +115,14 @@ static inline minisign_signature signature_of(const char *text)
     return signature;
 }
 
-/* Reads the text of a signature and asks about it: the number of the first that rejects. */
-static inline enum minisign_error read_and_ask(minisign_state *state, const minisign_public_key *key, const char *text,
-                                               uint32_t allow_legacy, minisign_questions *questions, uint8_t *message,
-                                               size_t room)
+/* A state that was fed these bytes. */
+static inline minisign_state fed_with(const char *data)
 {
-    minisign_signature signature;
-    enum minisign_error error = minisign_read_signature(bytes_of(text), strlen(text), &signature);
+    minisign_state state;
 
-    return error != MINISIGN_OK
-               ? error
-               : minisign_ask(state, key, &signature, bytes_of(text), strlen(text), allow_legacy, questions, message, room);
+    minisign_init(&state);
+    CHECK(minisign_update(&state, bytes_of(data), strlen(data)) == MINISIGN_OK);
+    return state;
 }
 
 /* A secret key that Minisign made with -G -W, for these checks alone. */
@@ -136,6 +131,28 @@ static const char SECRET_KEY[] =
     "RWQAAEIyAAAAAAAAAAAAAAAAAAAAAAAAAAAAAAAAAAAAAAAAAAAAAAAAAAAAAAAAAAAAAAAAu82A"
     "eu/lPqv5tw414tB2l3S0AV4BthpWrWHyA+ItsehisjsR8AROg+V8Ng82TAEWPpchqblhFFay7/kQ"
     "ioiXfnOLD1OmyTi9AAAAAAAAAAAAAAAAAAAAAAAAAAAAAAAAAAAAAAAAAAA=\n";
+
+/* Reads the text of a secret key, and opens it with a password, or with none. */
+static inline enum minisign_error read_and_open(const char *text, const char *password, minisign_unopened_key *unopened,
+                                                minisign_secret_key *key)
+{
+    enum minisign_error error = minisign_read_secret_key(bytes_of(text), strlen(text), unopened);
+
+    return error != MINISIGN_OK ? error
+           : password == NULL   ? minisign_open_unsealed_key(unopened, key)
+                                : minisign_open_sealed_key(unopened, bytes_of(password), strlen(password), MINISIGN_KEEP_EVERY_ROW,
+                                                           MINISIGN_USUAL_ROWS, key);
+}
+
+/* Writes the text of a secret key under a password, with so many bytes of memory: N is one for each KiB, of which p is so many. */
+static inline enum minisign_error seal(const minisign_secret_key *key, const char *password, size_t memory, uint64_t p, uint8_t *text,
+                                       size_t room, size_t *text_len)
+{
+    const minisign_sealing sealing = { .operations_limit = memory / 32 * p, .memory_limit = memory };
+
+    return minisign_secret_key_text(key, 1, bytes_of(password), strlen(password), &sealing, MINISIGN_KEEP_EVERY_ROW, bytes_of("c"), 1,
+                                    text, room, text_len);
+}
 
 /* Makes the text of a signature of what stands in different places. */
 static inline enum minisign_error make_signed_text(const minisign_secret_key *key, const uint8_t signature[64],

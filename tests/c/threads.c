@@ -37,29 +37,19 @@ static void run(struct told *told, int number, int rounds)
     for (int round = 0; round < rounds; round++) {
         minisign_state state;
         minisign_public_key key;
-        enum minisign_error error = minisign_read_public_key(bytes_of(KEY), sizeof KEY - 1, &key);
 
-        told->good &= error == MINISIGN_OK;
-        error = minisign_read_signature(bytes_of(SIGNATURE), sizeof SIGNATURE - 1, &told->signature);
-        told->good &= error == MINISIGN_OK;
         minisign_init(&state);
-        error = minisign_ask(&state, &key, &told->signature, bytes_of(SIGNATURE), sizeof SIGNATURE - 1, 0,
-                             &told->questions, told->message, sizeof told->message);
-        told->good &= error == MINISIGN_OK;
-        error = minisign_update(&state, data, sizeof data);
-        told->good &= error == MINISIGN_OK;
-        error = minisign_digest(&state, told->questions.digest);
-        told->good &= error == MINISIGN_OK;
-        error = minisign_verdict(&state, MINISIGN_ANSWER_YES, number % 2 ? MINISIGN_ANSWER_YES : MINISIGN_ANSWER_NO);
-        told->good &= error == (number % 2 ? MINISIGN_OK : MINISIGN_COMMENT_SIGNATURE_REFUSED);
-        error = minisign_read_secret_key(bytes_of(SECRET_KEY), sizeof SECRET_KEY - 1, &told->unopened);
-        told->good &= error == MINISIGN_OK;
-        error = minisign_open_unsealed_key(&told->unopened, &told->key);
-        told->good &= error == MINISIGN_OK;
-        error = make_signed_text(&told->key, told->questions.signature, told->questions.comment_signature,
-                                     bytes_of("12345678"), (size_t) number, NULL, 0, told->text, sizeof told->text,
-                                     &told->text_len);
-        told->good &= error == MINISIGN_OK;
+        told->good &= minisign_read_public_key(bytes_of(KEY), sizeof KEY - 1, &key) == MINISIGN_OK;
+        told->good &= minisign_read_signature(bytes_of(SIGNATURE), sizeof SIGNATURE - 1, &told->signature) == MINISIGN_OK;
+        told->good &= minisign_ask(&state, &key, &told->signature, bytes_of(SIGNATURE), sizeof SIGNATURE - 1, 0, &told->questions,
+                                   told->message, sizeof told->message) == MINISIGN_OK;
+        told->good &= minisign_update(&state, data, sizeof data) == MINISIGN_OK;
+        told->good &= minisign_digest(&state, told->questions.digest) == MINISIGN_OK;
+        told->good &= minisign_verdict(&state, YES, number % 2 ? YES : NO)
+                      == (number % 2 ? MINISIGN_OK : MINISIGN_COMMENT_SIGNATURE_REFUSED);
+        told->good &= read_and_open(SECRET_KEY, NULL, &told->unopened, &told->key) == MINISIGN_OK;
+        told->good &= make_signed_text(&told->key, told->questions.signature, told->questions.comment_signature, bytes_of("12345678"),
+                                       (size_t) number, NULL, 0, told->text, sizeof told->text, &told->text_len) == MINISIGN_OK;
     }
 }
 

@@ -17,16 +17,6 @@ static const uint8_t ABC[] = { 'a', 'b', 'c' };
 static minisign_questions questions;
 static uint8_t message[1024];
 
-/* A state that was fed the data. */
-static minisign_state fed(void)
-{
-    minisign_state state;
-
-    minisign_init(&state);
-    CHECK(minisign_update(&state, ABC, sizeof ABC) == MINISIGN_OK);
-    return state;
-}
-
 /* Asks about a signature with this text, whether it was read from that or not. */
 static enum minisign_error ask_with(minisign_state *state, const minisign_signature *signature, const char *sig_text,
                                     size_t sig_text_len, uint32_t allow_legacy, size_t room)
@@ -36,37 +26,34 @@ static enum minisign_error ask_with(minisign_state *state, const minisign_signat
     return minisign_ask(state, &key, signature, bytes_of(sig_text), sig_text_len, allow_legacy, &questions, message, room);
 }
 
-/* The least room there is for what is asked. */
-static void least_room(void)
-{
-    const minisign_signature signature = signature_of(SIGNATURE);
-    minisign_state state = fed(), before = state;
-
-    for (size_t room = 0; room < MESSAGE_LEN; room++) {
-        CHECK(ask_with(&state, &signature, SIGNATURE, sizeof SIGNATURE - 1, 0, room) == MINISIGN_NO_ROOM);
-    }
-    CHECK(memcmp(&before, &state, sizeof before) == 0);
-    CHECK(ask_with(&state, &signature, SIGNATURE, sizeof SIGNATURE - 1, 0, MESSAGE_LEN) == MINISIGN_OK);
-    CHECK(minisign_digest(&state, questions.digest) == MINISIGN_OK && is_hex(questions.digest, HEX_OF_ABC));
-}
-
 /* Asks, which is rejected as a usage error: state, questions and message stay as they were. */
 static enum minisign_error ask_in_vain(const minisign_signature *signature, const char *sig_text, size_t sig_text_len,
                                        uint32_t allow_legacy, size_t room)
 {
-    minisign_state state = fed(), before = state;
-    minisign_questions no_questions;
-    uint8_t no_message[sizeof message];
+    minisign_state state = fed_with("abc"), before = state;
+    uint8_t untouched[sizeof message];
     enum minisign_error error;
 
     memset(&questions, 0xaa, sizeof questions);
     memset(message, 0xaa, sizeof message);
-    no_questions = questions;
-    memcpy(no_message, message, sizeof message);
+    memset(untouched, 0xaa, sizeof untouched);
     error = ask_with(&state, signature, sig_text, sig_text_len, allow_legacy, room);
-    CHECK(memcmp(&state, &before, sizeof state) == 0 && memcmp(&questions, &no_questions, sizeof questions) == 0);
-    CHECK(memcmp(message, no_message, sizeof message) == 0);
+    CHECK(memcmp(&state, &before, sizeof state) == 0 && memcmp(&questions, untouched, sizeof questions) == 0);
+    CHECK(memcmp(message, untouched, sizeof message) == 0);
     return error;
+}
+
+/* The least room there is for what is asked. */
+static void least_room(void)
+{
+    const minisign_signature signature = signature_of(SIGNATURE);
+    minisign_state state = fed_with("abc");
+
+    for (size_t room = 0; room < MESSAGE_LEN; room++) {
+        CHECK(ask_in_vain(&signature, SIGNATURE, sizeof SIGNATURE - 1, 0, room) == MINISIGN_NO_ROOM);
+    }
+    CHECK(ask_with(&state, &signature, SIGNATURE, sizeof SIGNATURE - 1, 0, MESSAGE_LEN) == MINISIGN_OK);
+    CHECK(minisign_digest(&state, questions.digest) == MINISIGN_OK && is_hex(questions.digest, HEX_OF_ABC));
 }
 
 /* Nothing is asked about a signature with another text than that which it was read from. */
@@ -75,8 +62,8 @@ static void other_texts(void)
     static const char longer[] = "untrusted comment: x";
     static char text[sizeof SIGNATURE + 1];
     const size_t len = sizeof SIGNATURE - 1;
-    const minisign_signature signature = signature_of(SIGNATURE), legacy = signature_of(LEGACY_SIGNATURE);
-    const minisign_signature other_key = signature_of(OTHER_SIGNATURE);
+    const minisign_signature signature = signature_of(SIGNATURE), legacy = signature_of(LEGACY_SIGNATURE),
+                             other_key = signature_of(OTHER_SIGNATURE);
 
     memcpy(text, SIGNATURE, sizeof SIGNATURE);
     for (size_t at = 0; at < len; at++) {
@@ -126,16 +113,6 @@ static void other_places(void)
 static minisign_unopened_key unopened;
 static minisign_secret_key key;
 
-static enum minisign_error open_for(const char *sk_text, int with_password)
-{
-    enum minisign_error error = minisign_read_secret_key(bytes_of(sk_text), strlen(sk_text), &unopened);
-
-    return error != MINISIGN_OK ? error
-           : with_password      ? minisign_open_sealed_key(&unopened, ABC, sizeof ABC, MINISIGN_KEEP_EVERY_ROW,
-                                                           MINISIGN_USUAL_ROWS, &key)
-                                : minisign_open_unsealed_key(&unopened, &key);
-}
-
 /* The greatest p of a key, and every how manieth row is kept where few are: with -DIS_EMULATED less, as all that takes minutes there. */
 #ifdef IS_EMULATED
 #define MOST_PARTS 2
@@ -168,32 +145,31 @@ static enum minisign_error open_in_place(const minisign_unopened_key *from, cons
 static uint8_t text[16384];
 static size_t text_len;
 
-static enum minisign_error make_text(const minisign_secret_key *by, const char *trusted, size_t trusted_len,
-                                     const char *untrusted, size_t untrusted_len, size_t room)
+static enum minisign_error make_text(const char *trusted, size_t trusted_len, const char *untrusted, size_t untrusted_len, size_t room)
 {
-    return make_signed_text(by, questions.signature, questions.comment_signature, bytes_of(trusted),
-                                trusted_len, bytes_of(untrusted), untrusted_len, text, room, &text_len);
+    return make_signed_text(&key, questions.signature, questions.comment_signature, bytes_of(trusted), trusted_len,
+                            bytes_of(untrusted), untrusted_len, text, room, &text_len);
 }
 
-static enum minisign_error make_short_text(const minisign_secret_key *by, const char *trusted, const char *untrusted, size_t room)
+static enum minisign_error make_short_text(const char *trusted, const char *untrusted, size_t room)
 {
-    return make_text(by, trusted, strlen(trusted), untrusted, strlen(untrusted), room);
+    return make_text(trusted, strlen(trusted), untrusted, strlen(untrusted), room);
 }
 
 static void before_opening(void)
 {
     static const minisign_secret_key nothing;
 
-    CHECK(open_for(SECRET_KEY, 1) == MINISIGN_KEY_NOT_SEALED);
+    CHECK(read_and_open(SECRET_KEY, "abc", &unopened, &key) == MINISIGN_KEY_NOT_SEALED);
     CHECK(open_in_place(&unopened, "\xff", 1, 0, 5, 5, &key) == MINISIGN_NOT_UTF8);
     CHECK(open_in_place(&unopened, "abc", 1, 0, 5, 5, &key) == MINISIGN_KEY_NOT_SEALED);
-    CHECK(open_for("", 0) == MINISIGN_MISSING_SECRET_KEY_COMMENT);
-    CHECK(open_for("\xff", 0) == MINISIGN_NOT_UTF8);
-    CHECK(open_for(SIGNATURE, 0) == MINISIGN_RECORD_TOO_SHORT);
+    CHECK(read_and_open("", NULL, &unopened, &key) == MINISIGN_MISSING_SECRET_KEY_COMMENT);
+    CHECK(read_and_open("\xff", NULL, &unopened, &key) == MINISIGN_NOT_UTF8);
+    CHECK(read_and_open(SIGNATURE, NULL, &unopened, &key) == MINISIGN_RECORD_TOO_SHORT);
     CHECK(memcmp(&nothing, &key, sizeof nothing) == 0);
-    CHECK(make_short_text(&key, "t", "u", sizeof text) == MINISIGN_KEY_NOT_OPENED);
-    CHECK(open_for(SECRET_KEY, 0) == MINISIGN_OK);
-    CHECK(make_short_text(&key, "t", "u", sizeof text) == MINISIGN_OK);
+    CHECK(make_short_text("t", "u", sizeof text) == MINISIGN_KEY_NOT_OPENED);
+    CHECK(read_and_open(SECRET_KEY, NULL, &unopened, &key) == MINISIGN_OK);
+    CHECK(make_short_text("t", "u", sizeof text) == MINISIGN_OK);
     memset(text, 0, sizeof text);
     text_len = 0;
 }
@@ -240,36 +216,45 @@ static void taken_in(void)
     CHECK(minisign_public_key_of(&taken, &public_key) == MINISIGN_OK);
     CHECK(memcmp(public_key.key, key.secret + 32, 32) == 0 && memcmp(public_key.key_id, key.key_id, 8) == 0);
     CHECK(minisign_secret_key_text(&taken, 0, NULL, 0, &none, 1, NULL, 0, text, sizeof text, &text_len) == MINISIGN_OK);
-    CHECK(minisign_read_secret_key(text, text_len, &unopened) == MINISIGN_OK);
-    CHECK(minisign_open_unsealed_key(&unopened, &opened) == MINISIGN_OK);
+    CHECK(read_and_open((const char *) text, NULL, &unopened, &opened) == MINISIGN_OK);
     CHECK(memcmp(&opened, &key, sizeof key) == 0);
     memset(text, 0, sizeof text);
     text_len = 0;
 }
 
 /* A key of zeros. */
-static minisign_secret_key zeros(void)
-{
-    static const uint8_t key_id[8], secret[64];
-    minisign_secret_key made;
+static minisign_secret_key of_zeros;
 
-    minisign_take_secret_key(key_id, secret, &made);
-    return made;
-}
-
-/* Makes a key of zeros, sealed with little work where there is a password: N is 1024, of which p is so many. */
-static enum minisign_error make_key_of(uint64_t p, uint32_t with_password, uint64_t memory_limit, const char *comment, size_t room)
+/* Makes its text, sealed with little work where there is a password: N is 1024, and p is 4. */
+static enum minisign_error make_key(uint32_t with_password, uint64_t memory_limit, const char *comment, size_t room)
 {
-    const minisign_sealing sealing = { .operations_limit = 32768 * p, .memory_limit = memory_limit };
-    const minisign_secret_key of_zeros = zeros();
+    const minisign_sealing sealing = { .operations_limit = 4 * 32768, .memory_limit = memory_limit };
 
     return minisign_secret_key_text(&of_zeros, with_password, ABC, sizeof ABC, &sealing, MINISIGN_KEEP_FEW_ROWS,
                                     bytes_of(comment), strlen(comment), text, room, &text_len);
 }
 
-static enum minisign_error make_key(uint32_t with_password, uint64_t memory_limit, const char *comment, size_t room)
+/* Opens the sealed key: it is that of zeros, or an error, which leaves what was there. */
+static void opens(const char *password, uint64_t keep_every, uint64_t most_rows, enum minisign_error wanted)
 {
-    return make_key_of(4, with_password, memory_limit, comment, room);
+    minisign_secret_key opened, before;
+
+    memset(&before, 0xaa, sizeof before);
+    opened = before;
+    CHECK(minisign_open_sealed_key(&unopened, bytes_of(password), strlen(password), keep_every, most_rows, &opened) == wanted);
+    CHECK(memcmp(&opened, wanted == MINISIGN_OK ? &of_zeros : &before, sizeof opened) == 0);
+}
+
+/* The same in memory of the caller's, of so many words and bytes. */
+static void opens_in_place(const char *password, uint64_t keep_every, uint64_t most_rows, uint64_t words_len, uint64_t bytes_len,
+                           enum minisign_error wanted)
+{
+    minisign_secret_key opened, before;
+
+    memset(&before, 0xaa, sizeof before);
+    opened = before;
+    CHECK(open_in_place(&unopened, password, keep_every, most_rows, words_len, bytes_len, &opened) == wanted);
+    CHECK(memcmp(&opened, wanted == MINISIGN_OK ? &of_zeros : &before, sizeof opened) == 0);
 }
 
 /* Keys that are made, and how opening them is bounded. */
@@ -278,9 +263,7 @@ static void keys_made(void)
     static const uint64_t little = 1 << 20;
     static const minisign_sealing none;
     const size_t room = MINISIGN_SECRET_KEY_BYTES(1);
-    const minisign_secret_key of_zeros = zeros();
-    minisign_secret_key opened, before;
-    uint8_t sealed[MINISIGN_SECRET_KEY_BYTES(1)];
+    minisign_secret_key opened = { 0 };
 
     memset(text, 0, sizeof text);
     text_len = 0;
@@ -299,22 +282,16 @@ static void keys_made(void)
     CHECK(text_len == 0 && text[0] == 0);
     CHECK(minisign_public_key_text(&of_zeros, bytes_of("c"), 1, text, 78, &text_len) == MINISIGN_OK);
     CHECK(text_len == MINISIGN_PUBLIC_KEY_BYTES(1));
-    CHECK(make_key(1, little, "c", room) == MINISIGN_OK);
-    CHECK(text_len == sizeof sealed);
-    memcpy(sealed, text, sizeof sealed);
-    memset(&opened, 0, sizeof opened);
-    before = opened;
-    CHECK(minisign_read_secret_key(sealed, sizeof sealed, &unopened) == MINISIGN_OK);
+    CHECK(make_key(1, little, "c", room) == MINISIGN_OK && text_len == room);
+    CHECK(minisign_read_secret_key(text, text_len, &unopened) == MINISIGN_OK);
     CHECK(unopened.is_sealed == 1 && unopened.log2_rows == 10 && unopened.work == 4 && unopened.reserved == 0);
-    CHECK(minisign_open_unsealed_key(&unopened, &opened) == MINISIGN_KEY_SEALED);
-    CHECK(minisign_open_sealed_key(&unopened, bytes_of("\xff"), 1, 0, 0, &opened) == MINISIGN_NOT_UTF8);
-    CHECK(minisign_open_sealed_key(&unopened, ABC, sizeof ABC, 0, 4 * 1024 - 1, &opened) == MINISIGN_WORK_TOO_HIGH);
-    CHECK(minisign_open_sealed_key(&unopened, ABC, 2, 1, 4 * 1024, &opened) == MINISIGN_WRONG_PASSWORD);
-    CHECK(memcmp(&before, &opened, sizeof before) == 0);
+    CHECK(minisign_open_unsealed_key(&unopened, &opened) == MINISIGN_KEY_SEALED && is_zeros(&opened, sizeof opened));
+    opens("\xff", 0, 0, MINISIGN_NOT_UTF8);
+    opens("abc", 0, 4 * 1024 - 1, MINISIGN_WORK_TOO_HIGH);
+    opens("ab", 1, 4 * 1024, MINISIGN_WRONG_PASSWORD);
     unopened.is_sealed = unopened.log2_rows = 0;
     unopened.work = 1;
-    CHECK(minisign_open_sealed_key(&unopened, ABC, sizeof ABC, FEWEST_KEPT, 4 * 1024, &opened) == MINISIGN_OK);
-    CHECK(memcmp(&opened, &of_zeros, sizeof of_zeros) == 0);
+    opens("abc", FEWEST_KEPT, 4 * 1024, MINISIGN_OK);
 }
 
 /* How the rows of a key are bounded, and what opening in place takes and answers. What it holds of rows is 1 KiB each. */
@@ -322,23 +299,14 @@ static void rows_bounded(uint64_t p)
 {
     static const uint64_t kept[] = { 16, 0, 1, FEWEST_KEPT };
     const uint64_t rows = 1024 * p;
-    const minisign_secret_key of_zeros = zeros();
-    minisign_secret_key opened, before;
 
-    memset(&before, 0xaa, sizeof before);
-    CHECK(make_key_of(p, 1, 1 << 20, "c", sizeof text) == MINISIGN_OK);
+    CHECK(seal(&of_zeros, "abc", 1 << 20, p, text, sizeof text, &text_len) == MINISIGN_OK);
     CHECK(minisign_read_secret_key(text, text_len, &unopened) == MINISIGN_OK && unopened.work == p);
-    opened = before;
-    CHECK(minisign_open_sealed_key(&unopened, ABC, sizeof ABC, 1, rows - 1, &opened) == MINISIGN_WORK_TOO_HIGH);
-    CHECK(minisign_open_sealed_key(&unopened, ABC, sizeof ABC, 1, 0, &opened) == MINISIGN_WORK_TOO_HIGH);
-    CHECK(memcmp(&opened, &before, sizeof before) == 0);
-    CHECK(minisign_open_sealed_key(&unopened, ABC, sizeof ABC, 1, rows, &opened) == MINISIGN_OK);
-    CHECK(memcmp(&opened, &of_zeros, sizeof of_zeros) == 0);
-    opened = before;
-    CHECK(minisign_open_sealed_key(&unopened, ABC, sizeof ABC, 16, MINISIGN_USUAL_ROWS, &opened) == MINISIGN_OK);
-    CHECK(memcmp(&opened, &of_zeros, sizeof of_zeros) == 0);
-    opened = before;
-    CHECK(minisign_open_sealed_key(&unopened, ABC, sizeof ABC, 16, MINISIGN_ANY_ROWS, &opened) == MINISIGN_OK);
+    opens("abc", 1, rows - 1, MINISIGN_WORK_TOO_HIGH);
+    opens("abc", 1, 0, MINISIGN_WORK_TOO_HIGH);
+    opens("abc", 1, rows, MINISIGN_OK);
+    opens("abc", 16, MINISIGN_USUAL_ROWS, MINISIGN_OK);
+    opens("abc", 16, MINISIGN_ANY_ROWS, MINISIGN_OK);
     /* (few rows of many parts take long) */
     for (size_t i = 0; i < (p == 1 ? LENGTH(kept) : 1); i++) {
         const uint64_t every = kept[i] > 1 ? kept[i] : 1, held = 1024 / every + (1024 % every != 0);
@@ -346,19 +314,14 @@ static void rows_bounded(uint64_t p)
 
         minisign_opening_memory(&unopened, kept[i], &words_len, &bytes_len);
         CHECK(256 * held <= words_len && words_len <= 256 * (held + 3) && bytes_len == 1024 * p);
-        opened = before;
-        CHECK(open_in_place(&unopened, "abc", kept[i], rows, words_len - 1, bytes_len, &opened) == MINISIGN_NO_ROOM);
-        CHECK(open_in_place(&unopened, "\xff", kept[i], 0, words_len, bytes_len - 1, &opened) == MINISIGN_NO_ROOM);
-        CHECK(open_in_place(&unopened, "\xff", kept[i], 0, words_len, bytes_len, &opened) == MINISIGN_NOT_UTF8);
-        CHECK(open_in_place(&unopened, "abc", kept[i], rows - 1, words_len, bytes_len, &opened) == MINISIGN_WORK_TOO_HIGH);
-        CHECK(open_in_place(&unopened, "ab", kept[i], rows, words_len, bytes_len, &opened) == MINISIGN_WRONG_PASSWORD);
-        CHECK(memcmp(&opened, &before, sizeof before) == 0);
-        CHECK(open_in_place(&unopened, "abc", kept[i], rows, words_len, bytes_len, &opened) == MINISIGN_OK);
-        CHECK(memcmp(&opened, &of_zeros, sizeof of_zeros) == 0);
+        opens_in_place("abc", kept[i], rows, words_len - 1, bytes_len, MINISIGN_NO_ROOM);
+        opens_in_place("\xff", kept[i], 0, words_len, bytes_len - 1, MINISIGN_NO_ROOM);
+        opens_in_place("\xff", kept[i], 0, words_len, bytes_len, MINISIGN_NOT_UTF8);
+        opens_in_place("abc", kept[i], rows - 1, words_len, bytes_len, MINISIGN_WORK_TOO_HIGH);
+        opens_in_place("ab", kept[i], rows, words_len, bytes_len, MINISIGN_WRONG_PASSWORD);
+        opens_in_place("abc", kept[i], rows, words_len, bytes_len, MINISIGN_OK);
     }
-    opened = before;
-    CHECK(open_in_place(&unopened, "abc", 1, MINISIGN_USUAL_ROWS, LENGTH(words), sizeof parts, &opened) == MINISIGN_OK);
-    CHECK(memcmp(&opened, &of_zeros, sizeof of_zeros) == 0);
+    opens_in_place("abc", 1, MINISIGN_USUAL_ROWS, LENGTH(words), sizeof parts, MINISIGN_OK);
 }
 
 /* A key that wants no password takes no memory, and none is needed to reject it. */
@@ -398,19 +361,19 @@ static void texts_of_signatures(void)
     const size_t second_line = strlen("untrusted comment: ") + sizeof untrusted;
     const minisign_signature signature = signature_of(SIGNATURE);
     minisign_secret_key before = key;
-    minisign_state state = fed();
+    minisign_state state = fed_with("abc");
 
     CHECK(ask_with(&state, &signature, SIGNATURE, sizeof SIGNATURE - 1, 0, sizeof message) == MINISIGN_OK);
     for (size_t room = 0; room < sizeof SIGNATURE; room++) {
-        CHECK(make_short_text(&key, COMMENT, untrusted, room) == MINISIGN_NO_ROOM);
+        CHECK(make_short_text(COMMENT, untrusted, room) == MINISIGN_NO_ROOM);
     }
     for (size_t i = 0; i < LENGTH(rejected); i++) {
-        CHECK(make_short_text(&key, rejected[i][0], rejected[i][1], 0) == MINISIGN_BAD_COMMENT);
+        CHECK(make_short_text(rejected[i][0], rejected[i][1], 0) == MINISIGN_BAD_COMMENT);
     }
-    CHECK(make_short_text(&key, "\xff", "u\r", 0) == MINISIGN_NOT_UTF8);
-    CHECK(make_short_text(&key, "t\n", "\xff", 0) == MINISIGN_NOT_UTF8);
+    CHECK(make_short_text("\xff", "u\r", 0) == MINISIGN_NOT_UTF8);
+    CHECK(make_short_text("t\n", "\xff", 0) == MINISIGN_NOT_UTF8);
     CHECK(text_len == 0 && text[0] == 0);
-    CHECK(make_short_text(&key, COMMENT, untrusted, sizeof SIGNATURE) == MINISIGN_OK);
+    CHECK(make_short_text(COMMENT, untrusted, sizeof SIGNATURE) == MINISIGN_OK);
     memcpy(expected, SIGNATURE, sizeof SIGNATURE - 1);
     expected[sizeof SIGNATURE - 1] = '\n';
     write_record(expected + second_line, key.key_id, questions.signature);
@@ -432,16 +395,16 @@ static void texts_for_minisign(void)
     static char letters[10000];
 
     memset(letters, 'a', sizeof letters);
-    CHECK(make_text(&key, "t", 1, letters, 1003, sizeof text) == MINISIGN_OK);
-    CHECK(make_text(&key, "t", 1, letters, 1004, sizeof text) == MINISIGN_UNREADABLE_COMMENT);
-    CHECK(make_text(&key, "t", 1, letters, 10000, 0) == MINISIGN_UNREADABLE_COMMENT);
-    CHECK(make_text(&key, letters, 8173, "u", 1, sizeof text) == MINISIGN_OK);
-    CHECK(make_text(&key, letters, 8174, "u", 1, sizeof text) == MINISIGN_UNREADABLE_COMMENT);
-    CHECK(make_text(&key, "a\0b", 3, "u", 1, sizeof text) == MINISIGN_UNREADABLE_COMMENT);
-    CHECK(make_text(&key, "t", 1, "a\0b", 3, sizeof text) == MINISIGN_UNREADABLE_COMMENT);
-    CHECK(make_text(&key, "t", 1, "\0", 1, sizeof text) == MINISIGN_UNREADABLE_COMMENT);
+    CHECK(make_text("t", 1, letters, 1003, sizeof text) == MINISIGN_OK);
+    CHECK(make_text("t", 1, letters, 1004, sizeof text) == MINISIGN_UNREADABLE_COMMENT);
+    CHECK(make_text("t", 1, letters, 10000, 0) == MINISIGN_UNREADABLE_COMMENT);
+    CHECK(make_text(letters, 8173, "u", 1, sizeof text) == MINISIGN_OK);
+    CHECK(make_text(letters, 8174, "u", 1, sizeof text) == MINISIGN_UNREADABLE_COMMENT);
+    CHECK(make_text("a\0b", 3, "u", 1, sizeof text) == MINISIGN_UNREADABLE_COMMENT);
+    CHECK(make_text("t", 1, "a\0b", 3, sizeof text) == MINISIGN_UNREADABLE_COMMENT);
+    CHECK(make_text("t", 1, "\0", 1, sizeof text) == MINISIGN_UNREADABLE_COMMENT);
     for (size_t i = 0; i < LENGTH(rejected); i++) {
-        CHECK(make_short_text(&key, rejected[i][0], rejected[i][1], sizeof text) == MINISIGN_UNREADABLE_COMMENT);
+        CHECK(make_short_text(rejected[i][0], rejected[i][1], sizeof text) == MINISIGN_UNREADABLE_COMMENT);
     }
 }
 
@@ -454,6 +417,7 @@ static void numbers(void)
 
 int main(void)
 {
+    minisign_take_secret_key((const uint8_t[8]) { 0 }, (const uint8_t[64]) { 0 }, &of_zeros);
     least_room();
     other_texts();
     other_places();

@@ -16,28 +16,27 @@ class AtTerminal:
     """A program at a terminal of its own, and a person at it."""
 
     def __init__(self, command, program, directory, environment):
-        self.person, side = pty.openpty()
-        self.process = subprocess.Popen(command, executable=program, cwd=directory, env=environment, stdin=side, stdout=side,
-                                        stderr=side, umask=0o022, start_new_session=True,
-                                        preexec_fn=lambda: own_terminal(side))
-        self.side = side
         self.shown = b""
+        self.person, self.side = pty.openpty()
+        # (the terminal is that of the process, which has just begun a session)
+        self.process = subprocess.Popen(command, executable=program, cwd=directory, env=environment, stdin=self.side, stdout=self.side,
+                                        stderr=self.side, umask=0o022, start_new_session=True,
+                                        preexec_fn=lambda: fcntl.ioctl(self.side, termios.TIOCSCTTY, 0))
 
     def read_until(self, pattern):
         """Reads what is shown until it ends with a match, or until the program has ended: whether there was one."""
+        is_shown = lambda: pattern is not None and re.search(pattern, self.shown) is not None
         end = time.monotonic() + SECONDS
-        while time.monotonic() < end:
-            if pattern is not None and re.search(pattern, self.shown):
-                return True
+        while time.monotonic() < end and not is_shown():
+            has_ended = self.process.poll() is not None
             if select.select([self.person], [], [], 0.02)[0]:
                 try:
                     self.shown += os.read(self.person, 65536)
-                    continue
                 except OSError:
                     break
-            if self.process.poll() is not None and not select.select([self.person], [], [], 0.02)[0]:
+            elif has_ended:
                 break
-        return pattern is not None and re.search(pattern, self.shown) is not None
+        return is_shown()
 
     def type(self, line):
         os.write(self.person, line)
@@ -72,18 +71,11 @@ class AtTerminal:
         return self.process.returncode
 
 
-def own_terminal(side):
-    """Makes a terminal that of the process, which has just begun a session."""
-    fcntl.ioctl(side, termios.TIOCSCTTY, 0)
-
-
 def type_at_terminal(command, program, directory, environment, lines):
     """Runs a program at a terminal at which a person types a line at each question for a password: its status, and what was
     shown."""
     at = AtTerminal(command, program, directory, environment)
-    questions = 0
-    for line in lines:
-        questions += 1
+    for questions, line in enumerate(lines, 1):
         if not at.read_until(rb"(?:Password(?: \(one more time\))?: [^P]*){%d}$" % questions):
             break
         at.wait_for_hiding()

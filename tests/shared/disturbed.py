@@ -15,14 +15,13 @@ from dataclasses import replace
 from process import Ran, run_program, told
 from running import SECONDS, Failure, Skip, build_preload, read
 
-# Where fresh directories are in memory, since each run brings its files to the disk.
-MEMORY = "/dev/shm"
 MAX_CALLS = 500
 
 
 def place_for(room):
-    """Where fresh directories are made: in memory where that can be had, or else in this one."""
-    return MEMORY if os.access(MEMORY, os.W_OK) else room
+    """Where fresh directories are made: in memory where that can be had, since each run brings its files to the disk, or else in
+    this one."""
+    return "/dev/shm" if os.access("/dev/shm", os.W_OK) else room
 
 
 def in_turn(place, attempt):
@@ -40,8 +39,7 @@ def in_turn(place, attempt):
 
 
 class Disturbing:
-    """A program that is run in fresh directories, in memory where that can be had, since each run brings its files to the disk. The
-    program stands elsewhere, as what is in memory may not be run everywhere."""
+    """A program that is run in fresh directories. It stands elsewhere, as what is in memory may not be run everywhere."""
 
     # After so many seconds a run has failed.
     seconds = 4 * SECONDS
@@ -59,27 +57,24 @@ class Disturbing:
         return run_program([program or self.program, *arguments], directory,
                            **{"seconds": self.seconds, "env": environment or {}, **how})
 
-    def run_told(self, directory, arguments, environment, says, **how):
-        """A run with a library preloaded that has a call or a request for memory fail, and by this name is told where to say so."""
-        run = lambda number: self.run(directory, arguments, {**environment, says: str(number)}, pass_fds=[number],
-                                      **how)
-        ran, came = told(run)
+    def run_told(self, directory, arguments, preload, word, told_of, **how):
+        """A run with a library preloaded that has a call or a request for memory fail: by names that begin with this word it is told
+        of that, and where to say that the run came to it."""
+        environment = {"LD_PRELOAD": preload, **{f"{word}_{name}": str(value) for name, value in told_of.items()}}
+        ran, came = told(lambda says: self.run(directory, arguments, {**environment, f"{word}_SAYS": str(says)}, pass_fds=[says], **how))
         return replace(ran, came=came)
 
     def run_broken(self, directory, arguments, how, **more):
         """A run with a call broken, as `disturbed_calls.c` is told."""
-        broken = {f"BREAK_{name}": str(value) for name, value in how.items()}
-        return self.run_told(directory, arguments, {"LD_PRELOAD": self.preload, **broken}, "BREAK_SAYS", **more)
+        return self.run_told(directory, arguments, self.preload, "BREAK", how, **more)
 
     def run_refused(self, directory, arguments, number):
         """A run whose request for memory of this number is refused."""
-        return self.run_told(directory, arguments, {"LD_PRELOAD": self.rejecting, "REFUSE_AT": str(number)},
-                             "REFUSE_SAYS")
+        return self.run_told(directory, arguments, self.rejecting, "REFUSE", {"AT": number})
 
     def break_each(self, prepare, arguments, judge, **how):
         """Breaks each of the calls of a run in turn, in a fresh directory that is prepared, and hands to `judge` how each ended and its
         directory: how many calls there were."""
-
         def attempt(number, directory):
             prepare(directory)
             ran = self.run_broken(directory, arguments, {"AT": number, **how})
@@ -147,13 +142,13 @@ def small_disk(directory):
 def without_room(directory):
     """The file system of a directory is full meanwhile."""
     path = os.path.join(directory, "fill")
-    with open(path, "wb", buffering=0) as fill:
-        try:
+    try:
+        with open(path, "wb", buffering=0) as fill:
             while True:
                 fill.write(bytes(4096))
-        except OSError as error:
-            if error.errno != errno.ENOSPC:
-                raise
+    except OSError as error:
+        if error.errno != errno.ENOSPC:
+            raise
     try:
         yield
     finally:

@@ -23,21 +23,19 @@ def vectors():
         return json.load(file)
 
 
+def texts(comment, key, algorithm, signature):
+    """The texts of a public key, and of a signature by this algorithm of the data and of the comment."""
+    record = lambda algorithm, rest: base64.b64encode(algorithm + KEY_ID + rest)
+    lines = [b"untrusted comment: " + comment, record(algorithm, signature), b"trusted comment: t", base64.b64encode(signature)]
+    return b"untrusted comment: %s\n%s\n" % (comment, record(b"Ed", key)), b"".join(line + b"\n" for line in lines)
+
+
 def texts_for_every_file():
     """A public key and a signature that an implementation which takes points of small order accepts for every file."""
-    record = lambda algorithm, rest: base64.b64encode(algorithm + KEY_ID + rest)
-    key = b"untrusted comment: small order\n" + record(b"Ed", NEUTRAL) + b"\n"
-    signature = NEUTRAL + bytes(32)
-    lines = [b"untrusted comment: small order", record(b"ED", signature), b"trusted comment: t", base64.b64encode(signature)]
-    return key, b"".join(line + b"\n" for line in lines)
+    return texts(b"small order", NEUTRAL, b"ED", NEUTRAL + bytes(32))
 
 
 def legacy_texts(vector):
-    """
-    A public key and a signature of the older kind, of the vector's message as the data: a host that accepts the vector
-    rejects the comment's signature alone, or nothing.
-    """
-    key, signature = bytes.fromhex(vector["A"]), bytes.fromhex(vector["sig"])
-    record = lambda rest: base64.b64encode(b"Ed" + KEY_ID + rest)
-    lines = [b"untrusted comment: vector", record(signature), b"trusted comment: t", base64.b64encode(signature)]
-    return b"untrusted comment: vector\n" + record(key) + b"\n", b"".join(line + b"\n" for line in lines)
+    """A public key and a signature of the older kind, of the vector's message as the data: a host that accepts the vector
+    rejects the comment's signature alone, or nothing."""
+    return texts(b"vector", bytes.fromhex(vector["A"]), b"Ed", bytes.fromhex(vector["sig"]))

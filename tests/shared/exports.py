@@ -14,6 +14,7 @@ sys.path.append(os.path.join(os.path.dirname(os.path.realpath(__file__)), "..", 
 import boundary
 import c_header
 import sources
+from running import write
 
 # The numbers and the structs by their names in Rattle.
 KINDS = {"u32": "uint32_t", "u64": "uint64_t", "usize": "size_t", "State": "minisign_state",
@@ -119,7 +120,4 @@ class Layouts:
 
 def write_layout(room):
     """Writes the assertions into a directory, and returns the path."""
-    path = os.path.join(room, "layout.c")
-    with open(path, "w", encoding="utf-8") as file:
-        file.write(Layouts().text())
-    return path
+    return write(room, "layout.c", Layouts().text().encode())

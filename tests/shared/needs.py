@@ -71,17 +71,15 @@ def install(packages):
 
 def need(find, what, *packages):
     """What `find` answers, once the packages are installed where it first answers None."""
-    found = find()
+    found, why = find(), f"install {' '.join(packages)}"
     if found is None and may_install():
         with open(LOCK, "w", encoding="ascii") as lock:
             fcntl.flock(lock, fcntl.LOCK_EX)
             # (another script may have brought it meanwhile)
             wrong = "" if find() is not None else install(packages)
-            found = find()
-        if found is None:
-            raise Missing(f"{what} is not here, and installing {' '.join(packages)} did not bring it: {wrong}")
+            found, why = find(), f"installing {' '.join(packages)} did not bring it: {wrong}"
     if found is None:
-        raise Missing(f"{what} is not here: install {' '.join(packages)}")
+        raise Missing(f"{what} is not here: {why}")
     return found
 
 
@@ -92,11 +90,8 @@ def program(name, package):
 
 def compiler_of(source, *flags):
     """The path of a C compiler that makes a program of the source, or None."""
-    for name in ("gcc", "cc", "clang"):
-        path = which(name)
-        if path is not None and compiles(path, source, flags):
-            return path
-    return None
+    found = filter(None, map(which, ("gcc", "cc", "clang")))
+    return next((path for path in found if compiles(path, source, flags)), None)
 
 
 def compiles(compiler, source, flags):
@@ -129,30 +124,18 @@ def first_rust_compiler():
     return os.environ.get("RUSTC") or shutil.which("rustc") or rust_compiler()
 
 
-def git():
-    """The path of the program that makes clones of a repository."""
-    return program("git", "git")
-
-
 def libsodium():
     """The path of a C compiler that finds libsodium's header and links with `-lsodium`."""
     c_compiler()
     return need(lambda: compiler_of(SODIUM, "-lsodium"), "libsodium with its header", "libsodium-dev")
 
 
-def minisign():
-    """The path of the C program minisign."""
-    return program("minisign", "minisign")
-
-
-def wasm_opt():
-    """The path of the program that makes modules with a memory of 32 bits of such for 64."""
-    return program("wasm-opt", "binaryen")
-
-
-def node():
-    """The path of the program that runs scripts of a browser's language outside of one."""
-    return program("node", "nodejs")
+# The paths of git, of the C program minisign, of what makes modules with a memory of 32 bits of such for 64, and of what runs
+# scripts of a browser's language outside of one.
+git = lambda: program("git", "git")
+minisign = lambda: program("minisign", "minisign")
+wasm_opt = lambda: program("wasm-opt", "binaryen")
+node = lambda: program("node", "nodejs")
 
 
 def firefox():
@@ -168,9 +151,7 @@ def chromium():
 
 def python_with_selenium():
     """The path of a Python that has selenium: this one, or Debian's."""
+    def has_selenium(python):
+        return os.path.exists(python) and subprocess.run([python, "-c", "import selenium"], stderr=subprocess.DEVNULL).returncode == 0
+
     return need(lambda: next(filter(has_selenium, (sys.executable, "/usr/bin/python3")), None), "selenium", "python3-selenium")
-
-
-def has_selenium(python):
-    """Whether a Python has selenium."""
-    return os.path.exists(python) and subprocess.run([python, "-c", "import selenium"], stderr=subprocess.DEVNULL).returncode == 0

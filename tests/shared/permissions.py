@@ -10,39 +10,22 @@ import os
 import stat
 import subprocess
 import tempfile
-from dataclasses import dataclass
+from collections import namedtuple
 
 import needs
-from running import NOBODY, SECONDS, Failure, Skip, expect
+from running import AS_NOBODY, NOBODY, SECONDS, Skip, expect
 
 ACCESS_LIST = "system.posix_acl_access"
 # A group of which nobody is no member, and a user in lists.
 OTHER_GROUP, OTHER_USER = 54321, 54322
 
-
-@dataclass(frozen=True)
-class Older:
-    """A file that is replaced: its mode, which entries of an access control list it has, and which list each new file of its
-    directory inherits."""
-
-    mode: int
-    entries: str = ""
-    inherited: str = ""
-
-
-@dataclass(frozen=True)
-class Replaced:
-    """A run, and the mode that the new file has to have, and whether it has to have the older one's list. It runs as nobody,
-    whose the older file is, over a file of nobody's own group or of another one; or as whoever runs the test. A mode may be
-    asked for. A call may fail, by its name."""
-
-    older: Older
-    mode: int
-    has_list: bool = False
-    as_nobody: bool = False
-    group: int = NOBODY
-    asked: str = ""
-    broken: str = ""
+# A file that is replaced: its mode, which entries of an access control list it has, and which list each new file of its
+# directory inherits.
+Older = namedtuple("Older", "mode entries inherited", defaults=("", ""))
+# A run over an older file, and the mode that the new file has to have, and whether it has to have the older one's list. It runs
+# as nobody, whose the older file is, over a file of nobody's own group or of another one; or as whoever runs the test. A mode
+# may be asked for. A call may fail, by its name.
+Replaced = namedtuple("Replaced", "older mode has_list as_nobody group asked broken", defaults=(False, False, NOBODY, "", ""))
 
 
 def list_of(path):
@@ -83,13 +66,12 @@ def run_case(replacing, case):
         make_older(directory, path, case.older)
         before, older = os.stat(path), list_of(path)
         breaking = {"BREAK_CALLS": case.broken, "BREAK_AT": "1", "BREAK_ERRNO": str(errno.ENOSPC)} if case.broken else {}
-        user = {"user": NOBODY, "group": NOBODY, "extra_groups": []} if case.as_nobody else {}
-        status, said = replacing.run(directory, case.asked, breaking, user)
+        status, said = replacing.run(directory, case.asked, breaking, AS_NOBODY if case.as_nobody else {})
         after, newer = os.stat(path), list_of(path)
+        mode = stat.S_IMODE(after.st_mode)
         expect(status == 0 and after.st_ino != before.st_ino,
                f"it ended with status {status}, said {said}, and the file was{' not' * (after.st_ino == before.st_ino)} replaced")
-        if stat.S_IMODE(after.st_mode) != case.mode:
-            raise Failure(f"the file has the mode {stat.S_IMODE(after.st_mode):o} in place of {case.mode:o}")
+        expect(mode == case.mode, f"the file has the mode {mode:o} in place of {case.mode:o}")
         expect(newer == (older if case.has_list else None), f"the file has the list {newer}, where the older one had {older}")
 
 

@@ -10,32 +10,22 @@ import os
 import shutil
 import subprocess
 import tempfile
-from dataclasses import dataclass
+from collections import namedtuple
 
 import proved
 import static_library
-from running import SECONDS, Failure, Skip, expect, run_one
+from process import run
+from running import SECONDS, Failure, Skip, expect, read, run_one, write
 
-
-@dataclass(frozen=True)
-class Bug:
-    """What is done wrongly, in which file, which text becomes which other one, and the case that has to notice it."""
-
-    what: str
-    file: str
-    old: str
-    new: str
-    case: str
+# What is done wrongly, in which file, which text becomes which other one, and the case that has to notice it.
+Bug = namedtuple("Bug", "what file old new case")
 
 
 def plant(bug, copy):
     """Changes the copy of a file in one place."""
-    path = os.path.join(copy, bug.file)
-    with open(path, encoding="utf-8") as file:
-        text = file.read()
+    text = read(copy, bug.file).decode()
     expect(text.count(bug.old) == 1, f"{bug.file} has {text.count(bug.old)} times what is changed")
-    with open(path, "w", encoding="utf-8") as file:
-        file.write(text.replace(bug.old, bug.new))
+    write(copy, bug.file, text.replace(bug.old, bug.new).encode())
 
 
 def build(bug, room, library, name):
@@ -48,10 +38,8 @@ def build(bug, room, library, name):
     os.makedirs(out)
     shutil.copy(library, out)
     # (the library is newer than all that it is made of)
-    ran = subprocess.run(["make", "-C", sources, "-o", "out/libminisign.a", "CFLAGS=-O0", f"out/{name}"],
-                         stdin=subprocess.DEVNULL,
-                         stdout=subprocess.PIPE, stderr=subprocess.STDOUT, timeout=10 * SECONDS)
-    expect(ran.returncode == 0, f"it was not built: {ran.stdout.decode(errors='replace')[-500:]}")
+    status, said = run(["make", "-C", sources, "-o", "out/libminisign.a", "CFLAGS=-O0", f"out/{name}"], seconds=10 * SECONDS)
+    expect(status == 0, f"it was not built: {said[-500:]}")
     return os.path.join(out, name)
 
 

@@ -23,23 +23,21 @@ class Ran:
 
 def run_program(command, directory, typed=None, seconds=120, **how):
     """Runs a program in a directory, with these bytes or nothing on its standard input, and with what else `subprocess` takes."""
-    given = {"stdin": subprocess.DEVNULL} if typed is None else {"input": typed}
-    streams = {} if "stdin" in how else given
+    given = {"stdin": subprocess.DEVNULL} if typed is None or "stdin" in how else {"input": typed}
     ran = subprocess.run(command, cwd=directory, timeout=seconds,
-                         **{"stdout": subprocess.PIPE, "stderr": subprocess.PIPE, "umask": 0o022, **streams, **how})
+                         **{"stdout": subprocess.PIPE, "stderr": subprocess.PIPE, "umask": 0o022, **given, **how})
     return Ran(ran.returncode, ran.stdout or b"", ran.stderr or b"")
+
+
+def run_apart(command, directory=None, typed=b"", seconds=SECONDS, stderr=subprocess.PIPE, **environment):
+    """Runs a command: its status, its output, and its errors."""
+    ran = run_program(command, directory, typed, seconds, env=dict(os.environ, **environment), stderr=stderr)
+    return ran.status, ran.output.decode(errors="replace"), ran.said.decode(errors="replace")
 
 
 def run(command, directory=None, typed=b"", seconds=SECONDS, **environment):
     """Runs a command: its status, and all that it said, on both streams."""
-    ran = run_program(command, directory, typed, seconds, env=dict(os.environ, **environment), stderr=subprocess.STDOUT)
-    return ran.status, ran.output.decode(errors="replace")
-
-
-def run_apart(command, directory=None, typed=b"", seconds=SECONDS, **environment):
-    """Runs a command: its status, its output, and its errors."""
-    ran = run_program(command, directory, typed, seconds, env=dict(os.environ, **environment))
-    return ran.status, ran.output.decode(errors="replace"), ran.said.decode(errors="replace")
+    return run_apart(command, directory, typed, seconds, subprocess.STDOUT, **environment)[:2]
 
 
 def told(run):

@@ -22,8 +22,6 @@ ENDED = "rt ci has ended"
 ALL_ENDED = "all else has ended"
 # What a static library is built for where it is to run in a page.
 WASM = "wasm64-unknown-unknown"
-
-
 # The last verdict line of each static library that was built here.
 verdicts = {}
 # What a finished `rt ci` said whose results are taken.
@@ -41,8 +39,7 @@ class Crate:
         (self.name, *self.words), named = line.partition(":")[0].split(), line.partition(":")[2].split()
         self.near = [name for name in named if name in crates]
         self.of_kit = ["std", *(name for name in named if name not in crates)]
-        below = [name for each in self.near for name in (*crates[each].below, each)]
-        self.below = list(dict.fromkeys(below))
+        self.below = list(dict.fromkeys(name for each in self.near for name in (*crates[each].below, each)))
 
 
 @functools.lru_cache(maxsize=None)
@@ -163,11 +160,6 @@ def rattle(verb, name, directory, *flags, before=(), crate=None):
     return run([*before, f"{kit()}/bin/rattle", verb, *words, "--jobs", "1", *flags], directory)
 
 
-def verdict_of(words):
-    """The verdict line of a check that proved its crate."""
-    return re.findall(r"(?m)^logic=proved .*$", words)[-1]
-
-
 def toolchain():
     """The directory of the kit's compilers."""
     return f"{kit()}/toolchain"
@@ -182,7 +174,7 @@ def build_archive(name, archive, *flags, compilers=None):
     words = ["--toolchain", compilers or toolchain(), "--backend", "llvm", *flags, "-o", archive]
     ran = rattle("build", name, f"{ROOT}/crates/{name}", *words)
     hold(ran, name)
-    verdicts[name] = verdict_of(ran.stdout)
+    verdicts[name] = re.findall(r"(?m)^logic=proved .*$", ran.stdout)[-1]
     return verdicts[name]
 
 

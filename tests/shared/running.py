@@ -1,6 +1,9 @@
 """How the built program is run on real files, and how all that it says is compared with what it has to say."""
 
+import contextlib
 import errno
+import functools
+import itertools
 import os
 import pty
 import resource
@@ -12,6 +15,7 @@ import tempfile
 import termios
 import threading
 import time
+from collections import namedtuple
 from dataclasses import dataclass, field
 
 import needs
@@ -19,24 +23,26 @@ from process import told
 
 SECONDS = 30
 NOBODY = 65534
+AS_NOBODY = {"user": NOBODY, "group": NOBODY, "extra_groups": []}
 HERE = os.path.dirname(os.path.realpath(__file__))
+
+# == What stands in the directory of a run: the bytes of a file, or one of these ==
 
 DIRECTORY = "a directory"
 LOCKED = "a directory in which nothing may be made"
 MISSING = "nothing"
-CLOSED = "a closed stream"
-WRITE_ONLY = "a stream that cannot be read"
-FULL = "a full stream"
-NO_READER = "a pipe that nobody reads"
 
-
-@dataclass(frozen=True)
-class WithMode:
-    """A file with these permission bits, and these entries of an access control list beside them."""
-
-    data: bytes
-    mode: int
-    entries: str = ""
+# A file with these permission bits, and these entries of an access control list beside them.
+WithMode = namedtuple("WithMode", "data mode entries", defaults=("",))
+# A symbolic link to this path.
+Link = namedtuple("Link", "target")
+# A second name of a file that was made before it, a hard link.
+SecondName = namedtuple("SecondName", "first")
+# A named pipe that the program has to open, or to leave closed, and the data that comes in it, or none ever.
+Pipe = namedtuple("Pipe", "data has_to_open", defaults=(None, True))
+OPENED_PIPE, UNOPENED_PIPE = Pipe(), Pipe(has_to_open=False)
+# A named pipe that somebody reads, and all that has to come in it.
+ReadPipe = namedtuple("ReadPipe", "data")
 
 
 def unreadable(data):
@@ -44,87 +50,36 @@ def unreadable(data):
     return WithMode(data, 0)
 
 
-@dataclass(frozen=True)
-class Link:
-    """A symbolic link to this path."""
+# == What a stream of a run is: bytes come through a pipe ==
 
-    target: str
+CLOSED = "a closed stream"
+WRITE_ONLY = "a stream that cannot be read"
+FULL = "a full stream"
+NO_READER = "a pipe that nobody reads"
 
+# A pipe in which the pieces come one by one, each once the one before it was taken.
+Pieces = namedtuple("Pieces", "pieces")
+# A file as the standard input.
+FromFile = namedtuple("FromFile", "data")
+# A terminal as standard input and output, at which a person types each piece once the program asks for something, that is,
+# once what it wrote ends with a colon and a space. With `shows` the terminal does with letters and line feeds what terminals
+# mostly do; else it shows what the program writes, byte by byte, and not what is typed.
+Typed = namedtuple("Typed", "pieces shows", defaults=(False,))
+# A pipe as standard output that is read only once the program has made so many writes on the error stream and the directory
+# that it runs in was changed. So a program that writes more than a pipe takes cannot be further than that.
+ReadLate = namedtuple("ReadLate", "writes change")
+# A file of the directory as standard output, opened with these flags.
+IntoFile = namedtuple("IntoFile", "name flags")
+# A file as standard output or for errors, in which there is room for so many bytes. What is said into such a file counts as
+# one write.
+RoomFor = namedtuple("RoomFor", "length")
 
-@dataclass(frozen=True)
-class SecondName:
-    """A second name of a file that was made before it, a hard link."""
+# == What is wanted of a run ==
 
-    first: str
-
-
-@dataclass(frozen=True)
-class Pipe:
-    """A named pipe that the program has to open, or to leave closed, and the data that comes in it, or none ever."""
-
-    data: object = None
-    has_to_open: bool = True
-
-
-OPENED_PIPE, UNOPENED_PIPE = Pipe(), Pipe(has_to_open=False)
-
-
-@dataclass(frozen=True)
-class ReadPipe:
-    """A named pipe that somebody reads, and all that has to come in it."""
-
-    data: bytes
-
-
-@dataclass(frozen=True)
-class ReadLate:
-    """A pipe as standard output that is read only once the program has made so many writes on the error
-    stream and the directory that it runs in was changed. So a program that writes more than a pipe takes cannot
-    be further than that."""
-
-    writes: int
-    change: object
-
-
-@dataclass(frozen=True)
-class Pieces:
-    """A pipe in which the pieces come one by one, each once the one before it was taken."""
-
-    pieces: tuple
-
-
-@dataclass(frozen=True)
-class FromFile:
-    """A file as the standard input."""
-
-    data: bytes
-
-
-@dataclass(frozen=True)
-class IntoFile:
-    """A file of the directory as standard output, opened with these flags."""
-
-    name: str
-    flags: int
-
-
-@dataclass(frozen=True)
-class RoomFor:
-    """A file as standard output or for errors, in which there is room for so many bytes. What is said into such
-    a file counts as one write."""
-
-    length: int
-
-
-@dataclass(frozen=True)
-class Typed:
-    """A terminal as standard input and output, at which a person types each piece once the program asks for
-    something, that is, once what it wrote ends with a colon and a space. With `shows` the terminal does with
-    letters and line feeds what terminals mostly do; else it shows what the program writes, byte by byte, and
-    not what is typed."""
-
-    pieces: tuple
-    shows: bool = False
+# Lines on the error stream that may be these or those.
+OneOf = namedtuple("OneOf", "choices")
+# A prefix of this output.
+PrefixOf = namedtuple("PrefixOf", "whole")
 
 
 @dataclass(frozen=True)
@@ -134,20 +89,6 @@ class Sources:
 
     random: int = 256
     moment: int = 1555779966
-
-
-@dataclass(frozen=True)
-class OneOf:
-    """Lines on the error stream that may be these or those."""
-
-    choices: tuple
-
-
-@dataclass(frozen=True)
-class PrefixOf:
-    """A prefix of this output."""
-
-    whole: bytes
 
 
 @dataclass(frozen=True)
@@ -245,7 +186,8 @@ class Runner:
 
     def run(self, case):
         """Makes the run, or all runs of a case that is disturbed, and raises a `Failure` or a `Skip`."""
-        if any(is_forbidding(file) for file in case.files.values()) and os.geteuid() == 0 and not self.nobody:
+        is_forbidding = any(kind == LOCKED or isinstance(kind, WithMode) for kind in case.files.values())
+        if is_forbidding and os.geteuid() == 0 and not self.nobody:
             raise Skip("root may read and write every file, and cannot become nobody here")
         if case.rejecting:
             rest = {"REFUSE_REST": "1"} if case.rejecting == "all" else {}
@@ -257,7 +199,7 @@ class Runner:
             given = {"FIXED_RANDOM": str(case.sources.random), "FIXED_MOMENT": str(case.sources.moment)}
             self.run_once(case, self.preloading("fixed_sources", **given))
         else:
-            self.run_once(case)
+            self.run_once(case, {})
 
     def preloading(self, name, **environment):
         """An environment in which a library of `tests/shared` is preloaded."""
@@ -268,27 +210,23 @@ class Runner:
     def run_each(self, case, what, word, environment):
         """Runs with each such allocation or call failing in turn. By names that begin with this word the library is told its
         number, and whom to tell."""
-        for number in range(1, 1000):
-            given = {**environment, f"{word}_AT": str(number)}
-            if not self.run_refused(case, f"{what} number {number}", given, f"{word}_SAYS"):
-                expect(number != 1, f"it made no {what}")
-                return
-        raise Failure(f"it came to {what} number 1000")
 
-    def run_refused(self, case, what, environment, says_name):
-        """Runs with one allocation or call failing, and answers whether the run came to it."""
-        def run(says):
+        def failure_of(number, says):
             try:
-                self.run_once(case, {**environment, says_name: str(says)}, [says])
+                self.run_once(case, {**environment, f"{word}_AT": str(number), f"{word}_SAYS": str(says)}, [says])
             except Failure as failure:
                 return failure
             return None
 
-        failure, was_refused = told(run)
-        expect(not was_refused or not failure, f"with {what} rejected: {failure}")
-        return was_refused
+        for number in range(1, 1000):
+            failure, was_refused = told(functools.partial(failure_of, number))
+            if not was_refused:
+                expect(number != 1, f"it made no {what}")
+                return
+            expect(not failure, f"with {what} number {number} rejected: {failure}")
+        raise Failure(f"it came to {what} number 1000")
 
-    def run_once(self, case, environment=None, passed=()):
+    def run_once(self, case, environment, passed=()):
         with tempfile.TemporaryDirectory(dir=self.room) as directory:
             for number, step in enumerate((case, *case.then)):
                 try:
@@ -305,7 +243,7 @@ class Runner:
                     os.lchown(path, NOBODY, NOBODY)
         streams = Streams(directory, case)
         try:
-            status = self.start(case, directory, streams, pipes, environment or {}, passed)
+            status = self.start(case, directory, streams, pipes, environment, passed)
             compare(case, status, streams)
             if case.left:
                 case.left(directory)
@@ -314,22 +252,13 @@ class Runner:
 
     def start(self, case, directory, streams, pipes, environment, passed):
         """Starts the program, serves it until it has ended, and answers its exit status."""
-        how = {"user": NOBODY, "group": NOBODY, "extra_groups": []} if self.nobody else {}
-        process = subprocess.Popen(
-            [self.program, *case.arguments],
-            cwd=directory,
-            env=environment,
-            stdin=streams.stdin,
-            stdout=streams.stdout,
-            stderr=streams.stderr,
-            preexec_fn=streams.prepare_child,
-            pass_fds=passed,
-            umask=case.umask,
-            **how,
-        )
+        stdin, stdout, stderr, *_ = streams.ends
+        process = subprocess.Popen([self.program, *case.arguments], cwd=directory, env=environment, stdin=stdin, stdout=stdout,
+                                   stderr=stderr, preexec_fn=streams.prepare_child, pass_fds=passed, umask=case.umask,
+                                   **(AS_NOBODY if self.nobody else {}))
         try:
             streams.serve()
-            wait(process, pipes)
+            wait(process, [*pipes, *streams.terminals])
         finally:
             process.kill()
             process.wait()
@@ -342,101 +271,114 @@ class NamedPipe:
     """A named pipe beside the files, and whether the program opened it."""
 
     def __init__(self, path, kind):
-        self.name = os.path.basename(path)
-        self.path = path
-        self.has_to_open, self.data = kind.has_to_open, kind.data
-        self.opened = False
-        self.writer = None
+        self.path, self.kind = path, kind
+        self.opened, self.writer = False, None
         os.mkfifo(path)
 
     def poll(self):
         """Opens the pipe for writing where the program has it open for reading."""
-        if not self.opened:
-            try:
-                self.writer = os.open(self.path, os.O_WRONLY | os.O_NONBLOCK)
-            except OSError:
-                return
-            self.opened = True
-            expect(self.has_to_open, f"it opened {self.name}, which it had to leave closed")
-            if self.data is not None:
-                os.set_blocking(self.writer, True)
-                threading.Thread(target=feed, args=(self.writer, self.data), daemon=True).start()
-                self.writer = None
+        if self.opened:
+            return
+        try:
+            self.writer = os.open(self.path, os.O_WRONLY | os.O_NONBLOCK)
+        except OSError:
+            return
+        self.opened = True
+        expect(self.kind.has_to_open, f"it opened {os.path.basename(self.path)}, which it had to leave closed")
+        if self.kind.data is not None:
+            os.set_blocking(self.writer, True)
+            threading.Thread(target=feed, args=(self.writer, self.kind.data), daemon=True).start()
+            self.writer = None
 
     def check(self):
-        expect(not self.has_to_open or self.opened, f"it never opened {self.name}")
+        expect(not self.kind.has_to_open or self.opened, f"it never opened {os.path.basename(self.path)}")
 
     def close(self):
         if self.writer is not None:
             os.close(self.writer)
-            self.writer = None
 
 
 class DrainedPipe:
-    """A named pipe beside the files that is read once the program has ended."""
+    """A named pipe beside the files that is read once the program has ended: it has room for more than a key."""
 
     def __init__(self, path, kind):
-        self.name = os.path.basename(path)
-        self.data = kind.data
+        self.path, self.data = path, kind.data
         os.mkfifo(path)
         self.reader = os.open(path, os.O_RDONLY | os.O_NONBLOCK)
 
     def poll(self):
-        """Leaves all in the pipe, which has room for more than a key."""
+        """Leaves all in the pipe."""
 
     def check(self):
         came = os.read(self.reader, 1 << 16)
-        expect(came == self.data, f"in {self.name} came {came[:200]} in place of {self.data[:200]}")
+        expect(came == self.data, f"in {os.path.basename(self.path)} came {came[:200]} in place of {self.data[:200]}")
 
     def close(self):
         os.close(self.reader)
 
 
-def wait(process, pipes):
-    """Waits for the end of the program, and looks which pipes it opens."""
+class Terminal:
+    """A terminal with a person at it."""
+
+    def __init__(self, typed):
+        self.pieces, self.shown = list(typed.pieces), b""
+        self.person, self.side = pty.openpty()
+        os.set_blocking(self.person, False)
+        if not typed.shows:
+            settings = termios.tcgetattr(self.side)
+            settings[1] &= ~termios.OPOST
+            settings[3] &= ~termios.ECHO
+            termios.tcsetattr(self.side, termios.TCSANOW, settings)
+
+    def poll(self):
+        """Looks at what the terminal shows, and types."""
+        with contextlib.suppress(OSError):
+            while shown := os.read(self.person, 4096):
+                self.shown += shown
+                if self.pieces and self.shown.endswith(b": "):
+                    os.write(self.person, self.pieces.pop(0))
+
+    def check(self):
+        """Reads to the end of what the terminal showed, once the program has ended."""
+        os.set_blocking(self.person, True)
+        self.poll()
+
+
+def wait(process, watched):
+    """Waits for the end of the program, and looks which pipes it opens, and what it asks at a terminal."""
     end = time.monotonic() + SECONDS
     while True:
         ended = process.poll() is not None
-        for pipe in pipes:
-            pipe.poll()
+        for each in watched:
+            each.poll()
         if ended:
             break
         expect(time.monotonic() <= end, f"it had not ended after {SECONDS} seconds")
         time.sleep(0.001)
-    for pipe in pipes:
-        pipe.check()
+    for each in watched:
+        each.check()
 
 
 class Streams:
-    """The three streams of a run."""
+    """The three streams of a run. `ends` are those of the program, and the side of its terminal."""
 
     def __init__(self, directory, case):
-        self.given = case.stdin
-        self.pipe = None
+        self.given, self.pipe, self.late, self.early = case.stdin, None, None, []
         self.closed = [number for number, kind in enumerate((case.stdin, case.stdout, case.stderr)) if kind == CLOSED]
-        self.terminal = Terminal(case.stdin) if isinstance(case.stdin, Typed) else None
-        self.stdin = self.open_stdin(directory)
-        self.written = open_shared()
-        self.early = []
-        self.late = None
-        self.stdout = self.open_stdout(directory, case.stdout)
+        self.room = min((kind.length for kind in (case.stdout, case.stderr) if isinstance(kind, RoomFor)), default=None)
+        self.terminals = [Terminal(case.stdin)] if isinstance(case.stdin, Typed) else []
+        self.written, self.told = open_shared(), open_shared() if isinstance(case.stderr, RoomFor) else None
         # Of such a pair of sockets each write is read by itself.
         self.said, said = socket.socketpair(socket.AF_UNIX, socket.SOCK_SEQPACKET)
-        self.told = open_shared() if isinstance(case.stderr, RoomFor) else None
-        self.stderr = open_full(case.stderr) or os.dup((self.told or said).fileno())
+        self.ends = [self.open_stdin(directory), self.open_stdout(directory, case.stdout),
+                     open_unwritable(case.stderr) or os.dup((self.told or said).fileno()),
+                     *(terminal.side for terminal in self.terminals)]
         said.close()
-        rooms = [kind.length for kind in (case.stdout, case.stderr) if isinstance(kind, RoomFor)]
-        self.room = min(rooms, default=None)
-        if case.stderr == NO_READER:
-            reader, writer = os.pipe()
-            os.close(reader)
-            os.close(self.stderr)
-            self.stderr = writer
 
     def open_stdin(self, directory):
         given = self.given
-        if self.terminal:
-            return os.dup(self.terminal.side)
+        if isinstance(given, Typed):
+            return os.dup(self.terminals[0].side)
         if isinstance(given, (bytes, Pieces)):
             reader, self.pipe = os.pipe()
             return reader
@@ -456,16 +398,16 @@ class Streams:
             return writer
         if isinstance(kind, IntoFile):
             return os.open(os.path.join(directory, kind.name), kind.flags)
-        return open_full(kind) or os.dup(self.stdin if self.terminal else self.written.fileno())
+        return open_unwritable(kind) or os.dup(self.terminals[0].side if self.terminals else self.written.fileno())
+
+    def heard(self):
+        """Each write on the error stream, until the program has ended."""
+        return (text.decode(errors="backslashreplace") for text in iter(lambda: self.said.recv(1 << 20), b""))
 
     def read_late(self, reader, kind, directory):
         """Waits for the writes on the error stream, changes the directory, and reads the output to its end."""
         with os.fdopen(reader, "rb") as output:
-            while len(self.early) < kind.writes:
-                text = self.said.recv(1 << 20)
-                if not text:
-                    break
-                self.early.append(text.decode(errors="backslashreplace"))
+            self.early += itertools.islice(self.heard(), kind.writes)
             kind.change(directory)
             shutil.copyfileobj(output, self.written)
             self.written.flush()
@@ -480,93 +422,39 @@ class Streams:
 
     def serve(self):
         """Lets go of the program's ends, and feeds its standard input."""
-        for stream in (self.stdin, self.stdout, self.stderr):
-            os.close(stream)
-        self.stdin = self.stdout = self.stderr = None
-        if self.terminal:
-            self.terminal.serve()
+        self.let_go()
         if self.late:
             self.late.start()
         if self.pipe is not None:
             threading.Thread(target=feed, args=(self.pipe, self.given), daemon=True).start()
             self.pipe = None
 
+    def let_go(self):
+        while self.ends:
+            os.close(self.ends.pop())
+
     def output(self):
-        if self.terminal:
-            return self.terminal.output()
+        if self.terminals:
+            return self.terminals[0].shown
         self.written.seek(0)
         return self.written.read()
 
     def writes(self):
-        """Each write on the error stream, once the program has ended."""
+        """All writes on the error stream, once the program has ended."""
         if self.told:
             self.told.seek(0)
             return [self.told.read().decode(errors="backslashreplace")]
         if self.late:
             self.late.join(SECONDS)
-        writes = list(self.early)
-        while True:
-            text = self.said.recv(1 << 20)
-            if not text:
-                return writes
-            writes.append(text.decode(errors="backslashreplace"))
+        return [*self.early, *self.heard()]
 
     def close(self):
-        for stream in (self.stdin, self.stdout, self.stderr, self.pipe):
-            if stream is not None:
-                os.close(stream)
-        if self.terminal:
-            self.terminal.close()
-        self.written.close()
-        self.said.close()
-        if self.told:
-            self.told.close()
-
-
-class Terminal:
-    """A terminal with a person at it."""
-
-    def __init__(self, typed):
-        self.pieces = list(typed.pieces)
-        self.shown = []
-        self.person, self.side = pty.openpty()
-        if not typed.shows:
-            settings = termios.tcgetattr(self.side)
-            settings[1] &= ~termios.OPOST
-            settings[3] &= ~termios.ECHO
-            termios.tcsetattr(self.side, termios.TCSANOW, settings)
-        self.thread = threading.Thread(target=self.type, daemon=True)
-
-    def serve(self):
-        """Lets go of the program's side, and starts the person."""
-        os.close(self.side)
-        self.side = None
-        self.thread.start()
-
-    def type(self):
-        """Looks at what the terminal shows and types, until the program has ended."""
-        while True:
-            try:
-                shown = os.read(self.person, 4096)
-            except OSError:
-                return
-            if not shown:
-                return
-            self.shown.append(shown)
-            if self.pieces and b"".join(self.shown).endswith(b": "):
-                os.write(self.person, self.pieces.pop(0))
-
-    def output(self):
-        """All that the terminal showed, once the program has ended."""
-        self.thread.join(SECONDS)
-        return b"".join(self.shown)
-
-    def close(self):
-        if self.side is not None:
-            os.close(self.side)
-        if self.thread.ident is not None:
-            self.thread.join(SECONDS)
-        os.close(self.person)
+        self.let_go()
+        for descriptor in (self.pipe, *(terminal.person for terminal in self.terminals)):
+            if descriptor is not None:
+                os.close(descriptor)
+        for file in filter(None, (self.written, self.said, self.told)):
+            file.close()
 
 
 def open_shared():
@@ -576,12 +464,14 @@ def open_shared():
     return file
 
 
-def open_full(kind):
+def open_unwritable(kind):
     """What takes nothing that is written to it, where that is asked for."""
-    if kind != FULL:
-        return None
+    if kind == NO_READER:
+        reader, writer = os.pipe()
+        os.close(reader)
+        return writer
     try:
-        return os.open("/dev/full", os.O_WRONLY)
+        return os.open("/dev/full", os.O_WRONLY) if kind == FULL else None
     except OSError as error:
         raise Skip(f"there is no full device here: {error}") from error
 
@@ -589,30 +479,26 @@ def open_full(kind):
 def feed(pipe, given):
     """Writes what the program is given on its standard input, and closes it."""
     pieces = given.pieces if isinstance(given, Pieces) else (given,)
-    try:
-        with os.fdopen(pipe, "wb", buffering=0) as writer:
-            for piece in pieces:
-                rest = memoryview(piece)
-                while rest:
-                    rest = rest[writer.write(rest):]
-                if len(pieces) > 1:
-                    time.sleep(0.02)
-    except BrokenPipeError:
-        pass
+    with contextlib.suppress(BrokenPipeError), os.fdopen(pipe, "wb", buffering=0) as writer:
+        for piece in pieces:
+            rest = memoryview(piece)
+            while rest:
+                rest = rest[writer.write(rest):]
+            if len(pieces) > 1:
+                time.sleep(0.02)
 
 
 def compare(case, status, streams):
     """Raises a `Failure` where the run answered anything else than it had to."""
     writes, output = streams.writes(), streams.output()
-    if status != case.status:
-        ended = f"status {status}" if status >= 0 else signal.Signals(-status).name
-        raise Failure(f"it ended with {ended} in place of status {case.status}, and said {writes}")
+    ended = f"status {status}" if status >= 0 else signal.Signals(-status).name
+    expect(status == case.status, f"it ended with {ended} in place of status {case.status}, and said {writes}")
     expect(writes in (case.lines.choices if isinstance(case.lines, OneOf) else (case.lines,)),
            f"it said {writes} in place of {case.lines}")
     if isinstance(case.output, PrefixOf):
         expect(case.output.whole.startswith(output), f"it wrote {output[:200]}, which is no prefix of {case.output.whole[:200]}")
-    elif output != case.output:
-        raise Failure(f"it wrote {output[:200]} in place of {case.output[:200]}")
+    else:
+        expect(output == case.output, f"it wrote {output[:200]} in place of {case.output[:200]}")
 
 
 def make_files(directory, files):
@@ -624,21 +510,18 @@ def make_files(directory, files):
             continue
         if kind in (DIRECTORY, LOCKED):
             os.mkdir(path, 0o555 if kind == LOCKED else 0o755)
-        elif isinstance(kind, Pipe):
-            pipes.append(NamedPipe(path, kind))
-        elif isinstance(kind, ReadPipe):
-            pipes.append(DrainedPipe(path, kind))
+        elif isinstance(kind, (Pipe, ReadPipe)):
+            pipes.append((NamedPipe if isinstance(kind, Pipe) else DrainedPipe)(path, kind))
         elif isinstance(kind, Link):
             os.symlink(kind.target, path)
         elif isinstance(kind, SecondName):
             os.link(os.path.join(directory, kind.first), path)
+        elif isinstance(kind, WithMode):
+            os.chmod(write(directory, name, kind.data), kind.mode)
+            if kind.entries:
+                set_list(path, kind.entries)
         else:
-            with open(path, "wb") as file:
-                file.write(kind if isinstance(kind, bytes) else kind.data)
-            if isinstance(kind, WithMode):
-                os.chmod(path, kind.mode)
-                if kind.entries:
-                    set_list(path, kind.entries)
+            write(directory, name, kind)
     return pipes
 
 
@@ -649,18 +532,12 @@ def set_list(path, entries):
     expect(os.stat(path).st_mode != before, f"the list of {path} has no mask")
 
 
-def is_forbidding(kind):
-    """Whether a file or directory lacks permissions that root would have all the same."""
-    return kind == LOCKED or isinstance(kind, WithMode)
-
-
 def runs_as_nobody(program):
     """Whether the script runs as root and may start the program as nobody."""
     if os.geteuid() != 0:
         return False
     try:
-        subprocess.run([program], user=NOBODY, group=NOBODY, extra_groups=[], stdin=subprocess.DEVNULL,
-                       stdout=subprocess.DEVNULL, stderr=subprocess.DEVNULL, timeout=SECONDS)
+        subprocess.run([program], stdin=subprocess.DEVNULL, capture_output=True, timeout=SECONDS, **AS_NOBODY)
     except (OSError, subprocess.SubprocessError):
         return False
     return True
@@ -669,9 +546,9 @@ def runs_as_nobody(program):
 def build_preload(room, name="refuse_memory", only_in=None):
     """Compiles a library that is preloaded into the program, and answers its path. With the name of a library it leaves alone
     what others call."""
-    made = os.path.join(room, name + ".so")
-    source = os.path.join(HERE, name + ".c")
-    ran = subprocess.run([needs.c_compiler(), "-shared", "-fPIC", "-O1", "-o", made, *([f'-DONLY_IN="{only_in}"'] if only_in else []), source, "-ldl"], stderr=subprocess.PIPE)
+    made, source = os.path.join(room, f"{name}.so"), os.path.join(HERE, f"{name}.c")
+    only = [f'-DONLY_IN="{only_in}"'] if only_in else []
+    ran = subprocess.run([needs.c_compiler(), "-shared", "-fPIC", "-O1", "-o", made, *only, source, "-ldl"], stderr=subprocess.PIPE)
     if ran.returncode:
         raise needs.Missing(f"{name}.c was not compiled: {ran.stderr.decode(errors='replace')[-300:]}")
     os.chmod(made, 0o755)

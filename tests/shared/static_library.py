@@ -12,7 +12,9 @@ import subprocess
 
 import needs
 import proved
+from process import run
 from proved import NotBuilt
+from running import read
 
 DIRECTORY = os.path.join(proved.ROOT, "c")
 DIST = os.path.join(proved.ROOT, "dist")
@@ -30,9 +32,9 @@ def path_without_kit():
 # The object of dist/calls.c, which takes seven seconds to compile, by a sum over all that decides what it is: scripts share it.
 KEPT = os.path.join(proved.ROOT, "out", "kept-objects")
 OBJECT = "portable-calls.o"
-# What decides it: words of make, and what it is compiled from.
-DECIDING = ("CC", "CFLAGS", "CPPFLAGS", "HAS_PAGES", "WARNINGS")
-COMPILED = (os.path.join(DIST, "calls.c"), os.path.join(DIRECTORY, "library", "portable", "machine.h"), os.path.join(DIRECTORY, "Makefile"))
+# What decides it beside the compiler: words of make, and what it is compiled from.
+DECIDING = ("CFLAGS", "CPPFLAGS", "HAS_PAGES", "WARNINGS")
+COMPILED = (f"{DIST}/calls.c", f"{DIRECTORY}/library/portable/machine.h", f"{DIRECTORY}/Makefile")
 
 
 def key_of(words):
@@ -41,11 +43,8 @@ def key_of(words):
         return None
     compiler = words["CC"].split()
     said = subprocess.run([*compiler, "--version"], stdin=subprocess.DEVNULL, stdout=subprocess.PIPE, stderr=subprocess.DEVNULL).stdout
-    sum_ = hashlib.sha256(repr([(name, words.get(name)) for name in DECIDING[1:]]).encode() + os.path.realpath(shutil.which(compiler[0]) or "").encode() + said)
-    for path in COMPILED:
-        with open(path, "rb") as file:
-            sum_.update(file.read())
-    return sum_.hexdigest()
+    told = repr([(name, words.get(name)) for name in DECIDING] + [os.path.realpath(shutil.which(compiler[0]) or "")])
+    return hashlib.sha256(b"".join([told.encode(), said, *map(read, COMPILED)])).hexdigest()
 
 
 @contextlib.contextmanager
@@ -80,10 +79,9 @@ def run_make(*arguments):
     told = [STRICT, f"CC={needs.c_compiler()}", *arguments]
     words = words_of(told)
     with kept_object(words) if "OUT" in words else contextlib.nullcontext():
-        ran = subprocess.run([needs.program("make", "make"), "-s", "-C", DIRECTORY, *told], env=dict(os.environ, PATH=path_without_kit()),
-                             stdin=subprocess.DEVNULL, stdout=subprocess.PIPE, stderr=subprocess.STDOUT)
-    if ran.returncode != 0:
-        raise NotBuilt(f"make {' '.join(arguments)} in c/: {ran.stdout.decode(errors='replace')[-1000:]}")
+        status, said = run([needs.program("make", "make"), "-s", "-C", DIRECTORY, *told], PATH=path_without_kit())
+    if status != 0:
+        raise NotBuilt(f"make {' '.join(arguments)} in c/: {said[-1000:]}")
 
 
 def library(out, *arguments):

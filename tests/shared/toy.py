@@ -4,6 +4,7 @@ import base64
 import functools
 import hashlib
 import struct
+from collections import namedtuple
 from dataclasses import dataclass
 
 WARNING = "warning: insecure toy scheme, for tests only\n"
@@ -76,18 +77,8 @@ def checksum(keynum, secret):
 
 
 NEVER_SEALED, SCRYPT = bytes(2), b"Sc"
-
-
-@dataclass(frozen=True)
-class Limits:
-    """The limits of a record, and N and p of scrypt that they lead to; r is 8."""
-
-    memory: int = 0
-    operations: int = 0
-    rows: int = 2
-    parts: int = 512
-
-
+# The limits of a record, and N and p of scrypt that they lead to; r is 8.
+Limits = namedtuple("Limits", "memory operations rows parts", defaults=(0, 0, 2, 512))
 NO_LIMITS, SMALL = Limits(), Limits(1048576, 0, 1024, 1)
 # The limits of keys that are made.
 USUAL = Limits(33554432, 1048576, 32768, 1)
