@@ -14,6 +14,10 @@ class Checks:
             self.failures.append(": ".join(map(str, what)))
         return bool(holds)
 
+    def same(self, found, wanted, what):
+        """Checks that two values are the same, of each of which it says the beginning where they are not."""
+        return self.check(found == wanted, f"{what}: {found!r:.300}, and not {wanted!r:.300}")
+
     def end(self):
         """Prints the failures and the last line: the exit status."""
         for failure in self.failures:
