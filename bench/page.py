@@ -105,7 +105,7 @@ def page_run(browser, pk, data, sig):
         verdict = browser.run_later(VERDICT)
         seconds = time.perf_counter() - begun
     if verdict != "good":
-        raise SystemExit(f"the page says {browser.rows()[0]['text']!r}")
+        raise SystemExit(f"the page says {browser.rows()[0].text!r}")
     took = [seconds - before.get(thread, 0) for thread, seconds in processor_times(browser).items()]
     return Turn(seconds, sum(took), max(took), watch.most)
 

@@ -2,15 +2,11 @@
 key.
 """
 
-import os
 import random
-
-from minisign_cases import lines
 
 ACTS = 150
 NAMES = ("a.zip", "b.zip")
 DATA = (b"one", b"two")
-KEYS = ("first", "second")
 # The verdict on a signature that fits, by how the key came.
 FITS = {"typed": "good", "chosen": "good", "files": "unchecked"}
 
@@ -23,8 +19,7 @@ class Model:
 
     def take_files(self, files):
         """Files of one drop: (name, kind, what), where a key is of kind "key", and a signature is (signer, data)."""
-        data = [file for file in files if file[1] == "data"]
-        signatures = [file for file in files if file[1] == "signature"]
+        data, signatures = ([file for file in files if file[1] == kind] for kind in ("data", "signature"))
         is_pair = len(data) == 1 and len(signatures) == 1
         for name, kind, what in files:
             if kind != "key":
@@ -48,63 +43,63 @@ class Model:
         return FITS[self.source] if number == 0 else "bad", number
 
 
-def check_acts(person, minisign):
+def check_acts(person):
     """After each act, or a few of them, the rows, the key and what is beside the verdicts are those of the model."""
-    browser, checks = person.browser, person.checks
-    chance = random.Random(20)
-    texts = {name: minisign.read(f"{name}.pub") for name in KEYS}
-    signatures = {(key, data): minisign.sign(key, data, trusted="t") for key in KEYS for data in DATA}
-    model, said = Model(), []
-    browser.open(person.address)
+    chance, model, said = random.Random(20), Model(), []
+    keys = {"first": person.first, "second": person.second}
+    signatures = {(key, data): person.sign(data, key, trusted="t") for key in keys for data in DATA}
+    person.open()
     for count in range(ACTS):
-        said.append(act(person, model, chance, texts, signatures))
+        said.append(act(person, model, chance, keys, signatures))
         if chance.random() < 0.4:
             continue
         what = f"act {count}, after {said[-4:]}"
         rows = person.settled(what)
-        checks.same([(row["name"], row["verdict"], row["number"]) for row in rows], model.rows(), what)
-        whole = f"In full: {lines(texts[model.key])[1].decode()}" if model.key else ""
-        checks.same(browser.text_of("key-whole") if browser.is_shown("key-whole") else "", whole, f"{what}: the key")
+        person.same([(row.name, row.verdict, row.number) for row in rows], model.rows(), what)
+        whole = f"In full: {keys[model.key].line}" if model.key else ""
+        person.same(person.text_of("key-whole") if person.is_shown("key-whole") else "", whole, f"{what}: the key")
 
 
-def act(person, model, chance, texts, signatures):
+def act(person, model, chance, keys, signatures):
     """Does something, in the page and in the model; what it was."""
-    browser, kind = person.browser, chance.choice(("type", "choose", "remove", "clear", "files", "files", "files", "files"))
-    key = chance.choice(KEYS)
+    kind = chance.choice(("type", "choose", "remove", "clear", "files", "files", "files", "files"))
+    key = chance.choice(tuple(keys))
     if kind == "type":
-        browser.type_key(chance.choice((texts[key].decode(), lines(texts[key])[1].decode())))
+        person.type_key(chance.choice((keys[key].text.decode(), keys[key].line)))
         model.key, model.source = key, "typed"
     elif kind == "choose":
-        browser.choose_key(person.put("some.pub", texts[key]))
+        person.choose_key(person.put("some.pub", keys[key].text))
         model.key, model.source = key, "chosen"
     elif kind == "remove":
-        browser.click("key-remove")
+        person.click("key-remove")
         model.key = None
     elif kind == "clear":
-        browser.clear()
+        person.clear()
         model.downloads.clear()
     else:
-        return drop(person, model, chance, texts, signatures)
+        return drop(person, model, chance, keys, signatures)
     return kind, key
 
 
-def drop(person, model, chance, texts, signatures):
+def drop(person, model, chance, keys, signatures):
     """Drops some files together."""
-    directory, files, paths = os.path.dirname(person.put("unused", b"")), [], []
+    files, paths = [], [person.put("unused", b"")]
+
+    def add(name, kind, what, path, data):
+        files.append((name, kind, what))
+        paths.append(person.put(path, data, paths[0]))
+
     for name in NAMES:
         if chance.random() < 0.6:
             data = chance.choice(DATA)
-            files.append((name, "data", data))
-            paths.append(person.put_beside(directory, name, data))
+            add(name, "data", data, name, data)
         if chance.random() < 0.6:
             signed = chance.choice(tuple(signatures))
-            files.append((name, "signature", signed))
-            paths.append(person.put_beside(directory, f"{name}.minisig", signatures[signed]))
+            add(name, "signature", signed, f"{name}.minisig", signatures[signed])
     if chance.random() < 0.3:
-        key = chance.choice(KEYS)
-        files.append(("some.pub", "key", key))
-        paths.append(person.put_beside(directory, "some.pub", texts[key]))
+        key = chance.choice(tuple(keys))
+        add("some.pub", "key", key, "some.pub", keys[key].text)
     if files:
-        person.browser.drop("downloads", *paths)
+        person.drop("downloads", *paths[1:])
         model.take_files(files)
     return files

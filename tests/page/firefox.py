@@ -2,7 +2,6 @@
 speaks its own protocol, Marionette: lists in JSON, each after its length and a colon.
 """
 
-import base64
 import contextlib
 import json
 import os
@@ -11,7 +10,7 @@ import socket
 import subprocess
 import time
 
-from browser import ELSEWHERE, SECONDS, Browser, Keys
+from person import ELSEWHERE, SECONDS, Person
 
 # What keeps it from asking for anything from outside, and from showing anything but the page.
 PREFERENCES = {
@@ -23,27 +22,27 @@ PREFERENCES = {
     "browser.safebrowsing.update.enabled": False, "browser.safebrowsing.malware.enabled": False, "network.dns.localDomains": ELSEWHERE,
     "browser.safebrowsing.phishing.enabled": False, "network.proxy.type": 0,
 }
+WIDTH, HEIGHT = "800", "1000"
 
 
-class Firefox(Browser):
-    """Debian's Firefox, whose profile is in this directory."""
+class Firefox(Person):
+    """A person with Debian's Firefox, whose profile is in this directory."""
 
     name = "Firefox"
     SHOWS_PAGE = b" tab\0"
 
-    def __init__(self, program, directory, width=800, height=1000):
+    def __init__(self, program, directory):
         profile = os.path.join(directory, "firefox")
         os.makedirs(profile, exist_ok=True)
         with open(os.path.join(profile, "user.js"), "w", encoding="utf-8") as file:
             for name, value in PREFERENCES.items():
                 file.write(f"user_pref({json.dumps(name)}, {json.dumps(value)});\n")
-        command = [program, "--headless", "--marionette", "--remote-allow-system-access", "--no-remote", "--profile", profile, f"--width={width}",
-                   f"--height={height}", "about:blank"]
-        self.process = subprocess.Popen(command, stdin=subprocess.DEVNULL, stdout=subprocess.DEVNULL,
-                                        stderr=subprocess.DEVNULL,
-                                        start_new_session=True, env=dict(os.environ, HOME=profile,
-                                                                         MOZ_HEADLESS_WIDTH=str(width),
-                                                                         MOZ_HEADLESS_HEIGHT=str(height)))
+        command = [program, "--headless", "--marionette", "--remote-allow-system-access", "--no-remote", "--profile", profile,
+                   f"--width={WIDTH}", f"--height={HEIGHT}", "about:blank"]
+        environment = dict(os.environ, HOME=profile, MOZ_HEADLESS_WIDTH=WIDTH, MOZ_HEADLESS_HEIGHT=HEIGHT)
+        self.program = subprocess.Popen(command, stdin=subprocess.DEVNULL, stdout=subprocess.DEVNULL, stderr=subprocess.DEVNULL,
+                                        start_new_session=True, env=environment)
+        self.process = self.program.pid
         try:
             self.begin(os.path.join(profile, "MarionetteActivePort"))
         except BaseException:
@@ -57,7 +56,7 @@ class Firefox(Browser):
             with contextlib.suppress(OSError, ValueError), open(port_file, encoding="ascii") as file:
                 self.socket = socket.create_connection(("127.0.0.1", int(file.read())), 10)
                 break
-            if self.process.poll() is not None or time.monotonic() > end:
+            if self.program.poll() is not None or time.monotonic() > end:
                 raise TimeoutError("firefox did not begin")
             time.sleep(0.1)
         self.socket.settimeout(10 * SECONDS)
@@ -87,14 +86,14 @@ class Firefox(Browser):
         with contextlib.suppress(OSError, RuntimeError, ValueError):
             self.order("Marionette:Quit", flags=["eForceQuit"])
         with contextlib.suppress(subprocess.TimeoutExpired):
-            self.process.wait(20)
+            self.program.wait(20)
         self.end()
 
     def end(self):
         """Ends the browser's processes, which have a group of their own."""
         with contextlib.suppress(ProcessLookupError):
-            os.killpg(self.process.pid, signal.SIGKILL)
-        self.process.wait()
+            os.killpg(self.process, signal.SIGKILL)
+        self.program.wait()
 
     def version(self):
         return self.capabilities["browserVersion"]
@@ -162,7 +161,7 @@ class Firefox(Browser):
 
     def tab_back(self):
         """Moves the focus back by the keyboard: what has it then."""
-        self.act_on_keys((("keyDown", Keys.SHIFT), ("keyDown", Keys.TAB), ("keyUp", Keys.TAB), ("keyUp", Keys.SHIFT)))
+        self.act_on_keys((("keyDown", self.SHIFT), ("keyDown", self.TAB), ("keyUp", self.TAB), ("keyUp", self.SHIFT)))
         return self.focus()
 
     def act_on_keys(self, acts):
@@ -170,12 +169,3 @@ class Firefox(Browser):
         steps = [{"type": kind, "value": key} for kind, key in acts]
         self.order("WebDriver:PerformActions", actions=[{"type": "key", "id": "keyboard", "actions": steps}])
         self.taken()
-
-    def picture(self, path):
-        """Writes a picture of the whole page."""
-        with open(path, "wb") as file:
-            file.write(base64.b64decode(self.order("WebDriver:TakeScreenshot", full=True)))
-
-    def processes(self):
-        """The numbers of the processes of the browser."""
-        return self.children_of(self.process.pid)

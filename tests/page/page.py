@@ -45,33 +45,22 @@ import time
 import traceback
 
 import build
+import ending
 import static_library
 from acts import check_acts
-from beside_c import Programs, check_flags, check_texts
+from beside_c import Programs, check_flags, check_modules, check_texts
 from browser import Chromium
 from firefox import Firefox
 from helps import check_helps, check_not_started
 from hostile import check_hostile
-from keys import check_comments, check_field, check_keys, check_links, check_own_page
-from long_files import check_big, check_stopping
+from keys import check_comments, check_field, check_keys, check_links
 from minisign_cases import Minisign
-from modules import check_modules
 from only_download import check_only_download
-from page_sources import check_building, check_contracts, check_file, check_numbers, check_same_bytes, check_sums
-from person import Checks, Person
-from standing import check_changed, check_hangs, check_late, check_many, check_stops
+from page_sources import check_building, check_contracts, check_file, check_sums, check_words_of_numbers
+from standing import check_changed, check_hangs, check_late, check_long, check_many, check_stops
 from surroundings import check_alone, check_insecure, check_lacking, check_looks, check_use
-from vectors import check_vectors
-from verdicts import check_corpus, check_errors, check_made, check_several
+from verdicts import check_corpus, check_errors, check_made, check_several, check_vectors
 from views import check_band, check_focus, check_marks, check_view, check_words
-
-# How many changed texts Firefox is given.
-TEXTS_IN_FIREFOX = 150
-
-
-def page_path():
-    """The page that is named, or the one of dist/."""
-    return os.path.realpath(sys.argv[1]) if len(sys.argv) > 1 else os.path.join(static_library.DIST, "minisign.html")
 
 
 def wide_module():
@@ -83,101 +72,75 @@ def wide_module():
     return None if len(sys.argv) > 1 or not shutil.which("rt") else build.proved_module()
 
 
-def steps_in(person, minisign, programs, page):
-    """What is tried in a browser, in order: in each what a person sees, and in Chromium what its own protocol shows besides."""
-    narrow = build.taken_from(page)[0]
-    steps = {
-        "corpus": lambda: check_corpus(person), "keys and signatures": lambda: check_made(person, minisign),
-        "several files": lambda: check_several(person, minisign), "errors": lambda: check_errors(person, minisign, programs.meaning),
-        "vectors": lambda: check_vectors(person), "whose key": lambda: check_keys(person, minisign), "the key's field": lambda: check_field(person, minisign),
-        "links": lambda: check_links(person, minisign), "in view": lambda: check_view(person, minisign), "looks of verdicts": lambda: check_marks(person, minisign), "the band": lambda: check_band(person, minisign),
-        "the focus": lambda: check_focus(person, minisign),
-        "words": lambda: check_words(person, minisign),
-        "comments": lambda: check_comments(person, minisign), "random acts": lambda: check_acts(person, minisign), "a page of its own": lambda: check_own_page(person, minisign, page),
-        "only the download": lambda: check_only_download(person, minisign, page),
-        "helping": lambda: check_helps(person, minisign), "not started": lambda: check_not_started(person, page), "served by http": lambda: check_insecure(person, page),
-        "hostile texts": lambda: check_hostile(person, minisign),
-        "changed texts": lambda: check_texts(person, TEXTS_IN_FIREFOX) if not person.browser.is_chromium else check_texts(person),
-        "stops": lambda: check_stops(person, minisign), "late": lambda: check_late(person, minisign), "hangs": lambda: check_hangs(person, minisign), "many files": lambda: check_many(person, minisign),
-        "changed files": lambda: check_changed(person, minisign),
-        "long files": lambda: check_big(person, check_stopping(person, minisign)),
-    }
-    if person.browser.is_chromium:
-        steps.update({"flags": lambda: check_flags(person), "lacking": lambda: check_lacking(person),
-                      "looks": lambda: check_looks(person, minisign), "keyboard": lambda: check_use(person, minisign), "alone": lambda: check_alone(person, minisign, page),
-                      "modules": lambda: check_modules(person, minisign, wide_module(), narrow)})
-    return steps
+# What is tried in each browser, in this order: what a person sees there.
+STEPS = {
+    "corpus": check_corpus, "keys and signatures": check_made, "several files": check_several, "errors": check_errors,
+    "vectors": check_vectors, "whose key": check_keys, "the key's field": check_field, "links": check_links, "in view": check_view,
+    "looks of verdicts": check_marks, "the band": check_band, "the focus": check_focus, "words": check_words, "comments": check_comments,
+    "random acts": check_acts, "only the download": check_only_download, "helping": check_helps,
+    "not started": check_not_started, "served by http": check_insecure, "hostile texts": check_hostile, "changed texts": check_texts,
+    "stops": check_stops, "late": check_late, "hangs": check_hangs, "many files": check_many, "changed files": check_changed,
+    "long files": check_long,
+}
+# And in Chromium alone: what its own protocol shows besides.
+STEPS_IN_CHROMIUM = {
+    "flags": check_flags, "lacking": check_lacking, "looks": check_looks, "keyboard": check_use, "alone": check_alone,
+    "modules": lambda person: check_modules(person, wide_module()),
+}
 
 
 def run_step(person, step, begin):
     """
-    Runs a step. A machine without memory ends the process that shows the page before any other: then it is run once more, in a new
-    browser. (A page that ends it ends it again.)
+    Runs a step in the whole window: who goes on after it. A machine without memory ends the process that shows the page before any
+    other: then the step is run once more, in a new browser. (A page that ends it ends it again.)
     """
     try:
-        step()
+        person.resize()
+        step(person)
     except Exception:
-        if person.browser.shows_page():
+        if person.shows_page():
             raise
-        print(f"page: {person.browser.name} shows no page any more, and is begun anew", flush=True)
-        person.browser.quit()
-        person.browser = begin()
-        step()
+        print(f"page: {person.name} shows no page any more, and is begun anew", flush=True)
+        person.quit()
+        person = begin()
+        step(person)
+    return person
 
 
-def run_in(begin, checks, room, made):
+def run_in(begin):
     """Runs everything in a browser, which this begins."""
-    minisign, programs, page = made
-    person = Person(checks, begin(), f"file://{page}", None, programs)
-    name, person.directory = person.browser.name, os.path.join(room, person.browser.name)
-    os.mkdir(person.directory)
+    person = begin()
     try:
-        for what, step in steps_in(person, minisign, programs, page).items():
+        for what, step in {**STEPS, **(STEPS_IN_CHROMIUM if person.is_chromium else {})}.items():
             begun = time.monotonic()
             try:
-                run_step(person, step, begin)
+                person = run_step(person, step, begin)
             except Exception as why:
                 traceback.print_exc()
-                checks.check(False, f"{name}, {what}: ended early: {why!r:.300}")
-            if person.browser.is_chromium:
-                errors = [line for line in person.browser.said() if "Uncaught" in line]
-                checks.check(not errors, f"the page's console has {errors}")
-            print(f"page: {name}, {what}, {time.monotonic() - begun:.1f} s", flush=True)
+                person.check(False, f"{person.name}, {what}: ended early: {why!r:.300}")
+            if person.is_chromium:
+                errors = [line for line in person.said() if "Uncaught" in line]
+                person.check(not errors, f"the page's console has {errors}")
+            print(f"page: {person.name}, {what}, {time.monotonic() - begun:.1f} s", flush=True)
     finally:
-        person.browser.quit()
+        person.quit()
 
 
 def run_all(checks, room):
     """Runs everything."""
+    page = os.path.realpath(sys.argv[1]) if len(sys.argv) > 1 else os.path.join(static_library.DIST, "minisign.html")
     check_contracts(checks)
-    check_numbers(checks)
-    page = page_path()
+    check_words_of_numbers(checks)
     check_file(checks, page)
-    check_same_bytes(checks, page)
     check_sums(checks, page)
     check_building(checks, page, room)
-    programs = Programs(room)
-    keys = os.path.join(room, "keys")
-    os.mkdir(keys)
-    minisign = Minisign(needs.minisign(), keys)
+    minisign = Minisign(needs.minisign(), tempfile.mkdtemp(dir=room))
     for name in ("first", "second"):
         minisign.make_pair(name)
-    for begin in (lambda: Firefox(needs.firefox(), room), lambda: Chromium(*needs.chromium(), room)):
-        run_in(begin, checks, room, (minisign, programs, page))
-
-
-def main():
-    checks = Checks()
-    with tempfile.TemporaryDirectory(prefix="page-") as room:
-        try:
-            run_all(checks, room)
-        except (needs.Missing, static_library.NotBuilt) as why:
-            checks.failures.append(str(why))
-        except Exception as why:
-            traceback.print_exc()
-            checks.failures.append(f"the tests ended early: {why!r:.300}")
-    return checks.end()
+    given = page, room, checks, minisign, Programs(room)
+    run_in(lambda: Firefox(needs.firefox(), room).use(*given))
+    run_in(lambda: Chromium(*needs.chromium(), room).use(*given))
 
 
 if __name__ == "__main__":
-    sys.exit(main())
+    sys.exit(ending.check("page", run_all))

@@ -24,54 +24,46 @@ if PYTHON != sys.executable:
 
 import build
 import cases
-import looks
 from browser import Chromium
 
 PUBLISHED = "RWQf6LRCGA9i53mlYecO4IzT51TGPpvWucNSCh1CBM0QTaLn73Y7GFO3"
-# The width of each picture, and whether it is in the dark.
-PICTURES = {"page.png": (720, "light"), "page_narrow.png": (360, "dark")}
-PROJECT_PICTURES = {"page_project.png": (390, "light")}
 
 
-def picture(browser, path, width, scheme):
-    """Writes a picture of the whole page."""
-    browser.command("Emulation.setEmulatedMedia", features=[{"name": "prefers-color-scheme", "value": scheme}])
-    looks.narrow(browser, width)
-    browser.run("scrollTo(0, 0); document.activeElement.blur()")
-    height = browser.run("return document.documentElement.scrollHeight")
-    browser.command("Emulation.setDeviceMetricsOverride", width=width, height=height, deviceScaleFactor=1, mobile=False)
-    taken = browser.command("Page.captureScreenshot", format="png")
-    with open(path, "wb") as file:
+def give(person, *names):
+    """Chooses files of the corpus together, and waits for the verdicts."""
+    person.choose(*(os.path.join(cases.CORPUS, name) for name in names))
+    person.wait_seen("work")
+
+
+def take_picture(person, name, width, scheme):
+    """Writes a picture of the whole page into docs/, of this width, in the light or in the dark."""
+    person.set_media(prefers_color_scheme=scheme)
+    person.resize(width, 640)
+    person.run("scrollTo(0, 0); document.activeElement.blur()")
+    person.resize(width, person.run("return document.documentElement.scrollHeight"))
+    taken = person.command("Page.captureScreenshot", format="png")
+    with open(os.path.join(TOP, "docs", name), "wb") as file:
         file.write(base64.b64decode(taken["data"]))
-
-
-def take_pictures(browser, pictures):
-    for name, (width, scheme) in pictures.items():
-        picture(browser, os.path.join(TOP, "docs", name), width, scheme)
 
 
 def main():
     page = os.path.realpath(sys.argv[1] if len(sys.argv) > 1 else os.path.join(TOP, "dist", "minisign.html"))
     with tempfile.TemporaryDirectory() as room:
-        browser = Chromium(*needs.chromium(), room)
+        person = Chromium(*needs.chromium(), room)
         try:
-            browser.open(f"file://{page}")
-            browser.type_key(PUBLISHED)
-            browser.choose(*(os.path.join(cases.CORPUS, name) for name in ("test", "published.minisig")))
-            browser.settle()
-            browser.choose(*(os.path.join(cases.CORPUS, name) for name in ("hello", "hello.minisig")))
-            browser.settle()
-            take_pictures(browser, PICTURES)
-            own = os.path.join(room, "own.html")
-            signature = ("test.minisig", cases.read_kept("published.minisig").decode())
+            person.begin(PUBLISHED, address=f"file://{page}")
+            give(person, "test", "published.minisig")
+            give(person, "hello", "hello.minisig")
+            take_picture(person, "page.png", 720, "light")
+            take_picture(person, "page_narrow.png", 360, "dark")
+            own, signature = os.path.join(room, "own.html"), ("test.minisig", cases.read_kept("published.minisig").decode())
             with open(own, "w", encoding="utf-8") as file:
                 file.write(build.page(*build.taken_from(page), PUBLISHED, "Verify a download of Example", [signature]))
-            browser.open(f"file://{own}")
-            browser.choose(os.path.join(cases.CORPUS, "test"))
-            browser.settle()
-            take_pictures(browser, PROJECT_PICTURES)
+            person.open(f"file://{own}")
+            give(person, "test")
+            take_picture(person, "page_project.png", 390, "light")
         finally:
-            browser.quit()
+            person.quit()
 
 
 if __name__ == "__main__":

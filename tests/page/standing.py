@@ -1,21 +1,23 @@
 """Nothing hangs: you can stop a thread that ends and a read that hangs, many files take no longer for each than a
-few, and the page says that a file changed where the browser tells it.
+few, long ones are stopped and begun again and take no memory, and the page says that a file changed where the browser tells it.
 """
 
 import contextlib
 import os
-import time
+import re
 
-from browser import Patience
-from minisign_cases import lines
+import looks
 from person import STANDS
 
-FEW, MANY, MOST = 500, 2000, 10_000
+FEW, MANY = 500, 10_000
 # So many times as much of the processor each of many files may take as each of a few. (It is time of the processes that show the
 # page, which a machine that does much else does not lengthen as it does the clock's. So nothing here asks the page often, or for
 # much, as that would count by the clock.)
 MOST_TIMES = 2
 ASKED_EACH_SECONDS = 2
+LONG_BYTES, BIG_BYTES = 300_000_000, 2_000_000_000
+# What the memory of the page may grow by, in MiB, while a file of BIG_BYTES is read.
+GROWTH = 32
 
 # Verifies so many files of the page's own making, and counts how many it has verified.
 VERIFY = """const [count, text, data] = arguments, real = window.showVerdict;
@@ -27,108 +29,29 @@ window.showVerdict = (download, verdict, source) => {
 };
 inTurn(() => takeFiles(files));"""
 
-# How a file comes to a stop: what is done before it is chosen.
-STOPS = {"threads that end": """const done = arguments[0], {prototype} = Worker, real = prototype.postMessage;
+# Whether the verdict is there, or how far the first file is. (What is asked often has to leave nothing behind in the memory that
+# is measured.)
+HOW_FAR = """const {verdict} = document.querySelector("#verdicts > li")?.dataset ?? {};
+return ["good", "bad"].includes(verdict) || document.querySelector("progress")?.value"""
+
+# Has the next call of this name hang.
+HANG_ONCE = "const real = window.{0}; window.{0} = () => {{ window.{0} = real; window.isBroken = true; return new Promise(() => {{}}); }};"
+# How a file comes to a stop: what is done once it is chosen, before there is a key.
+STOPS = {"threads that end": """const {prototype} = Worker, real = prototype.postMessage;
            let count = 0;
-           prototype.postMessage = function () { this.terminate(); if (++count === 4) { prototype.postMessage = real; window.isBroken = true; } }; done();""",
-         "a read that hangs": """const done = arguments[0], real = window.answerOf;
-           window.answerOf = () => { window.answerOf = real; window.isBroken = true; return new Promise(() => {}); }; done();""",
-         "a signature whose read hangs": """const done = arguments[0], real = window.textOfFile;
-           window.textOfFile = () => { window.textOfFile = real; window.isBroken = true; return new Promise(() => {}); }; done();"""}
-
-
-def check_stops(person, minisign):
-    """What comes to a stop is stopped by hand, and the next file is verified, and the same one if it is asked for again."""
-    browser, checks = person.browser, person.checks
-    pk, data = minisign.read("first.pub"), bytes(4_000_000)
-    paths = [path for name, text in (("a", data), ("b", b"b")) for path in person.pair(name, text, minisign.sign("first", text))]
-    for what, script in STOPS.items():
-        browser.open(person.address)
-        browser.choose(*paths)
-        browser.run_later(script)
-        browser.type_key(lines(pk)[1].decode())
-        browser.wait(lambda: browser.row("a")["verdict"] == "reading" and browser.run("return window.isBroken === true"))
-        browser.run("document.querySelector('#verdicts button').click()")
-        browser.wait(lambda: browser.row("b")["verdict"] != "waiting")
-        rows = {row["name"]: row["verdict"] for row in person.settled(what)}
-        checks.same(rows, {"a": "stopped", "b": "good"}, what)
-        browser.run("document.querySelector('#verdicts button').click()")
-        rows = {row["name"]: row["verdict"] for row in person.settled(what)}
-        checks.same(rows, {"a": "good", "b": "good"}, f"{what}, and once more")
-
-
-def seconds_of(processes):
-    """How many seconds of the processor these processes have taken so far."""
-    found = 0
-    for number in processes:
-        with contextlib.suppress(OSError), open(f"/proc/{number}/stat", encoding="ascii", errors="replace") as file:
-            found += sum(map(int, file.read().rpartition(")")[2].split()[11:13])) / os.sysconf("SC_CLK_TCK")
-    return found
-
-
-def check_many(person, minisign):
-    """Many files take as long for each as a few, and ten thousand end."""
-    browser, checks = person.browser, person.checks
-    took, clock = {}, {}
-    for count in (FEW, MANY, MOST):
-        browser.open(person.address)
-        browser.type_key(lines(minisign.read("first.pub"))[1].decode())
-        before, begun, patience = seconds_of(browser.page_processes()), time.monotonic(), Patience(f"a list of {count} files")
-        browser.run(VERIFY, count, minisign.sign("first", b"x").decode(), "x")
-        while (verified := browser.run("return window.verified")) < count:
-            patience.see(verified)
-            time.sleep(ASKED_EACH_SECONDS)
-        took[count], clock[count] = (seconds_of(browser.page_processes()) - before) / count, round(time.monotonic() - begun, 1)
-    for count in (MANY, MOST):
-        checks.check(took[count] < MOST_TIMES * took[FEW], f"each of so many files takes so many seconds of the processor: {took}")
-    checks.same(browser.band()[1], f"{STANDS['good']}: {MOST} of {MOST} files", "the band of many files")
-    print(f"page: {browser.name}, files by seconds: {clock}, for each {({count: f'{1000 * seconds:.1f} ms' for count, seconds in took.items()})}", flush=True)
-
-
-# Has the reading of each text hang from now on.
-HANGS = "window.bytesOfFile = () => new Promise(() => {});"
-
-
-def check_hangs(person, minisign):
-    """A file whose kind cannot be read in some seconds is taken by its name, and holds up nothing that is done after it."""
-    browser, checks = person.browser, person.checks
-    paths = person.pair("a", b"a", minisign.sign("first", b"a"))
-    browser.open(person.address)
-    browser.run("window.kept = window.bytesOfFile;" + HANGS)
-    browser.choose(person.put("hanging", b"x"), *paths)
-    browser.run("window.bytesOfFile = window.kept;")
-    browser.type_key(lines(minisign.read("first.pub"))[1].decode())
-    rows = {row["name"]: row["verdict"] for row in person.settled("hangs")}
-    checks.same(rows, {"a": "good", "hanging": "waiting"}, "texts whose reading hung")
-
-
-def check_changed(person, minisign):
-    """A file that changed after it was chosen is told in Chromium. In Firefox the verdict is on what is read."""
-    browser, checks = person.browser, person.checks
-    before, after = b"as it was", b"another 1"
-    for signed, number in ((before, 31), (after, 0)):
-        path, sig = person.pair("update.zip", before, minisign.sign("first", signed))
-        browser.open(person.address)
-        browser.choose(path, sig)
-        person.settled("before it changes")
-        person.put_beside(os.path.dirname(path), "update.zip", after)
-        os.utime(path, (1, 1))
-        browser.type_key(lines(minisign.read("first.pub"))[1].decode())
-        row = person.only(person.settled("a changed file"), "a changed file")
-        if browser.is_chromium:
-            checks.check(row["verdict"] == "bad" and "it was changed" in row["why"], f"a file that changed: {row}")
-        else:
-            checks.same(row["number"], number, "a file that changed")
-
+           prototype.postMessage = function () {
+             this.terminate();
+             if (++count === 4) { prototype.postMessage = real; window.isBroken = true; }
+           };""",
+         "a read that hangs": HANG_ONCE.format("answerOf"), "a signature whose read hangs": HANG_ONCE.format("textOfFile")}
 
 # Has the first text that is read wait until a part of the next file has been read.
-LATE = """const done = arguments[0], real = window.textOfFile;
+LATE = """const real = window.textOfFile;
 window.textOfFile = async file => {
   window.textOfFile = real;
   await new Promise(resolve => {
-    const isRead = () => (document.querySelector("progress")?.value ?? 0) > 0;
     new MutationObserver((_, observer) => {
-      if (isRead()) {
+      if ((document.querySelector("progress")?.value ?? 0) > 0) {
         observer.disconnect();
         resolve();
       }
@@ -136,23 +59,115 @@ window.textOfFile = async file => {
   });
   window.hasCome = true;
   return real(file);
-};
-done();"""
-LONG_BYTES = 300_000_000
+};"""
 
 
-def check_late(person, minisign):
+def check_stops(person):
+    """What comes to a stop is stopped by hand, and the next file is verified, and the same one if it is asked for again."""
+    paths = [path for name, data in (("a", bytes(4_000_000)), ("b", b"b")) for path in person.signed(name, data)]
+    for what, script in STOPS.items():
+        person.begin("", *paths)
+        person.run(script)
+        person.type_key(person.first.line)
+        person.wait(lambda: person.row("a").verdict == "reading" and person.run("return window.isBroken === true"))
+        person.click_in_row()
+        person.wait(lambda: person.row("b").verdict != "waiting")
+        person.expect_each("verdict", {"a": "stopped", "b": "good"}, what)
+        person.click_in_row()
+        person.expect_each("verdict", {"a": "good", "b": "good"}, f"{what}, and once more")
+
+
+def check_late(person):
     """What a file that was stopped still waited for disturbs no other one when it comes."""
-    browser, checks = person.browser, person.checks
-    long = person.put("long", b"")
-    os.truncate(long, LONG_BYTES)
-    minisign.run("-S", "-s", "first.key", "-m", long, "-x", f"{long}.minisig")
-    browser.open(person.address)
-    browser.choose(*person.pair("a", b"a", minisign.sign("first", b"a")), long, f"{long}.minisig")
-    browser.run_later(LATE)
-    browser.type_key(lines(minisign.read("first.pub"))[1].decode())
-    browser.wait(lambda: browser.row("a")["verdict"] == "reading")
-    browser.run("document.querySelector('#verdicts button').click()")
-    browser.wait(lambda: browser.run("return window.hasCome === true"))
-    rows = {row["name"]: row["verdict"] for row in person.settled("late")}
-    checks.same(rows, {"a": "stopped", "long": "good"}, "a text that comes late, of a file that was stopped")
+    person.begin("", *person.signed("a", b"a"), *sparse(person, "long", LONG_BYTES))
+    person.run(LATE)
+    person.type_key(person.first.line)
+    person.wait(lambda: person.row("a").verdict == "reading")
+    person.click_in_row()
+    person.wait(lambda: person.run("return window.hasCome === true"))
+    person.expect_each("verdict", {"a": "stopped", "long": "good"}, "a text that comes late, of a file that was stopped")
+
+
+def check_hangs(person):
+    """A file whose kind cannot be read in some seconds is taken by its name, and holds up nothing that is done after it."""
+    person.open()
+    person.run("window.kept = window.bytesOfFile; window.bytesOfFile = () => new Promise(() => {});")
+    person.choose(person.put("hanging", b"x"), *person.signed("a", b"a"))
+    person.run("window.bytesOfFile = window.kept;")
+    person.type_key(person.first.line)
+    person.expect_each("verdict", {"a": "good", "hanging": "waiting"}, "texts whose reading hung")
+
+
+def check_changed(person):
+    """A file that changed after it was chosen is told in Chromium. In Firefox the verdict is on what is read."""
+    before, after = b"as it was", b"another 1"
+    for signed, number in ((before, 31), (after, 0)):
+        path, sig = person.pair("update.zip", before, person.sign(signed))
+        person.begin("", path, sig)
+        person.settled("before it changes")
+        person.put("update.zip", after, path)
+        os.utime(path, (1, 1))
+        person.type_key(person.first.line)
+        person.only("a file that changed", **{"verdict": "bad", "has": ["it was changed"]} if person.is_chromium else {"number": number})
+
+
+def processor_seconds(person):
+    """How many seconds of the processor the processes that show the page have taken so far."""
+    found = 0
+    for number in person.page_processes():
+        with contextlib.suppress(OSError), open(f"/proc/{number}/stat", encoding="ascii", errors="replace") as file:
+            found += sum(map(int, file.read().rpartition(")")[2].split()[11:13])) / os.sysconf("SC_CLK_TCK")
+    return found
+
+
+def check_many(person):
+    """Many files take as long for each as a few, and ten thousand end."""
+    text, took = person.sign(b"x").decode(), []
+    for count in (FEW, MANY):
+        person.begin(person.first.line)
+        before = processor_seconds(person)
+        person.run(VERIFY, count, text, "x")
+        person.wait(lambda: person.run("return window.verified >= arguments[0] || window.verified", count), pause=ASKED_EACH_SECONDS)
+        took.append((processor_seconds(person) - before) / count)
+    said = f"each of {FEW} and of {MANY} files takes so many milliseconds of the processor: {[f'{1000 * seconds:.1f}' for seconds in took]}"
+    person.check(took[1] < MOST_TIMES * took[0], said)
+    print(f"page: {person.name}, {said}", flush=True)
+    person.same(person.band()[1], f"{STANDS['good']}: {MANY} of {MANY} files", "the band of many files")
+
+
+def sparse(person, name, length):
+    """Writes a file of so many zeros, and a signature of it; their paths."""
+    path = person.put(name, b"")
+    os.truncate(path, length)
+    person.minisign.run("-S", "-s", "first.key", "-m", path, "-x", f"{path}.minisig", "-t", f"{length} bytes")
+    return path, f"{path}.minisig"
+
+
+def check_long(person):
+    """A file of 2 GB is stopped by hand; what was stopped looks like nothing else. Begun again it is read in pieces: the memory of
+    the page does not grow, and it answers meanwhile."""
+    paths = sparse(person, "big", BIG_BYTES)
+    person.begin(person.first.line, *paths, *person.signed("small", b"small"))
+    person.wait(lambda: person.run("return (document.querySelector('progress')?.value ?? 0) > 0"))
+    share = person.row("big").text
+    person.check(re.search(r"[\d.]+ [MG]B of 2\.0 GB read", share), f"the progress is {share!r}")
+    if person.is_chromium:
+        person.check(any(role == "progressbar" and "big" in name for role, name, _ in looks.nodes(person)), "the progress has no name")
+    person.run("document.querySelector('#verdicts button').focus()")
+    person.press(person.ENTER)
+    person.expect_each("verdict", {"big": "stopped", "small": "good"}, "one that was stopped, and the next")
+    person.same(person.focus(), "Verify it again", "where the focus is after a stop")
+    person.check(any(line.startswith("Stopped, ") and line.endswith(" big") for line in person.log()), "a screen reader is not told of a stop")
+    person.clear()
+    before, sizes = person.memory(), []
+
+    def look():
+        sizes.append(person.memory())
+        return person.run(HOW_FAR)
+
+    person.choose(*paths)
+    person.wait(look, pause=0.1)
+    person.only("2 GB", number=0, comment=f"{BIG_BYTES} bytes")
+    said = f"while 2 GB are read, the memory grows from {before:.0f} to {max(sizes):.0f} MiB"
+    person.check(max(sizes) < before + GROWTH, said)
+    print(f"page: {person.name}, {said}", flush=True)

@@ -20,6 +20,10 @@ class Checks:
         self.check(came == status and says in said, f"{what}: status {came}: {said[-800:]}")
         return said
 
+    def same(self, found, wanted, what):
+        """Checks that two values are the same, of each of which it says the beginning where they are not."""
+        return self.check(found == wanted, f"{what}: {found!r:.300}, and not {wanted!r:.300}")
+
     def end(self):
         """Prints the failures and the last line: the exit status."""
         for failure in self.failures:

@@ -1,0 +1,152 @@
+// What the tests see of the page: `Person.see` of person.py runs one of these functions in it.
+
+const all = (parts, of = document) => Array.from(of.querySelectorAll(parts));
+const allRows = () => all("#verdicts > li");
+const boxOf = part => part.getBoundingClientRect();
+
+// Each row as it stands: its verdict, its number, if it has one, and its parts.
+function rows() {
+  const isBold = part => getComputedStyle(part).fontWeight >= 600 && !part.parentElement.closest(".verdict, .caution");
+  return allRows().map(row => ({
+    verdict: row.dataset.verdict, number: row.dataset.number === undefined ? null : Number(row.dataset.number),
+    head: row.querySelector(".verdict").textContent, name: row.querySelector(".name").textContent, text: row.innerText,
+    why: row.querySelector(".why")?.textContent ?? "", comment: row.querySelector(".comment")?.textContent ?? null,
+    cautions: all(".caution", row).map(caution => caution.innerText),
+    bold: all("*", row).filter(isBold).map(part => part.innerText.trim()),
+  }));
+}
+
+// The verdict at the top of the window, and what it says; nothing where there is none.
+function band() {
+  const band = document.getElementById("band");
+  return band?.checkVisibility() ? [band.dataset.verdict, ...Array.from(band.children, line => line.innerText)] : null;
+}
+
+function state() {
+  return [rows(), band()];
+}
+
+// Whether the page has taken in what a person did.
+function isTaken() {
+  return !(Number(document.documentElement.dataset.pending) > 0);
+}
+
+// How far the page is, where something that a person did is still taken in, or a row is being verified or waits for others; else
+// true.
+function work() {
+  const rows = allRows();
+  const waiting = rows.filter(row => row.innerText.includes("It waits for those before it.")).length;
+  const reading = rows.find(row => row.dataset.verdict === "reading");
+  return isTaken() && waiting === 0 && !reading || [document.documentElement.dataset.pending, rows.length, waiting, reading?.innerText];
+}
+
+// Hands on what a function answers, once that is true, or after a second.
+function until(look, done) {
+  const end = performance.now() + 1000;
+  const ask = () => {
+    const seen = look();
+    if (seen === true || performance.now() > end) {
+      done(seen);
+    } else {
+      setTimeout(ask, 10);
+    }
+  };
+  ask();
+}
+
+// Whether the verdict of the row of this name, and all of its warnings, are in the window below the band.
+function isInView(name) {
+  const row = allRows().find(one => one.querySelector(".name").textContent === name);
+  const top = document.getElementById("band")?.getBoundingClientRect().bottom ?? 0;
+  return all(".verdict, .caution", row).every(part => boxOf(part).top >= top && boxOf(part).bottom <= innerHeight);
+}
+
+// Whether the place for the download is whole in the window before anything was scrolled.
+function isPlaceSeen() {
+  const {top, bottom} = boxOf(document.querySelector("#files + label"));
+  return scrollY === 0 && top >= 0 && bottom <= innerHeight;
+}
+
+// Whether what has the focus, or the place that is shown for it, begins behind the band.
+function isFocusBehind() {
+  const it = document.activeElement, place = it.classList.contains("unseen") ? it.nextElementSibling : it;
+  return boxOf(place).top < boxOf(document.getElementById("band")).bottom;
+}
+
+// Where the band stands in the window after it was scrolled to a share of its length, if nothing is before it.
+function bandAt(share) {
+  scrollTo(0, share * document.documentElement.scrollHeight);
+  const band = document.getElementById("band"), {left, top, width, height} = boxOf(band);
+  return [left, top, width === document.documentElement.clientWidth, height < innerHeight / 3,
+    band.contains(document.elementFromPoint(left + width / 2, top + height / 2))];
+}
+
+// What of the look of rows, or of the band, tells a verdict, in lists: its colours, the line beside it, and its words.
+function looks(parts, side) {
+  return Object.fromEntries(all(parts).map(row => {
+    const style = getComputedStyle(row), head = row.querySelector(".verdict");
+    const colours = side === "Left" ? [getComputedStyle(head).color, style.borderLeftColor] : [style.backgroundColor];
+    return [row.dataset.verdict, {colours, line: [style[`border${side}Style`]], words: [head.textContent]}];
+  }));
+}
+
+// What makes a button for the eye of the button below the list, and of each place for files.
+function buttons() {
+  const look = part => {
+    const {backgroundColor, borderTopWidth, borderTopStyle, borderTopColor, paddingLeft, display} = getComputedStyle(part);
+    return [backgroundColor, borderTopWidth, borderTopStyle, borderTopColor, paddingLeft, display].join(" ");
+  };
+  return [document.getElementById("clear"), ...all(".place .button")].map(look);
+}
+
+// Whether the page is no wider than the window, and nothing of a row stands outside of it.
+function fits() {
+  const isWithin = (part, row) => {
+    const a = boxOf(part), b = boxOf(row);
+    return a.left >= b.left - 1 && a.right <= b.right + 1 && a.top >= b.top - 1 && a.bottom <= b.bottom + 1;
+  };
+  const {scrollWidth, clientWidth} = document.documentElement;
+  return scrollWidth <= clientWidth
+    && allRows().every(row => all(".verdict, .name, .comment, .why, button, progress", row).every(part => isWithin(part, row)));
+}
+
+// What is cut at its right, or goes out of its place there.
+function cut() {
+  return all("main, main *, footer, footer *")
+    .filter(part => part.checkVisibility() && !part.closest(".unseen") && part.clientWidth > 0 && part.scrollWidth > part.clientWidth + 1)
+    .map(part => `${part.tagName} ${part.className}: ${part.innerText.slice(0, 40)}`);
+}
+
+function textsBelow(part) {
+  const walker = document.createTreeWalker(part, NodeFilter.SHOW_TEXT), found = [];
+  while (walker.nextNode()) {
+    found.push(walker.currentNode);
+  }
+  return found;
+}
+
+// The texts in which one of these words stands, and which a browser may translate.
+function translated(words) {
+  return textsBelow(document.querySelector("main"))
+    .filter(text => text.parentElement.translate && words.some(word => text.data.includes(word))).map(text => text.data);
+}
+
+// The contrast of each text that is seen to what is behind it (WCAG 2), with the text.
+function contrasts() {
+  const channel = value => value <= 0.04045 ? value / 12.92 : ((value + 0.055) / 1.055) ** 2.4;
+  const light = color => {
+    const [r, g, b] = color.match(/[\d.]+/g).map(Number);
+    return 0.2126 * channel(r / 255) + 0.7152 * channel(g / 255) + 0.0722 * channel(b / 255);
+  };
+  const isClear = color => color === "transparent" || /, 0\)$/.test(color);
+  const ground = part => {
+    const color = part ? getComputedStyle(part).backgroundColor : "rgb(255, 255, 255)";
+    return isClear(color) ? ground(part.parentElement) : color;
+  };
+  const seen = textsBelow(document.body).filter(({data, parentElement: part}) =>
+    data.trim() && part.checkVisibility() && !part.closest("script, .unseen"));
+  return seen.map(({data, parentElement: part}) => {
+    const [one, other] = [getComputedStyle(part).color, ground(part)].map(light);
+    return [(Math.max(one, other) + 0.05) / (Math.min(one, other) + 0.05), data.trim().slice(0, 40)];
+  });
+}
