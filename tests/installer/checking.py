@@ -46,19 +46,16 @@ def tells_of_mode(directory):
         directory.has_mode(0o640)
 
 
+@check_cases.table(
+    ("a check: no directory", (PK, "new.sig", "none/place"), FAILED, NO_DIRECTORY),
+    ("a check: no signature", (PK, "none.sig", PLACE), FAILED, error("none.sig", "No such file or directory (os error 2)")),
+    ("a check: a text that is no signature", (PK, PK, PLACE), REJECTED, None),
+)
 def cannot_be_made(directory, paths, status, said):
     """A check of these paths ends so, and writes nothing."""
     before = directory.everything()
     directory.ends(directory.run(["--check", *paths]), status, said)
     expect(directory.everything() == before, f"the directory has {os.listdir(directory.path)}")
-
-
-check_cases.table(
-    cannot_be_made,
-    ("a check: no directory", (PK, "new.sig", "none/place"), FAILED, NO_DIRECTORY),
-    ("a check: no signature", (PK, "none.sig", PLACE), FAILED, error("none.sig", "No such file or directory (os error 2)")),
-    ("a check: a text that is no signature", (PK, PK, PLACE), REJECTED, None),
-)
 
 
 @check_cases.case("a check: beside installations")

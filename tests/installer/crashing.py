@@ -7,13 +7,11 @@ Needs Python 3.9 or later, and root to mount.
 import contextlib
 import os
 import shutil
-import signal
 import subprocess
 import tempfile
 
-from disturbed import MAX_CALLS, Mounted
+from disturbed import Mounted, in_turn
 from installers import NEW, OLD, THERE
-from process import told
 from running import SECONDS, Failure, Skip, expect
 from runs import Cases, Directory
 
@@ -27,12 +25,9 @@ CUT_OFF = [(OLD, b"5"), (OLD, b"6"), (NEW, b"6")]
 
 
 def ended_well(*command):
-    """Whether a command did; what it said is thrown away."""
-    try:
-        return subprocess.run(command, stdin=subprocess.DEVNULL, stdout=subprocess.DEVNULL, stderr=subprocess.DEVNULL,
-                              timeout=SECONDS).returncode == 0
-    except (OSError, subprocess.SubprocessError):
-        return False
+    """Whether a command is here and did; what it said is thrown away."""
+    return shutil.which(command[0]) is not None and subprocess.run(
+        command, stdin=subprocess.DEVNULL, stdout=subprocess.DEVNULL, stderr=subprocess.DEVNULL, timeout=SECONDS).returncode == 0
 
 
 @contextlib.contextmanager
@@ -44,7 +39,7 @@ def disk(image):
 
 @contextlib.contextmanager
 def made_disk(installing):
-    """The file of a file system that has an offered update over an older one, and the name of one that does not exist yet."""
+    """The file of a file system that has an offered update over an older one."""
     if os.geteuid() != 0:
         raise Skip("only root may mount")
     with tempfile.TemporaryDirectory(dir=installing.room) as room:
@@ -55,7 +50,7 @@ def made_disk(installing):
             raise Skip("no file system was made: mkfs.ext4 of the package e2fsprogs is needed")
         with disk(image) as path:
             installing.offered(path)
-        yield image, os.path.join(room, "crashed")
+        yield image
 
 
 def finish(directory, state):
@@ -78,47 +73,39 @@ def after_crash(installing, crashed, may_be_old=False):
     return state
 
 
-def stopped(directory, number):
-    """A run that stops before its call of this number, and whether that call came."""
-    environment = directory.preloading(BREAK_AT=str(number), BREAK_SIGNAL=str(int(signal.SIGSTOP)))
-    return told(lambda says: directory.start(directory.arguments("new"), {**environment, "BREAK_SAYS": str(says)}, pass_fds=[says],
-                                             stderr=subprocess.DEVNULL))
-
-
 @crash_cases.case("a disk that crashes before each call")
 def crashes(directory):
     """The disk as it is before each call of a run and after the last: the place holds the old or the new update, whole,
     the record is never behind it, and the next run finishes. After the last call it is the new one."""
-    with made_disk(directory.installing) as (fresh, crashed):
-        seen, image = set(), fresh + ".used"
-        for number in range(1, MAX_CALLS):
-            shutil.copyfile(fresh, image)
-            with disk(image) as path:
-                process, came = stopped(Directory(path, directory.installing), number)
-                try:
-                    expect(came or process.wait(timeout=SECONDS) == 0, f"it ended with status {process.returncode}")
-                    shutil.copyfile(image, crashed)
-                finally:
-                    process.kill()
-                    process.wait()
-            try:
-                seen.add(after_crash(directory.installing, crashed, came))
-            except Failure as why:
-                raise Failure(f"at call {number}: {why}") from why
-            if not came:
-                break
-        expect(len(seen) == 3, f"the crashes left {len(seen)} states alone")
+    installing, seen = directory.installing, set()
+
+    def attempt(number, room):
+        image, crashed = (os.path.join(room, name) for name in ("image", "crashed"))
+        shutil.copyfile(fresh, image)
+        with disk(image) as path:
+            ran = Directory(path, installing).while_stopped(None, number, lambda _: shutil.copyfile(image, crashed))
+            expect(ran.status == 0, ran)
+            if not ran.came:
+                shutil.copyfile(image, crashed)
+        seen.add(after_crash(installing, crashed, ran.came))
+        return ran.came
+
+    with made_disk(installing) as fresh:
+        in_turn(installing.room, attempt)
+    expect(len(seen) == 3, f"the crashes left {len(seen)} states alone")
 
 
 def after_run(directory, act):
     """What a machine finds that crashed after runs on the disk."""
-    with made_disk(directory.installing) as (image, crashed):
+    with made_disk(directory.installing) as image:
+        crashed = image + ".crashed"
         with disk(image) as path:
             act(Directory(path, directory.installing))
             shutil.copyfile(image, crashed)
         after_crash(directory.installing, crashed)
 
 
+@crash_cases.table(*((f"a disk that crashes, and {away} is taken away", away) for away in ("sync", "directory")))
 def loses_without(directory, away):
     """A crash after a run without these syncs shows that they are missing."""
     try:
@@ -127,9 +114,6 @@ def loses_without(directory, away):
         expect("the place holds" in str(why), why)
         return
     raise Failure("nothing tells it")
-
-
-crash_cases.table(loses_without, *((f"a disk that crashes, and {away} is taken away", away) for away in ("sync", "directory")))
 
 
 @crash_cases.case("a disk that crashes once the update was found there")

@@ -12,7 +12,7 @@ from crashing import CUT_OFF, finish
 from disturbed import in_turn
 from installers import CALLED, CALLS, CHECK, FAILED, LATER, NEW, NOT_ON_DISK, OLD, OLDER, PK, PLACE, STAGE, THERE
 from running import expect
-from runs import Cases, only_root
+from runs import Cases
 
 cut_off_cases = Cases()
 
@@ -62,6 +62,7 @@ def stands(directory, data, recorded):
     directory.put_older(data, directory.kind.record(recorded, 6) if recorded else None if data is None else b"5")
 
 
+@cut_off_cases.table(*((f"cut off by {name}, over {what}", *begin, how) for what, *begin in BEGINNINGS for name, how in CUTS))
 def recovers(directory, data, recorded, options, **how):
     """Whatever call a run is cut off at, the next one ends with the update there, and a check finds it."""
 
@@ -72,9 +73,6 @@ def recovers(directory, data, recorded, options, **how):
         fresh.expect(NEW, b"6")
 
     each_broken(directory, judge, lambda fresh: stands(fresh, data, recorded), options, **how)
-
-
-cut_off_cases.table(recovers, *((f"cut off by {name}, over {what}", *begin, how) for what, *begin in BEGINNINGS for name, how in CUTS))
 
 
 @cut_off_cases.case("there already, and not synced")
@@ -92,7 +90,6 @@ def fails_to_sync(directory):
 def traced(directory, status=0, **environment):
     """The calls that an installation over a file of another owner made on what is in the directory, repeated ones once, with S and N
     for the stages in the order of their making."""
-    only_root()
     directory.give(PLACE)
     ran, calls = directory.run_traced(directory.arguments("new"), **environment)
     directory.ends(ran, status)
@@ -106,13 +103,20 @@ def traced(directory, status=0, **environment):
     return "".join(lines)
 
 
-@cut_off_cases.case("the calls in their order")
-def in_order(directory):
+@cut_off_cases.table(("the calls in their order", ""), *((f"{away} is taken away", away) for away in (
+    "sync", "directory", "new", "mode", "permissions", "owner", "lock", "rename", "digit")))
+def in_order(directory, away):
+    """Where `disturbed_calls.c` takes a step away, the order or what is left tells it."""
     directory.offer(number=16)
-    calls = traced(directory)
-    expect(calls == CALLS and directory.state() == (NEW, b"16"), f"its calls were\n{calls}")
+    calls = traced(directory, TAKE_AWAY=away)
+    expect((calls == CALLS and directory.state() == (NEW, b"16")) == (not away), f"its calls were\n{calls}")
 
 
+# By which name, which of them, which stages are removed then, and how the run ends.
+@cut_off_cases.table(*((f"the calls after {call} {number} failed", call, number, *then) for call, number, *then in (
+    ("write", 1, "S", FAILED), ("read-back", 1, "S", FAILED), ("permissions", 1, "S", FAILED), ("sync", 1, "S", FAILED),
+    ("write", 2, "NS", FAILED), ("sync", 2, "NS", FAILED), ("rename", 1, "NS", FAILED), ("sync", 3, "NS", FAILED),
+    ("rename", 2, "S", FAILED), ("sync", 4, "S", NOT_ON_DISK))))
 def in_order_after(directory, call, number, removed, status):
     """What comes after a call that failed, in the order of the machine: the stages are removed that are the run's own."""
     # (of data that is written by one call)
@@ -123,21 +127,3 @@ def in_order_after(directory, call, number, removed, status):
     # (some calls are told where they begin, and some where they have succeeded)
     wanted = lines[:at if call in ("write", "rename") else at + 1] + [f"remove {stage}\n" for stage in removed]
     expect(calls == "".join(wanted), f"its calls were\n{calls}")
-
-
-# By which name, which of them, which stages are removed then, and how the run ends.
-cut_off_cases.table(in_order_after, *((f"the calls after {call} {number} failed", call, number, *then) for call, number, *then in (
-    ("write", 1, "S", FAILED), ("read-back", 1, "S", FAILED), ("permissions", 1, "S", FAILED), ("sync", 1, "S", FAILED),
-    ("write", 2, "NS", FAILED), ("sync", 2, "NS", FAILED), ("rename", 1, "NS", FAILED), ("sync", 3, "NS", FAILED),
-    ("rename", 2, "S", FAILED), ("sync", 4, "S", NOT_ON_DISK))))
-
-
-def notices(directory, away):
-    """The order of the calls, or what is left, tells that a step was taken away by `disturbed_calls.c`."""
-    directory.offer(number=16)
-    calls = traced(directory, TAKE_AWAY=away)
-    expect(calls != CALLS or directory.state() != (NEW, b"16"), "nothing tells it")
-
-
-cut_off_cases.table(notices, *((f"{away} is taken away", away) for away in (
-    "sync", "directory", "new", "mode", "permissions", "owner", "lock", "rename", "digit")))

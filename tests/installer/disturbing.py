@@ -26,6 +26,7 @@ disturbing_cases = Cases()
 
 # == Each call ==
 
+@disturbing_cases.table(*((f"{call} fails", call) for call in FAILING), ("write fails for want of room", "write", errno.ENOSPC))
 def failing(directory, calls, number=errno.EIO):
     """Each of these calls fails in turn."""
 
@@ -45,6 +46,7 @@ def failing(directory, calls, number=errno.EIO):
     expect(each_broken(directory, judge, CALLS=calls, ERRNO=number), "it made no such call")
 
 
+@disturbing_cases.table(*((f"{call} is interrupted", call) for call in INTERRUPTED))
 def interrupted(directory, calls):
     """Each of these calls is interrupted in turn, and made again, where a killed run left a stage, and the place is, if
     root runs this, of another owner."""
@@ -52,7 +54,7 @@ def interrupted(directory, calls):
 
     def prepare(fresh):
         fresh.put(STAGE + "0" * 32, b"left")
-        fresh.give(PLACE, to=(owner, -1))
+        os.chown(fresh.at(PLACE), owner, -1)
 
     def judge(fresh, ran, _):
         fresh.leaves(ran, 0)
@@ -60,12 +62,8 @@ def interrupted(directory, calls):
             expect(os.stat(fresh.at(name)).st_uid == owner, f"{name} is of another owner")
 
     if calls == "fchown":
-        only_root()
+        only_root("give files another owner")
     expect(each_broken(directory, judge, prepare, CALLS=calls, ERRNO=errno.EINTR), "it made no such call")
-
-
-disturbing_cases.table(failing, *((f"{call} fails", call) for call in FAILING), ("write fails for want of room", "write", errno.ENOSPC))
-disturbing_cases.table(interrupted, *((f"{call} is interrupted", call) for call in INTERRUPTED))
 
 
 @disturbing_cases.case("writes that take half")
@@ -107,47 +105,31 @@ def refused_memory(directory):
 
 # == Calls that fail in ways of their own ==
 
-@disturbing_cases.case("a lock that the system cannot give")
-def without_lock(directory):
-    """The place is not locked then, and nobody else has the lock."""
-    ran = directory.broken(CALLS="flock", AT=1, ERRNO=errno.ENOLCK)
-    directory.leaves(ran, FAILED, error("./.place.lock", "No locks available (os error 37)"))
-
-
-def answers(directory, calls, number, statuses, is_others=False):
-    """The first of these calls fails by this number, the second one and so on, over a file of another owner or not."""
-    for at, status in enumerate(statuses, 1):
-        directory.renew()
-        if is_others:
-            only_root()
-            directory.give(PLACE)
-        directory.leaves(directory.broken(CALLS=calls, AT=at, ERRNO=number), status)
-
-
-disturbing_cases.table(
-    answers,
+@disturbing_cases.table(
+    ("a lock that the system cannot give", [((), "flock", 1, errno.ENOLCK, FAILED, error("./.place.lock", "No locks available (os error 37)"))]),
     # A file system that syncs no directories says so, which is no failure; of the update and its record it is one.
-    ("a directory that is not synced", "fsync", errno.EINVAL, (FAILED, FAILED, 0, 0)),
-    # Of the lock, the update and the record: where the system does not allow the owner the run goes on.
-    ("an owner that is not allowed", "fchown", errno.EPERM, (0, 0, 0), True),
-    ("an owner that cannot be given", "fchown", errno.EIO, (FAILED, FAILED, FAILED), True),
+    ("a directory that is not synced", [((), "fsync", at, errno.EINVAL, status) for at, status in enumerate((FAILED, FAILED, 0, 0), 1)]),
+    ("a mode that is not allowed", [
+        ((), "fchmod", 1, errno.EPERM, FAILED, error("./.place.stage-*", "the mode 751 is not allowed here")),
+        (("--mode", "640"), "fchmod", 1, errno.EPERM, FAILED, error("./.place.stage-*", "the mode 640 is not allowed here")),
+        ((), "fchmod", 1, errno.EIO, FAILED, error("./.place.stage-*", "Input/output error (os error 5)"))]),
+    # Of the lock, the update and the record, over a file of another owner: where the system does not allow that the run goes on.
+    ("an owner that is not allowed", [((), "fchown", at, errno.EPERM, 0) for at in (1, 2, 3)], True),
+    ("an owner that cannot be given", [((), "fchown", at, errno.EIO, FAILED) for at in (1, 2, 3)], True),
 )
-
-
-@disturbing_cases.case("a mode that is not allowed")
-def names_mode(directory):
-    """A mode that is not allowed is named; what fails otherwise is told as that."""
-    for number, options, said in ((errno.EPERM, (), "the mode 751 is not allowed here"), (errno.EPERM, ("--mode", "640"), "the mode 640 is not allowed here"),
-                                  (errno.EIO, (), "Input/output error (os error 5)")):
-        ran = directory.broken(*options, CALLS="fchmod", AT=1, ERRNO=number)
-        directory.leaves(ran, FAILED, error("./.place.stage-*", said))
+def answers(directory, rows, is_others=False):
+    """With the options of a row the call of this name and number fails by a number of an error; and how the run ends then."""
+    for options, calls, at, number, *ended in rows:
+        directory.begin()
+        if is_others:
+            directory.give(PLACE)
+        directory.leaves(directory.broken(*options, CALLS=calls, AT=at, ERRNO=number), *ended)
 
 
 @disturbing_cases.case("a full disk")
 def on_full_disk(directory):
     with tempfile.TemporaryDirectory(dir=directory.installing.place) as path, small_disk(path):
-        small = Directory(path, directory.installing).begin()
-        small.offer(data=b"n" * 20000)
+        small = Directory(path, directory.installing).begin(data=b"n" * 20000)
         with without_room(path):
             ran = small.install()
         small.leaves(ran, FAILED, b": No space left on device (os error 28)\n")
@@ -183,7 +165,7 @@ def says_to_nobody(directory):
 def closes_streams(directory):
     """No file gets the number of one."""
     for closed in ("<&-", ">&-", "<&- >&-"):
-        directory.renew()
+        directory.begin()
         words = ["sh", "-c", f'exec "$@" {closed}', "sh", directory.installing.program, *directory.arguments("new")]
         ran = run_program(words, directory.path, env={})
         directory.leaves(ran, 0)
@@ -198,6 +180,12 @@ def is_asked_to_end(directory, number, call, at):
     directory.ends(directory.install(environment=environment, preexec_fn=lambda: signal.signal(number, signal.SIG_DFL)), -number)
 
 
+# What asks for the end. From the renaming of the record on it is held back, at the sync of its name, and to the renaming of the target.
+ENDING = (signal.SIGHUP, signal.SIGINT, signal.SIGQUIT, signal.SIGTERM)
+HELD_BACK = (("rename", 1), ("sync", 3), ("rename", 2))
+
+
+@disturbing_cases.table(*((f"{number.name} at {call} {at}", number, call, at) for number in ENDING for call, at in HELD_BACK))
 def holds_back(directory, number, call, at):
     """A signal that comes once the record is being renamed ends the run where the target has its name."""
     is_asked_to_end(directory, number, call, at)
@@ -205,17 +193,12 @@ def holds_back(directory, number, call, at):
     directory.check("new", THERE, said=b"")
 
 
+@disturbing_cases.table(*((f"{number.name} before the names", number) for number in ENDING))
 def ends_before(directory, number):
     """A signal that comes before that ends the run there, and the next one finishes."""
     is_asked_to_end(directory, number, "sync", 2)
     expect(directory.state() == (OLD, b"5"), "it went on")
     directory.leaves(directory.install(), 0)
-
-
-for asked in (signal.SIGHUP, signal.SIGINT, signal.SIGQUIT, signal.SIGTERM):
-    # From the renaming of the record on, at the sync of its name, and to the renaming of the target.
-    disturbing_cases.table(holds_back, *((f"{asked.name} at {call} {at}", asked, call, at) for call, at in (("rename", 1), ("sync", 3), ("rename", 2))))
-    disturbing_cases.table(ends_before, (f"{asked.name} before the names", asked))
 
 
 # == Others ==
@@ -248,9 +231,13 @@ def moved_directory(directory):
     directory.ends(directory.while_staged(move, "sub"), 0)
     moved.expect(NEW, b"6")
     sub.expect(OLD, b"5")
-    expect({*os.listdir(sub.path)} == {PK, PLACE, RECORD}, f"the other directory has {os.listdir(sub.path)}")
+    expect({*os.listdir(sub.path)} == {PK, PLACE, RECORD, "new", "new.sig"}, f"the other directory has {os.listdir(sub.path)}")
 
 
+@disturbing_cases.table(
+    ("a target that is replaced, and stands there already", True),
+    ("a target that is replaced, of a newer update", False),
+)
 def replaces(directory, is_there):
     """Before each call that looks at the target another file with the same data takes its place: it is opened again."""
 
@@ -267,13 +254,11 @@ def replaces(directory, is_there):
     in_turn(directory.installing.place, attempt)
 
 
-disturbing_cases.table(
-    replaces,
-    ("a target that is replaced, and stands there already", True),
-    ("a target that is replaced, of a newer update", False),
+@disturbing_cases.table(
+    ("a lock file that is removed", "read-back", 1),
+    ("a lock that is lost before the record is renamed", "sync", 2),
+    ("a lock that is lost before the target is renamed", "sync", 3),
 )
-
-
 def loses_lock(directory, call, at):
     """A run whose lock file is removed, once it has staged its data or its record, changes nothing once another one went past it."""
     directory.offer("later", LATER, 7)
@@ -287,18 +272,9 @@ def loses_lock(directory, call, at):
     expect(directory.state() == (LATER, b"7"), f"the record holds {directory.holds(RECORD)}")
 
 
-disturbing_cases.table(
-    loses_lock,
-    ("a lock file that is removed", "read-back", 1),
-    ("a lock that is lost before the record is renamed", "sync", 2),
-    ("a lock that is lost before the target is renamed", "sync", 3),
-)
-
-
 @disturbing_cases.case("a lock that a run by root makes anew")
 def keeps_renewed_lock(directory):
     """The new lock file of a run by root, where the older one is another's, is locked too."""
-    only_root()
     directory.put(LOCK, b"")
     directory.give(PLACE)
     before = os.stat(directory.at(LOCK))
@@ -315,7 +291,8 @@ def keeps_renewed_lock(directory):
 def takes_list_off(directory):
     """A first file has no list that its directory gives to new files, with a mode that is asked for or none."""
     for options, mode in ((FIRST, 0o600), ((*FIRST, "--mode", "640"), 0o640)):
-        directory.renew(is_installed=False)
+        directory.begin()
+        directory.put_older(None, None)
         subprocess.run([needs.program("setfacl", "acl"), "-d", "-m", f"u:{OTHER_USER}:rwx", directory.path], check=True, timeout=SECONDS)
         directory.leaves(directory.install("new", *options), 0)
         directory.has_mode(mode)

@@ -6,7 +6,6 @@ Needs Python 3.9 or later, and Minisign's own program.
 
 import base64
 import hashlib
-import os
 import subprocess
 
 import needs

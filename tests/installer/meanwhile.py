@@ -15,41 +15,42 @@ meanwhile_cases = Cases()
 
 # == Pipes ==
 
-@meanwhile_cases.case("a pipe that stands still")
-def stalled_pipe(directory):
+@meanwhile_cases.table(
+    ("a pipe that stands still", ("later", LATER, 7), (-signal.SIGKILL, OLDER)),
+    ("a pipe, and another run that is faster", ("same", NEW, 6), (THERE,)),
+)
+def stalled_pipe(directory, update, statuses):
     """A run whose data comes through a pipe that stands still holds up no other run, and leaves nothing where it is killed. What it
-    has received is judged again: another run may have installed a later update meanwhile."""
-    for is_killed in (True, False):
-        directory.renew()
-        directory.offer("later", LATER, 7)
+    has received is judged again: another run has installed an update meanwhile, later or the same, which stays."""
+    for status in statuses:
+        directory.begin()
+        directory.offer(*update)
         directory.replace("new", os.mkfifo)
         process = directory.start(directory.arguments("new"))
         # (also for reading, so that it is open at once)
         with open(directory.at("new"), "r+b", buffering=0) as pipe:
             pipe.write(NEW[:1000])
             wait_until_read(pipe)
-            directory.check("later", 0)
-            directory.expect(LATER, b"7")
-            if is_killed:
+            directory.check(update[0], 0)
+            before = os.stat(directory.at(PLACE))
+            if status < 0:
                 process.kill()
             else:
                 pipe.write(NEW[1000:])
-        directory.ends_later(process, -signal.SIGKILL if is_killed else OLDER)
-        directory.expect(LATER, b"7")
+        directory.ends_later(process, status)
+        directory.expect(update[1], str(update[2]).encode())
+        expect(os.stat(directory.at(PLACE)).st_ino == before.st_ino, "it was put there once more")
 
 
-def rejects_unfed(directory, status, said, **offered):
-    """What the signed comment or the record rejects is told at once, and no data is waited for."""
-    directory.offer(**offered)
-    directory.leaves(directory.run_unfed(THROUGH_PIPE), status, said)
-
-
-meanwhile_cases.table(
-    rejects_unfed,
+@meanwhile_cases.table(
     ("a pipe that nobody feeds, of an older update", OLDER, b": the update is older than what was installed\n", dict(number=4)),
     ("a pipe that nobody feeds, of one that has expired", EXPIRED, HAS_EXPIRED, dict(more=PAST)),
     ("a pipe that nobody feeds, of another file", REJECTED, OTHER_NAME, dict(names="other")),
 )
+def rejects_unfed(directory, status, said, **offered):
+    """What the signed comment or the record rejects is told at once, and no data is waited for."""
+    directory.offer(**offered)
+    directory.leaves(directory.run_unfed(THROUGH_PIPE), status, said)
 
 
 @meanwhile_cases.case("data through a pipe")
@@ -133,6 +134,7 @@ def swapped_place(directory):
 
 # == Several runs ==
 
+@meanwhile_cases.table(("four at once",))
 def at_once(directory, rounds=25, environment=None):
     """Four runs at once, of which one brings a bad update and one an older one, and a reader. The place holds an update,
     whole, the record its number or a greater one, and that number never falls."""
@@ -163,9 +165,6 @@ def at_once(directory, rounds=25, environment=None):
                    f"the record holds {kept}, and the stages are {directory.stages()}")
 
 
-meanwhile_cases.table(at_once, ("four at once",))
-
-
 @meanwhile_cases.case("four slow ones at once")
 def slow_at_once(directory):
     """Each call of a run waits first for up to 20 milliseconds."""
@@ -179,7 +178,7 @@ def waits(directory):
         began = time.monotonic()
         directory.check("new", IN_USE, "--wait", "1")
         expect(time.monotonic() - began >= 1, "it did not wait")
-        for words, data in ((directory.arguments("new"), None), (THROUGH_PIPE, NEW)):
+        for words, data in ((directory.arguments("new"), b""), (THROUGH_PIPE, NEW)):
             directory.put_older()
             process = directory.waiting(words, data)
             fcntl.flock(lock, fcntl.LOCK_UN)

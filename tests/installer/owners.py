@@ -9,7 +9,7 @@ import os
 from installers import AS_NOBODY, FAILED, LATER, LOCK, NEW, OLD, OLDER, PLACE, RECORD, THERE, error
 from permissions import OTHER_GROUP, OTHER_USER
 from running import NOBODY, expect
-from runs import Cases, only_root
+from runs import Cases
 
 owner_cases = Cases()
 
@@ -18,8 +18,8 @@ SECRET = b"secret:what root alone may read"
 NOT_OWN = "it is for its owner alone: give it the owner of the target"
 
 
-def expect_nobodys(directory, *names):
-    for name in names:
+def expect_nobodys(directory):
+    for name in (PLACE, RECORD, LOCK):
         found = os.stat(directory.at(name))
         expect((found.st_uid, found.st_gid) == (NOBODY, NOBODY), f"{name} is of {found.st_uid}:{found.st_gid}")
 
@@ -33,10 +33,9 @@ def nobody_installs(directory, name, data, number):
 
 @owner_cases.case("the owner after an update by root")
 def after_root(directory):
-    only_root("become nobody")
     directory.give(".", PLACE)
     directory.check("new", 0)
-    expect_nobodys(directory, PLACE, RECORD, LOCK)
+    expect_nobodys(directory)
     directory.has_mode(0o600, RECORD)
     nobody_installs(directory, "later", LATER, 7)
 
@@ -44,7 +43,6 @@ def after_root(directory):
 @owner_cases.case("the owner after a first installation by root")
 def after_first_by_root(directory):
     """And after an update, in a directory of nobody's, the place becomes nobody's."""
-    only_root("become nobody")
     directory.put_older(None, None)
     directory.give(".")
     directory.check("new", 0, "--first")
@@ -58,7 +56,6 @@ def after_first_by_root(directory):
 def after_next_by_root(directory):
     """Where place and directory become nobody's after runs by root, the lock file is named, and what may be done about it; and after
     one more run by root nobody may go on."""
-    only_root("become nobody")
     directory.put_older(None, None)
     directory.check("new", 0, "--first")
     directory.give(".", PLACE)
@@ -68,35 +65,30 @@ def after_next_by_root(directory):
         directory.give(LOCK)
     directory.give(LOCK, to=(0, 0))
     directory.check("later", 0)
-    expect_nobodys(directory, PLACE, RECORD, LOCK)
+    expect_nobodys(directory)
     nobody_installs(directory, "last", LAST, 8)
 
 
+@owner_cases.table(
+    ("the owner after a run by root that finds the update there", NEW, 6, THERE),
+    ("the owner after a run by root of an older update", OLD, 5, OLDER),
+)
 def after_nothing_by_root(directory, data, number, status):
     """After a run by root that installs nothing, whoever owns the place by now may go on: lock and record are renewed."""
-    only_root("become nobody")
     directory.put_older(None, None)
     directory.check("new", 0, "--first")
     directory.give(".", PLACE)
     directory.offer("other", data, number)
     directory.check("other", status)
-    expect_nobodys(directory, PLACE, RECORD, LOCK)
+    expect_nobodys(directory)
     directory.is_kept(NEW, directory.kind.record(NEW, 6))
     nobody_installs(directory, "later", LATER, 7)
-
-
-owner_cases.table(
-    after_nothing_by_root,
-    ("the owner after a run by root that finds the update there", NEW, 6, THERE),
-    ("the owner after a run by root of an older update", OLD, 5, OLDER),
-)
 
 
 # == Files of root's ==
 
 def put_secret(directory, name="secret"):
     """Puts a file there that root alone may read, in a directory of nobody's."""
-    only_root("become nobody")
     directory.put(name, SECRET)
     os.chmod(directory.at(name), 0o600)
     directory.give(".", PLACE)
@@ -106,6 +98,10 @@ def expect_roots(directory, name):
     expect((os.stat(directory.at(name)).st_uid, directory.holds(name)) == (0, SECRET), "the file has another owner now, or holds something else")
 
 
+@owner_cases.table(
+    ("a file of root's with the name of the record",),
+    ("a file of root's with the name of the record, at a first installation", "--first"),
+)
 def gives_no_record(directory, *options):
     """A file of root's that has the name of the record, and is none, is given to nobody, and nothing that holds the same is."""
     put_secret(directory, RECORD)
@@ -114,13 +110,10 @@ def gives_no_record(directory, *options):
     expect_roots(directory, RECORD)
 
 
-owner_cases.table(
-    gives_no_record,
-    ("a file of root's with the name of the record",),
-    ("a file of root's with the name of the record, at a first installation", "--first"),
+@owner_cases.table(
+    ("a file of root's, renamed to the lock's name", os.rename),
+    ("a file of root's, linked to the lock's name", os.link),
 )
-
-
 def gives_nothing_found(directory, make):
     """A run by root gives away no file of root's that has the name of the lock, as nobody may rename or link it in the directory,
     and changes nothing in it."""
@@ -130,13 +123,6 @@ def gives_nothing_found(directory, make):
         for _ in range(2):
             directory.install()
             expect(os.fstat(secret.fileno()).st_uid == 0 and directory.holds(LOCK) == SECRET, "the file has another owner now, or holds something else")
-
-
-owner_cases.table(
-    gives_nothing_found,
-    ("a file of root's, renamed to the lock's name", os.rename),
-    ("a file of root's, linked to the lock's name", os.link),
-)
 
 
 @owner_cases.case("data of root's, whose stage is renamed")
@@ -156,7 +142,6 @@ def gives_no_data(directory):
 @owner_cases.case("the group alone")
 def is_of_group(directory):
     """Who is a member of the group of the file at the place, and not its owner, gives the new file that group."""
-    only_root("become nobody")
     directory.give(".", RECORD)
     directory.give(PLACE, to=(OTHER_USER, OTHER_GROUP))
     os.chmod(directory.at(PLACE), 0o775)

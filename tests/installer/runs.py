@@ -4,9 +4,11 @@ Needs Python 3.9 or later and a C compiler, which it installs if it may.
 """
 
 import array
+import concurrent.futures
 import contextlib
 import fcntl
 import os
+import re
 import shutil
 import signal
 import stat
@@ -28,24 +30,23 @@ class Cases:
     def __init__(self):
         self.rows = []
 
-    def case(self, name, *given):
-        """Makes a function a case of this name."""
+    def table(self, *rows):
+        """Makes a function a case for each row."""
 
         def add(function):
-            self.rows.append((name, function, *given))
+            self.rows += [(name, function, *given) for name, *given in rows]
             return function
 
         return add
 
-    def table(self, function, *rows):
-        """Makes each row a case of a function."""
-        self.rows += [(name, function, *given) for name, *given in rows]
+    def case(self, name):
+        return self.table((name,))
 
     def __call__(self, _):
         return self.rows
 
 
-def only_root(what="give files another owner"):
+def only_root(what):
     """Skips a case where this is not root."""
     if os.geteuid() != 0:
         raise Skip(f"only root may {what}")
@@ -63,25 +64,21 @@ def wait_until_read(pipe):
 @contextlib.contextmanager
 def repeating(act, pause=0.0):
     """Does something again and again meanwhile, which is given a number that counts up; what it raises is a `Failure`."""
-    is_over, broken = threading.Event(), []
+    is_over = threading.Event()
 
     def go_on():
         number = 0
-        try:
-            while not is_over.wait(pause):
-                act(number)
-                number += 1
-        except Exception as why:
-            broken.append(why)
+        while not is_over.wait(pause):
+            act(number)
+            number += 1
 
-    thread = threading.Thread(target=go_on)
-    thread.start()
-    try:
-        yield
-    finally:
-        is_over.set()
-        thread.join()
-    expect(not broken, "what is done meanwhile ended", *broken)
+    with concurrent.futures.ThreadPoolExecutor(1) as pool:
+        repeated = pool.submit(go_on)
+        try:
+            yield
+        finally:
+            is_over.set()
+    expect(not repeated.exception(), "what is done meanwhile ended", repeated.exception())
 
 
 class Directory:
@@ -92,19 +89,16 @@ class Directory:
 
     # == Files ==
 
-    def begin(self, is_installed=True):
-        """Puts the key there, and an update of the number 5 at the target, or nothing."""
-        self.put(PK, self.kind.public_text())
-        if is_installed:
-            self.put_older()
-            os.chmod(self.at(PLACE), 0o751)
-        return self
-
-    def renew(self, **how):
-        """Empties the directory and begins again, with an offered update."""
+    def begin(self, **offered):
+        """Puts the key there, an update of the number 5 at the target, and what is offered, in the place of all else."""
         for each in os.scandir(self.path):
-            os.remove(each.path)
-        self.begin(**how).offer()
+            if not each.is_dir(follow_symlinks=False):
+                os.remove(each.path)
+        self.put(PK, self.kind.public_text())
+        self.put_older()
+        os.chmod(self.at(PLACE), 0o751)
+        self.offer(**offered)
+        return self
 
     def at(self, name):
         return os.path.join(self.path, name)
@@ -113,7 +107,7 @@ class Directory:
         write(self.path, name, data)
 
     def put_older(self, data=OLD, record=b"5"):
-        """What stands at the target before, and its record."""
+        """What stands at the target before, and its record, or nothing."""
         for name, held in ((PLACE, data), (RECORD, record)):
             if held is not None:
                 self.put(name, held)
@@ -133,7 +127,8 @@ class Directory:
         self.put(name + ".sig", self.kind.signature_text(data if signed is None else signed, comment, legacy))
 
     def give(self, *names, to=(NOBODY, NOBODY)):
-        """Gives files another owner and group."""
+        """Gives files another owner and group, or skips the case."""
+        only_root("give files another owner")
         for name in names:
             os.chown(self.at(name), *to)
 
@@ -148,12 +143,9 @@ class Directory:
         return stat.S_IMODE(os.stat(self.at(name)).st_mode)
 
     def holds(self, name=PLACE):
-        """What the file holds; of a record with a digest whose number is a timestamp the number alone, and of another record all."""
+        """What the file holds; of a record with a digest whose number is a timestamp the number alone."""
         found = content(self.path, name)
-        if found and name.endswith(".number") and found.count(b"\n") == 2:
-            number, key, digest = found.split(b"\n")
-            return number.removeprefix(b"timestamp:") if (len(key), len(digest)) == (64, 128) else found
-        return found
+        return found and re.sub(rb"\Atimestamp:(\d+)\n[0-9a-f]{64}\n[0-9a-f]{128}\Z", rb"\1", found)
 
     def state(self):
         """What the target holds, and what the record does."""
@@ -185,13 +177,12 @@ class Directory:
         return subprocess.Popen([self.installing.program, *words], cwd=self.path, env=environment or {},
                                 **{"stdin": subprocess.DEVNULL, "stdout": subprocess.DEVNULL, "stderr": subprocess.PIPE, **how})
 
-    def waiting(self, words, data=None):
-        """A run that waits for the lock, which another holds; with data, that is fed to it."""
-        process = self.start(["--wait", "20", *words], stdin=subprocess.DEVNULL if data is None else subprocess.PIPE)
-        if data is not None:
-            process.stdin.write(data)
-            process.stdin.close()
-            process.stdin = None
+    def waiting(self, words, data=b""):
+        """A run that waits for the lock, which another holds, and is fed with data."""
+        process = self.start(["--wait", "20", *words], stdin=subprocess.PIPE)
+        process.stdin.write(data)
+        process.stdin.close()
+        process.stdin = None
         time.sleep(0.5)
         expect(process.poll() is None and self.holds() == OLD, "it did not wait")
         return process
@@ -201,8 +192,6 @@ class Directory:
         reader, writer = os.pipe()
         try:
             return self.run(words, stdin=reader)
-        except subprocess.TimeoutExpired as why:
-            raise Failure("it waits for data that it does not need") from why
         finally:
             os.close(reader)
             os.close(writer)
@@ -236,9 +225,9 @@ class Directory:
         return ran, {call.split(" ")[1] for call in calls if call.startswith(f"make {STAGE}")}
 
     def while_stopped(self, calls, number, meanwhile, where="."):
-        """A run over the target in a directory of this directory: before its call of this number among these it stops, something is
-        done, and then it goes on."""
-        environment = self.signalling(signal.SIGSTOP, CALLS=calls, AT=number)
+        """A run over the target in a directory of this directory: before its call of this number among these, or all, it stops,
+        something is done, and then it goes on."""
+        environment = self.signalling(signal.SIGSTOP, AT=number, **({"CALLS": calls} if calls else {}))
         process = self.start([PK, "new", "new.sig", os.path.join(where, PLACE)], environment)
         return while_stopped(process, lambda: meanwhile(Directory(self.at(where), self.installing)))
 
@@ -300,11 +289,9 @@ class Installing(Disturbing):
         self.kind = kind
         os.chmod(room, 0o711)
 
-    def offered(self, path, **how):
-        """A directory at this path, at whose target an older update stands, or nothing, and which is offered a newer one."""
-        directory = Directory(path, self).begin(**how)
-        directory.offer()
-        return directory
+    def offered(self, path):
+        """A directory at this path, at whose target an older update stands, and which is offered a newer one."""
+        return Directory(path, self).begin()
 
     def run_case(self, case, *given):
         """Runs a case in a fresh directory, with what it is given, at the end by names."""

@@ -1,18 +1,24 @@
 """The update is already installed: it has the kept number, and the same or other data."""
 
 import errno
-import os
 import signal
 
-from installers import (AT_WORK, CALLED, CHECK, FAILED, IN_USE, LATER, LOCK, NEW, OLD, OTHER_DATA, PK, PLACE, RECORD, SAME, STAGE, THERE,
+from installers import (AT_WORK, CALLED, CHECK, FAILED, IN_USE, LATER, LOCK, NEW, OLD, OTHER_DATA, PLACE, RECORD, SAME, STAGE, THERE,
                         THROUGH_PIPE, error)
 from running import expect
-from runs import Cases, wait_until_read
+from runs import Cases
 from updates import HAS_NEW, judged, kept
 
 there_cases = Cases()
 
 
+@there_cases.table(
+    ("there already",),
+    ("there already, by a number alone", b"6\n"),
+    ("there already, by a field and a number", b"timestamp:6"),
+    ("there already, at a first installation", dict(options=("--first",))),
+    ("there already, though it is asked for again", dict(options=("--again",))),
+)
 def finds_it_there(directory, record=None, options=()):
     """What stands there already is not written again, whatever DATA holds: it is synced, and so is the directory, but no call makes,
     writes, renames or removes anything."""
@@ -28,31 +34,23 @@ def finds_it_there(directory, record=None, options=()):
            f"its calls were {calls}")
 
 
-there_cases.table(
-    finds_it_there,
-    ("there already",),
-    ("there already, by a number alone", b"6\n"),
-    ("there already, by a field and a number", b"timestamp:6"),
-    ("there already, at a first installation", dict(options=("--first",))),
-    ("there already, though it is asked for again", dict(options=("--again",))),
+@there_cases.table(
+    ("a changed file", NEW[:-1] + b"x"),
+    ("a file that was cut short", NEW[:-1]),
+    ("a file that was emptied", b""),
+    ("a changed file at a first installation", NEW[:-1] + b"x", ("--first",)),
 )
-
-
 def heals(directory, data, options=()):
     """Where the record is this update's, it is put over other data; then it is there."""
     judged(directory, 0, b"", options, place=data, record=kept(NEW, 6))
     judged(directory, THERE, b"", options, **HAS_NEW)
 
 
-there_cases.table(
-    heals,
-    ("a changed file", NEW[:-1] + b"x"),
-    ("a file that was cut short", NEW[:-1]),
-    ("a file that was emptied", b""),
-    ("a changed file at a first installation", NEW[:-1] + b"x", ("--first",)),
+@there_cases.table(
+    ("other data of the kept number", b"timestamp:6"),
+    ("other data of a number alone", b"6"),
+    ("other data at a first installation", b"timestamp:6\n", ("--first",)),
 )
-
-
 def finds_other_data(directory, record, options=()):
     """Where the record does not say of which data its number is, other data of that number is rejected, and replaced where that is
     asked for. Then the record says it."""
@@ -60,14 +58,6 @@ def finds_other_data(directory, record, options=()):
         judged(directory, SAME, OTHER_DATA, options, record=record)
     directory.check("new", 0, *options, "--again")
     directory.is_kept(NEW, directory.kind.record(NEW, 6))
-
-
-there_cases.table(
-    finds_other_data,
-    ("other data of the kept number", b"timestamp:6"),
-    ("other data of a number alone", b"6"),
-    ("other data at a first installation", b"timestamp:6\n", ("--first",)),
-)
 
 
 @there_cases.case("another update of the kept number")
@@ -125,20 +115,3 @@ def finds_it_there_unfed(directory):
     for words, *ended in (([], SAME, OTHER_DATA), (["--again"], 0)):
         directory.check_words([*words, *THROUGH_PIPE], *ended, typed=NEW)
     directory.expect(NEW, b"6")
-
-
-@there_cases.case("a pipe, and another run that is faster")
-def is_overtaken(directory):
-    """What comes through a pipe another run installs meanwhile: then it is there already."""
-    os.rename(directory.at("new"), directory.at("whole"))
-    os.mkfifo(directory.at("new"))
-    process = directory.start(directory.arguments("new"))
-    with open(directory.at("new"), "r+b", buffering=0) as pipe:
-        pipe.write(NEW[:1000])
-        wait_until_read(pipe)
-        directory.check_words([PK, "whole", "new.sig", PLACE], 0)
-        before = os.stat(directory.at(PLACE))
-        pipe.write(NEW[1000:])
-    directory.ends_later(process, THERE, b"")
-    directory.expect(NEW, b"6")
-    expect(os.stat(directory.at(PLACE)).st_ino == before.st_ino, "it was put there once more")

@@ -12,7 +12,7 @@ from installers import (AGED, AT_WORK, BY_VERSION, CHECK, DAMAGED_RECORD, EXPIRE
                         KEPT_BY_TIMESTAMP, KEPT_BY_VERSION, LATER, LOCK, NEW, NO_RECORD, OLD, OLDER, OTHER_COMMENT, OTHER_DATA, OTHER_NAME,
                         OTHER_SIGNED, PAST, PK, PLACE, RECORD, REJECTED, SAME, SOON, STAGE, THERE, THROUGH_PIPE, TOO_LONG, UNRECORDED, error)
 from running import SECONDS, expect
-from runs import Cases, only_root
+from runs import Cases
 
 update_cases = Cases()
 
@@ -67,8 +67,7 @@ def judged(directory, status, said=b"", options=(), keys=(PK,), record=b"5", pla
 # What stands there already: the update of the number 6.
 HAS_NEW = dict(place=NEW, record=kept(NEW, 6))
 
-update_cases.table(
-    judged,
+JUDGED = (
     ("newer updates", 0),
     ("a newer version", 0, dict(options=BY_VERSION, record=b"version:5\n", label="version")),
     ("a newer version than what was installed", 0, dict(options=BY_VERSION, record=kept(OLD, 2, "version"), label="version", number=3)),
@@ -149,8 +148,16 @@ update_cases.table(
     ("a key that is no base64", REJECTED, error("*" * 56, "base64 conversion failed - was an actual public key given?: invalid base64"),
      dict(keys=("--key", "*" * 56))),
 )
+update_cases.table(*JUDGED)(judged)
 
 
+@update_cases.table(
+    ("a record with a line feed", lambda _: b"5\n"),
+    ("a record of 64 digits", lambda _: b"5".rjust(64, b"0")),
+    ("a record with its field", lambda _: b"timestamp:5"),
+    ("a record with its field and a line feed", lambda _: b"timestamp:5\n"),
+    ("a record whose digest is none", lambda record: record[:-1] + b"g"),
+)
 def compared(directory, change):
     """A number alone, or with its field, or with a digest that does not read: it is compared, and says nothing of data."""
     record = change(directory.kind.record(OLD, 5))
@@ -158,24 +165,7 @@ def compared(directory, change):
         judged(directory, *ended, number=number, place=place, record=record)
 
 
-update_cases.table(
-    compared,
-    ("a record with a line feed", lambda _: b"5\n"),
-    ("a record of 64 digits", lambda _: b"5".rjust(64, b"0")),
-    ("a record with its field", lambda _: b"timestamp:5"),
-    ("a record with its field and a line feed", lambda _: b"timestamp:5\n"),
-    ("a record whose digest is none", lambda record: record[:-1] + b"g"),
-)
-
-
-def damaged(directory, change):
-    """A record whose key or digest is none is damaged: no number is kept by it, and a first installation passes over it."""
-    for status, said, options in ((UNRECORDED, DAMAGED_RECORD, ()), (0, b"", FIRST)):
-        judged(directory, status, said, options, record=change(directory.kind.record(OLD, 5)))
-
-
-update_cases.table(
-    damaged,
+@update_cases.table(
     ("a record with a digit less", lambda record: record[:-1]),
     ("a record with a digit more", lambda record: record + b"0"),
     ("a record with a line feed at its end", lambda record: record + b"\n"),
@@ -183,35 +173,26 @@ update_cases.table(
     ("a record with a blank", lambda record: record.replace(b"\n", b" \n")),
     ("a record of a word", lambda _: b"six"),
 )
+def damaged(directory, change):
+    """A record whose key or digest is none is damaged: no number is kept by it, and a first installation passes over it."""
+    for status, said, options in ((UNRECORDED, DAMAGED_RECORD, ()), (0, b"", FIRST)):
+        judged(directory, status, said, options, record=change(directory.kind.record(OLD, 5)))
 
 
+@update_cases.table(*((f"an update that must expire, and {what}", *ended, more) for what, more, *ended in (
+    ("says so", SOON, 0, b""),
+    ("does not", "", REJECTED, NO_EXPIRY),
+    ("says so in capitals", SOON.replace("expires", "Expires"), REJECTED, BAD_EXPIRY),
+    ("says so after a blank", SOON.replace("expires", " expires"), REJECTED, BAD_EXPIRY),
+    ("says so before a blank", SOON.replace("expires", "expires "), REJECTED, BAD_EXPIRY),
+    ("says so once more in capitals", SOON + SOON.upper(), REJECTED, BAD_EXPIRY))))
 def must_expire(directory, status, said, more):
-    """An update that has to expire; without that flag it is installed."""
+    """Without that flag it is installed."""
     judged(directory, status, said, ("--must-expire",), more=more)
     judged(directory, 0, more=more)
 
 
-update_cases.table(
-    must_expire,
-    *((f"an update that must expire, and {what}", *ended, more) for what, more, *ended in (
-        ("says so", SOON, 0, b""),
-        ("does not", "", REJECTED, NO_EXPIRY),
-        ("says so in capitals", SOON.replace("expires", "Expires"), REJECTED, BAD_EXPIRY),
-        ("says so after a blank", SOON.replace("expires", " expires"), REJECTED, BAD_EXPIRY),
-        ("says so before a blank", SOON.replace("expires", "expires "), REJECTED, BAD_EXPIRY),
-        ("says so once more in capitals", SOON + SOON.upper(), REJECTED, BAD_EXPIRY))))
-
-
-def sized(directory, data, size, status=0):
-    """Data of which the signed comment says that it has so many bytes, as a file and through a pipe."""
-    judged(directory, status, OTHER_SIZE if status else b"", data=data, more=f"\tsize:{size}", checked=0)
-    directory.put_older()
-    directory.check_words(THROUGH_PIPE, status, OTHER_SIZE.replace(b"new", b"/dev/stdin") if status else b"", typed=data)
-    directory.expect(*((OLD, b"5") if status else (data, b"6")))
-
-
-update_cases.table(
-    sized,
+@update_cases.table(
     ("data of the signed size", NEW, len(NEW)),
     ("data of the signed size, in pieces", LONG, len(LONG)),
     ("data of no bytes", b"", 0),
@@ -219,6 +200,12 @@ update_cases.table(
     ("data of a byte less than was signed", NEW, len(NEW) + 1, REJECTED),
     ("data of more than was signed, in pieces", LONG, 1, REJECTED),
 )
+def sized(directory, data, size, status=0):
+    """Data of which the signed comment says that it has so many bytes, as a file and through a pipe."""
+    judged(directory, status, OTHER_SIZE if status else b"", data=data, more=f"\tsize:{size}", checked=0)
+    directory.put_older()
+    directory.check_words(THROUGH_PIPE, status, OTHER_SIZE.replace(b"new", b"/dev/stdin") if status else b"", typed=data)
+    directory.expect(*((OLD, b"5") if status else (data, b"6")))
 
 
 @update_cases.case("data without an end, whose size was signed")
@@ -244,13 +231,21 @@ def bounded(directory):
 
 # == Keys ==
 
-def key_words(directory, *names):
-    """The words for keys: the one that has signed, another one, and one that has its key ID."""
+def key_records(directory):
+    """The key that has signed, another one, and one that has its key ID."""
     own = directory.kind.public_record()
-    records = {"own": own, "other": b"Ed" + bytes(8) + OTHER_KEY, "twin": own[:10] + OTHER_KEY}
-    return [word for name in names for word in ("--key", base64.b64encode(records[name]).decode())] or [PK]
+    return {"own": own, "other": b"Ed" + bytes(8) + OTHER_KEY, "twin": own[:10] + OTHER_KEY}
 
 
+def key_words(directory, *names):
+    return [word for name in names for word in ("--key", base64.b64encode(key_records(directory)[name]).decode())] or [PK]
+
+
+@update_cases.table(
+    ("keys that are named themselves", (["other"], REJECTED, error("new.sig", "Signature key id is different from public key")),
+     (["own"], 0), (["own", "other"], 0), (["other", "own"], 0)),
+    ("two keys of one key ID", (["own", "twin"], 0), (["twin", "own"], 0), (["twin", "twin"], REJECTED, OTHER_COMMENT)),
+)
 def named(directory, *rows):
     """Keys on the command line, of which one has signed, or none."""
     for names, *ended in rows:
@@ -259,38 +254,27 @@ def named(directory, *rows):
             judged(directory, THERE, keys=key_words(directory, *names), **HAS_NEW)
 
 
-update_cases.table(
-    named,
-    ("keys that are named themselves", (["other"], REJECTED, error("new.sig", "Signature key id is different from public key")),
-     (["own"], 0), (["own", "other"], 0), (["other", "own"], 0)),
-    ("two keys of one key ID", (["own", "twin"], 0), (["twin", "own"], 0), (["twin", "twin"], REJECTED, OTHER_COMMENT)),
+@update_cases.table(
+    ("a record of a stolen key", [], "other", 0),
+    ("a record of the key itself", [], "own", OLDER),
+    ("a record of the other key", ["other", "own"], "other", OLDER),
+    ("a record of the other key of one key ID", ["twin", "own"], "twin", OLDER),
+    ("a record of no key", [], None, OLDER),
 )
-
-
 def over_key(directory, keys, key, status):
     """The first installation over a record that names a key, with the greatest number: without `--first` it is older."""
-    record = b"timestamp:18446744073709551615\n%s\n%s" % (key.hex().encode(), b"0" * 128) if key else b"timestamp:7"
+    record = f"timestamp:{2 ** 64 - 1}\n{key_records(directory)[key][10:].hex()}\n{'0' * 128}".encode() if key else b"timestamp:7"
     words = key_words(directory, *keys)
     judged(directory, OLDER, AGED, keys=words, record=record)
     judged(directory, status, AGED if status else b"", FIRST, words, record)
 
 
-@update_cases.case("a record of the key itself")
-def over_own_key(directory):
-    over_key(directory, [], directory.kind.public_record()[10:], OLDER)
-
-
-update_cases.table(
-    over_key,
-    ("a record of a stolen key", [], OTHER_KEY, 0),
-    ("a record of the other key", ["other", "own"], OTHER_KEY, OLDER),
-    ("a record of the other key of one key ID", ["twin", "own"], OTHER_KEY, OLDER),
-    ("a record of no key", [], None, OLDER),
-)
-
-
 # == While another holds the lock ==
 
+@update_cases.table(
+    ("while another holds the lock", (PK, "new", "new.sig", PLACE), IN_USE, AT_WORK),
+    ("a check, while another holds the lock", CHECK, 0, b""),
+)
 def while_locked(directory, words, status, said):
     """Another run is told so, and a check needs no lock."""
     with directory.locked():
@@ -299,6 +283,11 @@ def while_locked(directory, words, status, said):
     directory.check("new", 0)
 
 
+@update_cases.table(
+    ("data whose size was signed, while another holds the lock", NEW, 0, dict(more=SIZED)),
+    ("data of another size, while another holds the lock", NEW + b"x", REJECTED, dict(more=SIZED)),
+    ("two keys of one key ID, while another holds the lock", NEW, 0, ["twin", "own"]),
+)
 def received_while_locked(directory, data, status, keys=(), **offered):
     """What comes through a pipe while another holds the lock, so that its comment is judged later."""
     directory.offer(data=data, **offered)
@@ -306,19 +295,6 @@ def received_while_locked(directory, data, status, keys=(), **offered):
         process = directory.waiting([*key_words(directory, *keys), *THROUGH_PIPE[1:]], data)
     directory.ends_later(process, status)
     directory.expect(*((OLD, b"5") if status else (data, b"6")))
-
-
-update_cases.table(
-    while_locked,
-    ("while another holds the lock", (PK, "new", "new.sig", PLACE), IN_USE, AT_WORK),
-    ("a check, while another holds the lock", CHECK, 0, b""),
-)
-update_cases.table(
-    received_while_locked,
-    ("data whose size was signed, while another holds the lock", NEW, 0, dict(more=SIZED)),
-    ("data of another size, while another holds the lock", NEW + b"x", REJECTED, dict(more=SIZED)),
-    ("two keys of one key ID, while another holds the lock", NEW, 0, ["twin", "own"]),
-)
 
 
 # == The date of the record ==
@@ -352,7 +328,6 @@ def keeps_date(directory):
 @update_cases.case("the date of a record that a run by root makes anew")
 def renews_dated(directory):
     """The record for a new owner was written when the older one was."""
-    only_root()
     directory.put(RECORD, b"timestamp:7")
     directory.give(PLACE)
     date(directory, WRITTEN)
@@ -368,7 +343,7 @@ def draws_names(directory):
     """The stages of two runs over the same files have four names."""
     names = set()
     for _ in range(2):
-        directory.renew()
+        directory.begin()
         names |= directory.made_by_run(directory.arguments("new"))[1]
     expect(len(names) == 4, f"the names are {sorted(names)}")
 
@@ -385,6 +360,11 @@ def removes_leftovers(directory):
     expect(not found & left and found >= alike, f"the directory has {sorted(found)}")
 
 
+@update_cases.table(
+    ("a directory with a name that is not UTF-8", os.mkdir, b"caf\xe9"),
+    ("a file with a name that is not UTF-8", lambda at: open(at, "wb").close(), b".place.stage-\xe9"),
+    ("a directory with a stage's name", os.mkdir, os.fsencode(STAGE + "0" * 32)),
+)
 def passes_over(directory, make, name):
     """What is no leftover, or cannot be removed, stays, and stops no update."""
     make(os.path.join(os.fsencode(directory.path), name))
@@ -392,22 +372,26 @@ def passes_over(directory, make, name):
     expect(name in os.listdir(os.fsencode(directory.path)) and directory.state() == (NEW, b"6"), f"{name} was removed, or the update is not there")
 
 
-update_cases.table(
-    passes_over,
-    ("a directory with a name that is not UTF-8", os.mkdir, b"caf\xe9"),
-    ("a file with a name that is not UTF-8", lambda at: open(at, "wb").close(), b".place.stage-\xe9"),
-    ("a directory with a stage's name", os.mkdir, os.fsencode(STAGE + "0" * 32)),
+# What is put in the place of a file, and what is said of it.
+OTHERS = {"pipe": (os.mkfifo, "what stands there is no regular file"), "link": (lambda at: os.symlink("behind", at), IS_LINK),
+          "link to nothing": (lambda at: os.symlink("nothing", at), IS_LINK), "directory": (os.mkdir, "a directory stands there")}
+
+
+@update_cases.table(
+    *((f"a {what} {kind}", kind, name, behind) for kind in OTHERS
+      for what, name, behind in (("record that is a", RECORD, b"4"), ("lock that is a", LOCK, b"4"))),
+    *((f"a {kind} at the place", kind, PLACE, OLD) for kind in OTHERS),
+    ("a link to it at the place", "link", PLACE, NEW, True),
+    ("a pipe at the place, of the kept number", "pipe", PLACE, NEW, True),
 )
-
-
-def rejects_made(directory, name, make, said, behind=b"4", is_kept=False):
+def rejects_made(directory, kind, name, behind, is_kept=False):
     """What is no regular file, and a link, is rejected, left alone and not waited for: at the target, as its record, which a check
     rejects too, and as its lock."""
     directory.put("behind", behind)
     if is_kept:
         directory.put(RECORD, directory.kind.record(NEW, 6))
-    directory.replace(name, make)
-    at, said = directory.at(name), error(PLACE if name == PLACE else f"./{name}", said)
+    directory.replace(name, OTHERS[kind][0])
+    at, said = directory.at(name), error(PLACE if name == PLACE else f"./{name}", OTHERS[kind][1])
     before, names = os.lstat(at), {*os.listdir(directory.path), LOCK}
     if name == RECORD:
         directory.check_words(CHECK, FAILED, said)
@@ -416,25 +400,6 @@ def rejects_made(directory, name, make, said, behind=b"4", is_kept=False):
     expect((before.st_ino, before.st_mode, behind) == (after.st_ino, after.st_mode, directory.holds("behind")), f"{name} or what it leads to was changed")
     expect(name == PLACE or directory.holds() == OLD, "the update was installed")
     expect({*os.listdir(directory.path)} <= names, f"it left {os.listdir(directory.path)}")
-
-
-def linked(at):
-    os.symlink("behind", at)
-
-
-for kind, make, said in (("pipe", os.mkfifo, "what stands there is no regular file"), ("link", linked, IS_LINK),
-                         ("link to nothing", lambda at: os.symlink("nothing", at), IS_LINK), ("directory", os.mkdir, "a directory stands there")):
-    update_cases.table(
-        rejects_made,
-        (f"a record that is a {kind}", RECORD, make, said),
-        (f"a lock that is a {kind}", LOCK, make, said),
-        (f"a {kind} at the place", PLACE, make, said, OLD),
-    )
-update_cases.table(
-    rejects_made,
-    ("a link to it at the place", PLACE, linked, IS_LINK, NEW, True),
-    ("a pipe at the place, of the kept number", PLACE, os.mkfifo, "what stands there is no regular file", NEW, True),
-)
 
 
 @update_cases.case("a first installation with a mode")

@@ -30,8 +30,7 @@ def misuse(name, words, at, why):
 
 
 GIVEN, UNPAIRED = "this option was given before", "it does not go with `--check`"
-word_cases.table(
-    says,
+SAYING = (
     *(misuse(f"{option} {value!r}", [option, value, *PATHS], option, f"bad {what} {value}") for option, what, values in (
         ("--numbering", "field", ("versions",)), ("--mode", "mode", ("75", "00755", "4755", "758")),
         ("--most", "size", ("5m", "5MB", "K", "16777216T", "17179869184G", "-1K", "+1000000", " 1000000", str(2 ** 64))),
@@ -76,20 +75,10 @@ word_cases.table(
     *((f"help by {word}", [word], 0, b"", USAGE.replace(b" (--help shows the options)", b"")) for word in ("--help", "-h")),
     ("the version", ["--version"], 0, b"", NAME.encode() + b" " + VERSION + b"\n"),
 )
+word_cases.table(*SAYING)(says)
 
 
-def takes(directory, words, mode=0o751, name=PLACE, names=PLACE):
-    """An installation with these words."""
-    directory.offer(names=names)
-    for each, other in ((PLACE, name), (RECORD, f".{name}.number")):
-        os.rename(directory.at(each), directory.at(other))
-    directory.check_words(words, 0)
-    expect((directory.holds(name), directory.holds(f".{name}.number")) == (NEW, b"6"), f"the place holds {str(directory.holds(name))[:40]}")
-    directory.has_mode(mode, name)
-
-
-word_cases.table(
-    takes,
+@word_cases.table(
     ("options after the paths", [*PATHS, "--first", "--mode", "0640"], 0o640),
     ("options between the paths", [PK, "--mode", "640", "new", "--most", "1000000", "new.sig", "--first", PLACE], 0o640),
     ("options before the paths", ["--most", "1000000", "--numbering", "timestamp", "--name", PLACE, *PATHS]),
@@ -101,6 +90,14 @@ word_cases.table(
     ("a name that begins with a dash", ["--", *PATHS[:3], "--first"], dict(name="--first", names="--first")),
     ("another name than the signed one", [*PATHS[:3], "app", "--name", "app-1.2"], dict(name="app", names="app-1.2")),
 )
+def takes(directory, words, mode=0o751, name=PLACE, names=PLACE):
+    """An installation with these words."""
+    directory.offer(names=names)
+    for each, other in ((PLACE, name), (RECORD, f".{name}.number")):
+        os.rename(directory.at(each), directory.at(other))
+    directory.check_words(words, 0)
+    expect((directory.holds(name), directory.holds(f".{name}.number")) == (NEW, b"6"), f"the place holds {str(directory.holds(name))[:40]}")
+    directory.has_mode(mode, name)
 
 
 @word_cases.case("texts that are not UTF-8")
