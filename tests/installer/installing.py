@@ -14,22 +14,21 @@ import os
 import sys
 
 HERE = os.path.dirname(os.path.realpath(__file__))
-sys.path += [os.path.join(HERE, "..", name) for name in ("shared", "tool")]
+sys.path.append(os.path.join(HERE, "..", "shared"))
 
-from checking import check_cases, expiry_cases
+from checking import check_cases
+from crashing import crash_cases
 from cut_off import cut_off_cases
 from disturbing import disturbing_cases
-from hurt import disturbed_cases
-from installers import PLACE
+from installers import PERMISSIONS, PLACE
 from meanwhile import meanwhile_cases
-from ordered import ordered_cases
 from owners import owner_cases
 from permissions import permission_cases
 from runs import Directory
 from there import there_cases
 from updates import update_cases
-from withholding import withholding_cases
 from words import word_cases
+
 
 class ReplacingByUpdates:
     """The runs of `permissions.py`: an update replaces the place."""
@@ -49,8 +48,7 @@ class ReplacingByUpdates:
 
 def cases(installing):
     """The names of all cases, and what runs each."""
-    for some in (update_cases, there_cases, owner_cases, meanwhile_cases, disturbed_cases, ordered_cases, cut_off_cases, disturbing_cases,
-                 expiry_cases, withholding_cases, check_cases, word_cases):
+    for some in (update_cases, there_cases, owner_cases, meanwhile_cases, disturbing_cases, cut_off_cases, crash_cases, check_cases, word_cases):
         for name, case, *given in some(installing):
             yield name, installing.run_case, case, *given
-    yield from permission_cases(ReplacingByUpdates(installing), installing.kind.permissions)
+    yield from permission_cases(ReplacingByUpdates(installing), PERMISSIONS)

@@ -5,160 +5,146 @@ Needs Python 3.9 or later.
 """
 
 import os
-import stat
 
-from installers import LATER, LOCK, NEW, OLD, OLDER, PLACE, RECORD, THERE
+from installers import AS_NOBODY, FAILED, LATER, LOCK, NEW, OLD, OLDER, PLACE, RECORD, THERE, error
 from permissions import OTHER_GROUP, OTHER_USER
-from running import NOBODY, Failure, expect
-from runs import only_root
-from surviving import content
+from running import NOBODY, expect
+from runs import Cases
+
+owner_cases = Cases()
 
 LAST = b"last" * 1000
 SECRET = b"secret:what root alone may read"
-AS_NOBODY = {"user": NOBODY, "group": NOBODY, "extra_groups": []}
+NOT_OWN = "it is for its owner alone: give it the owner of the target"
 
 
-def give(directory, *names):
-    for name in names:
-        os.chown(directory.at(name), NOBODY, NOBODY)
-
-
-def expect_nobodys(directory, *names):
-    for name in names:
+def expect_nobodys(directory):
+    for name in (PLACE, RECORD, LOCK):
         found = os.stat(directory.at(name))
         expect((found.st_uid, found.st_gid) == (NOBODY, NOBODY), f"{name} is of {found.st_uid}:{found.st_gid}")
 
 
-def install_as_nobody(directory, name, status=0, said=b""):
-    directory.ends(directory.install(name, **AS_NOBODY), status, said)
+def nobody_installs(directory, name, data, number):
+    """Nobody, whose file stands at the target, may go on."""
+    directory.offer(name, data, number)
+    directory.ends(directory.install(name, **AS_NOBODY), 0, b"")
+    directory.expect(data, str(number).encode())
 
 
+@owner_cases.case("the owner after an update by root")
 def after_root(directory):
-    """After an update by root the owner of the place may go on."""
-    give(directory, ".", PLACE)
+    directory.give(".", PLACE)
     directory.check("new", 0)
-    expect_nobodys(directory, PLACE, RECORD, LOCK)
+    expect_nobodys(directory)
     directory.has_mode(0o600, RECORD)
-    directory.offer("later", LATER, 7)
-    install_as_nobody(directory, "later")
-    directory.expect(LATER, b"7")
+    nobody_installs(directory, "later", LATER, 7)
 
 
+@owner_cases.case("the owner after a first installation by root")
 def after_first_by_root(directory):
-    """After a first installation by root, and an update, in a directory of nobody's, the place becomes nobody's, who may go on."""
-    directory.take_away()
-    give(directory, ".")
+    """And after an update, in a directory of nobody's, the place becomes nobody's."""
+    directory.put_older(None, None)
+    directory.give(".")
     directory.check("new", 0, "--first")
     directory.offer("later", LATER, 7)
     directory.check("later", 0)
-    give(directory, PLACE)
-    directory.offer("last", LAST, 8)
-    install_as_nobody(directory, "last")
-    directory.expect(LAST, b"8")
+    directory.give(PLACE)
+    nobody_installs(directory, "last", LAST, 8)
 
 
+@owner_cases.case("the owner of a directory that was root's")
 def after_next_by_root(directory):
     """Where place and directory become nobody's after runs by root, the lock file is named, and what may be done about it; and after
     one more run by root nobody may go on."""
-    directory.take_away()
+    directory.put_older(None, None)
     directory.check("new", 0, "--first")
-    give(directory, ".", PLACE)
+    directory.give(".", PLACE)
     directory.offer("later", LATER, 7)
-    install_as_nobody(directory, "later", 1, b"error: ./.place.lock: it is for its owner alone: give it the owner of the target\n")
-    give(directory, LOCK)
-    install_as_nobody(directory, "later", 1, b"error: ./.place.number: it is for its owner alone: give it the owner of the target\n")
-    os.chown(directory.at(LOCK), 0, 0)
+    for name in (LOCK, RECORD):
+        directory.ends(directory.install("later", **AS_NOBODY), FAILED, error(f"./{name}", NOT_OWN))
+        directory.give(LOCK)
+    directory.give(LOCK, to=(0, 0))
     directory.check("later", 0)
-    expect_nobodys(directory, PLACE, RECORD, LOCK)
-    directory.offer("last", LAST, 8)
-    install_as_nobody(directory, "last")
-    directory.expect(LAST, b"8")
+    expect_nobodys(directory)
+    nobody_installs(directory, "last", LAST, 8)
 
 
-def after_nothing_by_root(directory, name, number, status):
+@owner_cases.table(
+    ("the owner after a run by root that finds the update there", NEW, 6, THERE),
+    ("the owner after a run by root of an older update", OLD, 5, OLDER),
+)
+def after_nothing_by_root(directory, data, number, status):
     """After a run by root that installs nothing, whoever owns the place by now may go on: lock and record are renewed."""
-    directory.take_away()
+    directory.put_older(None, None)
     directory.check("new", 0, "--first")
-    record = content(directory.path, RECORD)
-    give(directory, ".", PLACE)
-    directory.offer(name, NEW if number == 6 else OLD, number)
-    directory.check(name, status)
-    expect_nobodys(directory, PLACE, RECORD, LOCK)
-    if content(directory.path, RECORD) != record or directory.stages():
-        raise Failure(f"the record holds {content(directory.path, RECORD)}")
-    directory.offer("later", LATER, 7)
-    install_as_nobody(directory, "later")
-    directory.expect(LATER, b"7")
+    directory.give(".", PLACE)
+    directory.offer("other", data, number)
+    directory.check("other", status)
+    expect_nobodys(directory)
+    directory.is_kept(NEW, directory.kind.record(NEW, 6))
+    nobody_installs(directory, "later", LATER, 7)
 
 
-def gives_no_record(directory, options=()):
+# == Files of root's ==
+
+def put_secret(directory, name="secret"):
+    """Puts a file there that root alone may read, in a directory of nobody's."""
+    directory.put(name, SECRET)
+    os.chmod(directory.at(name), 0o600)
+    directory.give(".", PLACE)
+
+
+def expect_roots(directory, name):
+    expect((os.stat(directory.at(name)).st_uid, directory.holds(name)) == (0, SECRET), "the file has another owner now, or holds something else")
+
+
+@owner_cases.table(
+    ("a file of root's with the name of the record",),
+    ("a file of root's with the name of the record, at a first installation", "--first"),
+)
+def gives_no_record(directory, *options):
     """A file of root's that has the name of the record, and is none, is given to nobody, and nothing that holds the same is."""
-    directory.put(RECORD, SECRET)
-    os.chmod(directory.at(RECORD), 0o600)
-    give(directory, ".", PLACE)
-    directory.offer("old", OLD, 6, signed=NEW)
+    put_secret(directory, RECORD)
+    directory.offer("old", OLD, signed=NEW)
     directory.run(directory.arguments("old", *options))
-    expect(directory.holds(RECORD) == SECRET and os.stat(directory.at(RECORD)).st_uid == 0,
-           "the file has another owner now, or holds something else")
+    expect_roots(directory, RECORD)
 
 
+@owner_cases.table(
+    ("a file of root's, renamed to the lock's name", os.rename),
+    ("a file of root's, linked to the lock's name", os.link),
+)
 def gives_nothing_found(directory, make):
     """A run by root gives away no file of root's that has the name of the lock, as nobody may rename or link it in the directory,
     and changes nothing in it."""
-    directory.put("secret", SECRET)
-    os.chmod(directory.at("secret"), 0o600)
-    give(directory, ".", PLACE)
+    put_secret(directory)
     with open(directory.at("secret"), "rb") as secret:
         make(directory.at("secret"), directory.at(LOCK))
         for _ in range(2):
-            directory.run(directory.arguments("new"))
-            expect(os.fstat(secret.fileno()).st_uid == 0 and directory.holds(LOCK) == SECRET,
-                   "the file has another owner now, or holds something else")
+            directory.install()
+            expect(os.fstat(secret.fileno()).st_uid == 0 and directory.holds(LOCK) == SECRET, "the file has another owner now, or holds something else")
 
 
+@owner_cases.case("data of root's, whose stage is renamed")
 def gives_no_data(directory):
     """Data that root alone may read, to which a link leads, is given to nobody: not by its stage either, which is renamed in
     time, and to the lock's name later."""
-    directory.put("secret", SECRET)
-    os.chmod(directory.at("secret"), 0o600)
-    os.remove(directory.at("new"))
-    os.symlink("secret", directory.at("new"))
-    give(directory, ".", PLACE)
+    put_secret(directory)
+    directory.replace("new", os.symlink, "secret")
     ran = directory.while_staged(lambda at: os.rename(directory.at(at.stages()[0]), directory.at("kept")))
     expect(ran.status != 0, ran)
     os.rename(directory.at("kept"), directory.at(LOCK))
     for _ in range(2):
-        directory.run(directory.arguments("new"))
-        expect(os.stat(directory.at(LOCK)).st_uid == 0 and directory.holds(LOCK) == SECRET,
-               "the stage has another owner now, or holds something else")
+        directory.install()
+        expect_roots(directory, LOCK)
 
 
+@owner_cases.case("the group alone")
 def is_of_group(directory):
     """Who is a member of the group of the file at the place, and not its owner, gives the new file that group."""
-    at = directory.at(PLACE)
-    give(directory, ".", RECORD)
-    os.chown(at, OTHER_USER, OTHER_GROUP)
-    os.chmod(at, 0o775)
-    directory.ends(directory.install(user=NOBODY, group=NOBODY, extra_groups=[OTHER_GROUP]), 0, b"")
-    found = os.stat(at)
-    expect((found.st_uid, found.st_gid, stat.S_IMODE(found.st_mode)) == (NOBODY, OTHER_GROUP, 0o775), f"the file is {found}")
-
-
-def as_root(directory, case, *given):
-    only_root("become nobody")
-    case(directory, *given)
-
-
-def owner_cases(installing):
-    """Names of cases, and what runs each."""
-    yield "the owner after an update by root", as_root, after_root
-    yield "the owner after a first installation by root", as_root, after_first_by_root
-    yield "the owner of a directory that was root's", as_root, after_next_by_root
-    yield "the owner after a run by root that finds the update there", as_root, after_nothing_by_root, "new", 6, THERE
-    yield "the owner after a run by root of an older update", as_root, after_nothing_by_root, "old", 5, OLDER
-    yield "a file of root's with the name of the record", as_root, gives_no_record
-    yield "a file of root's with the name of the record, at a first installation", as_root, gives_no_record, ("--first",)
-    for what, make in (("renamed to the lock's name", os.rename), ("linked to the lock's name", os.link)):
-        yield f"a file of root's, {what}", as_root, gives_nothing_found, make
-    yield "data of root's, whose stage is renamed", as_root, gives_no_data
-    yield "the group alone", as_root, is_of_group
+    directory.give(".", RECORD)
+    directory.give(PLACE, to=(OTHER_USER, OTHER_GROUP))
+    os.chmod(directory.at(PLACE), 0o775)
+    directory.ends(directory.install(**{**AS_NOBODY, "extra_groups": [OTHER_GROUP]}), 0, b"")
+    found = os.stat(directory.at(PLACE))
+    expect((found.st_uid, found.st_gid, directory.mode()) == (NOBODY, OTHER_GROUP, 0o775), f"the file is {found}")

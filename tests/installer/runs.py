@@ -4,10 +4,11 @@ Needs Python 3.9 or later and a C compiler, which it installs if it may.
 """
 
 import array
+import concurrent.futures
 import contextlib
 import fcntl
-import inspect
 import os
+import re
 import shutil
 import signal
 import stat
@@ -18,32 +19,34 @@ import threading
 import time
 
 from disturbed import Disturbing, content, while_stopped
-from installers import NEW, OLD, PLACE, RECORD
+from installers import CALLED, LOCK, NEW, OLD, PK, PLACE, RECORD, STAGE, THERE
 from process import Ran
-from running import SECONDS, Failure, Skip, expect
-
-STAGE = ".place.stage-"
-# A key that has signed nothing here.
-OTHER_KEY = "RWQf6LRCGA9i53mlYecO4IzT51TGPpvWucNSCh1CBM0QTaLn73Y7GFO3"
-# When an update expires.
-SOON, PAST = "\texpires:99999999999", "\texpires:1700000000"
-USAGE = b"usage: minisign-install [OPTION ..] PK DATA SIG TARGET (--help shows the options)\n"
-PK = "key.pub"
-# The words of an update through a pipe, and of a check.
-THROUGH_PIPE, CHECK = (PK, "/dev/stdin", "new.sig", PLACE), ("--check", PK, "new.sig", PLACE)
-BY_VERSION = ("--numbering", "version")
-OTHER_DATA = b"error: place: an update of this number was installed, and other data stands at the target\n--again installs all the same\n"
-NO_RECORD = b"error: place: no number is kept beside the target\n./.place.number is missing: --first installs all the same\n"
-DAMAGED_RECORD = b"error: place: what is kept beside the target is no number\n./.place.number is damaged: --first installs all the same\n"
-OTHER_NAME = b"the signed comment does not name this file\nplace is wanted: --name gives another name\n"
-KEPT_BY_VERSION = (b"error: place: the number that is kept beside the target is a version, and no timestamp\n"
-                   b"it was installed by version: add --numbering version\n")
-KEPT_BY_TIMESTAMP = (b"error: place: the number that is kept beside the target is a timestamp, and no version\n"
-                     b"it was installed by timestamp: add --numbering timestamp\n")
-AT_WORK = b"error: place: another installation is at work at this target\n"
+from running import NOBODY, SECONDS, Failure, Skip, expect, read, write
 
 
-def only_root(what="give files another owner"):
+class Cases:
+    """The cases of a file: of each its name, its function, and what that is given beside a directory, at the end by names."""
+
+    def __init__(self):
+        self.rows = []
+
+    def table(self, *rows):
+        """Makes a function a case for each row."""
+
+        def add(function):
+            self.rows += [(name, function, *given) for name, *given in rows]
+            return function
+
+        return add
+
+    def case(self, name):
+        return self.table((name,))
+
+    def __call__(self, _):
+        return self.rows
+
+
+def only_root(what):
     """Skips a case where this is not root."""
     if os.geteuid() != 0:
         raise Skip(f"only root may {what}")
@@ -58,33 +61,24 @@ def wait_until_read(pipe):
     raise Failure("what came through the pipe was not read")
 
 
-def comment_of(number, names=PLACE, label="timestamp", more=""):
-    return f"{label}:{number}\tfile:{names}{more}\tprehashed".encode()
-
-
 @contextlib.contextmanager
 def repeating(act, pause=0.0):
     """Does something again and again meanwhile, which is given a number that counts up; what it raises is a `Failure`."""
-    is_over, broken = threading.Event(), []
+    is_over = threading.Event()
 
     def go_on():
         number = 0
-        try:
-            while not is_over.wait(pause):
-                act(number)
-                number += 1
-        except Exception as why:
-            broken.append(why)
+        while not is_over.wait(pause):
+            act(number)
+            number += 1
 
-    thread = threading.Thread(target=go_on)
-    thread.start()
-    try:
-        yield
-    finally:
-        is_over.set()
-        thread.join()
-    if broken:
-        raise Failure(f"what is done meanwhile ended: {broken[0]}")
+    with concurrent.futures.ThreadPoolExecutor(1) as pool:
+        repeated = pool.submit(go_on)
+        try:
+            yield
+        finally:
+            is_over.set()
+    expect(not repeated.exception(), "what is done meanwhile ended", repeated.exception())
 
 
 class Directory:
@@ -93,48 +87,55 @@ class Directory:
     def __init__(self, path, installing):
         self.path, self.installing, self.kind = path, installing, installing.kind
 
-    def begin(self, is_installed=True):
-        """Puts the key there, and an update of the number 5 at the target, or nothing."""
-        self.put(PK, self.kind.public_text())
-        if is_installed:
-            self.put(PLACE, OLD)
-            os.chmod(self.at(PLACE), 0o751)
-            self.put(RECORD, b"5")
-        return self
-
     # == Files ==
+
+    def begin(self, **offered):
+        """Puts the key there, an update of the number 5 at the target, and what is offered, in the place of all else."""
+        for each in os.scandir(self.path):
+            if not each.is_dir(follow_symlinks=False):
+                os.remove(each.path)
+        self.put(PK, self.kind.public_text())
+        self.put_older()
+        os.chmod(self.at(PLACE), 0o751)
+        self.offer(**offered)
+        return self
 
     def at(self, name):
         return os.path.join(self.path, name)
 
     def put(self, name, data):
-        with open(self.at(name), "wb") as file:
-            file.write(data)
+        write(self.path, name, data)
 
-    def take_away(self):
-        """Nothing stands at the target."""
-        os.remove(self.at(PLACE))
-        os.remove(self.at(RECORD))
+    def put_older(self, data=OLD, record=b"5"):
+        """What stands at the target before, and its record, or nothing."""
+        for name, held in ((PLACE, data), (RECORD, record)):
+            if held is not None:
+                self.put(name, held)
+            elif os.path.exists(self.at(name)):
+                os.remove(self.at(name))
 
-    def put_older(self):
-        """What stood at the target before."""
-        self.put(PLACE, OLD)
-        self.put(RECORD, b"5")
+    def replace(self, name, make, *given):
+        """Puts something else, which is made, in the place of a file."""
+        if os.path.lexists(self.at(name)):
+            os.remove(self.at(name))
+        make(*given, self.at(name))
 
-    def put_pipe(self, name):
-        """A named pipe in the place of a file."""
-        os.remove(self.at(name))
-        os.mkfifo(self.at(name))
-
-    def offer(self, name, data, number, signed=None, legacy=False, **how):
+    def offer(self, name="new", data=NEW, number=6, signed=None, legacy=False, names=PLACE, label="timestamp", more=""):
         """The data of an update and its signature, which is over `signed` where that is given."""
         self.put(name, data)
-        self.put(name + ".sig", self.kind.signature_text(data if signed is None else signed, comment_of(number, **how), legacy))
+        comment = f"{label}:{number}\tfile:{names}{more}\tprehashed"
+        self.put(name + ".sig", self.kind.signature_text(data if signed is None else signed, comment, legacy))
+
+    def give(self, *names, to=(NOBODY, NOBODY)):
+        """Gives files another owner and group, or skips the case."""
+        only_root("give files another owner")
+        for name in names:
+            os.chown(self.at(name), *to)
 
     @contextlib.contextmanager
     def locked(self):
         """Another holds the lock meanwhile."""
-        with open(self.at(".place.lock"), "wb") as lock:
+        with open(self.at(LOCK), "wb") as lock:
             fcntl.flock(lock, fcntl.LOCK_EX)
             yield lock
 
@@ -142,12 +143,9 @@ class Directory:
         return stat.S_IMODE(os.stat(self.at(name)).st_mode)
 
     def holds(self, name=PLACE):
-        """What the file holds; of a record with a digest whose number is a timestamp the number alone, and of another record all."""
+        """What the file holds; of a record with a digest whose number is a timestamp the number alone."""
         found = content(self.path, name)
-        if found and name.endswith(".number") and found.count(b"\n") == 2:
-            number, key, digest = found.split(b"\n")
-            return number.removeprefix(b"timestamp:") if (len(key), len(digest)) == (64, 128) else found
-        return found
+        return found and re.sub(rb"\Atimestamp:(\d+)\n[0-9a-f]{64}\n[0-9a-f]{128}\Z", rb"\1", found)
 
     def state(self):
         """What the target holds, and what the record does."""
@@ -158,7 +156,7 @@ class Directory:
 
     def everything(self):
         """What the directory has, and when each file was changed."""
-        found = {each.name: (content(self.path, each.name), each.stat().st_mtime_ns, each.stat().st_ino) for each in os.scandir(self.path)}
+        found = {each.name: (each.is_file() and read(each.path), each.stat().st_mtime_ns, each.stat().st_ino) for each in os.scandir(self.path)}
         return found, os.stat(self.path).st_mtime_ns
 
     # == Runs ==
@@ -175,17 +173,16 @@ class Directory:
         return self.run(self.arguments(name, *options), **how)
 
     def start(self, words, environment=None, **how):
-        """A run that goes on meanwhile."""
+        """A run that goes on meanwhile, and says its errors into a pipe."""
         return subprocess.Popen([self.installing.program, *words], cwd=self.path, env=environment or {},
                                 **{"stdin": subprocess.DEVNULL, "stdout": subprocess.DEVNULL, "stderr": subprocess.PIPE, **how})
 
-    def waiting(self, words, data=None):
-        """A run that waits for the lock, which another holds; with data, that is fed to it."""
-        process = self.start(["--wait", "20", *words], stdin=subprocess.DEVNULL if data is None else subprocess.PIPE)
-        if data is not None:
-            process.stdin.write(data)
-            process.stdin.close()
-            process.stdin = None
+    def waiting(self, words, data=b""):
+        """A run that waits for the lock, which another holds, and is fed with data."""
+        process = self.start(["--wait", "20", *words], stdin=subprocess.PIPE)
+        process.stdin.write(data)
+        process.stdin.close()
+        process.stdin = None
         time.sleep(0.5)
         expect(process.poll() is None and self.holds() == OLD, "it did not wait")
         return process
@@ -195,8 +192,6 @@ class Directory:
         reader, writer = os.pipe()
         try:
             return self.run(words, stdin=reader)
-        except subprocess.TimeoutExpired as why:
-            raise Failure("it waits for data that it does not need") from why
         finally:
             os.close(reader)
             os.close(writer)
@@ -209,6 +204,11 @@ class Directory:
         """An environment in which `disturbed_calls.c` does this."""
         return {"LD_PRELOAD": self.installing.preload, **environment}
 
+    def signalling(self, number, **how):
+        """An environment in which a run gets a signal before a call, and goes on after it."""
+        broken = {f"BREAK_{name}": str(value) for name, value in how.items()}
+        return self.preloading(BREAK_SIGNAL=str(int(number)), BREAK_GOES_ON="1", **broken)
+
     def run_traced(self, words, **environment):
         """A run and the lines of its calls, as `disturbed_calls.c` tells them."""
         reader, says = os.pipe()
@@ -219,21 +219,21 @@ class Directory:
         with os.fdopen(reader) as pipe:
             return ran, pipe.read().splitlines()
 
-    def made_by_run(self, name, *options):
-        """The names of the stages that a run has made; and how it ended."""
-        ran, calls = self.run_traced(self.arguments(name, *options))
-        return {call.split(" ")[1] for call in calls if call.startswith(f"make {STAGE}")}, ran
+    def made_by_run(self, words, **environment):
+        """How a run ended, and the names of the stages that it has made."""
+        ran, calls = self.run_traced(words, **environment)
+        return ran, {call.split(" ")[1] for call in calls if call.startswith(f"make {STAGE}")}
 
     def while_stopped(self, calls, number, meanwhile, where="."):
-        """A run over the target in a directory of this directory: before its call of this number among these it stops, something is
-        done, and then it goes on."""
-        environment = self.preloading(BREAK_CALLS=calls, BREAK_AT=str(number), BREAK_SIGNAL=str(int(signal.SIGSTOP)), BREAK_GOES_ON="1")
+        """A run over the target in a directory of this directory: before its call of this number among these, or all, it stops,
+        something is done, and then it goes on."""
+        environment = self.signalling(signal.SIGSTOP, AT=number, **({"CALLS": calls} if calls else {}))
         process = self.start([PK, "new", "new.sig", os.path.join(where, PLACE)], environment)
         return while_stopped(process, lambda: meanwhile(Directory(self.at(where), self.installing)))
 
     def while_staged(self, meanwhile, where="."):
         """The same once it has staged all of its data."""
-        ran = self.while_stopped(self.kind.called["read-back"], 1, meanwhile, where)
+        ran = self.while_stopped(CALLED["read-back"], 1, meanwhile, where)
         expect(ran.came, "it staged nothing", ran)
         return ran
 
@@ -242,6 +242,12 @@ class Directory:
     def ends(self, ran, status, said=None):
         """Raises a `Failure` where a run ended otherwise, or does not say this at its end."""
         expect(ran.status == status and (said is None or ran.said.endswith(said)), ran, f"in place of {status}")
+        expect(b"Success" not in ran.said, ran)
+
+    def leaves(self, ran, status, said=None):
+        """The same; and where it ended well the newer update stands there, and else the older one."""
+        self.ends(ran, status, said)
+        self.expect(*((NEW, b"6") if status in (0, THERE) else (OLD, b"5")))
 
     def check(self, name, status, *options, said=None):
         """A run for the update of this name ends so."""
@@ -250,7 +256,7 @@ class Directory:
     def check_words(self, words, status, said=b"", **how):
         """A run by these words ends so, and says this alone."""
         ran = self.run(words, **how)
-        expect(ran.status == status and ran.said == said, ran, f"in place of {status}")
+        expect(ran.status == status and ran.said == said, ran, f"in place of {status}", said)
 
     def ends_later(self, process, status, said=None):
         """A run that went on meanwhile ends so."""
@@ -261,22 +267,20 @@ class Directory:
         """Raises a `Failure` where the target or the record holds anything else, or a stage is left."""
         expect(self.holds() == data, f"the place holds {str(self.holds())[:40]}")
         expect(self.holds(RECORD) == number, f"the record holds {self.holds(RECORD)}")
-        self.has_no_stage()
+        expect(not self.stages(), f"it left {self.stages()}")
 
     def is_kept(self, data, record):
-        """Raises a `Failure` where the target holds other data, or the record another text."""
-        found = content(self.path, PLACE), content(self.path, RECORD)
-        expect(found == (data, record), f"the place holds {str(found)[:40]}, and the record {str(found)[-200:]}")
-
-    def has_no_stage(self):
-        expect(not self.stages(), f"it left {self.stages()}")
+        """The same of the whole text of the record."""
+        found = content(self.path, RECORD)
+        self.expect(data, self.holds(RECORD))
+        expect(found == record, f"the record holds {found}")
 
     def has_mode(self, mode, name=PLACE):
         expect(self.mode(name) == mode, f"{name} has the mode {self.mode(name):o}")
 
 
 class Installing(Disturbing):
-    """An installer that is run in fresh directories; `kind` is one of `installers.py`."""
+    """An installer that is run in fresh directories, with what `kind` of `installers.py` gives it."""
 
     seconds = SECONDS
 
@@ -285,24 +289,12 @@ class Installing(Disturbing):
         self.kind = kind
         os.chmod(room, 0o711)
 
-    def offered(self, path, number=6, **how):
-        """A directory at this path, at whose target an older update stands, or nothing, and which is offered one of this number."""
-        directory = Directory(path, self).begin(**how)
-        directory.offer("new", NEW, number)
-        return directory
-
-    @contextlib.contextmanager
-    def installed(self, *number, **how):
-        """A fresh directory like that."""
-        with tempfile.TemporaryDirectory(dir=self.place) as path:
-            yield self.offered(path, *number, **how)
+    def offered(self, path):
+        """A directory at this path, at whose target an older update stands, and which is offered a newer one."""
+        return Directory(path, self).begin()
 
     def run_case(self, case, *given):
-        """Runs a case with what it is given, at the end by names. One whose first parameter is `directory` gets a fresh one, and
-        another one this installer."""
+        """Runs a case in a fresh directory, with what it is given, at the end by names."""
         *given, named = given if given and isinstance(given[-1], dict) else (*given, {})
-        if next(iter(inspect.signature(case).parameters)) != "directory":
-            case(self, *given, **named)
-            return
-        with self.installed() as directory:
-            case(directory, *given, **named)
+        with tempfile.TemporaryDirectory(dir=self.place) as path:
+            case(self.offered(path), *given, **named)

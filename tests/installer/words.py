@@ -3,45 +3,119 @@
 import os
 import pty
 
-from installers import FAILED, LATER, LOCK, MISUSED, NAME, NEW, OLD, PLACE, RECORD, REJECTED, UNRECORDED, VERSION
+from installers import (CHECK, FAILED, FIRST, LATER, LOCK, MISUSED, NAME, NEW, NO_DIRECTORY, OLD, PK, PLACE, RECORD, REJECTED,
+                        UNRECORDED, USAGE, VERSION, error)
 from process import run_program
 from running import SECONDS, expect
-from runs import PK
+from runs import Cases
+
+word_cases = Cases()
+
+PATHS = (PK, "new", "new.sig", PLACE)
+# A key that has signed nothing here.
+OTHER_KEY = ("--key", "RWQf6LRCGA9i53mlYecO4IzT51TGPpvWucNSCh1CBM0QTaLn73Y7GFO3")
+NO_FILE = "No such file or directory (os error 2)"
 
 
 def says(directory, words, status, said, shown=b""):
     """Words that ask for no installation, or for one that fails: a line says why, and no file is made."""
     before, ran = os.listdir(directory.path), directory.run(words)
     expect(ran.status == status and said in ran.said and bool(said) == bool(ran.said) and ran.output.startswith(shown), ran)
-    expect(set(os.listdir(directory.path)) - {LOCK} == set(before) and directory.holds() == OLD,
-           f"the directory has {os.listdir(directory.path)}")
+    expect({*os.listdir(directory.path)} - {LOCK} == {*before} and directory.holds() == OLD, f"the directory has {os.listdir(directory.path)}")
 
 
+def misuse(name, words, at, why):
+    """A row of words that ask for nothing; after the line that says why stands the usage."""
+    return name, words, MISUSED, (error(at, why) if at else f"error: {why}\n".encode()) + USAGE
+
+
+GIVEN, UNPAIRED = "this option was given before", "it does not go with `--check`"
+SAYING = (
+    *(misuse(f"{option} {value!r}", [option, value, *PATHS], option, f"bad {what} {value}") for option, what, values in (
+        ("--numbering", "field", ("versions",)), ("--mode", "mode", ("75", "00755", "4755", "758")),
+        ("--most", "size", ("5m", "5MB", "K", "16777216T", "17179869184G", "-1K", "+1000000", " 1000000", str(2 ** 64))),
+        ("--max-size", "size", ("10X",)), ("--wait", "number of seconds", ("1.5", "86401", ""))) for value in values),
+    *(misuse(f"{option} beside other words", [option, *value, *PATHS], option, "there is no such option")
+      for option, *value in (("--frist",), ("--num", "version"), ("-h",), ("-f",), ("--name=app",), ("--First",), ("--help",))),
+    *(misuse(f"{words[0]} twice", [*words, *PATHS, *words], words[0], GIVEN)
+      for words in (FIRST, ("--name", "a"), ("--check",), ("--must-expire",))),
+    *(misuse(f"a check with {' '.join(words)}", [*words, "--check", PK, "new.sig", PLACE], words[0], UNPAIRED)
+      for words in (("--mode", "755"), ("--wait", "1"), ("--most", "1M"), ("--again",))),
+    misuse("a bound by both names", ["--most", "1M", "--max-size", "1M", *PATHS], "--max-size", GIVEN),
+    misuse("no words", [], None, "there are fewer than four paths"),
+    misuse("three paths", PATHS[:3], None, "there are fewer than four paths"),
+    misuse("five paths", [*PATHS, "more"], "more", "there are four paths, and this is a fifth"),
+    misuse("an option after the end of options", ["--", "--first", *PATHS], PLACE, "there are four paths, and this is a fifth"),
+    misuse("an option without its value", [*PATHS, "--mode"], None, "the last option has no value"),
+    misuse("bytes that are not UTF-8", [*PATHS[:3], b"pl\xe4ce"], None, "an argument is not UTF-8"),
+    misuse("a check of four paths", ["--check", *PATHS], PLACE, "there are three paths, and this is a fourth"),
+    misuse("a check of two paths", CHECK[:3], None, "there are fewer than three paths"),
+    misuse("three keys", [*OTHER_KEY * 3, *PATHS[1:]], "--key", "this option was given twice before"),
+    misuse("a key and a file of one", [*OTHER_KEY, *PATHS], PLACE, "there are three paths, and this is a fourth"),
+    misuse("a key without data", [*OTHER_KEY, "new.sig", PLACE], None, "there are fewer than three paths"),
+    misuse("a check with a key and three paths", [*OTHER_KEY, *CHECK], PLACE, "there are two paths, and this is a third"),
+    misuse("a check with a key and one path", ["--check", *OTHER_KEY, PLACE], None, "there are fewer than two paths"),
+    misuse("a key without its value", [*PATHS, "--key"], None, "the last option has no value"),
+    *((what, [*PATHS[:3], place], MISUSED, error(place, "it does not end with the name of a file")) for what, place in (
+        ("a directory as place", "place/"), ("the directory itself as place", "."), ("the directory above as place", ".."))),
+    ("a name with a control character", ["none\x1b[31m", *PATHS[1:]], FAILED, error("none\\u{1b}[31m", NO_FILE)),
+    ("no key", ["none.pub", *PATHS[1:]], FAILED, error("none.pub", NO_FILE)),
+    ("no data", [PK, "none", *PATHS[2:]], FAILED, error("none", NO_FILE)),
+    ("no signature", [PK, "new", "none.sig", PLACE], FAILED, error("none.sig", NO_FILE)),
+    ("no directory", [*PATHS[:3], "none/place"], FAILED, NO_DIRECTORY),
+    ("a place in the root directory", ["--name", PLACE, "--check", PK, "new.sig", "/no-such-place"], UNRECORDED,
+     error("/no-such-place", "no number is kept beside the target") + b"//.no-such-place.number is missing: --first installs all the same\n"),
+    ("a directory as key", [".", *PATHS[1:]], FAILED, error(".", "Is a directory (os error 21)")),
+    ("a key that is no text", ["new.sig", *PATHS[1:]], REJECTED, b"error: new.sig: "),
+    ("a signature that is none", [PK, "new", PK, PLACE], REJECTED, b"error: key.pub: "),
+    ("a key in the other's place", [PK, "new", PK, PLACE], REJECTED,
+     b"\nkey.pub: this is a public key, not a signature\nthe order is PK DATA SIG TARGET\n"),
+    ("a signature in the other's place", ["new.sig", *PATHS[1:]], REJECTED,
+     b"\nnew.sig: this is a signature, not a public key\nthe order is PK DATA SIG TARGET\n"),
+    *((f"help by {word}", [word], 0, b"", USAGE.replace(b" (--help shows the options)", b"")) for word in ("--help", "-h")),
+    ("the version", ["--version"], 0, b"", NAME.encode() + b" " + VERSION + b"\n"),
+)
+word_cases.table(*SAYING)(says)
+
+
+@word_cases.table(
+    ("options after the paths", [*PATHS, "--first", "--mode", "0640"], 0o640),
+    ("options between the paths", [PK, "--mode", "640", "new", "--most", "1000000", "new.sig", "--first", PLACE], 0o640),
+    ("options before the paths", ["--most", "1000000", "--numbering", "timestamp", "--name", PLACE, *PATHS]),
+    ("a bound with a unit", ["--most", "1M", *PATHS]),
+    ("the greatest bound", ["--most", "16777215T", *PATHS]),
+    ("a bound by its other name", ["--max-size", str(len(NEW)), *PATHS]),
+    ("the end of options first", ["--", *PATHS]),
+    ("the end of options between", [PK, "--first", "new", "--", "new.sig", PLACE]),
+    ("a name that begins with a dash", ["--", *PATHS[:3], "--first"], dict(name="--first", names="--first")),
+    ("another name than the signed one", [*PATHS[:3], "app", "--name", "app-1.2"], dict(name="app", names="app-1.2")),
+)
+def takes(directory, words, mode=0o751, name=PLACE, names=PLACE):
+    """An installation with these words."""
+    directory.offer(names=names)
+    for each, other in ((PLACE, name), (RECORD, f".{name}.number")):
+        os.rename(directory.at(each), directory.at(other))
+    directory.check_words(words, 0)
+    expect((directory.holds(name), directory.holds(f".{name}.number")) == (NEW, b"6"), f"the place holds {str(directory.holds(name))[:40]}")
+    directory.has_mode(mode, name)
+
+
+@word_cases.case("texts that are not UTF-8")
 def no_text(directory):
     """Bytes in place of a key or of a signature."""
     directory.put("bytes", b"\xff\n")
-    for words in (["bytes", "new", "new.sig", PLACE], [PK, "new", "bytes", PLACE]):
-        says(directory, words, REJECTED, b"error: bytes: it is not UTF-8\n")
+    for words in (["bytes", *PATHS[1:]], [PK, "new", "bytes", PLACE]):
+        says(directory, words, REJECTED, error("bytes", "it is not UTF-8"))
 
 
-def takes(directory, words, name=PLACE, mode=None, number=b"6", **how):
-    """An installation with these words."""
-    directory.offer("new", NEW, int(number), **how)
-    if name != PLACE:
-        os.rename(directory.at(PLACE), directory.at(name))
-        os.rename(directory.at(RECORD), directory.at(f".{name}.number"))
-    directory.check_words(words, 0)
-    expect(directory.holds(name) == NEW and directory.holds(f".{name}.number") == number and directory.mode(name) == (mode or 0o751),
-           f"the place holds {str(directory.holds(name))[:40]}, with the mode {directory.mode(name):o}")
-
-
+@word_cases.case("progress at a terminal")
 def at_terminal(directory):
-    """Where the error stream is a terminal, it shows how far it is."""
+    """Where the error stream is a terminal, it shows how far the installation is."""
     data = b"large" * 1000000
-    directory.offer("new", data, 6)
+    directory.offer(data=data)
     ours, theirs = pty.openpty()
     with open(ours, "rb", buffering=0) as screen:
-        process = directory.start(directory.arguments("new"), stderr=theirs)
+        process = directory.start(PATHS, stderr=theirs)
         os.close(theirs)
         shown = b""
         try:
@@ -50,86 +124,14 @@ def at_terminal(directory):
         except OSError:
             pass
         status = process.wait(timeout=SECONDS)
-    expect(not status and b"copied 4 of 4 MiB\r" in shown and b"verified 4 MiB\r" in shown,
-           f"it ended with status {status}, and showed {shown}")
+    expect(not status and b"copied 4 of 4 MiB\r" in shown and b"verified 4 MiB\r" in shown, f"it ended with status {status}, and showed {shown}")
     directory.expect(data, b"6")
 
 
+@word_cases.case("a closed error stream")
 def without_errors(directory):
-    """No file gets the number of a closed error stream."""
-    directory.offer("bad", NEW, 6, signed=LATER)
-    directory.offer("new", NEW, 6)
+    """No file gets its number."""
+    directory.offer("bad", signed=LATER)
     for name, status in (("bad", REJECTED), ("new", 0)):
         words = ["sh", "-c", 'exec "$@" 2>&-', "sh", directory.installing.program, *directory.arguments(name)]
-        directory.ends(run_program(words, directory.path, env={}), status)
-    directory.expect(NEW, b"6")
-
-
-def word_cases(installing):
-    """Words that ask for nothing, and words that ask for an installation in another way."""
-    paths = [PK, "new", "new.sig", PLACE]
-    usage = b"usage: minisign-install [OPTION ..] PK DATA SIG TARGET (--help shows the options)\n"
-    for option, what, values in (
-        ("--numbering", "field", ("versions",)), ("--mode", "mode", ("75", "00755", "4755", "758")),
-        ("--most", "size", ("5m", "5MB", "K", "16777216T", "17179869184G", "-1K", "+1000000", " 1000000", str(2 ** 64))),
-        ("--wait", "number of seconds", ("1.5", "86401", "")),
-    ):
-        for value in values:
-            yield f"{option} {value!r}", says, [option, value, *paths], MISUSED, f"error: {option}: bad {what} {value}\n".encode()
-    for option, *value in (("--frist",), ("--num", "version"), ("-h",), ("-f",), ("--name=app",), ("--First",), ("--help",)):
-        yield (f"{option} beside other words", says, [option, *value, *paths], MISUSED,
-               b"error: " + option.encode() + b": there is no such option\n" + usage)
-    misuses = [
-        ("no words", [], b"error: there are fewer than four paths\n" + usage),
-        ("three paths", paths[:3], b"error: there are fewer than four paths\n" + usage),
-        ("five paths", [*paths, "more"], b"error: more: there are four paths, and this is a fifth\n" + usage),
-        ("an option twice", ["--first", *paths, "--first"], b"error: --first: this option was given before\n" + usage),
-        ("a name twice", ["--name", "a", *paths, "--name", "a"], b"error: --name: this option was given before\n" + usage),
-        ("an option without its value", [*paths, "--mode"], b"error: the last option has no value\n" + usage),
-        ("an option after the end of options", ["--", "--first", *paths], b"error: place: there are four paths, and this is a fifth\n"),
-        ("a directory as place", [*paths[:3], "place/"], b"error: place/: it does not end with the name of a file\n"),
-        ("the directory itself as place", [*paths[:3], "."], b"error: .: it does not end with the name of a file\n"),
-        ("the directory above as place", [*paths[:3], ".."], b"error: ..: it does not end with the name of a file\n"),
-        ("bytes that are not UTF-8", [*paths[:3], b"pl\xe4ce"], b"error: an argument is not UTF-8\n" + usage),
-    ]
-    for what, words, said in misuses:
-        yield what, says, words, MISUSED, said
-    failures = [
-        ("a name with a control character", ["none\x1b[31m", *paths[1:]], FAILED, b"error: none\\u{1b}[31m: No such file or directory (os error 2)\n"),
-        ("no key", ["none.pub", *paths[1:]], FAILED, b"error: none.pub: No such file or directory (os error 2)\n"),
-        ("no data", [PK, "none", *paths[2:]], FAILED, b"error: none: No such file or directory (os error 2)\n"),
-        ("no signature", [PK, "new", "none.sig", PLACE], FAILED, b"error: none.sig: No such file or directory (os error 2)\n"),
-        ("no directory", [*paths[:3], "none/place"], FAILED, b"error: none: there is no such directory\n"),
-        ("a place in the root directory", ["--name", PLACE, "--check", PK, "new.sig", "/no-such-place"], UNRECORDED,
-         b"error: /no-such-place: no number is kept beside the target\n//.no-such-place.number is missing: --first installs all the same\n"),
-        ("a directory as key", [".", *paths[1:]], FAILED, b"error: .: Is a directory (os error 21)\n"),
-        ("a key that is no text", ["new.sig", *paths[1:]], REJECTED, b"error: new.sig: "),
-        ("a signature that is none", [PK, "new", PK, PLACE], REJECTED, b"error: key.pub: "),
-    ]
-    for what, words, status, said in failures:
-        yield what, says, words, status, said
-    yield "texts that are not UTF-8", no_text
-    for word in ("--help", "-h"):
-        yield f"help by {word}", says, [word], 0, b"", dict(shown=usage.replace(b" (--help shows the options)", b""))
-    yield "the version", says, ["--version"], 0, b"", dict(shown=NAME.encode() + b" " + VERSION + b"\n")
-    orders = [
-        ("options after the paths", [*paths, "--first", "--mode", "0640"], 0o640),
-        ("a bound with a unit", ["--most", "1M", *paths], None),
-        ("the greatest bound", ["--most", "16777215T", *paths], None),
-        ("options between the paths", [PK, "--mode", "640", "new", "--most", "1000000", "new.sig", "--first", PLACE], 0o640),
-        ("options before the paths", ["--most", "1000000", "--numbering", "timestamp", "--name", PLACE, *paths], None),
-        ("the end of options first", ["--", *paths], None),
-        ("the end of options between", [PK, "--first", "new", "--", "new.sig", PLACE], None),
-    ]
-    orders.append(("a bound by its other name", ["--max-size", str(len(NEW)), *paths], None))
-    yield "a bound with no unit there is", says, ["--max-size", "10X", *paths], MISUSED, b"error: --max-size: bad size 10X\n" + usage
-    for what, words, said in (("key", [PK, "new", PK, PLACE], b"key.pub: this is a public key, not a signature"),
-                              ("signature", ["new.sig", *paths[1:]], b"new.sig: this is a signature, not a public key")):
-        yield f"a {what} in the other's place", says, words, REJECTED, b"\n" + said + b"\nthe order is PK DATA SIG TARGET\n"
-    yield "a bound by both names", says, ["--most", "1M", "--max-size", "1M", *paths], MISUSED, b"error: --max-size: this option was given before\n" + usage
-    for what, words, mode in orders:
-        yield what, takes, words, dict(mode=mode)
-    yield "a name that begins with a dash", takes, ["--", *paths[:3], "--first"], dict(name="--first", names="--first")
-    yield "another name than the signed one", takes, [*paths[:3], "app", "--name", "app-1.2"], dict(name="app", names="app-1.2")
-    yield "progress at a terminal", at_terminal
-    yield "a closed error stream", without_errors
+        directory.leaves(run_program(words, directory.path, env={}), status)

@@ -46,7 +46,10 @@ class Disturbing:
 
     def __init__(self, program, room):
         self.program, self.room, self.place = program, room, place_for(room)
-        self.preload = build_preload(room, "disturbed_calls")
+
+    @functools.cached_property
+    def preload(self):
+        return build_preload(self.room, "disturbed_calls")
 
     @functools.cached_property
     def rejecting(self):

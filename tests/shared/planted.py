@@ -28,25 +28,37 @@ def plant(bug, copy):
     write(copy, bug.file, text.replace(bug.old, bug.new).encode())
 
 
-def build(bug, room, library, name):
-    """The program of this name, with the bug."""
+# The variable of the Makefile that has the parts of a program, and the room of those that only this one has.
+PARTS = {"minisign": ("MINISIGN_PARTS", "minisign"), "minisign-install": ("INSTALL_PARTS", "install")}
+
+
+def build(copy, name):
+    """Builds the program of this name in a copy, of objects, so that only what was changed is compiled: its path."""
+    sources, (variable, own) = os.path.join(copy, "c"), PARTS[name]
+    parts = [f"{room}/{file[:-2]}.o" for room in (own, "shared") for file in sorted(os.listdir(os.path.join(sources, room))) if file.endswith(".c")]
+    # (the library is newer than all that it is made of)
+    status, said = run(["make", "-C", sources, "-o", "out/libminisign.a", "CFLAGS=-O0 -std=c11 -I. -I../include",
+                        f"{variable}={' '.join(parts)} {'out/clearing.o' * (own == 'minisign')}", f"out/{name}"], seconds=10 * SECONDS)
+    expect(status == 0, f"it was not built: {said[-500:]}")
+    return os.path.join(sources, "out", name)
+
+
+def copy_sources(room, library):
+    """A copy of the sources, with the library."""
     copy = tempfile.mkdtemp(dir=room)
     for part in ("include", "c"):
         shutil.copytree(os.path.join(proved.ROOT, part), os.path.join(copy, part), ignore=shutil.ignore_patterns("out"))
-    sources, out = os.path.join(copy, "c"), os.path.join(copy, "c", "out")
-    plant(bug, sources)
-    os.makedirs(out)
-    shutil.copy(library, out)
-    # (the library is newer than all that it is made of)
-    status, said = run(["make", "-C", sources, "-o", "out/libminisign.a", "CFLAGS=-O0", f"out/{name}"], seconds=10 * SECONDS)
-    expect(status == 0, f"it was not built: {said[-500:]}")
-    return os.path.join(out, name)
+    os.makedirs(os.path.join(copy, "c", "out"))
+    shutil.copy(library, os.path.join(copy, "c", "out"))
+    return copy
 
 
-def wrong_of(room, library, name, cases_of, bug):
+def wrong_of(room, built, name, cases_of, bug):
     """What is wrong with a bug, or nothing. `cases_of` is given the program that has it, and a directory of its own."""
     try:
-        program, own = build(bug, room, library, name), tempfile.mkdtemp(dir=room)
+        copy, own = shutil.copytree(built, tempfile.mkdtemp(dir=room), dirs_exist_ok=True), tempfile.mkdtemp(dir=room)
+        plant(bug, os.path.join(copy, "c"))
+        program = build(copy, name)
         try:
             run_one(cases_of(program, own), bug.case)
         except Failure:
@@ -59,7 +71,9 @@ def wrong_of(room, library, name, cases_of, bug):
 def run_planted(bugs, room, name, cases_of):
     """Plants each bug, in a process of its own, as cases may act as other users: the failures, and how many there were."""
     os.chmod(room, 0o711)
-    judge = functools.partial(wrong_of, room, static_library.library(os.path.join(room, "built")), name, cases_of)
+    built = copy_sources(room, static_library.library(os.path.join(room, "built")))
+    build(built, name)
+    judge = functools.partial(wrong_of, room, built, name, cases_of)
     with concurrent.futures.ProcessPoolExecutor(os.cpu_count() or 1) as pool:
         failures = [f"{bug.what}: {wrong}" for bug, wrong in zip(bugs, pool.map(judge, bugs)) if wrong]
     return failures, len(bugs)
