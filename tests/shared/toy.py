@@ -37,9 +37,9 @@ def xored(*lists):
     return bytes(a ^ b ^ c for a, b, c in zip(*lists))
 
 
-def signature_of(message, half=bytes(32)):
+def signature_of(message, half=bytes(32), key=KEY):
     """The signature of a message, with this first half."""
-    return half + xored(half, KEY, fold(message))
+    return half + xored(half, key, fold(message))
 
 
 def is_accepted(message, signature):
@@ -59,8 +59,8 @@ def public_text(keynum=KEYNUM, key=KEY):
     return lines(b"untrusted comment: minisign public key: " + shown, base64.b64encode(b"Ed" + keynum + key))
 
 
-def signature_record(data, keynum=KEYNUM, algorithm=b"ED", half=bytes(32)):
-    return algorithm + keynum + signature_of(data if algorithm == b"Ed" else digest(data), half)
+def signature_record(data, keynum=KEYNUM, algorithm=b"ED", half=bytes(32), key=KEY):
+    return algorithm + keynum + signature_of(data if algorithm == b"Ed" else digest(data), half, key)
 
 
 def signature_text(data, record=None, trusted=b"t", untrusted=b"c", comment_signature=None):
