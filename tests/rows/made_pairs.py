@@ -163,10 +163,13 @@ ROWS = [
                    made_sealed("p", stdout=SHOWN)),
     *(row for count in range(DRAWN) for row in too_few(count)),
     writing("40 random bytes", COUNTED[:DRAWN_RAW], (ALL, ALL), made(PAIR, RECORD, False, sink1=PUBLIC, sink2=RECORD)),
-    # The record of a new key ends with the checksum of what stands before it, made by hashlib, as a test of the Rust crate
-    # over its private `sk_checksum` says.
-    making("40 random bytes", COUNTED[:DRAWN_RAW],
+    # Two tests of the Rust crate over calls that are private here, by what requests show of the same: the record of a new key
+    # ends with the checksum of what stands before it, made by hashlib; and opening, which xors once more, restores the last
+    # 104 bytes of a record, which sealing changes.
+    making("sk_checksum: a new key ends with its checksum", COUNTED[:DRAWN_RAW],
            made(PAIR, RECORD[:126] + hashlib.blake2b(b"Ed" + RECORD[54:126], digest_size=32).digest(), False)),
+    opening("xor_keynum: opening restores what sealing changed", secret_text(sealed("password")), "password", NOTHING_TYPED,
+            secret_key(sealed("password")[:54] + RECORD[54:])),
     # The bytes of a pair that is not sealed, from which both keys come back, the public key of its secret one, and the text of
     # the secret key, which is read again, and which no password opens.
     making("its bytes", COUNTING, made(PAIR, RECORD, False)),
@@ -200,8 +203,4 @@ ROWS = [
     Row("a made signature from its text", ask("sig_from_string", LOREM_TEXT),
         signature(OF_LOREM, LOREM_TEXT, b"timestamp:0", DEFAULT_COMMENT)),
     *judged("a signature goes through texts", ACCEPTED, LOREM_TEXT, LOREM, PUBLIC_TEXT, quiet=True),
-    # Opening, which xors once more, restores the last 104 bytes of a record that sealing changed, as a test of the Rust crate
-    # over its private `xor_keynum` says.
-    opening("opening restores what sealing changed", secret_text(sealed("password")), "password", NOTHING_TYPED,
-            secret_key(sealed("password")[:54] + RECORD[54:])),
 ]
