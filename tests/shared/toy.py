@@ -122,7 +122,7 @@ class Key:
 @functools.lru_cache(maxsize=None)
 def stream(password, limits, salt):
     """The bytes that the last 104 of a record are xored with."""
-    return hashlib.scrypt(password, salt=salt, n=limits.rows, r=8, p=limits.parts, dklen=104, maxmem=1 << 26)
+    return hashlib.scrypt(password, salt=salt, n=limits.rows, r=8, p=limits.parts, dklen=104, maxmem=1100 << 20)
 
 
 KEY_A = Key()
