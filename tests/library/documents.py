@@ -16,11 +16,13 @@ import re
 import subprocess
 import sys
 
-sys.path.append(os.path.join(os.path.dirname(os.path.realpath(__file__)), "..", "..", "tools"))
+TOP = os.path.join(os.path.dirname(os.path.realpath(__file__)), "..", "..")
+sys.path += [os.path.join(TOP, "tools"), os.path.join(TOP, "tests", "proofs")]
 
 import sources
 from checks import Checks
 from sources import NAME, ROOT, read
+from wrong_bodies import WrongBody
 
 FORMATS = "docs/FORMATS.md"
 ARCHITECTURE = "docs/ARCHITECTURE.md"
@@ -144,16 +146,6 @@ def without_blocks(text):
 def places(document, text):
     """The lines, each with its place."""
     return ((f"{document}:{number}", line) for number, line in enumerate(text.split("\n"), 1))
-
-
-def check_installing(report):
-    """Each error that installing adds stands in the table of errors with its name and its text."""
-    rows = [row.split(" | ") for row in read(FORMATS).split("\n") if row.startswith("| `")]
-    errors = re.findall(r'^install_row (\w+) =\s+row \d+ \w+ \(codes "([^"]*)"',
-                        read("crates/minisign_install/specs/Faults.antt"), re.M)
-    report.check(errors, "specs/Faults.antt", "no error is read")
-    for name, said in errors:
-        report.check(any(row[0] == f"| `{name}`" and f"`{said}`" in row for row in rows), FORMATS, f"no row for {name}")
 
 
 def squeezed(text):
@@ -351,30 +343,11 @@ def check_layers(report, index):
 def check_edit(report, shown):
     """A must-fail edit says first why it is wrong, and of which function it is; and each of its old texts stands exactly once in
     its file."""
-    crate = "/".join(shown.split("/")[:2])
-    lines = read(shown).split("\n")
-    reasons = [line for line in lines if line.startswith(("why: ", "fn: "))]
-    says_why = len(reasons) == 2 and reasons[0].startswith("why: ")
-    path, old, texts, pairs = None, None, {}, 0
-    report.check(sum(reason.startswith("fn: ") for reason in reasons) == 1, shown, "it does not name one function")
-    report.check(says_why, shown, "it does not say first why: which clause is false, and of what input")
-    for where, line in places(shown, "\n".join(line for line in lines if line not in reasons and not line.startswith("by: "))):
-        if line.startswith("file: "):
-            path = f"{crate}/{line[len('file: '):].strip()}"
-            there = os.path.isfile(os.path.join(ROOT, path))
-            report.check(there, where, f"no file {path}")
-            texts.setdefault(path, read(path) if there else "")
-        elif line.startswith("old: "):
-            old = line[len("old: "):]
-            count = texts.get(path, "").count(old)
-            report.check(count == 1, where, f"the old text stands {count} times in {path}: {old}")
-        elif line.startswith("new:") and old:
-            # The texts after it are looked for in the text that it leaves.
-            texts[path] = texts.get(path, "").replace(old, line[len("new:"):].removeprefix(" "))
-            old, pairs = None, pairs + 1
-        elif line:
-            report.check(False, where, f"neither file:, nor old: and then new: but {line!r}")
-    report.check(pairs and old is None, shown, "no pair of old: and new:")
+    edit = WrongBody(shown.split("/")[1], shown, 0)
+    file = f"crates/{edit.crate}/{edit.path}"
+    if report.check(edit.why_not or os.path.isfile(os.path.join(ROOT, file)), shown, f"no file {file}") and not edit.why_not:
+        edit.places(read(file))
+    report.check(not edit.why_not, shown, edit.why_not)
 
 
 def check_lengths(report, documents):
@@ -446,7 +419,6 @@ def main():
             check_comments(report, path, index)
     for edit in (file for file in FILES if re.match(r"crates/[^/]+/(?:must-fail|wrong-bodies)/.*\.edit$", file)):
         check_edit(report, edit)
-    check_installing(report)
     check_texts(report, index)
     check_architecture(report, index)
     check_layers(report, index)
