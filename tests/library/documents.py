@@ -9,24 +9,25 @@ It prints a line for each name that is missing; the last line is `N passed, M fa
 """
 
 import builtins
+import functools
 import glob
 import os
 import re
 import subprocess
 import sys
 
-sys.path.append(os.path.join(os.path.dirname(os.path.realpath(__file__)), "..", "..", "tools"))
+TOP = os.path.join(os.path.dirname(os.path.realpath(__file__)), "..", "..")
+sys.path += [os.path.join(TOP, "tools"), os.path.join(TOP, "tests", "proofs")]
 
 import sources
 from checks import Checks
 from sources import NAME, ROOT, read
+from wrong_bodies import WrongBody
 
 FORMATS = "docs/FORMATS.md"
 ARCHITECTURE = "docs/ARCHITECTURE.md"
-# What a script makes from the sources, and checks itself.
-MADE = "docs/TRUSTED.md"
-# Fewer lines than these has its first part.
-PAGE_LINES = 270
+# What a script makes from the sources, and checks itself. Fewer lines than these has its first part.
+MADE, PAGE_LINES = "docs/TRUSTED.md", 270
 CALLS = re.compile(r"crates/([^/]+)/CALLING\.md")
 # How many bytes the documents may have: those that are made, all others together, and README.
 GENERATED = (MADE, "docs/PROMISES.md")
@@ -55,8 +56,12 @@ RUN_BY = {
 SET_IN = {"docs/INSTALLING.md": ["minisign-install [OPTION ..] PK DATA SIG TARGET", "2", "[Service]", "#!/bin/sh"]}
 DIRECTORIES = ("tests/", "crates/", "bench/", ".ci/", "docs/", "tools/", "examples/", "c/")
 QUOTED = re.compile(r"`([^`]+)`")
+# Quoted names of functions, parted by commas.
+NAMES = r"((?:`[\w:]+`(?:, | and )?)+)"
 BLOCK = re.compile(r"^```(\w*)\n(.*?)^```$", re.M | re.S)
 PATH_NAME = re.compile(r"[A-Za-z_]\w*(?:::(?:[A-Za-z_]\w*|\.\.))*$")
+# What has the form of a name, and is a word or a constant of any language, or stands for all of a module.
+NO_NAME = re.compile(r"[a-zA-Z]{1,8}|[A-Z][A-Z0-9]*|.*::\.\.")
 TEXT = re.compile(r'"((?:[^"\\]|\\.)*)"')
 
 
@@ -64,12 +69,11 @@ TEXT = re.compile(r'"((?:[^"\\]|\\.)*)"')
 CODE = (".rt", ".rt.txt", ".antt", ".antt.txt", ".c", ".h", ".js", ".mjs", ".ts", ".go", ".rs", ".py", ".sh", ".html", ".toml", ".json", "Makefile", ".ci/run")
 COMMENTED = (*CODE, ".css", ".txt", ".1", ".3", ".edit")
 # Comments of other forms than in Rattle. (In Python a text in three quotes is one where it stands by itself.)
-HASH = re.compile(r"(?<!\S)#[^\n]*")
+HASH, ROFF = re.compile(r"(?<!\S)#[^\n]*"), re.compile(r'(?m)^\.\\"[^\n]*')
 PYTHON = re.compile(r'#[^\n]*|"""(?:[^\\]|\\.)*?"""|"(?:[^"\\\n]|\\.)*"|\'(?:[^\'\\\n]|\\.)*\'', re.S)
 OTHER_COMMENTS = {
     ".antt": re.compile(r"(?<!\S)--(?=\s)[^\n]*"), ".html": re.compile(r"<!--.*?-->", re.S), ".css": re.compile(r"/\*.*?\*/", re.S),
-    ".1": re.compile(r'(?m)^\.\\"[^\n]*'), ".3": re.compile(r'(?m)^\.\\"[^\n]*'), ".edit": re.compile(r"(?m)^why: [^\n]*"),
-    ".sh": HASH, ".toml": HASH, ".txt": HASH, "": HASH,
+    ".1": ROFF, ".3": ROFF, ".edit": re.compile(r"(?m)^why: [^\n]*"), ".sh": HASH, ".toml": HASH, ".txt": HASH, "": HASH,
 }
 # Names by their form: with an underscore, or with a capital letter inside.
 NAMES_IN_COMMENTS = re.compile(r"(?<![\w`./:-])(?:[A-Za-z]\w+_\w+|[A-Za-z][a-z0-9]+[A-Z]\w*)(?![\w`])")
@@ -79,6 +83,13 @@ OF_ONE_MACHINE = re.compile(r"(?<![\w.])/(?:opt|work|root|home|Users)/\S*")
 # What looks like a name, and is one of the world.
 OTHER_NAMES = {"OpenPGP", "WebAssembly", "TypeScript", "macOS", "KiB", "MiB", "GiB", "EdDSAs", "BlockMix", "scryptBlockMix",
                "scryptROMix", "VerifyError", "crypto_pwhash_scryptsalsa208sha256", "AddressSanitizer", "UndefinedBehaviorSanitizer"}
+
+FILES = [os.path.relpath(file, ROOT) for file in sources.files_below(ROOT)]
+# Files and directories, also those that a build makes beside the sources; and how the documents leave out an ending.
+PATHS = dict.fromkeys(os.sep.join(file.split(os.sep)[:last + 1])
+                      for file in (*FILES, *(line for line in read(".gitignore").split() if not line.endswith("/")))
+                      for last in range(file.count(os.sep) + 1))
+ENDINGS = ("", ".antt", ".rt", ".py", ".md", ".c", ".rs")
 
 
 def comments_in(path, text):
@@ -94,22 +105,21 @@ def comments_in(path, text):
 class Index:
     """The names of all crates."""
 
-    def __init__(self, files):
+    def __init__(self):
         self.library = sources.Library()
         self.sources = {name: self.library.crate_sources(name) for name in self.library.crates}
         self.all_sources = [source for read_all in self.sources.values() for source in read_all]
         self.items = [item for source in self.all_sources for item in source.items]
-        self.functions = by_name(item for item in self.items if item.what == "fn")
-        self.types = by_name(item for item in self.items if item.what in ("struct", "enum", "trait", "type"))
+        self.types = {item.name for item in self.items if item.what in ("struct", "enum", "trait", "type")}
         specs = [file for directory in self.library.crates.values() for file in sources.files_below(f"{directory}/specs", ".antt")]
         self.definitions = [definition for file in specs for definition in sources.read_module(file).definitions.values()]
-        # Items, clauses, parameters, fields, variants, definitions, and all names in code.
-        self.known = {*self.library.crates, *(item.name for item in self.items if item.what == "mod"), *(definition.name for definition in self.definitions)}
-        self.known.update(os.path.basename(file).partition(".")[0] for file in files)
-        # Those of the crates and of C alone, which a comment in a crate may name; comments in Python name what that has.
-        self.of_crates = set(self.known)
-        self.known.update(dir(builtins))
-        for file in (file for file in files if file.endswith(CODE)):
+        # Items, clauses, parameters, fields, variants, definitions, and all names in code: those of the crates and of C alone,
+        # which a comment in a crate may name, and all; comments in Python name what that has.
+        self.of_crates = {*self.library.crates, *(item.name for item in self.items if item.what == "mod"),
+                          *(definition.name for definition in self.definitions),
+                          *(os.path.basename(file).partition(".")[0] for file in FILES)}
+        self.known = {*self.of_crates, *dir(builtins)}
+        for file in (file for file in FILES if file.endswith(CODE)):
             text = read(file)
             for comment in sorted(comments_in(file, text), key=len, reverse=True):
                 text = text.replace(comment, " ")
@@ -117,18 +127,15 @@ class Index:
             if file.startswith(("crates/", "c/", "include/")):
                 self.of_crates.update(NAME.findall(text))
 
+    def functions(self, name):
+        """The functions of this name."""
+        return [item for item in self.items if item.what == "fn" and item.name == name]
+
     def clauses_of(self, function):
         """The clauses of a function, and of the trait's that it stands for."""
-        others = self.functions.get(function.name, []) if function.trait else []
+        others = self.functions(function.name) if function.trait else []
         traits = [other for other in others if other.owner == function.trait and not other.trait]
         return [clause for trait in (function, *traits) for clause in trait.clauses]
-
-
-def by_name(items):
-    found = {}
-    for item in items:
-        found.setdefault(item.name, []).append(item)
-    return found
 
 
 def without_blocks(text):
@@ -139,16 +146,6 @@ def without_blocks(text):
 def places(document, text):
     """The lines, each with its place."""
     return ((f"{document}:{number}", line) for number, line in enumerate(text.split("\n"), 1))
-
-
-def check_installing(report, index):
-    """Each error that installing adds stands in the table of errors with its name and its text."""
-    rows = [row.split(" | ") for row in read(FORMATS).split("\n") if row.startswith("| `")]
-    errors = re.findall(r'^install_row (\w+) =\s+row \d+ \w+ \(codes "([^"]*)"',
-                        read("crates/minisign_install/specs/Faults.antt"), re.M)
-    report.check(errors, "specs/Faults.antt", "no error is read")
-    for name, said in errors:
-        report.check(any(row[0] == f"| `{name}`" and f"`{said}`" in row for row in rows), FORMATS, f"no row for {name}")
 
 
 def squeezed(text):
@@ -188,7 +185,7 @@ def check_calls(report, index, document, text):
             file = directory + line.partition(",")[0]
         elif is_quoted and line.startswith("fn "):
             path = re.match(r"fn ([\w:]+)", line)[1]
-            calls = [each for each in index.functions.get(path.rpartition("::")[2], []) if (each.file, each.path) == (file, path)]
+            calls = [each for each in index.functions(path.rpartition("::")[2]) if (each.file, each.path) == (file, path)]
             headers = [re.sub(r"^(?:pub(?:\(crate\))? )?", "", sources.in_one_line(call.header)) for call in calls]
             wanted = line.replace(f"fn {path}", "fn " + path.rpartition("::")[2])
             report.check(wanted in headers, where, f"{file} has no such call, but {headers}")
@@ -199,11 +196,6 @@ def check_calls(report, index, document, text):
             report.check(found and found[3] in quoted, where, f"no such clause, but {quoted}")
 
 
-def anchors_of(text):
-    """The places of a document that a link may name."""
-    return {re.sub(r"[^\w\- ]", "", head.lower()).replace(" ", "-") for head in re.findall(r"^#+ (.*)$", text, re.M)}
-
-
 def check_links(report, document, text):
     for where, line in places(document, text):
         for link in re.findall(r"\]\((?!\w+:)([^)\s]+)\)", line):
@@ -212,29 +204,19 @@ def check_links(report, document, text):
             there = os.path.exists(os.path.join(ROOT, target))
             report.check(there, where, f"the link {link} leads nowhere")
             if there and anchor:
-                report.check(anchor in anchors_of(read(target)), where, f"{target} has no #{anchor}")
+                heads = re.findall(r"^#+ (.*)$", read(target), re.M)
+                anchors = {re.sub(r"[^\w\- ]", "", head.lower()).replace(" ", "-") for head in heads}
+                report.check(anchor in anchors, where, f"{target} has no #{anchor}")
 
 
-class Paths:
-    """How the documents name files and directories."""
-
-    ENDINGS = ("", ".antt", ".rt", ".py", ".md", ".c", ".rs")
-
-    def __init__(self, files):
-        # Each path, also of what a build makes beside the sources, by its ends: so `specs/Fed` is found in any crate.
-        self.ends = {}
-        for file in (*files, *(line for line in read(".gitignore").split() if not line.endswith("/"))):
-            parts = file.split("/")
-            for last in range(1, len(parts) + 1):
-                for first in range(last):
-                    self.ends.setdefault("/".join(parts[first:last]), {})["/".join(parts[:last])] = None
-
-    def find(self, path):
-        """The files or directories that a document's path may mean."""
-        path = path.rstrip("/")
-        if "*" in path or "NAME" in path:
-            return glob.glob(os.path.join(ROOT, path.replace("NAME", "*")))
-        return [place for ending in self.ENDINGS for place in self.ends.get(path + ending, ())]
+@functools.lru_cache(maxsize=None)
+def find(path):
+    """The files or directories that a document's path may mean: so `specs/Fed` is found in any crate."""
+    path = path.rstrip("/")
+    if "*" in path or "NAME" in path:
+        return glob.glob(os.path.join(ROOT, path.replace("NAME", "*")))
+    ends = tuple(f"/{path}{ending}" for ending in ENDINGS)
+    return [place for place in PATHS if f"/{place}".endswith(ends)]
 
 
 def is_path(text):
@@ -244,15 +226,15 @@ def is_path(text):
     return bool("/" in text and not re.fullmatch(r"\d+(?:/\d+)*", text) or re.search(r"\.(?:rt|antt|py|md|c|txt|edit)$", text))
 
 
-def check_paths(report, document, text, paths):
+def check_paths(report, document, text):
     """Each quoted path, and names that are said to stand in a file."""
     for where, line in places(document, text):
         for name in QUOTED.findall(line):
             for word in [name] if " " not in name else [word for word in name.split() if word.startswith(DIRECTORIES)]:
-                report.check(not is_path(word) or paths.find(word), where, f"no file or directory {word}")
-        for names, path in re.findall(r"((?:`[\w:]+`(?:, | and )?)+) of `([\w./]+)`", line):
+                report.check(not is_path(word) or find(word), where, f"no file or directory {word}")
+        for names, path in re.findall(NAMES + r" of `([\w./]+)`", line):
             for name in QUOTED.findall(names) if is_path(path) else ():
-                there = {name for place in paths.find(path) for name in names_of(place)}
+                there = {name for place in find(path) for name in names_of(place)}
                 report.check(name.rpartition("::")[2] in there, where, f"{path} has no {name}")
 
 
@@ -266,47 +248,51 @@ def names_of(path):
     return {*NAME.findall(read(path))} if os.path.isfile(file) else set()
 
 
+def quoted_names(text):
+    """What a text quotes that is a name, or a path of names, of a source: as it stands, and without its arguments."""
+    quoted = [(found, re.sub(r"\(.*\)$", "", found)) for found in QUOTED.findall(text)]
+    return [(found, name) for found, name in quoted if PATH_NAME.match(name) and not NO_NAME.fullmatch(name)]
+
+
 def check_names(report, document, text, index, types):
     """Each quoted name is one of the sources; a quoted path of names is one of a module, or of one of these types."""
     for where, line in places(document, without_blocks(text)):
         if document == "docs/DIFFERENCES.md" and line.startswith("|"):
             # What stands first is the Rust crate's.
             line = line[line.find(" | "):]
-        for quoted in QUOTED.findall(line):
-            name = re.sub(r"\(.*\)$", "", quoted)
-            if not PATH_NAME.match(name) or name.endswith("::..") or re.fullmatch(r"[a-zA-Z]{1,8}|[A-Z][A-Z0-9]*", name):
-                continue
+        for quoted, name in quoted_names(line):
             *owners, last = name.split("::")
             report.check({*owners, last} <= index.known | OTHER_NAMES, where, f"no `{quoted}` in any source")
             if owners and owners[-1] in types:
-                there = [item for item in index.items if item.owner == owners[-1] and item.name == last]
-                there += [item for item in index.types[owners[-1]] if re.search(rf"\b{last}\b", item.text)]
+                there = any(item.owner == owners[-1] and item.name == last or item.name == owners[-1] and
+                            item.what in ("struct", "enum", "trait", "type") and re.search(rf"\b{last}\b", item.text)
+                            for item in index.items)
                 report.check(there, where, f"{owners[-1]} has no {last}")
 
 
-def check_comments(report, path, index, paths):
+def check_comments(report, path, index):
     """Each name in a comment is one of the sources, where it is quoted, or has the form of a name; each path leads somewhere."""
     text = read(path)
+    known = index.of_crates if path.startswith("crates/") else index.known
     # (in a line of use variables have names of their own)
     for comment in (comment for comment in comments_in(path, text) if not re.match(r"/// let .*;$", comment)):
-        quoted = [re.sub(r"\(.*\)$", "", found) for found in QUOTED.findall(comment)]
-        names = [name for name in quoted if PATH_NAME.match(name) and not re.fullmatch(r"[a-zA-Z]{1,8}|[A-Z][A-Z0-9]*|.*::\.\.", name)]
-        known = index.of_crates if path.startswith("crates/") else index.known
+        names = [name for _, name in quoted_names(comment)]
         for name in {*names, *NAMES_IN_COMMENTS.findall(comment)} - OTHER_NAMES:
             # (what ends with an underscore begins a name)
             holds = all(word in known or word.endswith("_") and any(other.startswith(word) for other in known) for word in name.split("::"))
             report.check(holds, path, f"a comment names `{name}`, which no source has")
         # (the paths that an edit quotes are an input)
-        for place in {*filter(is_path, () if path.endswith(".edit") else quoted), *PATHS_IN_COMMENTS.findall(comment)}:
-            report.check(place.startswith(".") or paths.find(place), path, f"a comment names the file {place}, which is not there")
+        quoted = [re.sub(r"\(.*\)$", "", found) for found in QUOTED.findall(comment) if not path.endswith(".edit")]
+        for place in {*filter(is_path, quoted), *PATHS_IN_COMMENTS.findall(comment)}:
+            report.check(place.startswith(".") or find(place), path, f"a comment names the file {place}, which is not there")
 
 
 def check_clauses(report, index, document, text):
     """The clauses that a sentence names of a function: the clause `x` of `f`."""
     for where, line in places(document, text):
-        for clause, names in re.findall(r"clauses? `(\w+)` of ((?:`[\w:]+`(?:, | and )?)+)", line):
+        for clause, names in re.findall(r"clauses? `(\w+)` of " + NAMES, line):
             for name in QUOTED.findall(names):
-                found = index.functions.get(name.rpartition("::")[2], [])
+                found = index.functions(name.rpartition("::")[2])
                 holds = any(each.name == clause for function in found for each in index.clauses_of(function))
                 report.check(holds, where, f"no clause `{clause}` of `{name}`")
 
@@ -344,91 +330,55 @@ def check_architecture(report, index):
         report.check(name == "Lib" or name in named, ARCHITECTURE, f"it does not name specs/{name} of minisign")
 
 
-def check_layers(report, index, files):
+def check_layers(report, index):
     """No crate names the proofs of another one, but for those that it has for its callers: what it knows of it is its
     contracts, its definitions and its laws."""
-    for file in (file for file in files if file.startswith("crates/") and file.endswith((".antt", ".rt"))):
+    for file in (file for file in FILES if file.startswith("crates/") and file.endswith((".antt", ".rt"))):
         for where, line in places(file, read(file)) if "proofs" in read(file) else ():
             for other in re.findall(r"\b(\w+)(?:\.|::)proofs\b(?!(?:\.|::)Laws\b)", line):
                 is_own = other == file.split("/")[1] or other not in index.library.crates
                 report.check(is_own, where, f"it names proofs of {other}")
 
 
-def reasons_of(lines):
-    """The lines of an edit that say why it is wrong and of which function it is, and all others but the one that says by what it
-    is rejected."""
-    reasons = [line for line in lines if line.startswith(("why: ", "fn: "))]
-    return reasons, [line for line in lines if line not in reasons and not line.startswith("by: ")]
-
-
 def check_edit(report, shown):
-    """A must-fail edit says first why it is wrong, and each of its old texts stands exactly once in its file."""
-    crate = "/".join(shown.split("/")[:2])
-    reasons, lines = reasons_of(read(shown).split("\n"))
-    path, old, texts, pairs = None, None, {}, 0
-    report.check(sum(reason.startswith("fn: ") for reason in reasons) == 1, shown, "it does not name one function")
-    says_why = len(reasons) == 2 and reasons[0].startswith("why: ")
-    report.check(says_why, shown, "it does not say first why: which clause is false, and of what input")
-    for where, line in places(shown, "\n".join(lines)):
-        if line.startswith("file: "):
-            path = f"{crate}/{line[len('file: '):].strip()}"
-            there = os.path.isfile(os.path.join(ROOT, path))
-            report.check(there, where, f"no file {path}")
-            texts.setdefault(path, read(path) if there else "")
-        elif line.startswith("old: "):
-            old = line[len("old: "):]
-            count = texts.get(path, "").count(old)
-            report.check(count == 1, where, f"the old text stands {count} times in {path}: {old}")
-        elif line.startswith("new:") and old:
-            # The texts after it are looked for in the text that it leaves.
-            texts[path] = texts.get(path, "").replace(old, line[len("new:"):].removeprefix(" "))
-            old, pairs = None, pairs + 1
-        elif line:
-            report.check(False, where, f"neither file:, nor old: and then new: but {line!r}")
-    report.check(pairs and old is None, shown, "no pair of old: and new:")
-
-
-def check_trusted(report):
-    """The first part of what is trusted, on which a verdict rests, is one page."""
-    lines = [int(row.split("|")[3]) for row in read(MADE).split("\n") if row.startswith("| 1. ")]
-    report.check(len(lines) == 1 and lines[0] < PAGE_LINES, MADE, f"its first part has {lines} lines")
+    """A must-fail edit says first why it is wrong, and of which function it is; and each of its old texts stands exactly once in
+    its file."""
+    edit = WrongBody(shown.split("/")[1], shown, 0)
+    file = f"crates/{edit.crate}/{edit.path}"
+    if report.check(edit.why_not or os.path.isfile(os.path.join(ROOT, file)), shown, f"no file {file}") and not edit.why_not:
+        edit.places(read(file))
+    report.check(not edit.why_not, shown, edit.why_not)
 
 
 def check_lengths(report, documents):
-    """How many bytes the documents have."""
+    """How many bytes the documents have; and the first part of what is trusted, on which a verdict rests, is one page."""
+    lines = [int(row.split("|")[3]) for row in read(MADE).split("\n") if row.startswith("| 1. ")]
+    report.check(len(lines) == 1 and lines[0] < PAGE_LINES, MADE, f"its first part has {lines} lines")
     lengths = {document: len(text.encode()) for document, text in documents.items()}
     made = sum(lengths[document] for document in GENERATED)
-    bounds = [("README.md", lengths["README.md"], README_BYTES), (" and ".join(GENERATED), made, MADE_BYTES),
-              ("all other documents", sum(lengths.values()) - made, OTHER_BYTES)]
-    for what, count, most in bounds:
+    for what, count, most in (("README.md", lengths["README.md"], README_BYTES), (" and ".join(GENERATED), made, MADE_BYTES),
+                              ("all other documents", sum(lengths.values()) - made, OTHER_BYTES)):
         report.check(count <= most, what, f"{count:,} bytes, of at most {most:,}")
 
 
-def sentences_of(text):
-    """The sentences of a document, of the cells of its tables too: what is quoted is one word, and a link is its text."""
+def check_sentences(report, document, text):
+    """Few sentences are long, in the cells of tables too: what is quoted is one word, and a link is its text."""
     text = re.sub(r"(?m)^(?:#+ |    ).*|<!--.*?-->", "", without_blocks(text))
     text = re.sub(r"(?m)^(?:- |\d+\. )", "\n", re.sub(r"\]\([^)]*\)", "]", QUOTED.sub("X", text)))
-    return [" ".join(part.split()) for part in SENTENCE_END.split(text) if len(part.split()) >= LEAST_WORDS]
+    sentences = [part.split() for part in SENTENCE_END.split(text) if len(part.split()) >= LEAST_WORDS]
+    long = [" ".join(words) for words in sentences if len(words) > MOST_WORDS]
+    report.check(len(long) * 20 <= len(sentences), document, f"{len(long)} of {len(sentences)} sentences are long", long)
 
 
-def check_sentences(report, documents):
-    """Few sentences are long."""
-    for document in PLAIN:
-        sentences = sentences_of(documents[document])
-        long = [sentence for sentence in sentences if len(sentence.split()) > MOST_WORDS]
-        report.check(len(long) * 20 <= len(sentences), document, f"{len(long)} of {len(sentences)} sentences are long", long)
-
-
-def check_run(report, documents):
+def check_run(report, document, text, scripts):
     """Each block of commands or code has a fence and a language that a script looks for, and none is set in instead."""
-    for document, scripts in RUN_BY.items():
-        fences = {*re.findall(r"(?m)^[ \t>]*(?:```|~~~).*$", documents[document])[::2]} - {"```"}
-        wanted = {f"```{language}" for language in scripts}
-        report.check(fences == wanted, document, f"its blocks begin by {fences}, and scripts run {wanted}")
-        for script in scripts.values():
-            report.check(os.path.basename(document) in read(script), document, f"{script} does not name it")
-        begun = re.findall(r"\n\n(?:    |\t)(.*)", without_blocks(documents[document]))
-        report.check(begun == SET_IN.get(document, []), document, f"set in are blocks that begin by {begun}")
+    fences = {*re.findall(r"(?m)^[ \t>]*(?:```|~~~).*$", text)[::2]} - {"```"}
+    wanted = {f"```{language}" for language in scripts}
+    report.check(fences == wanted, document, f"its blocks begin by {fences}, and scripts run {wanted}")
+    for script in scripts.values():
+        report.check(os.path.basename(document) in read(script), document, f"{script} does not name it")
+    begun = re.findall(r"\n\n(?:    |\t)(.*)", without_blocks(text))
+    report.check(begun == SET_IN.get(document, []), document, f"set in are blocks that begin by {begun}")
 
 
 def check_version(report, documents):
@@ -440,40 +390,43 @@ def check_version(report, documents):
                 report.check(logic in ran.stdout.decode(), document, f"`rt version` does not say {logic}")
 
 
+def check_document(report, index, document, text):
+    check_links(report, document, text)
+    if document == MADE:
+        return
+    check_paths(report, document, text)
+    # (the packages, and what is a repository of its own, have blocks of their own, which their tests run)
+    is_apart = document.startswith(("bindings/", "examples/rattle/"))
+    check_names(report, document, text, index, set() if is_apart else index.types)
+    if is_apart:
+        return
+    if CALLS.match(document):
+        check_calls(report, index, document, text)
+    else:
+        check_blocks(report, document, text, index)
+    check_clauses(report, index, document, text)
+
+
 def main():
-    report, files = Checks(), [os.path.relpath(file, ROOT) for file in sources.files_below(ROOT)]
-    index, paths = Index(files), Paths(files)
-    documents = {path: read(path) for path in files if path.endswith(".md")}
+    report, index = Checks(), Index()
+    documents = {path: read(path) for path in FILES if path.endswith(".md")}
     for document, text in documents.items():
-        check_links(report, document, text)
-        if document == MADE:
-            continue
-        check_paths(report, document, text, paths)
-        # (the packages, and what is a repository of its own, have blocks of their own, which their tests run)
-        if document.startswith(("bindings/", "examples/rattle/")):
-            check_names(report, document, text, index, set())
-            continue
-        if CALLS.match(document):
-            check_calls(report, index, document, text)
-        else:
-            check_blocks(report, document, text, index)
-        check_names(report, document, text, index, index.types)
-        check_clauses(report, index, document, text)
-    for path in (file for file in files if file.endswith((*COMMENTED, ".md")) and not file.startswith("dist/")):
+        check_document(report, index, document, text)
+    for path in (file for file in FILES if file.endswith((*COMMENTED, ".md")) and not file.startswith("dist/")):
         place = OF_ONE_MACHINE.search(read(path))
         report.check(place is None, path, f"it names a directory of one machine: {place and place[0]}")
         if not path.endswith(".md"):
-            check_comments(report, path, index, paths)
-    check_installing(report, index)
+            check_comments(report, path, index)
+    for edit in (file for file in FILES if re.match(r"crates/[^/]+/(?:must-fail|wrong-bodies)/.*\.edit$", file)):
+        check_edit(report, edit)
     check_texts(report, index)
     check_architecture(report, index)
-    check_layers(report, index, files)
-    for edit in (file for file in files if re.match(r"crates/[^/]+/(?:must-fail|wrong-bodies)/.*\.edit$", file)):
-        check_edit(report, edit)
-    check_trusted(report)
+    check_layers(report, index)
     check_lengths(report, documents)
-    check_sentences(report, documents)
-    check_run(report, documents)
+    for document in PLAIN:
+        check_sentences(report, document, documents[document])
+    for document, scripts in RUN_BY.items():
+        check_run(report, document, documents[document], scripts)
     check_version(report, documents)
     return report.end()
 

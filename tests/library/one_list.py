@@ -13,30 +13,28 @@ Needs Python 3.9 or later and bash.
 """
 
 import ast
+import glob
 import os
 import re
 import shutil
 import subprocess
 import sys
-import tempfile
 
 HERE = os.path.dirname(os.path.realpath(__file__))
 TOP = os.path.dirname(os.path.dirname(HERE))
-sys.path += [os.path.join(TOP, *directory) for directory in (("tests", "shared"), ("tests",))]
+sys.path += [os.path.join(TOP, *directory) for directory in (("tests", "shared"), ("tests",), ("tools",))]
 
 import check
-from checks import Checks
+import ending
+from running import write
+from sources import read
 
 SECONDS = 60
-# The scripts of tools/ that compare what they make with what stands there where `--check` is said.
-CHECKING = "--check"
 # What is not listed, as a script of the list runs it.
 NOT_LISTED = {"tests/bindings/python_user.py"}
 COMMAND = "make -C c check"
-NEEDS = "tests/shared/needs.py"
-# Debian's packages, one a line, and README's line that installs them.
+# Debian's packages, one a line.
 PACKAGES = "tests/packages.txt"
-INSTALLING = f"apt install $(cat {PACKAGES})"
 # What runs in the gate the scripts that the list marks by `debian`.
 FRESH = "tests/fresh_debian.py"
 # A script of a list that is made up, by its name: its text.
@@ -70,61 +68,51 @@ ASKED = [
 ]
 
 
-def read(name):
-    """The text of a file of the repository."""
-    with open(os.path.join(TOP, name), encoding="utf-8") as file:
-        return file.read()
-
-
-def counting():
-    """The scripts that are begun by themselves and end by counting what they checked."""
-    for directory in (*sorted(os.listdir(os.path.join(TOP, "tests"))), os.path.join("..", "tools")):
-        place = os.path.normpath(os.path.join("tests", directory))
-        for name in sorted(os.listdir(place) if os.path.isdir(place) else []):
-            path = f"{place}/{name}"
-            if name.endswith(".py") and re.search(r"(?m)^if __name__ == \"__main__\":$", read(path)) and " passed, " in read(path):
-                yield path
+def is_counting(path):
+    """Whether a script is begun by itself and ends by counting what it checked."""
+    return re.search(r"(?m)^if __name__ == \"__main__\":$", read(path)) and " passed, " in read(path)
 
 
 def check_list(checks):
     """What is listed is there, and what is there is listed."""
     groups = check.groups_of(check.LIST)
-    listed = [script.words for group in groups for script in group.scripts]
-    names = [words[0] for words in listed]
+    scripts = [script for group in groups for script in group.scripts]
+    names = [script.words[0] for script in scripts]
     checks.check(len({group.name for group in groups}) == len(groups), "two groups have the same name")
     checks.check(all(group.scripts for group in groups), "a group has no script")
     for name in names:
         checks.check(os.path.isfile(name) and names.count(name) == 1, f"{name} is listed, and is not there or is listed twice")
-    for words in listed:
-        checks.check((CHECKING in words) == words[0].startswith("tools/"), f"{' '.join(words)}: it would make something anew")
-    for name in counting():
+    for words in (script.words for script in scripts):
+        # (a script of tools/ compares what it makes with what stands there where `--check` is said)
+        checks.check(("--check" in words) == words[0].startswith("tools/"), f"{' '.join(words)}: it would make something anew")
+    for name in filter(is_counting, sorted(glob.glob("tests/*/*.py") + glob.glob("tools/*.py"))):
         checks.check((name in names) != (name in NOT_LISTED), f"{name} is not listed, and should be, or the reverse")
-    kinds = [script.needs for group in groups for script in group.scripts]
-    checks.check("debian" not in kinds or FRESH in names, f"nothing in the gate runs what is marked by debian: {FRESH} is not listed")
+    checks.check(FRESH in names or all(script.needs != "debian" for script in scripts),
+                 f"nothing in the gate runs what is marked by debian: {FRESH} is not listed")
     checks.check(check.IN_BROWSERS in names, f"{check.IN_BROWSERS} is not listed")
+
+
+def run_over(room, text, *words):
+    """Runs what is listed in this text."""
+    path = write(room, "list", text.encode())
+    return subprocess.run([sys.executable, check.__file__, "--list", path, *words], stdout=subprocess.PIPE, text=True,
+                          stderr=subprocess.PIPE, timeout=SECONDS, env=dict(os.environ, MAKEFLAGS="s", MAKELEVEL="1"))
 
 
 def check_adding(checks, room):
     """What a run over a made-up list says."""
     for name, text in SCRIPTS.items():
-        with open(os.path.join(room, name), "w", encoding="utf-8") as file:
-            file.write(text)
+        write(room, name, text.encode())
     for number, (lines, words, last, status) in enumerate(ASKED):
-        path = os.path.join(room, "list")
-        with open(path, "w", encoding="utf-8") as file:
-            file.write("one:  # a group\n" + "".join(f"    {line.split()[0]} {room}/{line.split()[1]}\n" for line in lines))
-        ran = subprocess.run([sys.executable, check.__file__, "--list", path, *(word.replace("ROOM", room) for word in words)], env=dict(os.environ, MAKEFLAGS="s", MAKELEVEL="1"),
-                             stdout=subprocess.PIPE, stderr=subprocess.PIPE, timeout=SECONDS)
-        said = ran.stdout.decode().splitlines()
+        listed = "".join("    {} {room}/{}\n".format(*line.split(), room=room) for line in lines)
+        ran = run_over(room, f"one:  # a group\n{listed}", *(word.replace("ROOM", room) for word in words))
+        said = ran.stdout.splitlines()
         took = [line for line in said if re.fullmatch(r"== \S+: \d+ s, \d+ of the processor", line)]
         checks.check(len(took) == sum(line.startswith("== ") for line in said) / 2, f"list {number}: a script does not say what it took: {said}")
         checks.check(said[-1:] == [last] and ran.returncode == status, f"list {number}: status {ran.returncode}, it ends with {said[-1:]}")
     for text in ("any good.py\n", "one:\n    good.py\n", "one:\n    all good.py\n"):
-        with open(path, "w", encoding="utf-8") as file:
-            file.write(text)
-        ran = subprocess.run([sys.executable, check.__file__, "--list", path, "--groups"], stdout=subprocess.PIPE,
-                             stderr=subprocess.PIPE, timeout=SECONDS)
-        checks.check(ran.returncode != 0 and not ran.stdout and b"neither a group nor a script" in ran.stderr, f"the list {text!r} is taken")
+        ran = run_over(room, text, "--groups")
+        checks.check(ran.returncode != 0 and not ran.stdout and "neither a group nor a script" in ran.stderr, f"the list {text!r} is taken")
 
 
 def packages_asked_for(path):
@@ -134,7 +122,7 @@ def packages_asked_for(path):
         yield from (re.escape(package) for _, package in ast.literal_eval(loop.iter))
     for call in (node for node in nodes if isinstance(node, ast.Call)):
         # (what is not here is looked for by `needs.need`, and programs by `needs.program`)
-        name = ast.unparse(call.func).removeprefix("" if path == NEEDS else "needs.")
+        name = ast.unparse(call.func).removeprefix("" if path == "tests/shared/needs.py" else "needs.")
         for word in call.args[{"need": 2, "program": 1}.get(name, len(call.args)):]:
             parts = word.values if isinstance(word, ast.JoinedStr) else [word]
             if isinstance(word, (ast.JoinedStr, ast.Constant)):
@@ -146,18 +134,14 @@ def check_packages(checks):
     section = re.search(r"(?m)^## Get it$(.*?)^## (.*?)$(.*?)^## ", read("README.md"), re.S)
     checks.check(section and COMMAND in section[3], f"README does not name `{COMMAND}` right behind how to get it")
     lines = re.findall(r"(?m)^apt(?:-get)? install .*$", read("README.md"))
-    checks.check(lines == [INSTALLING], f"README has the lines {lines} to copy that install packages, and not {INSTALLING!r}")
+    checks.check(lines == [f"apt install $(cat {PACKAGES})"], f"README has the lines {lines} to copy that install packages")
     packages = read(PACKAGES).split()
-    checks.check(packages == sorted({*packages}) and read(PACKAGES) == "".join(f"{name}\n" for name in packages),
-                 f"{PACKAGES} has not one name a line, sorted")
-    scripts = [*(f"tests/{place}/{name}" for place in os.listdir("tests") if os.path.isdir(f"tests/{place}")
-                 for name in os.listdir(f"tests/{place}") if name.endswith(".py"))]
-    asked = {package for script in scripts for package in packages_asked_for(script)}
+    checks.check(read(PACKAGES) == "".join(f"{name}\n" for name in sorted({*packages})), f"{PACKAGES} has not one name a line, sorted")
+    asked = {package for script in glob.glob("tests/*/*.py") for package in packages_asked_for(script)}
     checks.check(len(asked) > 20, f"only {len(asked)} packages are found in the scripts")
     # (the compiler and its C library come along)
     for package in asked - {re.escape("libc6-dev")}:
         checks.check(any(re.fullmatch(package, name) for name in packages), f"{PACKAGES} does not name the package {package}")
-    return packages
 
 
 def check_gate(checks, room):
@@ -167,9 +151,7 @@ def check_gate(checks, room):
     for name in ("bash", "dirname"):
         os.symlink(shutil.which(name), os.path.join(place, name))
     for name in ("python3", "apt-get", "nice", "mktemp"):
-        with open(os.path.join(place, name), "w", encoding="ascii") as file:
-            file.write(f"#!{shutil.which('sh')}\necho {name} >> {room}/begun\n")
-        os.chmod(os.path.join(place, name), 0o755)
+        os.chmod(write(place, name, f"#!{shutil.which('sh')}\necho {name} >> {room}/begun\n".encode()), 0o755)
     ran = subprocess.run(["bash", os.path.join(TOP, ".ci", "run")], env={"PATH": place, "CI": "1"}, stdin=subprocess.DEVNULL,
                          stdout=subprocess.PIPE, stderr=subprocess.STDOUT, timeout=SECONDS)
     said = ran.stdout.decode().splitlines()
@@ -178,16 +160,13 @@ def check_gate(checks, room):
     checks.check(not os.path.exists(f"{room}/begun"), "the gate without the kit begins something")
 
 
-def main():
-    checks = Checks()
+def check_all(checks, room):
     os.chdir(TOP)
-    with tempfile.TemporaryDirectory(prefix="one-list-") as room:
-        check_list(checks)
-        check_adding(checks, room)
-        check_packages(checks)
-        check_gate(checks, room)
-    return checks.end()
+    check_list(checks)
+    check_adding(checks, room)
+    check_packages(checks)
+    check_gate(checks, room)
 
 
 if __name__ == "__main__":
-    sys.exit(main())
+    sys.exit(ending.check("one-list", check_all))

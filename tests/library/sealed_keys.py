@@ -9,59 +9,44 @@ with the greatest limits takes a gibibyte and some seconds.
 """
 
 import base64
-import hashlib
 import os
 import re
-import struct
 import sys
 
 HERE = os.path.dirname(os.path.realpath(__file__))
-TEXTS = os.path.join(HERE, "..", "..", "crates", "minisign_fixtures", "src", "texts.rt")
+sys.path += [os.path.join(HERE, "..", "shared"), os.path.join(HERE, "..", "..", "tools")]
 
-# Key A: its identifier, and its seed of 32 zeros followed by its public bytes.
-IDENTIFIER = bytes(range(1, 9))
-SECRET = bytes(32) + bytes([0x5A] * 32)
+from checks import Checks
+from sources import read
+from toy import KEY_A, SMALL, USUAL, Limits
+
 SALT = bytes(range(0x20, 0x40))
-
-# Each text: the password, the limits of memory and operations, and N and p of scrypt, whose r is 8.
+# The limits of Minisign's own program, with which scrypt takes a gibibyte.
+MINISIGN = Limits(1073741824, 33554432, 1048576, 1)
+# Each text: the password, and the limits, with N and p of scrypt that they lead to.
 SEALED = {
-    "SEALED": (b"password", 1048576, 0, 1024, 1),
-    "SEALED_WITH_NOTHING": (b"", 1048576, 0, 1024, 1),
-    "SEALED_AS_USUAL": (b"password", 33554432, 1048576, 32768, 1),
-    "SEALED_AS_MINISIGN": (b"password", 1073741824, 33554432, 1048576, 1),
+    "SEALED": (b"password", SMALL),
+    "SEALED_WITH_NOTHING": (b"", SMALL),
+    "SEALED_AS_USUAL": (b"password", USUAL),
+    "SEALED_AS_MINISIGN": (b"password", MINISIGN),
 }
 
 
-def sealed(password, memory, operations, n, p):
+def text_of(name):
     """The text of key A, sealed."""
-    checksum = hashlib.blake2b(b"Ed" + IDENTIFIER + SECRET, digest_size=32).digest()
-    plain = IDENTIFIER + SECRET + checksum
-    stream = hashlib.scrypt(password, salt=SALT, n=n, r=8, p=p, maxmem=1100 * 1024 * 1024, dklen=len(plain))
-    record = b"EdScB2" + SALT + struct.pack("<QQ", operations, memory) + bytes(a ^ b for a, b in zip(plain, stream))
-    return "c\n" + base64.b64encode(record).decode() + "\n"
+    return f"c\n{base64.b64encode(KEY_A.sealed(*SEALED[name], SALT)).decode()}\n"
 
 
-def kept():
-    """The constants of the file, by name."""
-    with open(TEXTS, encoding="utf-8") as file:
-        rows = re.findall(r'pub const (\w+): &str =\s*"((?:[^"\\]|\\.)*)";', file.read())
-    return {name: text.replace("\\n", "\n") for name, text in rows}
-
-
-def main():
-    if len(sys.argv) > 1:
-        sys.stdout.write(sealed(*SEALED[sys.argv[1]]))
+def main(names):
+    if names:
+        sys.stdout.write(text_of(*names))
         return 0
-    texts = kept()
-    passed = failed = 0
-    for name, limits in SEALED.items():
-        same = texts.get(name) == sealed(*limits)
-        print(f"{name}: {'as kept' if same else 'FAILED: another text'}")
-        passed += same
-        failed += not same
-    print(f"{passed} passed, {failed} failed")
-    return 1 if failed else 0
+    checks = Checks()
+    kept = dict(re.findall(r'pub const (\w+): &str =\s*"((?:[^"\\]|\\.)*)";', read("crates/minisign_fixtures/src/texts.rt")))
+    for name in SEALED:
+        checks.check(kept.get(name, "").replace("\\n", "\n") == text_of(name), name, "another text")
+    return checks.end()
 
 
 if __name__ == "__main__":
-    sys.exit(main())
+    sys.exit(main(sys.argv[1:]))

@@ -26,6 +26,7 @@ usage: wrong_bodies.py [--unchanged] [CRATE[/NAME]..]
   --unchanged    leaves the changes out, and passes what is proved: so a rejection comes from a change and not from copying
 """
 
+import glob
 import os
 import queue
 import re
@@ -39,9 +40,10 @@ from concurrent.futures import ThreadPoolExecutor
 from contextlib import contextmanager, suppress
 
 HERE = os.path.dirname(os.path.realpath(__file__))
-sys.path.append(os.path.join(HERE, "..", "shared"))
+sys.path += [os.path.join(HERE, "..", "shared"), os.path.join(HERE, "..", "..", "tools")]
 
 import proved
+from sources import ROOT, read
 
 LIST = "tests/proofs/wrong_bodies.txt"
 # Where a crate has its edits: those that are tried here, and those that `rt ci` tries.
@@ -51,6 +53,10 @@ MEMORY = 3_000_000_000
 # How many checks run beside `rt ci`, and what has to be free for the first of them, in bytes; each further one needs
 # MEMORY more.
 BESIDE, FREE = 3, 5_000_000_000
+# What there is to say of a wrong body: it is rejected, rejected in a way that shows nothing, or neither; or, where it was
+# left unchanged, that it is proved.
+REJECTED, GAVE_UP, APART, FAILED, PROVED = ("rejected", "rejected by a search that gave up at a limit",
+                                            "rejected by its written proof alone", "FAILED", "proved, unchanged")
 # How many wrong bodies share a check at the most.
 GROUP = 40
 # What a check of a crate reads.
@@ -72,12 +78,15 @@ HEADER = re.compile(r"(?m)^(?: *#\[.*\]\n)*(?P<indent> *)(?:pub(?:\(\w+\))? )?(?
 # A clause that a function ensures, with its name where it has one; and the clause that a line `why:` names as false.
 ENSURES = re.compile(r"(?m)^ *ensures(?: (?P<name>\w+))? \{")
 FALSE = re.compile(r"`(\w+)` is false")
+# The form of an edit, and what it says in its lines.
+FORM = re.compile(r"why: .+\n(?:(?:file|fn|by): .+\n|old: .+\nnew:.*\n)+")
+SAID, CHANGE = re.compile(r"(?m)^(why|file|fn|by): (.*)$"), re.compile(r"(?m)^old: (.*)\nnew: ?(.*)$")
 # A goal of the function for which a search found no proof.
 SEARCHED = re.compile(r"did not prove `|it is not proved that")
 # Such a goal is what a clause says.
 ENSURED = "what the function ensures"
 # A search for a proof did not come to its end.
-GAVE_UP = re.compile(r"gave up at one of its limits")
+AT_LIMIT = re.compile(r"gave up at one of its limits")
 # The prover stopped, so that the goal may hold.
 STOPPED = re.compile(r"may hold\b|could not tell|stopped at its own limit|step limit|memory limit")
 
@@ -86,33 +95,20 @@ class WrongBody:
     """A wrong body: its name, its file, the function to be rejected, and what stands in place of what."""
 
     def __init__(self, crate, file, number):
-        self.label = f"{crate}/{os.path.basename(file)[: -len('.edit')]}"
-        self.path = self.function = self.named = self.clause = self.by = self.why_not = ""
-        self.changes, self.is_alone, self.is_unchanged, old = [], False, False, ""
+        self.crate, self.label, text = crate, f"{crate}/{os.path.basename(file).removesuffix('.edit')}", read(file)
         self.is_for_kit = os.path.basename(os.path.dirname(file)) == KIT_TRIED
+        self.is_alone = self.is_unchanged = False
         # Where its function begins and ends in the file, if it is written into a copy of it, and what the name gets.
         self.copied, self.suffix = None, f"{COPY}{number}"
-        with open(file, encoding="utf-8") as opened:
-            lines = opened.read().splitlines()
-        for line in lines:
-            key, _, value = line.partition(": ") if ": " in line else line.partition(":")
-            if key == "why" and FALSE.match(value):
-                self.named = self.clause = FALSE.match(value)[1]
-            elif key == "file":
-                self.path = value
-            elif key == "fn":
-                self.function = value
-            elif key == "by":
-                self.by = value
-            elif key == "old":
-                old = value
-            elif key == "new":
-                self.changes.append((old, value))
-        if not is_searched(f"crates/{crate}/proofs/{self.function.replace('::', '/')}", self.clause):
-            self.clause = ""
-        if not (file.endswith(".edit") and self.path and self.function and self.changes):
-            self.why_not = "it is no file .edit with the lines `file:`, `fn:`, `old:` and `new:`"
-        if self.by and f"rejected by {self.by}" not in (Verdict.GAVE_UP, Verdict.APART):
+        said, self.changes = dict(SAID.findall(text)), CHANGE.findall(text)
+        self.path, self.function, self.by = (said.get(key, "") for key in ("file", "fn", "by"))
+        # The clause that is false, and the same where the copy ensures it alone.
+        self.named = (FALSE.match(said.get("why", "")) or ["", ""])[1]
+        is_alone = is_searched(f"{ROOT}/crates/{crate}/proofs/{self.function.replace('::', '/')}", self.named)
+        self.clause, self.why_not = self.named if is_alone else "", ""
+        if not (file.endswith(".edit") and FORM.fullmatch(text) and text.count("\nfn: ") == 1 and self.path and self.changes):
+            self.why_not = "it is no file .edit with first a line `why:`, one line `fn:`, `file:`, and `old:` and `new:`"
+        if self.by and f"rejected by {self.by}" not in (GAVE_UP, APART):
             self.why_not = "nothing is rejected by what its line `by:` names"
 
     def leave_unchanged(self):
@@ -137,8 +133,9 @@ class WrongBody:
             found.append((at, at + len(old), new))
         return found
 
+    @property
     def checked(self):
-        """Returns the function that is checked: the copy, or the function."""
+        """The function that is checked: the copy, or the function."""
         return self.function + self.suffix if self.copied else self.function
 
     def pieces(self, text):
@@ -156,50 +153,39 @@ class WrongBody:
 
     def copy_proof(self, directory):
         """Copies the written proof of its function, where it has one and is copied, in a crate's directory."""
-        proof, copy = (f"{directory}/proofs/{each.replace('::', '/')}" for each in (self.function, self.checked()))
+        proof, copy = (f"{directory}/proofs/{each.replace('::', '/')}" for each in (self.function, self.checked))
         if not self.copied or self.clause or not os.path.isdir(proof):
             return
         shutil.copytree(proof, copy)
         named = re.compile(rf"\b{re.escape(self.function.replace('::', '.'))}\b")
-        for at, _, files in os.walk(copy):
-            for each in files:
-                with open(f"{at}/{each}", "r+", encoding="utf-8") as file:
-                    text = named.sub(self.checked().replace("::", "."), file.read())
-                    file.seek(0)
-                    file.write(text)
+        for path in [f"{at}/{each}" for at, _, files in os.walk(copy) for each in files]:
+            write(path, named.sub(self.checked.replace("::", "."), read(path)))
 
 
 class Verdict:
-    """What there is to say of a wrong body: it is rejected, rejected in a way that shows nothing, or neither; or, where it
-    was left unchanged, that it is proved."""
-
-    REJECTED, GAVE_UP, APART, FAILED, PROVED = ("rejected", "rejected by a search that gave up at a limit",
-                                               "rejected by its written proof alone", "FAILED", "proved, unchanged")
+    """What there is to say of a wrong body, and why; and whether that is what it has to be: a search came to its end, or it is
+    rejected as the edit says."""
 
     def __init__(self, body, outcome, why):
-        self.body, self.label, self.crate, self.outcome = body, body.label, body.label.partition("/")[0], outcome
-        # Whether it is what it has to be: a search came to its end, or it is rejected as the edit says.
-        self.is_well = outcome in (self.REJECTED, self.PROVED, f"rejected by {body.by}")
+        self.body, self.outcome = body, outcome
+        self.is_well = outcome in (REJECTED, PROVED, f"rejected by {body.by}")
         self.text = f"wrong body {body.label}: {outcome}: {why[:240]}"
 
 
 def bodies_of(crate):
-    """Returns the wrong bodies of a crate."""
-    directories = [each for each in (f"crates/{crate}/{HERE_TRIED}", f"crates/{crate}/{KIT_TRIED}") if os.path.isdir(each)]
-    files = [f"{directory}/{name}" for directory in directories for name in sorted(os.listdir(directory))]
+    """The wrong bodies of a crate."""
+    files = [file for place in (HERE_TRIED, KIT_TRIED) for file in sorted(glob.glob(f"crates/{crate}/{place}/*"))]
     return [WrongBody(crate, file, number) for number, file in enumerate(files)]
 
 
-def listed():
-    """Returns how many edits the list says each crate has."""
-    with open(LIST, encoding="utf-8") as file:
-        return {crate: int(edits) for crate, edits in re.findall(r"(?m)^(\w+): (\d+)$", file.read())}
+def write(path, text):
+    with open(path, "w", encoding="utf-8") as file:
+        file.write(text)
 
 
 def free_memory():
-    """Returns the memory that is free, in bytes."""
-    with open("/proc/meminfo", encoding="ascii") as file:
-        found = re.search(r"MemAvailable:\s+(\d+)", file.read())
+    """The memory that is free, in bytes."""
+    found = re.search(r"MemAvailable:\s+(\d+)", read("/proc/meminfo"))
     return 1024 * int(found[1]) if found else 0
 
 
@@ -214,8 +200,7 @@ def assume(directory, crate, functions):
         os.makedirs(proof, exist_ok=True)
         for file in [name for name in os.listdir(proof) if name.endswith(".antt")]:
             os.remove(f"{proof}/{file}")
-        with open(f"{proof}/Proof.antt", "w", encoding="utf-8") as file:
-            file.write(HOLE.format(path=".".join([crate, "proofs", *path]), name=name))
+        write(f"{proof}/Proof.antt", HOLE.format(path=".".join([crate, "proofs", *path]), name=name))
 
 
 def body_of(text, header):
@@ -234,8 +219,7 @@ def is_searched(directory, clause):
         return True
     if os.listdir(directory) != ["Answers.antt"]:
         return False
-    with open(f"{directory}/Answers.antt", encoding="utf-8") as file:
-        written = re.findall(r"(?m)^pub (\S+) :", file.read())
+    written = re.findall(r"(?m)^pub (\S+) :", read(f"{directory}/Answers.antt"))
     return all(re.fullmatch(rf"returns\S*-clause-(?!{clause}$)\w+", name) for name in written)
 
 
@@ -310,13 +294,12 @@ class Trial:
     def begin(self, bodies, submit):
         """Has the crate proved as it stands, and submits the groups. It tells of each body once, here or there."""
         for body in [body for body in bodies if not body.why_not]:
-            with open(f"crates/{self.crate}/{body.path}", encoding="utf-8") as file:
-                body.places(file.read())
+            body.places(read(f"crates/{self.crate}/{body.path}"))
         whole = [body for body in bodies if not body.why_not]
         why = proved.supply(proved.crates()[self.crate].below) or self.lacks_proof(whole)
         for body in bodies:
             if body.why_not or why:
-                self.tell(Verdict(body, Verdict.FAILED, f"bad edit: {body.why_not}" if body.why_not else f"not tried: {why}"))
+                self.tell(Verdict(body, FAILED, f"bad edit: {body.why_not}" if body.why_not else f"not tried: {why}"))
         for group in [] if why else groups_of(whole):
             submit(self.try_group, group)
 
@@ -349,18 +332,17 @@ class Trial:
         for part in [part for part in PARTS if os.path.isdir(f"crates/{self.crate}/{part}")]:
             shutil.copytree(f"crates/{self.crate}/{part}", f"{directory}/{part}")
         for path, text in self.changed(group).items():
-            with open(f"{directory}/{path}", "w", encoding="utf-8") as file:
-                file.write(text)
+            write(f"{directory}/{path}", text)
 
     def try_group(self, group):
         """Tries a group, and alone once more each of it that was not rejected, and tells of each."""
         for body, was in zip(group, self.tried(group)):
-            is_final = was.outcome != Verdict.FAILED or len(group) == 1
+            is_final = was.outcome != FAILED or len(group) == 1
             self.tell(was if is_final else self.tried([body])[0])
 
     def tried(self, group):
         """Tries a group in a copy of the crate, and returns what there is to say of each body."""
-        checked = {body.checked() for body in group}
+        checked = {body.checked for body in group}
         with tempfile.TemporaryDirectory(prefix="wrong-bodies-") as room:
             self.copy_into(room, group)
             for body in group:
@@ -380,9 +362,7 @@ class Trial:
         bodies."""
         texts = {}
         for path in [f"{at}/{name}" for at, _, names in os.walk(f"crates/{self.crate}/src") for name in names]:
-            with open(path, encoding="utf-8") as file:
-                text = file.read()
-            name = os.path.relpath(path, f"crates/{self.crate}")
+            text, name = read(path), os.path.relpath(path, f"crates/{self.crate}")
             pieces = [piece for body in group if body.path == name for piece in body.pieces(text)]
             in_place = [begin for begin, end, _ in pieces if begin < end]
             texts[name] = replaced(text, [*pieces, *loops(text, in_place)])
@@ -392,33 +372,33 @@ class Trial:
         """Judges a body by what a check said of its function: by its line, those above it that belong to it, and the
         errors in its written proof."""
         lines = said.split("\n")
-        mine = f"fn {self.crate}::{body.checked()}: "
+        mine = f"fn {self.crate}::{body.checked}: "
         at = next((at for at, line in enumerate(lines) if line.startswith(mine)), None)
         if at is None or not re.search(r"(?m)^only=", said):
-            return Verdict(body, Verdict.FAILED, f"bad edit: it did not reach the prover: {proved.first_of(said)}")
+            return Verdict(body, FAILED, f"bad edit: it did not reach the prover: {proved.first_of(said)}")
         line = lines[at][len(mine):]
         if line.startswith(WELL) or body.is_unchanged:
             is_well = line.startswith(WELL) and body.is_unchanged
-            return Verdict(body, Verdict.PROVED if is_well else Verdict.FAILED, f"the function is {line}")
+            return Verdict(body, PROVED if is_well else FAILED, f"the function is {line}")
         begin = next((number for number in range(at - 1, -1, -1) if lines[number].startswith("fn ")), -1) + 1
         above = [line for line in lines[begin:at] if line.startswith("note: ") and SEARCHED.search(line)]
-        proof = f"./proofs/{body.checked().replace('::', '/')}/"
+        proof = f"./proofs/{body.checked.replace('::', '/')}/"
         errors = [line for line in lines if line.startswith(proof) and ": error: " in line]
         if body.clause:
             # (not for what a call requires, nor for an invariant)
             above = [line for line in above if ENSURED in line]
         is_searched = bool(above or not body.clause and SEARCHED.search(line))
-        ended = [line for line in above if not GAVE_UP.search(line)]
+        ended = [line for line in above if not AT_LIMIT.search(line)]
         if is_searched and (ended or not above) and "could not tell" not in line:
-            return Verdict(body, Verdict.REJECTED, (ended or [line])[0])
+            return Verdict(body, REJECTED, (ended or [line])[0])
         stopped = next((error for error in (line, *errors, *told_of(lines, proof)) if STOPPED.search(error)), "")
         if stopped:
-            return Verdict(body, Verdict.FAILED, f"the prover could not tell, or stopped at a limit: {stopped}")
+            return Verdict(body, FAILED, f"the prover could not tell, or stopped at a limit: {stopped}")
         if is_searched:
-            return Verdict(body, Verdict.GAVE_UP, (above or [line])[0])
+            return Verdict(body, GAVE_UP, (above or [line])[0])
         if errors or line.startswith("not proved") and "it calls `" not in line:
-            return Verdict(body, Verdict.APART, (errors or [line])[0])
-        return Verdict(body, Verdict.FAILED, f"it is not rejected for a goal of its own: {line}")
+            return Verdict(body, APART, (errors or [line])[0])
+        return Verdict(body, FAILED, f"it is not rejected for a goal of its own: {line}")
 
 
 def told_of(lines, proof):
@@ -475,7 +455,7 @@ def try_all(tasks):
             with suppress(queue.Empty):
                 verdict = told.get(timeout=1)
                 left -= 1
-                if verdict.outcome != Verdict.GAVE_UP or verdict.is_well:
+                if verdict.outcome != GAVE_UP or verdict.is_well:
                     yield verdict
                 else:
                     gave_up.append(verdict.body)
@@ -485,43 +465,41 @@ def try_all(tasks):
                 works.remove(work)
     for body in gave_up:
         proved.wait_for_all_else()
-        yield trials[body.label.partition("/")[0]].tried([body])[0]
+        yield trials[body.crate].tried([body])[0]
 
 
 def wrong_numbers(bodies, names):
-    """Returns what is wrong with the numbers of edits, of the named crates or of all."""
-    told, wanted = listed(), {name.partition("/")[0] for name in names}
-    crates = {crate for crate in {*told, *bodies} if not wanted or crate in wanted}
-    differ = [(crate, told.get(crate, 0), len(bodies.get(crate, []))) for crate in sorted(crates)]
+    """What is wrong with the numbers of edits, of the named crates or of all."""
+    told = {crate: int(edits) for crate, edits in re.findall(r"(?m)^(\w+): (\d+)$", read(LIST))}
+    wanted = {name.partition("/")[0] for name in names} or {*told, *bodies}
+    differ = [(crate, told.get(crate, 0), len(bodies.get(crate, []))) for crate in sorted({*told, *bodies} & wanted)]
     return [f"{LIST} says that {each} has {said} edits, and it has {has}" for each, said, has in differ if said != has]
 
 
 def main(words):
     is_unchanged, names = "--unchanged" in words, [word for word in words if word != "--unchanged"]
-    os.chdir(proved.ROOT)
+    os.chdir(ROOT)
     bodies = {crate: found for crate in proved.crates() for found in [bodies_of(crate)] if found}
-    wrong = wrong_numbers(bodies, names)
     found = {name for crate in bodies for name in (crate, *(body.label for body in bodies[crate]))}
-    wrong += [f"no wrong body is named {name}" for name in names if name not in found]
-    is_tried = lambda value: value.label in names or not value.is_for_kit and (not names or value.label.partition("/")[0] in names)
-    tasks = {crate: [body for body in bodies[crate] if is_tried(body)] for crate in bodies}
-    for task in (task for crate in tasks for task in tasks[crate] if is_unchanged):
-        task.leave_unchanged()
-    tasks = {crate: tasks[crate] for crate in tasks if tasks[crate]}
+    wrong = wrong_numbers(bodies, names) + [f"no wrong body is named {name}" for name in names if name not in found]
+    is_tried = lambda crate, body: body.label in names or not body.is_for_kit and (not names or crate in names)
+    tasks = {crate: [body for body in bodies[crate] if is_tried(crate, body)] for crate in bodies}
+    tasks = {crate: tried for crate, tried in tasks.items() if tried}
+    for body in (body for crate in tasks for body in tasks[crate] if is_unchanged):
+        body.leave_unchanged()
     outcomes, passed = {crate: Counter() for crate in tasks}, 0
     for verdict in try_all(tasks):
         print(verdict.text, flush=True)
-        outcomes[verdict.crate][verdict.outcome] += 1
+        outcomes[verdict.body.crate][verdict.outcome] += 1
         passed += verdict.is_well
-        if verdict.outcome in (Verdict.GAVE_UP, Verdict.APART) and not verdict.is_well:
-            wrong.append(f"{verdict.label} is {verdict.outcome}: aim it at a smaller function")
+        if verdict.outcome in (GAVE_UP, APART) and not verdict.is_well:
+            wrong.append(f"{verdict.body.label} is {verdict.outcome}: aim it at a smaller function")
     for crate, counted in outcomes.items():
-        kinds = (Verdict.REJECTED, Verdict.GAVE_UP, Verdict.APART, Verdict.FAILED)
-        kinds = (Verdict.PROVED, Verdict.FAILED) if is_unchanged else kinds
+        kinds = (PROVED, FAILED) if is_unchanged else (REJECTED, GAVE_UP, APART, FAILED)
         print(f"{crate}: " + ", ".join(f"{counted[kind]} {kind}" for kind in kinds))
     for failure in wrong:
         print(f"FAILED: {failure}")
-    failed = sum(outcome[Verdict.FAILED] for outcome in outcomes.values()) + len(wrong)
+    failed = sum(counted[FAILED] for counted in outcomes.values()) + len(wrong)
     print(f"{passed} passed, {failed} failed")
     return 1 if failed or not tasks else 0
 

@@ -1,19 +1,13 @@
-"""Requests to the program `minisign_compare`, the answers to expect, and how rows of both are run.
+"""Requests to the program `minisign_compare`, and the answers to expect.
 
 compare/oracle/README.md has the requests. A word of one is given as bytes or as a text, which are spelled in
 hexadecimal, as a number, a flag or None, or as one of the devices below.
 """
 
 import base64
-import os
-import subprocess
-from dataclasses import dataclass, field
+from collections import namedtuple
 
 from named_errors import ERRORS
-
-ROOT = os.path.dirname(os.path.dirname(os.path.dirname(os.path.realpath(__file__))))
-PROGRAM = f"{ROOT}/crates/minisign_compare/out/minisign_compare"
-SECONDS = 120
 
 
 class Word(str):
@@ -21,6 +15,8 @@ class Word(str):
 
 
 NOTHING_TYPED = Word("-")
+# Random bytes that count up from 0, and wrap.
+COUNTING = Word("c0")
 
 
 def typed(*lines):
@@ -28,15 +24,10 @@ def typed(*lines):
     return Word(",".join(map(spelled, lines)))
 
 
-def counting(first):
-    """Random bytes that count up from this one, and wrap."""
-    return Word(f"c{first}")
-
-
 def data(content, **devices):
     """Data: `pos` is the place where it is begun, `chunk` the most bytes of a read, `fail` the read that fails, counted
-    from 1, and `second` what is there after going back."""
-    parts = [f"{name}={spelled(value)}" for name, value in devices.items()]
+    from 1, and `second` what is there after going back. A device that is None is not there."""
+    parts = [f"{name}={spelled(value)}" for name, value in devices.items() if value is not None]
     return Word(",".join([spelled(content), *parts]))
 
 
@@ -51,51 +42,41 @@ def bones(record):
 
 
 def spelled(value):
-    """Returns a word as it stands in a request or an answer."""
+    """A word as it stands in a request or an answer."""
     if value is None:
         return "-"
-    if isinstance(value, (Word, bool, int)):
+    if isinstance(value, (Word, int)):
         return str(int(value)) if isinstance(value, bool) else str(value)
-    return "x" + (value.encode() if isinstance(value, str) else bytes(value)).hex()
+    return "x" + (value.encode() if isinstance(value, str) else value).hex()
 
 
 def ask(name, *words):
-    """Returns a request."""
+    """A request."""
     return " ".join([name, *map(spelled, words)])
 
 
+# A request and its answer, by a name that says what is tried.
+Row = namedtuple("Row", "name request answer")
+# What has to be answered: how it begins, and the values that are compared, also what the call wrote and left.
+Answer = namedtuple("Answer", "head values")
 # The kind and the text of each named error.
 BY_NAME = {name: (kind, text) for name, _, kind, text in ERRORS}
 
 
-@dataclass(frozen=True)
-class Answer:
-    """What has to be answered: how it begins, the values that are compared, and what the call wrote and left."""
-
-    head: str
-    values: dict = field(default_factory=dict)
-    stdout: bytes = b""
-    stderr: bytes = b""
-    typed_left: int = 0
-
-    def differs(self, line):
-        """Returns what is different in a line that was answered, or nothing."""
-        head, _, tail = line.partition(" | ")
-        words = head.split(" ")
-        is_error = words[0] == "err"
-        said = dict(word.partition("=")[::2] for word in [*words[1:] * (not is_error), *tail.split()])
-        has = head if is_error else words[0]
-        wanted = {**self.values, "stdout": self.stdout, "stderr": self.stderr, "typed_left": self.typed_left}
-        wrong = [] if has == self.head else [f"it is `{has}` and not `{self.head}`"]
-        wrong += [f"{name} is {said.get(name)} and not {spelled(value)}" for name, value in wanted.items()
-                  if said.get(name) != spelled(value)]
-        return "; ".join(wrong)
-
-
-def gives(stdout=b"", stderr=b"", typed_left=0, **values):
+def gives(head="ok", **values):
     """The call succeeds, with these values. In `verify`, `stdout` is the data that is copied and `stderr` the status;
     elsewhere `stdout` is what a prompt was told."""
-    return Answer("ok", values, stdout, stderr, typed_left)
+    return Answer(head, {"stdout": b"", "stderr": b"", "typed_left": 0, **values})
+
+
+def rejected(error, text=None, **values):
+    """The call is rejected with this named error, or with this text of it where the text names keys."""
+    kind, usual = BY_NAME[error]
+    return gives(f"err {kind} {spelled(text or usual)}", **values)
+
+
+# The call has a condition that the request does not meet, so that no caller can make it.
+OUTSIDE = gives("outside")
 
 
 def public_key(record, **tail):
@@ -113,44 +94,3 @@ def signature(record, text, trusted=b"t", untrusted=b"c", **tail):
     """A signature that holds these is answered."""
     return gives(bones=record, keynum=record[2:10], prehashed=record[:2] == b"ED", untrusted=untrusted, trusted=trusted,
                  text=text, **tail)
-
-
-def rejected(error, stdout=b"", stderr=b"", typed_left=0, text=None, **values):
-    """The call is rejected with this named error, or with this text of it where the text names keys."""
-    kind, usual = BY_NAME[error]
-    return Answer(f"err {kind} {spelled(text or usual)}", values, stdout, stderr, typed_left)
-
-
-# The call has a condition that the request does not meet, so that no caller can make it.
-OUTSIDE = Answer("outside")
-
-
-@dataclass(frozen=True)
-class Row:
-    """A request and its answer, by a name that says what is tried."""
-
-    name: str
-    request: str
-    answer: Answer
-
-
-def answers_of(requests, directory):
-    """Returns the program's answers, a line for each request. Paths are taken from the directory."""
-    ran = subprocess.run([PROGRAM], input="\n".join(requests) + "\n", cwd=directory, stdout=subprocess.PIPE,
-                         stderr=subprocess.STDOUT, text=True, timeout=SECONDS)
-    lines = ran.stdout.splitlines()
-    if ran.returncode or len(lines) != len(requests):
-        raise SystemExit(f"{PROGRAM} ended with {ran.returncode} after {len(lines)} answers to {len(requests)} "
-                         f"requests: {lines[-1] if lines else 'it said nothing'}")
-    return lines
-
-
-def run(rows, directory):
-    """Runs the rows, prints those that differ, and returns how many passed and failed."""
-    failed = 0
-    for row, line in zip(rows, answers_of([row.request for row in rows], directory)):
-        wrong = row.answer.differs(line)
-        if wrong:
-            failed += 1
-            print(f"FAILED: {row.name}: {wrong}")
-    return len(rows) - failed, failed

@@ -15,73 +15,51 @@ VECTORS = (
      "7023bdcb3afd7348461c06cd81fd38ebfda8fbba904f8e3ea9b543f6545da1f2"
      "d5432955613f0fcf62d49705242a9af9e61e85dc0d651e40dfcf017b45575887"),
 )
+# Parameters that scrypt does not take, whatever memory there is.
+NO_PARAMETERS = (
+    (0, 8, 1), (1, 0, 1), (1, 1, 0), (16, 1, 1), (32, 2, 1), (1, 32768, 32768), (1, 8, 134217728), (1, 1 << 30, 1),
+    (1, 1, 1 << 30), (54, 8, 1), (55, 4, 1), (63, 4, 1), (63, 8, 1), (64, 8, 1), (255, 16, 1),
+    (255, (1 << 32) - 1, 1), (1, (1 << 32) - 1, (1 << 32) - 1),
+)
 
 
-def derived(password, salt, n_log2, r, p, length=64):
+def derived(password, salt, n_log2, r, p, length=64, key=None):
     """A row of a key of so many bytes."""
-    key = hashlib.scrypt(password, salt=salt, n=1 << n_log2, r=r, p=p, dklen=length, maxmem=1 << 26)
+    key = key or hashlib.scrypt(password, salt=salt, n=1 << n_log2, r=r, p=p, dklen=length, maxmem=1 << 26)
     name = f"scrypt: {n_log2}, {r}, {p}, {length} bytes of {password[:12]} and {salt[:12]}"
     return Row(name, ask("scrypt", n_log2, r, p, length, password, salt), gives(out=key))
 
 
-def keys():
-    """The published vectors, each r and p with small N, each length of a key about the ends of its blocks, and passwords
-    about the length of a block of SHA-256."""
-    for password, salt, n_log2, r, p, key in VECTORS:
-        request = ask("scrypt", n_log2, r, p, 64, password, salt)
-        yield Row(f"scrypt: the vector of {password}", request, gives(out=bytes.fromhex(key)))
-    for n_log2 in range(1, 7):
-        for r in (1, 2, 3, 8):
-            for p in (1, 2, 3):
-                yield derived(b"password", b"some salt", n_log2, r, p, 104)
-    for r in range(1, 33):
-        yield derived(b"password", b"some salt", 3, r, 1, 104)
-    for length in (1, 31, 32, 33, 63, 64, 65, 100):
-        yield derived(b"pw", b"na", 1, 1, 1, length)
-    for length in (0, 1, 63, 64, 65, 128, 200):
-        yield derived(b"k" * length, b"some salt", 2, 1, 1)
-        yield derived(b"pw", b"s" * length, 2, 1, 1)
-    yield derived(b"", b"", 15, 8, 1)
+def not_derived(numbers, length, error):
+    """A row of a key of so many bytes that is rejected so."""
+    return Row(f"scrypt: {length} bytes by {numbers}", ask("scrypt", *numbers, length, b"pw", b"salt"), rejected(error))
 
 
-def asked(name, numbers, error):
-    """A row of a key that is rejected so."""
-    return Row(f"scrypt: {name}: {numbers}", ask("scrypt", *numbers, b"pw", b"salt"), rejected(error))
+def limits(memory, operations, greatest, answer):
+    """A row of what the limits of memory and of operations lead to."""
+    return Row(f"limits: {memory} and {operations}", ask("raw_scrypt_params", memory, operations, greatest), answer)
 
 
-def rejections():
-    """An output of no bytes, rows that no memory holds, and parameters that scrypt does not take."""
-    for n_log2, r, p in ((4, 1, 1), (53, 8, 1)):
-        yield asked("no bytes", (n_log2, r, p, 0), "InvalidOutputLength")
-    for n_log2, r, p in ((53, 8, 1), (54, 7, 1), (63, 8, 1)):
-        error = "OutOfMemory" if 128 * r << n_log2 < 1 << 64 else "InvalidParameters"
-        yield asked("no memory", (n_log2, r, p, 32), error)
-    for n_log2, r, p in ((0, 8, 1), (1, 0, 1), (1, 1, 0), (16, 1, 1), (32, 2, 1), (1, 32768, 32768), (1, 8, 134217728),
-                         (1, 1 << 30, 1), (1, 1, 1 << 30), (54, 8, 1), (55, 4, 1), (63, 4, 1), (64, 8, 1), (255, 16, 1),
-                         (255, (1 << 32) - 1, 1), (1, (1 << 32) - 1, (1 << 32) - 1)):
-        yield asked("no parameters", (n_log2, r, p, 32), "InvalidParameters")
-
-
-def limits():
-    """What the limits of memory and of operations lead to, worked out by hand; in the first that is rejected no
-    parallelization is left of 32 bits."""
-    for memory, operations, n_log2, p in (
-        (33554432, 1048576, 15, 1),
-        (1073741824, 33554432, 20, 1),
-        (2147483648, 0, 10, 1),
-        (0, 0, 1, 512),
-        (33554432, 1048575, 14, 1),
-        (0, (1 << 64) - 1, 1, 134217727),
-    ):
-        request = ask("raw_scrypt_params", memory, operations, 20)
-        yield Row(f"limits: {memory} and {operations}", request, gives(n_log2=n_log2, r=8, p=p))
-    for memory, operations, greatest, error in (
-        (0, 1 << 40, 20, "InvalidParameters"),
-        (1 << 31, 1 << 40, 20, "ParametersTooHigh"),
-        (33554432, 1048576, 14, "ParametersTooHigh"),
-    ):
-        request = ask("raw_scrypt_params", memory, operations, greatest)
-        yield Row(f"limits: not {memory} and {operations}", request, rejected(error))
-
-
-PARTS = (keys, rejections, limits)
+ROWS = [
+    *(derived(*numbers, key=bytes.fromhex(key)) for *numbers, key in VECTORS),
+    # Each r and p with small N, each length of a key about the ends of its blocks, and passwords and salts about the
+    # length of a block of SHA-256.
+    *(derived(b"password", b"some salt", n_log2, r, p, 104)
+      for n_log2 in range(1, 7) for r in (1, 2, 3, 8) for p in (1, 2, 3)),
+    *(derived(b"password", b"some salt", 3, r, 1, 104) for r in range(1, 33)),
+    *(derived(b"pw", b"na", 1, 1, 1, length) for length in (1, 31, 32, 33, 63, 64, 65, 100)),
+    *(derived(b"k" * length, b"some salt", 2, 1, 1) for length in (0, 1, 63, 64, 65, 128, 200)),
+    *(derived(b"pw", b"s" * length, 2, 1, 1) for length in (0, 1, 63, 64, 65, 128, 200)),
+    derived(b"", b"", 15, 8, 1),
+    # A key of no bytes, and rows that no memory holds; from 2 to the 64th bytes of them on, that is no parameter.
+    *(not_derived(numbers, 0, "InvalidOutputLength") for numbers in ((4, 1, 1), (53, 8, 1))),
+    *(not_derived(numbers, 32, "OutOfMemory") for numbers in ((53, 8, 1), (54, 7, 1))),
+    *(not_derived(numbers, 32, "InvalidParameters") for numbers in NO_PARAMETERS),
+    # What limits lead to, worked out by hand; in the first that is rejected no parallelization is left of 32 bits.
+    *(limits(memory, operations, 20, gives(n_log2=n_log2, r=8, p=p)) for memory, operations, n_log2, p in (
+        (33554432, 1048576, 15, 1), (1073741824, 33554432, 20, 1), (2147483648, 0, 10, 1), (0, 0, 1, 512),
+        (33554432, 1048575, 14, 1), (0, (1 << 64) - 1, 1, 134217727))),
+    limits(0, 1 << 40, 20, rejected("InvalidParameters")),
+    limits(1 << 31, 1 << 40, 20, rejected("ParametersTooHigh")),
+    limits(33554432, 1048576, 14, rejected("ParametersTooHigh")),
+]

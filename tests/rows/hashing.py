@@ -8,9 +8,8 @@ from asking import OUTSIDE, Row, Word, ask, gives, rejected
 # Appendix A of RFC 7693.
 OF_ABC = bytes.fromhex("ba80a53f981c4d0d6a2797b69f12f6e94c212f14685ac4b74b12bb6fdbffa2d1"
                        "7d87c5392aab792dc252d5de4533cc9518d38aa8dbf1925ab92386edd4009923")
-# Places after which a message is cut in two.
-CUTS = (1, 127, 128, 129, 255, 256, 257)
-WHOLE = Word("-")
+# Places after which a message is cut in two, and no such place.
+CUTS = (WHOLE := Word("-"), 1, 127, 128, 129, 255, 256, 257)
 
 
 def counted_to(last, length):
@@ -25,47 +24,31 @@ def hashed(name, message, cuts=WHOLE, length=64, digest=None):
     return Row(f"blake2b: {name}", request, gives(whole=digest, pieces=digest, again=digest))
 
 
-def digests():
-    """Digests of each length, of messages of each length up to three blocks, cut in two and byte by byte."""
-    yield hashed("the vector of RFC 7693", b"abc", digest=OF_ABC)
-    for length in range(1, 65):
-        for message in (b"", b"abc"):
-            yield hashed(f"{length} bytes of {message}", message, Word("1"), length)
-    for length in range(386):
-        message = counted_to(250, length)
-        yield hashed(f"{length} bytes at once", message)
-        for cut in CUTS:
-            yield hashed(f"{length} bytes cut after {cut}", message, Word(str(cut)))
-    for length in (127, 128, 129, 255, 256, 257, 385):
-        each = Word(",".join(map(str, range(1, length))))
-        yield hashed(f"{length} bytes one by one", counted_to(255, length), each)
-    for length in (0, 65):
-        yield Row(f"blake2b: no digest has {length} bytes", ask("blake2b", length, WHOLE, b"abc"), OUTSIDE)
+def number(name, request, word, out):
+    """A row of a number of 64 bits, in little endian order."""
+    return Row(f"number {name}", ask(request, word), gives(out=out))
 
 
-def compared():
-    """Bytes are equal where each of them is, and there are as many."""
-    pairs = ((bytes(3), bytes(4)), (b"abc", b"abd"), (b"bbc", b"abc"), (b"abc", b"abc"), (b"", b""), (b"", b"a"))
-    for one, other in pairs:
-        yield Row(f"equal: {one} and {other}", ask("fixed_time_eq", one, other), gives(eq=one == other))
-
-
-def numbers():
-    """Numbers of 64 bits are in little endian order, of which more bytes may follow."""
-    for number in (0, 1, 255, 256, 0x0102030405060708, (1 << 63) - 1, (1 << 64) - 1):
-        stored = number.to_bytes(8, "little")
-        yield Row(f"number {number}: stored", ask("store_u64_le", number), gives(out=stored))
-        yield Row(f"number {number}: loaded", ask("load_u64_le", stored), gives(out=number))
-        yield Row(f"number {number}: loaded from more bytes", ask("load_u64_le", stored + b"\7"), gives(out=number))
-    yield Row("number: of seven bytes", ask("load_u64_le", bytes(7)), OUTSIDE)
-
-
-def moments():
-    """Moments before and after those that 32 bits hold, with a sign (2038) and without (2106), and a clock that cannot
-    be read."""
-    for moment in (0, 1, 1700000000, (1 << 31) - 1, 1 << 31, (1 << 32) - 1, 1 << 32, (1 << 63) - 1):
-        yield Row(f"clock: {moment}", ask("unix_timestamp", moment), gives(out=moment))
-    yield Row("clock: it cannot be read", ask("unix_timestamp", -1), rejected("ClockIncorrect"))
-
-
-PARTS = (digests, compared, numbers, moments)
+ROWS = [
+    hashed("the vector of RFC 7693", b"abc", digest=OF_ABC),
+    # Digests of each length, of messages of each length up to three blocks, cut in two and byte by byte.
+    *(hashed(f"{length} bytes of {message}", message, 1, length) for length in range(1, 65) for message in (b"", b"abc")),
+    *(hashed(f"{length} bytes cut after {cut}", counted_to(250, length), cut) for length in range(386) for cut in CUTS),
+    *(hashed(f"{length} bytes one by one", counted_to(255, length), Word(",".join(map(str, range(1, length)))))
+      for length in (127, 128, 129, 255, 256, 257, 385)),
+    *(Row(f"blake2b: no digest has {length} bytes", ask("blake2b", length, WHOLE, b"abc"), OUTSIDE) for length in (0, 65)),
+    # Bytes are equal where each of them is, and there are as many.
+    *(Row(f"equal: {one} and {other}", ask("fixed_time_eq", one, other), gives(eq=one == other))
+      for one, other in ((bytes(3), bytes(4)), (b"abc", b"abd"), (b"bbc", b"abc"), (b"abc", b"abc"), (b"", b""), (b"", b"a"))),
+    # More bytes may follow those of a number.
+    *(row for value in (0, 1, 255, 256, 0x0102030405060708, (1 << 63) - 1, (1 << 64) - 1)
+      for stored in [value.to_bytes(8, "little")]
+      for row in (number(f"{value}: stored", "store_u64_le", value, stored),
+                  number(f"{value}: loaded", "load_u64_le", stored, value),
+                  number(f"{value}: loaded from more bytes", "load_u64_le", stored + b"\7", value))),
+    Row("number: of seven bytes", ask("load_u64_le", bytes(7)), OUTSIDE),
+    # Before and after what 32 bits hold, with a sign (2038) and without (2106); and a clock that cannot be read.
+    *(Row(f"clock: {moment}", ask("unix_timestamp", moment), gives(out=moment))
+      for moment in (0, 1, 1700000000, (1 << 31) - 1, 1 << 31, (1 << 32) - 1, 1 << 32, (1 << 63) - 1)),
+    Row("clock: it cannot be read", ask("unix_timestamp", -1), rejected("ClockIncorrect")),
+]

@@ -5,6 +5,7 @@ is made from the proved definition. A and B stand for key IDs.
 
 import os
 import re
+from itertools import zip_longest
 
 FORMATS = os.path.join(os.path.dirname(os.path.realpath(__file__)), "..", "..", "docs", "FORMATS.md")
 
@@ -82,12 +83,9 @@ ERRORS = (
 )
 
 
-def differences():
-    """Yields a line for each row of docs/FORMATS.md that is not the one here, and for each that is missing."""
+def compare(checks):
+    """Compares each row of docs/FORMATS.md with the one here."""
     with open(FORMATS, encoding="utf-8") as file:
         found = re.findall(r"(?m)^\| `(\w+)` \| (\d+) \|(?: `\w+`)? \| (\w+) \| `([^`]*)` \|", file.read())
-    for at in range(max(len(ERRORS), len(found))):
-        wanted = ERRORS[at] if at < len(ERRORS) else None
-        said = (found[at][0], int(found[at][1]), *found[at][2:]) if at < len(found) else None
-        if said != wanted:
-            yield f"docs/FORMATS.md has {said} and not {wanted}"
+    for wanted, said in zip_longest(ERRORS, [(name, int(number), *rest) for name, number, *rest in found]):
+        checks.check(said == wanted, "docs/FORMATS.md", f"it has {said} and not {wanted}")

@@ -5,28 +5,21 @@ from asking import NOTHING_TYPED, Row, ask, gives, rejected, typed
 ASKED = b"Password: "
 EMPTY = ASKED + b"<empty>\n"
 
-
-def asked():
-    """Of a line that is too long the 1026th byte and what follows are left."""
-    too_long = lambda left: rejected("PasswordTooLong", stdout=ASKED, typed_left=left)
-    for name, lines, answer in (
-        ("a line", typed("password"), gives(out="password", stdout=ASKED)),
-        ("a line, and one more", typed("pppppppp", "more"), gives(out="pppppppp", stdout=ASKED, typed_left=1)),
-        ("a blank at the end, and a carriage return", typed("pass word \r"), gives(out="pass word ", stdout=ASKED)),
-        ("two carriage returns", typed("a\r\r"), gives(out="a\r", stdout=ASKED)),
-        ("a carriage return inside", typed("a\rb"), gives(out="a\rb", stdout=ASKED)),
-        ("an empty line", typed(""), gives(out="", stdout=EMPTY)),
-        ("a carriage return alone", typed("\r"), gives(out="", stdout=EMPTY)),
-        ("an empty line, and one more", typed("", "password"), gives(out="", stdout=EMPTY, typed_left=1)),
-        ("1024 bytes", typed("a" * 1024), gives(out="a" * 1024, stdout=ASKED)),
-        ("1024 bytes and a carriage return", typed("a" * 1024 + "\r"), gives(out="a" * 1024, stdout=ASKED)),
-        ("1024 bytes, a carriage return, and more", typed("a" * 1024 + "\rb"), too_long(1)),
-        ("1025 bytes", typed("a" * 1025), too_long(0)),
-        ("1025 bytes and a carriage return", typed("a" * 1025 + "\r"), too_long(1)),
-        ("1027 bytes", typed("a" * 1027), too_long(1)),
-        ("the end of the input", NOTHING_TYPED, rejected("EndOfInput", stdout=ASKED)),
-    ):
-        yield Row(f"a password: {name}", ask("get_password", lines), answer)
-
-
-PARTS = (asked,)
+# What is typed, and the password that it gives, the lines that are left and the prompt; or the error in its place. Of a
+# line that is too long the 1026th byte and what follows are left.
+ROWS = [Row(f"a password: {name}", ask("get_password", lines), answer) for name, lines, answer in (
+    ("a line", typed("password"), gives(out="password", stdout=ASKED)),
+    ("a line, and one more", typed("pppppppp", "more"), gives(out="pppppppp", stdout=ASKED, typed_left=1)),
+    ("a blank at the end, and a carriage return", typed("pass word \r"), gives(out="pass word ", stdout=ASKED)),
+    ("two carriage returns", typed("a\r\r"), gives(out="a\r", stdout=ASKED)),
+    ("a carriage return inside", typed("a\rb"), gives(out="a\rb", stdout=ASKED)),
+    ("an empty line", typed(""), gives(out="", stdout=EMPTY)),
+    ("a carriage return alone", typed("\r"), gives(out="", stdout=EMPTY)),
+    ("an empty line, and one more", typed("", "password"), gives(out="", stdout=EMPTY, typed_left=1)),
+    ("1024 bytes", typed("a" * 1024), gives(out="a" * 1024, stdout=ASKED)),
+    ("1024 bytes and a carriage return", typed("a" * 1024 + "\r"), gives(out="a" * 1024, stdout=ASKED)),
+    *((name, typed(line), rejected("PasswordTooLong", stdout=ASKED, typed_left=left)) for name, line, left in (
+        ("1024 bytes, a carriage return, and more", "a" * 1024 + "\rb", 1), ("1025 bytes", "a" * 1025, 0),
+        ("1025 bytes and a carriage return", "a" * 1025 + "\r", 1), ("1027 bytes", "a" * 1027, 1))),
+    ("the end of the input", NOTHING_TYPED, rejected("EndOfInput", stdout=ASKED)),
+)]

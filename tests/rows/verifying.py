@@ -3,17 +3,17 @@ data is read."""
 
 import base64
 import hashlib
-from dataclasses import dataclass, replace
+from itertools import product
 
 import toy
 from asking import Row, ask, bones, data, gives, rejected
 from toy import OTHER_RECORD, RECORD
 
+# How many bytes a read gives where a row says nothing else.
 PIECE = 65536
 KEY_TEXT = toy.public_text()
 OTHER_KEY_TEXT = toy.public_text(toy.OTHER_KEYNUM)
 VERIFIED = b"Signature and comment signature verified\n"
-SAID = VERIFIED + b"Trusted comment: t\n"
 
 PREHASHED_RECORD = toy.signature_record(b"abc")
 LEGACY_RECORD = toy.signature_record(b"abc", algorithm=b"Ed")
@@ -27,207 +27,72 @@ COMMENT_REJECTED = "CommentSignatureRefused"
 LEGACY = "LegacyNotAccepted"
 UNREAD = "ReadingFailed"
 CHANGED = "DataChanged"
+NO_KEY = "MissingPublicKeyComment"
+NO_SIGNATURE = "MissingUntrustedComment"
 
 # What comes once the data is read; each other error of a key or of a signature comes before.
 VERDICTS = (OTHER_KEY, LEGACY, REJECTED, COMMENT_REJECTED)
 OTHER_KEY_SAYS = "Signature key id: 0807060504030201 is different from public key: E7620F1842B4E81F"
 
+# The most bytes of a read: data is read at once, one byte a read, or both in turn.
+AT_ONCE, BY_BYTES = (None,), (1,)
+BOTH = AT_ONCE + BY_BYTES
 
-def reads_of(length, chunk=PIECE):
+
+def reads_of(length, chunk):
     """How often so many bytes are read in pieces: the last read tells the end."""
-    return -(-length // chunk) + 1
+    return -(-length // (chunk or PIECE)) + 1
 
 
-@dataclass(frozen=True)
-class Verifying:
-    """A request to verify, with key A where nothing else is said, and what is said where the signature is accepted."""
-
-    request: str
-    key: bytes
-    signature: object
-    content: bytes = b"abc"
-    said: bytes = SAID
-    is_prehashed: bool = True
-    quiet: bool = False
-    output: bool = False
-    legacy: bool = False
-
-    def asked(self, **devices):
-        """The request, over data that is read by these devices."""
-        return ask(self.request, self.key, self.signature, data(self.content, **devices),
-                   self.quiet, self.output, self.legacy)
-
-    def status(self):
-        """What is said where the signature is accepted."""
-        return b"" if self.quiet else self.said
-
-    def answered(self, outcome, chunk=PIECE, place=0):
-        """The answer where this comes of it, a read gives so many bytes at the most, and the data is begun at a place.
-        What is copied is read twice, unless the signature is over the data itself, which is kept."""
-        once = {"reads": reads_of(len(self.content), chunk), "pos": place + len(self.content)}
-        if outcome in VERDICTS:
-            return rejected(outcome, text=OTHER_KEY_SAYS if outcome == OTHER_KEY else None, **once)
-        if outcome != ACCEPTED:
-            return rejected(outcome)
-        times = 2 if self.output and self.is_prehashed else 1
-        return gives(stdout=self.content if self.output else b"", stderr=self.status(),
-                     reads=times * once["reads"], pos=once["pos"])
-
-    def row(self, name, outcome):
-        """The row of data that is read at once."""
-        return Row(name, self.asked(), self.answered(outcome))
-
-    def rows(self, name, outcome):
-        """The rows of data that is read at once, and one byte a read."""
-        yield self.row(f"{name}, at once", outcome)
-        yield Row(f"{name}, one byte a read", self.asked(chunk=1), self.answered(outcome, 1))
-
-    def failing(self, name, read, outcome):
-        """The row of data that is given one byte a read, and whose read of this number fails, if it comes to that."""
-        answer = self.answered(outcome, 1)
-        if outcome == UNREAD:
-            answer = rejected(UNREAD, reads=read, pos=read - 1)
-        return Row(name, self.asked(chunk=1, fail=read), answer)
-
-    def changing(self, name, second, outcome, chunk=PIECE):
-        """The row of data that is something else once it was read and gone back: all that comes then is copied."""
-        answer = self.answered(outcome, chunk)
-        if outcome in (ACCEPTED, CHANGED):
-            deeds = {"stdout": second, "stderr": self.status(),
-                     "reads": reads_of(len(self.content), chunk) + reads_of(len(second), chunk), "pos": len(second)}
-            answer = gives(**deeds) if outcome == ACCEPTED else rejected(CHANGED, **deeds)
-        return Row(name, self.asked(second=second, **({} if chunk == PIECE else {"chunk": chunk})), answer)
-
-    def from_place(self, name, front):
-        """Rows of data that is copied, after so many bytes that were read of it before."""
-        for how, chunk in (("at once", PIECE), ("one byte a read", 1)):
-            whole = replace(self, content=front + self.content)
-            devices = {} if chunk == PIECE else {"chunk": chunk}
-            answer = self.answered(ACCEPTED, chunk, len(front))
-            yield Row(f"{name}, {how}", whole.asked(pos=len(front), **devices), answer)
+def in_pieces(name, chunk):
+    """The name of a row with what tells it from the others of its case."""
+    return f"{name}, {f'read in pieces of {chunk}' if chunk else 'read at once'}"
 
 
-def texts(signature=PREHASHED_TEXT, content=b"abc", key=KEY_TEXT, **how):
-    """A request to verify with two texts."""
-    return Verifying("verify_texts", key, signature, content, **how)
+def judged(name, outcome, signature=PREHASHED_TEXT, content=b"abc", key=None, trusted=b"t", quiet=False, output=False,
+           legacy=False, chunks=BOTH, front=b"", second=None, fail=None):
+    """Rows that verify a signature, a text or a record, with a text or a record of key A or of another one; one for each
+    number of bytes that a read gives at the most. Before the data stands what was read of it already, the second reading
+    gives other data, and the read of this number fails, where a row says so.
+
+    The data is read once. What is copied is read again, unless the signature is over the data itself, which is kept."""
+    is_bare = signature[:1] == b"E"
+    key = key if key is not None else RECORD if is_bare else KEY_TEXT
+    request = "verify" if key[:1] == b"E" else "verify_texts"
+    told = b"" if quiet else VERIFIED if is_bare else VERIFIED + toy.lines(b"Trusted comment: " + trusted)
+    # (in base64 the record of a prehashed signature begins so)
+    goes_back = output and (signature[:2] == b"ED" or b"\nRU" in signature)
+    copied = second if second is not None and goes_back else content
+    for chunk in chunks:
+        source = data(front + content, pos=len(front) or None, second=second, chunk=chunk, fail=fail)
+        asked = ask(request, key, bones(signature) if is_bare else signature, source, quiet, output, legacy)
+        reads = reads_of(len(content), chunk)
+        both = reads + (reads_of(len(copied), chunk) if goes_back else 0)
+        if outcome == UNREAD and fail <= reads:
+            answer = rejected(UNREAD, reads=fail, pos=fail - 1)
+        elif outcome == UNREAD:
+            again = fail - 1 - reads
+            answer = rejected(UNREAD, stdout=content[:again], stderr=told, reads=fail, pos=again)
+        elif outcome in VERDICTS:
+            says = OTHER_KEY_SAYS if outcome == OTHER_KEY else None
+            answer = rejected(outcome, says, reads=reads, pos=len(front + content))
+        elif outcome in (ACCEPTED, CHANGED):
+            deeds = {"stdout": copied if output else b"", "stderr": told, "reads": both, "pos": len(front + copied)}
+            answer = rejected(CHANGED, **deeds) if outcome else gives(**deeds)
+        else:
+            answer = rejected(outcome)
+        yield Row(in_pieces(name, chunk), asked, answer)
 
 
-def bare(record=PREHASHED_RECORD, content=b"abc", key=RECORD, **how):
-    """A request to verify with a key and a signature without comments."""
-    return Verifying("verify", key, bones(record), content, said=VERIFIED, **how)
+def bare(name, outcome, record=PREHASHED_RECORD, content=b"abc", **how):
+    """Rows that verify a signature without comments."""
+    return judged(f"bare: {name}", outcome, record, content, **how)
 
 
-def bare_signatures():
-    """Of the data, of other data, and with a bit turned; whether legacy signatures are accepted makes no difference."""
-    changed = toy.changed(PREHASHED_RECORD)
-    yield from bare().rows("bare: a signature", ACCEPTED)
-    yield from bare(legacy=True).rows("bare: a signature, where legacy ones are accepted", ACCEPTED)
-    yield from bare(content=b"").rows("bare: a signature over no data", REJECTED)
-    yield from bare(content=b"abd").rows("bare: a signature over other data", REJECTED)
-    yield from bare(changed).rows("bare: a changed signature", REJECTED)
-    yield from bare(toy.signature_record(b""), b"").rows("bare: a signature of nothing", ACCEPTED)
-
-
-def bare_legacy_signatures():
-    """They are rejected where they are not accepted, whatever they are over."""
-    named = b"Ed" + PREHASHED_RECORD[2:]
-    for name, record, content, is_allowed, outcome in (
-        ("of the digest", named, b"abc", False, LEGACY),
-        ("of the digest", named, b"abc", True, REJECTED),
-        ("of the data", LEGACY_RECORD, b"abc", False, LEGACY),
-        ("of the data", LEGACY_RECORD, b"abc", True, ACCEPTED),
-        ("of other data", LEGACY_RECORD, b"abd", True, REJECTED),
-    ):
-        allowed = "allowed" if is_allowed else "not allowed"
-        asked = bare(record, content, is_prehashed=False, legacy=is_allowed)
-        yield from asked.rows(f"bare: legacy, {name}, {allowed}", outcome)
-
-
-def records():
-    """Short records are rejected, before an unknown algorithm; what stands after a record is not read."""
-    unknown = b"Ex" + PREHASHED_RECORD[2:]
-    yield from bare(PREHASHED_RECORD[:73]).rows("bare: a short signature", "RecordTooShort")
-    yield from bare(key=RECORD[:41]).rows("bare: a short key", "RecordTooShort")
-    yield from bare(unknown).rows("bare: an unknown algorithm", "UnsupportedSignatureAlgorithm")
-    yield from bare(unknown[:73]).rows("bare: a short signature of an unknown algorithm", "RecordTooShort")
-    yield from bare(PREHASHED_RECORD + b"!").rows("bare: a longer signature", ACCEPTED)
-    yield from bare(key=RECORD + b"!").rows("bare: a longer key", ACCEPTED)
-
-
-def bare_signatures_of_another_key():
-    """They are rejected by the identifiers, whatever they are over, and before legacy ones are."""
-    yield from bare(key=OTHER_RECORD).rows("bare: another key", OTHER_KEY)
-    yield from bare(LEGACY_RECORD, b"abd", OTHER_RECORD).rows("bare: another key, legacy, other data", OTHER_KEY)
-
-
-def a_long_message():
-    """A message of more than one piece."""
-    message = bytes((7 * i + i // 256) % 256 for i in range(100_000))
-    record = b"ED" + toy.KEYNUM + bytes(32) + bytes.fromhex(
-        "d4f140d88e494e19283fe4a31a2b66a60cde500f743d176788259b07d1098643")
-    yield from bare(record, message).rows("bare: a long message", ACCEPTED)
-    yield from bare(record, message[:-1]).rows("bare: a long message without its last byte", REJECTED)
-
-
-def failing_data_of_bare_signatures():
-    """A failing source is told before any verdict: at the first read, at the second, and at that of the end."""
-    for name, asked, verdict in (
-        ("prehashed", bare(legacy=True), ACCEPTED),
-        ("another key", bare(key=OTHER_RECORD, legacy=True), OTHER_KEY),
-        ("legacy", bare(LEGACY_RECORD, is_prehashed=False, legacy=True), ACCEPTED),
-    ):
-        for read in (1, 2, 3, 4):
-            yield asked.failing(f"bare: {name}, read {read} fails", read, UNREAD)
-        yield asked.failing(f"bare: {name}, a read after the end would fail", 5, verdict)
-
-
-def a_quiet_run():
-    """It says nothing."""
-    yield bare(quiet=True).row("bare: a quiet run", ACCEPTED)
-
-
-def copies_of_bare_signatures():
-    """The second pass has to give the data that was judged, and is copied from the place that was reached."""
-    copying = bare(output=True, legacy=True)
-    yield copying.changing("bare: the second pass gives the same", b"abc", ACCEPTED)
-    for second in (b"abd", b"ab", b""):
-        yield copying.changing(f"bare: the second pass gives {second!r}", second, CHANGED)
-    other = replace(copying, content=b"abd")
-    yield other.changing("bare: the second pass gives what was signed", b"abc", REJECTED)
-    yield from copying.from_place("bare: copied from the place that was reached", b"xx")
-
-
-def texts_in_their_order():
-    """Where several conditions fail, the first is named: of the texts, of those with a changed comment signature, of
-    those under another identifier, and of those without a key; whether the run is quiet and copies or not."""
-    changed = turned(PREHASHED_TEXT)
-    changed_legacy = turned(LEGACY_TEXT)
-    for name, key, signature, content, is_allowed, outcome in (
-        ("good", KEY_TEXT, PREHASHED_TEXT, b"abc", False, ACCEPTED),
-        ("good, legacy allowed", KEY_TEXT, PREHASHED_TEXT, b"abc", True, ACCEPTED),
-        ("legacy, allowed", KEY_TEXT, LEGACY_TEXT, b"abc", True, ACCEPTED),
-        ("legacy", KEY_TEXT, LEGACY_TEXT, b"abc", False, LEGACY),
-        ("legacy, other data", KEY_TEXT, LEGACY_TEXT, b"abd", False, LEGACY),
-        ("legacy, allowed, other data", KEY_TEXT, LEGACY_TEXT, b"abd", True, REJECTED),
-        ("other data", KEY_TEXT, PREHASHED_TEXT, b"abd", False, REJECTED),
-        ("no data", KEY_TEXT, PREHASHED_TEXT, b"", False, REJECTED),
-        ("no signature", KEY_TEXT, b"", b"abc", False, "MissingUntrustedComment"),
-        ("a changed comment signature, other data", KEY_TEXT, changed, b"abd", False, REJECTED),
-        ("a changed comment signature", KEY_TEXT, changed, b"abc", False, COMMENT_REJECTED),
-        ("legacy, a changed comment signature", KEY_TEXT, changed_legacy, b"abc", False, LEGACY),
-        ("legacy, allowed, a changed comment signature", KEY_TEXT, changed_legacy, b"abc", True, COMMENT_REJECTED),
-        ("another key", OTHER_KEY_TEXT, PREHASHED_TEXT, b"abc", False, OTHER_KEY),
-        ("another key, legacy, other data", OTHER_KEY_TEXT, LEGACY_TEXT, b"abd", False, OTHER_KEY),
-        ("another key, a changed comment signature, no data", OTHER_KEY_TEXT, changed, b"", False, OTHER_KEY),
-        ("another key, no signature", OTHER_KEY_TEXT, b"", b"abc", False, "MissingUntrustedComment"),
-        ("no key, no signature", b"", b"", b"abc", False, "MissingPublicKeyComment"),
-        ("no key", b"", PREHASHED_TEXT, b"abc", False, "MissingPublicKeyComment"),
-    ):
-        asked = texts(signature, content, key, is_prehashed=signature not in (LEGACY_TEXT, changed_legacy),
-                      legacy=is_allowed)
-        for quiet, output in ((False, False), (False, True), (True, False), (True, True)):
-            how = f"{'quiet' if quiet else 'told'}, {'copied' if output else 'not copied'}"
-            yield from replace(asked, quiet=quiet, output=output).rows(f"texts: {name}; {how}", outcome)
+def copied(name, outcome, second, signature=PREHASHED_TEXT, content=b"abc"):
+    """Rows of data that is copied, and is something else at the second reading."""
+    how = {"output": True, "legacy": True, "chunks": AT_ONCE, "second": second}
+    return judged(f"{name}: a second reading gives {second!r}", outcome, signature, content, **how)
 
 
 def turned(text):
@@ -236,44 +101,107 @@ def turned(text):
     return toy.lines(*lines[:3], base64.b64encode(toy.changed(base64.b64decode(lines[3]))))
 
 
-def verdicts_of_two_texts():
-    """Other data, no data, a text that is missing or has a line only, and another key, where the data is copied."""
-    good = texts(output=True, legacy=True)
-    yield from good.rows("two texts: good", ACCEPTED)
-    yield from replace(good, content=b"abd").rows("two texts: other data", REJECTED)
-    yield from replace(good, content=b"").rows("two texts: no data", REJECTED)
-    yield from replace(good, key=b"", signature=b"").rows("two texts: none", "MissingPublicKeyComment")
-    yield from replace(good, key=b"a", signature=b"").rows("two texts: a line of a key", "MissingEncodedPublicKey")
-    yield from replace(good, signature=b"").rows("two texts: no signature", "MissingUntrustedComment")
-    yield from replace(good, key=OTHER_KEY_TEXT).rows("two texts: another key", OTHER_KEY)
+CHANGED_TEXT, CHANGED_LEGACY = turned(PREHASHED_TEXT), turned(LEGACY_TEXT)
+UNKNOWN_RECORD = b"Ex" + PREHASHED_RECORD[2:]
+# A message of more than one piece, and its record.
+LONG = bytes((7 * i + i // 256) % 256 for i in range(100_000))
+OF_LONG = b"ED" + toy.KEYNUM + bytes(32) + bytes.fromhex("d4f140d88e494e19283fe4a31a2b66a60cde500f743d176788259b07d1098643")
 
+BARE = [
+    # Whether legacy signatures are accepted makes no difference to others.
+    *bare("a signature", ACCEPTED),
+    *bare("a signature, where legacy ones are accepted", ACCEPTED, legacy=True),
+    *bare("a signature over no data", REJECTED, content=b""),
+    *bare("a signature over other data", REJECTED, content=b"abd"),
+    *bare("a changed signature", REJECTED, toy.changed(PREHASHED_RECORD)),
+    *bare("a signature of nothing", ACCEPTED, toy.signature_record(b""), b""),
+    *bare("a quiet run", ACCEPTED, quiet=True, chunks=AT_ONCE),
+    *bare("a long message", ACCEPTED, OF_LONG, LONG),
+    *bare("a long message without its last byte", REJECTED, OF_LONG, LONG[:-1]),
+    # Legacy signatures are rejected where they are not accepted, whatever they are over.
+    *bare("legacy, of the digest, not allowed", LEGACY, b"Ed" + PREHASHED_RECORD[2:]),
+    *bare("legacy, of the digest, allowed", REJECTED, b"Ed" + PREHASHED_RECORD[2:], legacy=True),
+    *bare("legacy, of the data, not allowed", LEGACY, LEGACY_RECORD),
+    *bare("legacy, of the data, allowed", ACCEPTED, LEGACY_RECORD, legacy=True),
+    *bare("legacy, of other data, allowed", REJECTED, LEGACY_RECORD, b"abd", legacy=True),
+    # Short records are rejected, before an unknown algorithm; what stands after a record is not read.
+    *bare("a short signature", "RecordTooShort", PREHASHED_RECORD[:73]),
+    *bare("a short key", "RecordTooShort", key=RECORD[:41]),
+    *bare("an unknown algorithm", "UnsupportedSignatureAlgorithm", UNKNOWN_RECORD),
+    *bare("a short signature of an unknown algorithm", "RecordTooShort", UNKNOWN_RECORD[:73]),
+    *bare("a longer signature", ACCEPTED, PREHASHED_RECORD + b"!"),
+    *bare("a longer key", ACCEPTED, key=RECORD + b"!"),
+    # Another key is rejected by the identifiers, whatever the signature is over, and before legacy ones are.
+    *bare("another key", OTHER_KEY, key=OTHER_RECORD),
+    *bare("another key, legacy, other data", OTHER_KEY, LEGACY_RECORD, b"abd", key=OTHER_RECORD),
+    # A failing source is told before any verdict: at the first read, at the second, and at that of the end.
+    *(row for name, record, key, verdict in (
+        ("prehashed", PREHASHED_RECORD, RECORD, ACCEPTED), ("another key", PREHASHED_RECORD, OTHER_RECORD, OTHER_KEY),
+        ("legacy", LEGACY_RECORD, RECORD, ACCEPTED))
+      for read in range(1, 6)
+      for row in bare(f"{name}, read {read} would fail", UNREAD if read < 5 else verdict, record, key=key, legacy=True,
+                      chunks=BY_BYTES, fail=read)),
+    # The second reading has to give the data that was judged, and is copied from the place that was reached.
+    *copied("bare", ACCEPTED, b"abc", PREHASHED_RECORD),
+    *(row for second in (b"abd", b"ab", b"") for row in copied("bare", CHANGED, second, PREHASHED_RECORD)),
+    *copied("bare, other data", REJECTED, b"abc", PREHASHED_RECORD, b"abd"),
+    *bare("copied from the place that was reached", ACCEPTED, output=True, legacy=True, front=b"xx"),
+]
 
-def failing_data_of_texts():
-    """A source that fails is told before any verdict, and after a rejected text."""
-    other = texts(key=OTHER_KEY_TEXT)
-    changed = texts(turned(PREHASHED_TEXT))
-    yield texts().failing("texts: the second read fails", 2, UNREAD)
-    yield other.failing("texts: another key, the second read fails", 2, UNREAD)
-    yield texts(LEGACY_TEXT, is_prehashed=False).failing("texts: legacy, the second read fails", 2, UNREAD)
-    yield changed.failing("texts: a changed comment signature, the read of the end fails", 4, UNREAD)
-    yield changed.failing("texts: a changed comment signature, no read fails", 5, COMMENT_REJECTED)
-    yield other.failing("texts: another key, no read fails", 5, OTHER_KEY)
-    yield texts(key=b"").failing("texts: no key, the first read would fail", 1, "MissingPublicKeyComment")
-    yield texts(b"").failing("texts: no signature, the first read would fail", 1, "MissingUntrustedComment")
+# Where several conditions fail, the first is named: of the texts, of those with a changed comment signature, of those
+# under another identifier, and of those without a key; whether the run is quiet and copies or not.
+IN_ORDER = [row for name, key, signature, content, is_allowed, outcome in (
+    ("good", KEY_TEXT, PREHASHED_TEXT, b"abc", False, ACCEPTED),
+    ("good, legacy allowed", KEY_TEXT, PREHASHED_TEXT, b"abc", True, ACCEPTED),
+    ("legacy, allowed", KEY_TEXT, LEGACY_TEXT, b"abc", True, ACCEPTED),
+    ("legacy", KEY_TEXT, LEGACY_TEXT, b"abc", False, LEGACY),
+    ("legacy, other data", KEY_TEXT, LEGACY_TEXT, b"abd", False, LEGACY),
+    ("legacy, allowed, other data", KEY_TEXT, LEGACY_TEXT, b"abd", True, REJECTED),
+    ("other data", KEY_TEXT, PREHASHED_TEXT, b"abd", False, REJECTED),
+    ("no data", KEY_TEXT, PREHASHED_TEXT, b"", False, REJECTED),
+    ("no signature", KEY_TEXT, b"", b"abc", False, NO_SIGNATURE),
+    ("a changed comment signature, other data", KEY_TEXT, CHANGED_TEXT, b"abd", False, REJECTED),
+    ("a changed comment signature", KEY_TEXT, CHANGED_TEXT, b"abc", False, COMMENT_REJECTED),
+    ("legacy, a changed comment signature", KEY_TEXT, CHANGED_LEGACY, b"abc", False, LEGACY),
+    ("legacy, allowed, a changed comment signature", KEY_TEXT, CHANGED_LEGACY, b"abc", True, COMMENT_REJECTED),
+    ("another key", OTHER_KEY_TEXT, PREHASHED_TEXT, b"abc", False, OTHER_KEY),
+    ("another key, legacy, other data", OTHER_KEY_TEXT, LEGACY_TEXT, b"abd", False, OTHER_KEY),
+    ("another key, a changed comment signature, no data", OTHER_KEY_TEXT, CHANGED_TEXT, b"", False, OTHER_KEY),
+    ("another key, no signature", OTHER_KEY_TEXT, b"", b"abc", False, NO_SIGNATURE),
+    ("no key, no signature", b"", b"", b"abc", False, NO_KEY),
+    ("no key", b"", PREHASHED_TEXT, b"abc", False, NO_KEY),
+) for quiet, output in product((False, True), repeat=2)
+  for row in judged(f"texts: {name}; {'quiet' if quiet else 'told'}, {'copied' if output else 'not copied'}", outcome,
+                    signature, content, key, quiet=quiet, output=output, legacy=is_allowed)]
 
-
-def copies_of_texts():
-    """The copy begins where the source stood. What a second reading gives is copied as it comes, and told from the
-    first once it is whole."""
-    copying = texts(output=True, legacy=True)
-    legacy = replace(copying, signature=LEGACY_TEXT, is_prehashed=False)
-    yield from copying.from_place("texts: copied from the place that was reached", b"xx")
-    yield from legacy.from_place("texts: legacy, copied from the place that was reached", b"xx")
-    for second in (b"abd", b"xyz", b"ab", b"abcd", b""):
-        yield copying.changing(f"texts: a second reading gives {second!r}", second, CHANGED)
-    yield copying.changing("texts: a second reading gives the same", b"abc", ACCEPTED)
-    other = replace(copying, content=b"abd")
-    yield other.changing("texts: a second reading gives what was signed", b"abc", REJECTED)
+TEXTS = [row for rows in (
+    # Where the data is copied: other data, no data, a text that is missing or has a line only, and another key.
+    *(judged(f"two texts: {name}", outcome, output=True, legacy=True, **how) for name, outcome, how in (
+        ("other data", REJECTED, {"content": b"abd"}),
+        ("no data", REJECTED, {"content": b""}),
+        ("none", NO_KEY, {"key": b"", "signature": b""}),
+        ("a line of a key", "MissingEncodedPublicKey", {"key": b"a", "signature": b""}),
+        ("no signature", NO_SIGNATURE, {"signature": b""}),
+        ("another key", OTHER_KEY, {"key": OTHER_KEY_TEXT}))),
+    # A source that fails is told before any verdict, and after a rejected text.
+    *(judged(f"texts: {name}, read {read} would fail", outcome, signature, key=key, chunks=BY_BYTES, fail=read)
+      for name, signature, key, read, outcome in (
+          ("good", PREHASHED_TEXT, KEY_TEXT, 2, UNREAD),
+          ("another key", PREHASHED_TEXT, OTHER_KEY_TEXT, 2, UNREAD),
+          ("legacy", LEGACY_TEXT, KEY_TEXT, 2, UNREAD),
+          ("a changed comment signature", CHANGED_TEXT, KEY_TEXT, 4, UNREAD),
+          ("a changed comment signature", CHANGED_TEXT, KEY_TEXT, 5, COMMENT_REJECTED),
+          ("another key", PREHASHED_TEXT, OTHER_KEY_TEXT, 5, OTHER_KEY),
+          ("no key", PREHASHED_TEXT, b"", 1, NO_KEY),
+          ("no signature", b"", KEY_TEXT, 1, NO_SIGNATURE))),
+    # The copy begins where the source stood. What a second reading gives is copied as it comes, and told from the first
+    # once it is whole.
+    *(judged(f"texts: {name}, copied from the place that was reached", ACCEPTED, signature, output=True, legacy=True,
+             front=b"xx") for name, signature in (("good", PREHASHED_TEXT), ("legacy", LEGACY_TEXT))),
+    *(copied("texts", CHANGED, second) for second in (b"abd", b"xyz", b"ab", b"abcd", b"")),
+    copied("texts", ACCEPTED, b"abc"),
+    copied("texts, other data", REJECTED, b"abc", content=b"abd"),
+) for row in rows]
 
 
 # What the upstream tool wrote over `test`: its key, and the texts of a legacy signature and of a prehashed one.
@@ -289,7 +217,8 @@ UPSTREAM_PREHASHED = (
     b"RUQf6LRCGA9i559r3g7V1qNyJDApGip8MfqcadIgT9CuhV3EMhHoN1mGTkUidF/z7SrlQgXdy8ofjb7bNJJylDOocrCo8KLzZwo=\n"
     b"trusted comment: timestamp:1556193335\tfile:test\n"
     b"y/rUw2y8/hOUYjZU71eHp/Wo1KZ40fGy2VJEDl34XMJM+TX48Ss/17u3IvIfbVR1FkZZSNCisQbuQY+bHwhEBg==")
-UPSTREAM_DIGEST = hashlib.blake2b(b"test").digest()
+# What stands for the data in the first of a text's two signatures.
+UPSTREAM_MESSAGES = {UPSTREAM_LEGACY: b"test", UPSTREAM_PREHASHED: hashlib.blake2b(b"test").digest()}
 
 
 def upstream_parts(text):
@@ -298,61 +227,36 @@ def upstream_parts(text):
     return base64.b64decode(lines[1]), lines[2][len(b"trusted comment: "):], base64.b64decode(lines[3])
 
 
-def table_of(name, text, message):
-    """Requests that have the scheme accept the two signatures of this text, the first of them over this message."""
-    record, trusted, comment_signature = upstream_parts(text)
-    for what, over, signature in (("data", message, record[10:]),
-                                  ("comment", record[10:] + trusted, comment_signature)):
-        request = ask("table_add", over, UPSTREAM_KEY[10:], signature)
-        yield Row(f"{name}: the signature of the {what} is accepted", request, gives())
+def under_table(of, *cases):
+    """Rows of texts of the upstream tool, under a table by which the scheme accepts the two signatures of each of these
+    texts, and which is cleared after them."""
+    for text in of:
+        record, trusted, comment_signature = upstream_parts(text)
+        for message, signature in ((UPSTREAM_MESSAGES[text], record[10:]), (record[10:] + trusted, comment_signature)):
+            yield Row("upstream: a signature is accepted", ask("table_add", message, UPSTREAM_KEY[10:], signature), gives())
+    for name, outcome, text, content, how in cases:
+        yield from judged(f"upstream: {name}", outcome, text, content, UPSTREAM_KEY_TEXT, upstream_parts(text)[1], **how)
+    yield Row("upstream: the table is cleared", ask("table_clear"), gives())
 
 
-def no_table(name):
-    """A request that has the scheme accept its own signatures only."""
-    return Row(f"{name}: the table is cleared", ask("table_clear"), gives())
-
-
-def upstream_texts():
-    """Texts of the upstream tool, under a table of what its scheme accepts, in a quiet run."""
-    name = "upstream"
-    yield from table_of(f"{name}: legacy", UPSTREAM_LEGACY, b"test")
-    yield from table_of(f"{name}: prehashed", UPSTREAM_PREHASHED, UPSTREAM_DIGEST)
-    for which, text, content, is_allowed, outcome in (
-        ("legacy, allowed", UPSTREAM_LEGACY, b"test", True, ACCEPTED),
-        ("legacy", UPSTREAM_LEGACY, b"test", False, LEGACY),
-        ("legacy, allowed, other data", UPSTREAM_LEGACY, b"test2", True, REJECTED),
-        ("prehashed", UPSTREAM_PREHASHED, b"test", False, ACCEPTED),
-        ("prehashed, legacy allowed", UPSTREAM_PREHASHED, b"test", True, ACCEPTED),
-        ("prehashed, other data", UPSTREAM_PREHASHED, b"test2", False, REJECTED),
-    ):
-        asked = texts(text, content, UPSTREAM_KEY_TEXT, is_prehashed=text == UPSTREAM_PREHASHED, quiet=True,
-                      legacy=is_allowed)
-        yield from asked.rows(f"{name}: {which}", outcome)
-    yield no_table(name)
-
-
-def upstream_texts_that_are_told():
-    """The same texts, each under a table of its own two signatures, and what is said of them."""
-    name = "upstream, told, legacy"
-    yield from table_of(name, UPSTREAM_LEGACY, b"test")
-    legacy = texts(UPSTREAM_LEGACY, b"test", UPSTREAM_KEY_TEXT, is_prehashed=False,
-                   said=VERIFIED + b"Trusted comment: timestamp:1555779966\tfile:test\n")
-    yield replace(legacy, legacy=True, output=True).row(f"{name}: copied", ACCEPTED)
-    yield legacy.row(f"{name}: not allowed", LEGACY)
-    yield no_table(name)
-    name = "upstream, told, prehashed"
-    yield from table_of(name, UPSTREAM_PREHASHED, UPSTREAM_DIGEST)
-    prehashed = texts(UPSTREAM_PREHASHED, b"test", UPSTREAM_KEY_TEXT,
-                      said=VERIFIED + b"Trusted comment: timestamp:1556193335\tfile:test\n")
-    yield prehashed.row(f"{name}: not copied", ACCEPTED)
-    yield replace(prehashed, output=True).row(f"{name}: copied", ACCEPTED)
-    yield no_table(name)
-    yield prehashed.row(f"{name}: no table", REJECTED)
-
-
-PARTS = (
-    bare_signatures, bare_legacy_signatures, records, bare_signatures_of_another_key, a_long_message,
-    failing_data_of_bare_signatures, a_quiet_run, copies_of_bare_signatures, texts_in_their_order,
-    verdicts_of_two_texts, failing_data_of_texts, copies_of_texts, upstream_texts,
-    upstream_texts_that_are_told,
-)
+ROWS = [
+    *BARE, *IN_ORDER, *TEXTS,
+    # In a quiet run, and as they are told.
+    *under_table(
+        (UPSTREAM_LEGACY, UPSTREAM_PREHASHED),
+        ("legacy, allowed", ACCEPTED, UPSTREAM_LEGACY, b"test", {"quiet": True, "legacy": True}),
+        ("legacy", LEGACY, UPSTREAM_LEGACY, b"test", {"quiet": True}),
+        ("legacy, allowed, other data", REJECTED, UPSTREAM_LEGACY, b"test2", {"quiet": True, "legacy": True}),
+        ("prehashed", ACCEPTED, UPSTREAM_PREHASHED, b"test", {"quiet": True}),
+        ("prehashed, legacy allowed", ACCEPTED, UPSTREAM_PREHASHED, b"test", {"quiet": True, "legacy": True}),
+        ("prehashed, other data", REJECTED, UPSTREAM_PREHASHED, b"test2", {"quiet": True})),
+    *under_table(
+        (UPSTREAM_LEGACY,),
+        ("legacy, copied", ACCEPTED, UPSTREAM_LEGACY, b"test", {"output": True, "legacy": True, "chunks": AT_ONCE}),
+        ("legacy, told", LEGACY, UPSTREAM_LEGACY, b"test", {"chunks": AT_ONCE})),
+    *under_table(
+        (UPSTREAM_PREHASHED,),
+        ("prehashed, told", ACCEPTED, UPSTREAM_PREHASHED, b"test", {"chunks": AT_ONCE}),
+        ("prehashed, copied", ACCEPTED, UPSTREAM_PREHASHED, b"test", {"output": True, "chunks": AT_ONCE})),
+    *judged("upstream: without a table", REJECTED, UPSTREAM_PREHASHED, b"test", UPSTREAM_KEY_TEXT, chunks=AT_ONCE),
+]

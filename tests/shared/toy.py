@@ -38,9 +38,9 @@ def xored(*lists):
     return bytes(a ^ b ^ c for a, b, c in zip(*lists))
 
 
-def signature_of(message, half=bytes(32)):
+def signature_of(message, half=bytes(32), key=KEY):
     """The signature of a message, with this first half."""
-    return half + xored(half, KEY, fold(message))
+    return half + xored(half, key, fold(message))
 
 
 def is_accepted(message, signature):
@@ -60,8 +60,8 @@ def public_text(keynum=KEYNUM, key=KEY):
     return lines(b"untrusted comment: minisign public key: " + shown, base64.b64encode(b"Ed" + keynum + key))
 
 
-def signature_record(data, keynum=KEYNUM, algorithm=b"ED", half=bytes(32)):
-    return algorithm + keynum + signature_of(data if algorithm == b"Ed" else digest(data), half)
+def signature_record(data, keynum=KEYNUM, algorithm=b"ED", half=bytes(32), key=KEY):
+    return algorithm + keynum + signature_of(data if algorithm == b"Ed" else digest(data), half, key)
 
 
 def signature_text(data, record=None, trusted=b"t", untrusted=b"c", comment_signature=None):
@@ -113,7 +113,7 @@ class Key:
 @functools.lru_cache(maxsize=None)
 def stream(password, limits, salt):
     """The bytes that the last 104 of a record are xored with."""
-    return hashlib.scrypt(password, salt=salt, n=limits.rows, r=8, p=limits.parts, dklen=104, maxmem=1 << 26)
+    return hashlib.scrypt(password, salt=salt, n=limits.rows, r=8, p=limits.parts, dklen=104, maxmem=1100 << 20)
 
 
 KEY_A = Key()
