@@ -34,9 +34,9 @@ LONGEST = 6
 PARTS = ("src", "specs", "proofs")
 CRATES = ("minisign_hash", "minisign_kdf", "minisign_base", "minisign", "minisign_external", "minisign_install", "minisign_c",
           "minisign_page", "minisign_tool", "minisign_programs", "minisign_examples", "minisign_vectors")
-# Bytes of `minisign` with white space folded, which are to fall to 84,000 and 330,000; and definitions of these crates that
-# relate something to an error, also where their signature goes on in another line.
-LIMITS = {"definitions": 88_677, "proofs": 332_763, "relations on errors": 73}
+# Bytes of `minisign` with white space folded; and definitions of these crates that relate something to an error, also
+# where their signature goes on in another line.
+LIMITS = {"definitions": 83_963, "proofs": 329_568, "relations on errors": 71}
 # Clauses that are longer: the function, the clause, and why.
 DEVICES = "it names each device of the call, as it was and as it is"
 LAW = "a law over all that its premises name, stated once"

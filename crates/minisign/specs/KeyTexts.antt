@@ -116,7 +116,7 @@ pub record SecretKeyText (text : List ℕ) (k : SecretKeyRecord) : Type 0 where
 unfoldable pub default_secret_key_comment : List ℕ
 default_secret_key_comment = codes "rsign encrypted secret key"
 
--- the text that is written, with the comment that is given or else the default
+-- the text that is written, with the comment that is given or the default
 unfoldable pub secret_key_text : Option (List ℕ) → SecretKeyRecord → List ℕ
 secret_key_text comment k = line (untrusted_comment_label ++ unwrap_or comment default_secret_key_comment)
     ++ line (base64_of (secret_key_bytes k))

@@ -163,8 +163,8 @@ pub record IsUnencryptedText (text : List ℕ) (k : SecretKeyRecord) : Type 0 wh
   pub kdf : k.kdf ≡ no_kdf
   pub checksum : k.checksum ≡ checksum_of k
 
--- the derivation is told of, where the limits and the bound allow it, and told to be done; the checksum is
--- to be restored
+-- the derivation is told of, which the limits and the bound are to allow; it is told to be done, and the
+-- checksum is to be restored
 abbrev pub telling_steps : SecretKeyRecord → List ℕ → Option ℕ → List Step
 telling_steps k password bound = Say deriving_text ∷ Test (result_err (allowed_work k bound)) ∷ Allocate
     ∷ Say done_text ∷ Test (result_err (restored_key (xored_key k password))) ∷ []
@@ -183,7 +183,7 @@ IsOpenedOrNoMemory text bound answer given = (answer ≡ given)
 
 -- how opening the key of a text ends, within a bound: with a password that is passed in, nothing is asked,
 -- and the answer is what it opens to, or out of memory. Otherwise one is asked for where the text reads as a
--- sealed key, and the answer is what this opens to with what was typed, or why the conversation of opening
+-- sealed key: it opens with what was typed, or the error is that at which the conversation of opening
 -- stopped; a text that reads as none is rejected with nothing asked
 abbrev pub IsOpening : {R W : Type 0} → PromptCall R W → Option (List ℕ) → List ℕ → Option ℕ
     → Result SecretKeyRecord Fault → Type 0

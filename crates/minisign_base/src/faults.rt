@@ -87,7 +87,7 @@ pub enum NamedFault {
     WrongPassword,
     /// The checksum of an unsealed key does not match.
     CorruptedKey,
-    /// A sealed key was handed to `sign`.
+    /// The key that is to sign is still sealed.
     EncryptedKeyRefused,
     /// The public key that was passed in does not accept the comment signature.
     RefusedByGivenKey { key: [u8; 8] },
