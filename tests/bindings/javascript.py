@@ -45,8 +45,8 @@ LINES = 600
 # (the "Minimum common web platform API").
 GLOBALS = ("TextDecoder", "TextEncoder", "WebAssembly", "atob", "crypto")
 # How many bytes may be in memory after so many calls, or keys, that were not after a tenth of them.
-CALLS, GROWTH = 20_000, 8 * 1048576
-KEYS, GROWTH_OF_KEYS = 1_000, 32 * 1048576
+CALLS, GROWTH = 100_000, 16 * 1048576
+KEYS, GROWTH_OF_KEYS = 3_000, 64 * 1048576
 # What becomes of streams, each tried in a program of its own, which an error that is lost would end.
 STREAMS = ("descriptors", "opening", "cancelled", "absent", "both", "begun", "between", "event", "late", "web", "accepted", "aborted")
 # The errors of the header that verifying has besides usage errors.
