@@ -414,7 +414,7 @@ def installing(room: str) -> None:
     stands(b"two", 2, "a file that is open")
     check(os.stat(place).st_mode & 0o777 == 0o755, "the mode of what is installed of a file that is open")
     rejects(minisign.OlderUpdate, lambda: install(io.BytesIO(b"one"), one), "an older update")
-    rejects(minisign.KeptByVersion, lambda: install(numbering="timestamp"), "the other field")
+    rejects(minisign.KeptByVersion, lambda: minisign.install(public, path, two, place), "the other field, which is the usual one")
     tells_of_updates(key, path, place)
     found = [offer(signed(b"3", "version:3\tfile:app")), offer(one)]
     check(found == [minisign.Offer.NEWER, minisign.Offer.OLDER], f"a check says {found}")
