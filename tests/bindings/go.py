@@ -42,8 +42,9 @@ PACKAGE = os.path.join(TOP, "bindings", "go")
 LINES = 500
 # What tools/bindings.py makes.
 MADE = ("errors.go", "header.go")
-# How many pages of 4 KiB may be in memory after so many calls that were not after a tenth of them; and after so many keys.
-CALLS, KEYS, PAGES = 20_000, 5_000, 256
+# How many pages of 4 KiB may be in memory after so many calls, or keys, that were not after a tenth of them.
+CALLS, PAGES = 20_000, 100
+KEYS, PAGES_OF_KEYS = 20_000, 512
 # go-minisign, as Debian has it, below a directory of sources.
 SOURCES, GO_MINISIGN = "/usr/share/gocode", "github.com/jedisct1/go-minisign"
 # Of the changes of go/changed.go go-minisign, which does not look at the first line, says that these are good.
@@ -395,7 +396,7 @@ def run_all(checks, room):
     racing.ask_threads(few)
     signing, racing = programs("signing.go", "signing")
     check_signing(signing, os.path.join(room, "signed"), minisign)
-    signing.ask_growth(KEYS, PAGES)
+    signing.ask_growth(KEYS, PAGES_OF_KEYS)
     signing.ask_threads()
     racing.ask_threads()
     check_changed(checks, go.build("changed.go", os.path.join(room, "changed"), package, **Go.AS_USUAL))

@@ -45,8 +45,8 @@ LINES = 600
 # (the "Minimum common web platform API").
 GLOBALS = ("TextDecoder", "TextEncoder", "WebAssembly", "atob", "crypto")
 # How many bytes may be in memory after so many calls, or keys, that were not after a tenth of them.
-CALLS, GROWTH = 20_000, 8 * 1048576
-KEYS, GROWTH_OF_KEYS = 1_000, 32 * 1048576
+CALLS, GROWTH = 100_000, 16 * 1048576
+KEYS, GROWTH_OF_KEYS = 3_000, 64 * 1048576
 # What becomes of streams, each tried in a program of its own, which an error that is lost would end.
 STREAMS = ("descriptors", "opening", "cancelled", "absent", "both", "begun", "between", "event", "late", "web", "accepted", "aborted")
 # The errors of the header that verifying has besides usage errors.
@@ -240,7 +240,9 @@ def check_browsers(checks, user, room, minisign):
     shutil.copytree(os.path.join(user, "node_modules", "minisign-proved"), os.path.join(directory, "minisign-proved"))
     shutil.copy(os.path.join(HERE, "javascript", "browser.mjs"), directory)
     digits = {what: [[part.hex() for part in case[1:]] for case in of] for what, of in asked.items()}
-    write(directory, "asked.json", json.dumps(digits).encode())
+    run([minisign, "-G", "-W", "-s", "strong", "-p", "public"], room)
+    sealed = shared_cases.sealed(read(room, "strong"), shared_cases.LIMITS[4]).decode()
+    write(directory, "asked.json", json.dumps({**digits, "sealed": sealed}).encode())
     status, said, why = run([needs.python_with_selenium(), BROWSERS, directory])
     if status != 0:
         checks.check(False, f"the browsers ended with {status}: {why[-1000:]}")
@@ -257,6 +259,11 @@ def check_browsers(checks, user, room, minisign):
             program.ask_vectors(["vectors"])
             checks.check(answers["cancelled"], f"{what}: a stream is not cancelled")
             checks.check(answers["signs"] == "version:2,true,false,version:2,true,false KEY_NOT_OPENED", f"{what}, signing: {answers['signs']}")
+            for name, text in zip(("sealed", "sealed.pub"), answers["pair"]):
+                write(room, name, text.encode())
+            run([minisign, "-S", "-s", "sealed", "-m", "public", "-x", "sig", "-t", what], room, data=f"{shared_cases.PASSWORD}\n".encode())
+            found = run([minisign, "-V", "-Q", "-p", "sealed.pub", "-m", "public", "-x", "sig"], room)
+            checks.check(found[:2] == (0, f"{what}\n".encode()), f"{what}: c/minisign does not sign by a sealed key: {found}")
         print(f"bindings/javascript: in a page and in a worker of {browser} {told['version']}", flush=True)
 
 

@@ -23,7 +23,7 @@ import python_arguments
 from minisign_proved import Data, PublicKey, SecretKey, Signature, Text, Verifier, _calls
 
 # What so many calls may take more memory than the first ones, in KiB.
-CALLS, FIRST_CALLS, MAX_GROWTH = 100_000, 5_000, 512
+CALLS, FIRST_CALLS, MAX_GROWTH = 20_000, 2_000, 96
 passed, failures = 0, []  # type: int, List[str]
 
 
@@ -317,20 +317,21 @@ def documentation(room: str) -> None:
 
 
 def passwords(room: str) -> None:
-    """A sealed key, and another password for it: each derivation takes a second or more."""
+    """A key that is sealed by the least work, and another password for it, under which it is sealed by the usual work."""
     key = SecretKey.generate()
-    sealed = write(room, "sealed.key", key.to_bytes("pass \u00e9", low_memory=True))
+    text = key.to_bytes("pass \u00e9", low_memory=True, operations_limit=2**19, memory_limit=2**24)
+    sealed = write(room, "sealed.key", text)
     for password, wrong in ((None, minisign.KeySealed), ("pass", minisign.WrongPassword), ("", minisign.WrongPassword), ("\ud800", minisign.NotUtf8)):
         rejects(wrong, lambda password=password: SecretKey.from_file(sealed, password), f"the password {password}")  # type: ignore[misc]
-    before = open(sealed, "rb").read()
     rejects(minisign.WrongPassword, lambda: minisign.change_password(sealed, "old", "newer"), "a change with a wrong password")
-    check(open(sealed, "rb").read() == before, "a key whose password was not changed")
+    check(open(sealed, "rb").read() == text, "a key whose password was not changed")
+    ways: List[Text] = ["pass \u00e9", bytearray("pass \u00e9".encode())]
+    for way in ways:
+        check(SecretKey.from_file(sealed, way, low_memory=True).public_key == key.public_key, "a key that was sealed")
     minisign.change_password(sealed, "pass \u00e9", "new")
     check(os.stat(sealed).st_mode & 0o777 == 0o600, "the mode of a key whose password was changed")
     check(not [name for name in os.listdir(room) if name.startswith("sealed.key.")], "a file beside the key is left")
-    ways: List[Text] = ["new", bytearray(b"new")]
-    for way in ways:
-        check(SecretKey.from_file(sealed, way).public_key == key.public_key, "a key whose password was changed")
+    check(SecretKey.from_file(sealed, "new").public_key == key.public_key, "a key whose password was changed")
 
 
 def installing(room: str) -> None:
@@ -413,7 +414,7 @@ def installing(room: str) -> None:
     stands(b"two", 2, "a file that is open")
     check(os.stat(place).st_mode & 0o777 == 0o755, "the mode of what is installed of a file that is open")
     rejects(minisign.OlderUpdate, lambda: install(io.BytesIO(b"one"), one), "an older update")
-    rejects(minisign.KeptByVersion, lambda: install(numbering="timestamp"), "the other field")
+    rejects(minisign.KeptByVersion, lambda: minisign.install(public, path, two, place), "the other field, which is the usual one")
     tells_of_updates(key, path, place)
     found = [offer(signed(b"3", "version:3\tfile:app")), offer(one)]
     check(found == [minisign.Offer.NEWER, minisign.Offer.OLDER], f"a check says {found}")

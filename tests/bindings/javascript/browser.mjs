@@ -49,21 +49,27 @@ function isCancelled() {
   });
 }
 
-// Whether a key that is made here, written and read again signs what verifies, also sealed, and nothing once it was cleared.
-async function signs() {
-  const made = await generateSecretKey(), text = await writePublicKey(made), told = [];
-  for (const password of [null, "pass word"]) {
-    const options = password === null ? {} : {password, lowMemory: true};
-    const key = await readSecretKey(await writeSecretKey(made, password, {lowMemory: true}), options);
+// Whether a key that is made here, written and read again signs what verifies, and one that is given sealed by little work; and nothing
+// once it was cleared.
+async function signs(sealed) {
+  const made = await generateSecretKey(), told = [];
+  for (const key of [await readSecretKey(await writeSecretKey(made, null)), await readSecretKey(sealed, {password: "pass word", lowMemory: true})]) {
     const signature = await sign(new Blob(["data"]), key, {trustedComment: "version:2"});
-    told.push((await verify(new Blob(["data"]), signature, text)).trustedComment, key.keyId === made.keyId, key.isWeak);
+    const verified = await verify(new Blob(["data"]), signature, await writePublicKey(key));
+    told.push(verified.trustedComment, verified.keyId === key.keyId, key.isWeak);
   }
   clearSecretKey(made);
   return `${told} ${await sign(new Blob(["data"]), made).catch(why => why.code)}`;
 }
 
-async function answersOf({cases, pieces, vectors}) {
-  const answers = {legacy: [], strict: [], pieces: [], vectors: [], cancelled: await isCancelled(), signs: await signs()};
+// A pair of keys that is made here: the sealed text of the secret one, and that of the public one.
+async function pair() {
+  const key = await generateSecretKey();
+  return [await writeSecretKey(key, "pass word", {lowMemory: true}), await writePublicKey(key)];
+}
+
+async function answersOf({cases, pieces, vectors, sealed}) {
+  const answers = {legacy: [], strict: [], pieces: [], vectors: [], cancelled: await isCancelled(), signs: await signs(sealed), pair: await pair()};
   for (const [key, data, signature] of cases.map(parts => parts.map(bytesOf))) {
     answers.legacy.push(await answerOf(data, signature, key, {allowLegacy: true}));
     answers.strict.push(await answerOf(data, signature, key));

@@ -36,7 +36,7 @@ async function make(directory, password = null) {
 }
 
 async function signFile(file, data, to, trustedComment, password) {
-  const key = await readSecretKey(readFileSync(file), {password, lowMemory: true, mostRows: 2 ** 20});
+  const key = await readSecretKey(readFileSync(file), {password, mostRows: 2 ** 20});
   const options = {trustedComment, untrustedComment: OTHER}, bytes = readFileSync(data);
   const whole = await sign(bytes, key, options);
   const blob = new Blob([bytes]);
@@ -61,7 +61,7 @@ async function signFile(file, data, to, trustedComment, password) {
 }
 
 async function opened(file, password) {
-  return (await readSecretKey(readFileSync(file), {password})).isWeak ? "weak" : "strong";
+  return (await readSecretKey(readFileSync(file), {password, lowMemory: true})).isWeak ? "weak" : "strong";
 }
 
 // How a key is shown, in which its secret is not.

@@ -16,7 +16,7 @@ const [what, ...paths] = process.argv.slice(2);
 const [key, data, signature] = paths.map(path => readFileSync(path));
 const dataPath = paths[1];
 
-const TIMES = 500;
+const TIMES = 100;
 // How long a stream may take to close, in milliseconds.
 const CLOSING = 5000;
 // How long all of them are given to be opened.
