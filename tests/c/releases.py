@@ -146,7 +146,7 @@ def check_signed(checks, room, program, minisign):
     """With a key archive and sums are signed by the program that is in the release, and without one that is there not at all."""
     key = f"{room}/own key"
     checks.ended("a pair for this run", run([program, "-G", "-W", "-p", f"{key}.pub", "-s", f"{key}.key"]))
-    archive = release(checks, f"{room}/one", f"RELEASE_KEY={key}.key")
+    archive = release(checks, f"{room}/one", f"RELEASE_KEY={key}.key", "C_CALLS=")
     for name in (archive, f"{room}/one/SHA256SUMS"):
         verifying = ["-V", "-p", f"{key}.pub", "-m", name]
         for by in (minisign, program):
