@@ -91,7 +91,8 @@ def check_installed(checks, room):
         checks.check("loader" not in said, f"a package was told of the loader: {said}")
         checks.ended(f"uninstall {words}", make("-s", "uninstall", *words))
         checks.check(files_below(dest) == {other}, f"uninstall {words}: {files_below(dest)}")
-    checks.ended("install", make("-s", "install", out, f"PREFIX={room}/here"), says=f"run `ldconfig` as root, link with -Wl,-rpath,{room}/here/lib")
+    checks.ended("install", make("-s", "install", out, f"PREFIX={room}/here"),
+                 says=f"run `ldconfig` as root, link with -Wl,-rpath,{room}/here/lib")
     for words, wanted in ((["--variable=prefix"], f"{room}/here"), (["--define-variable=prefix=/moved", "--cflags", "--libs"],
                                                                    "-I/moved/include -L/moved/lib -lminisign")):
         _, said = run([needs.program("pkg-config", "pkg-config"), *words, "minisign"], PKG_CONFIG_PATH=f"{room}/here/lib/pkgconfig")
