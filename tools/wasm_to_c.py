@@ -10,7 +10,7 @@ addresses (`table`).
 
 Nothing here is proved. A table translates each instruction, and `goto` blocks and branches. An instruction that it
 does not know is an error with its name: floats, vectors, calls by table, memory that grows, recursion.
-tests/c/translated.py compares each row, and random functions, with Python's integers and with another WebAssembly.
+tests/c/translated.py compares each row, and random functions, with another WebAssembly.
 """
 
 import re

@@ -20,11 +20,12 @@ import sys
 import time
 
 HERE = os.path.dirname(os.path.realpath(__file__))
-sys.path.append(os.path.join(HERE, "..", "shared"))
+sys.path += [os.path.join(HERE, "..", name) for name in ("shared", "")]
 
 import ending
 import needs
 import static_library
+from check import processor_seconds
 from process import run
 from running import read, write
 
@@ -86,19 +87,13 @@ def copy_tree(to):
             shutil.copy(os.path.join(TOP, name), os.path.join(to, name))
 
 
-def processor_time():
-    """The seconds of the processor of all programs that were run."""
-    times = os.times()
-    return times.children_user + times.children_system
-
-
 def check_building(checks, tree):
     """The two commands that README begins with."""
     commands = re.search(r"^```sh\n(.*?)^```$", read(TOP, "README.md").decode(), re.M | re.S)[1].splitlines()
     checks.check(len(commands) == 2 and commands[0] == MAKE, f"README begins with other commands: {commands}")
-    began, used = time.monotonic(), processor_time()
+    began, used = time.monotonic(), processor_seconds()
     said = [checks.ended(command, tree.run(command)) for command in commands]
-    took, used = time.monotonic() - began, processor_time() - used
+    took, used = time.monotonic() - began, processor_seconds() - used
     checks.check(said[1] == VERIFIED, f"{commands[1]}: {said[1]}")
     print(f"at hand: built, and a download verified, in {took:.1f} s, of which {used:.1f} of the processor")
     is_busy = os.getloadavg()[0] > os.cpu_count()

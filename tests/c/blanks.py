@@ -103,7 +103,7 @@ def check_rejected(checks, copy):
                 # (a makefile that took no OUT for one would write into the root directory)
                 status, said = copy.run("make", "-s", "-C", directory, goal, f"OUT={out}", *([] if out else ["--just-print"]))
                 lines = [line for line in said.splitlines() if not re.match(r"make(\[1\])?: (Entering|Leaving)", line)]
-                checks.check(status != 0 and len(lines) == 1 and REJECTION in lines[0], f"make -C {directory} {goal} OUT='{out}': status {status}: {said}")
+                checks.check(status != 0 and len(lines) == 1 and REJECTION in lines[0], f"{directory}, {goal} OUT='{out}': {status}: {said}")
         changed = before ^ files_below(copy.room)
         checks.check(not changed, f"a wrong OUT in {directory} makes or removes {changed}")
 

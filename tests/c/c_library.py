@@ -35,9 +35,9 @@ SANITIZED = ["-fsanitize=address,undefined", "-fno-sanitize-recover=all"]
 WRAPPED = ["-Wl,--wrap=malloc", "-Wl,--wrap=realloc", "-Wl,--wrap=free"]
 
 # The programs, with what each is linked with.
-PROGRAMS = {"usage_errors": [], "asked_texts": [], "error_texts": [], "public_keys": WRAPPED, "out_of_memory": [*WRAPPED, "-Wl,--wrap=pthread_create"],
-            "allocations": [*WRAPPED, "-Wl,--wrap=madvise"], "installations": WRAPPED, "null": [], "guard_pages": [], "threads": ["-pthread"],
-            "random_calls": []}
+PROGRAMS = {"usage_errors": [], "asked_texts": [], "error_texts": [], "public_keys": WRAPPED, "installations": WRAPPED, "null": [],
+            "out_of_memory": [*WRAPPED, "-Wl,--wrap=pthread_create"], "allocations": [*WRAPPED, "-Wl,--wrap=madvise"], "guard_pages": [],
+            "threads": ["-pthread"], "random_calls": []}
 # The libraries, with what make is told of each, and the flags that the programs are built with once each.
 NO_THREADS = "-DMINISIGN_NO_THREADS"
 LIBRARIES = {"both copies": ([], ([], SANITIZED)), "for x86-64-v2": ([f"V3={static_library.DIST}/calls-x86-64-v2.a"], ([],)),
@@ -46,9 +46,9 @@ LIBRARIES = {"both copies": ([], ([], SANITIZED)), "for x86-64-v2": ([f"V3={stat
 
 def compiled(checks, what, name, compiler, library, *flags):
     """The path of a program of this directory that is built over a library, beside which it stands."""
-    program = os.path.join(os.path.dirname(library), name)
-    checks.ended(f"{what}: {name}.c", run([compiler, "-std=c11", *STRICT, "-g", "-O1", "-I", INCLUDE, "-o", program, os.path.join(HERE, f"{name}.c"),
-                                           library, *flags]))
+    program, source = os.path.join(os.path.dirname(library), name), os.path.join(HERE, f"{name}.c")
+    command = [compiler, "-std=c11", *STRICT, "-g", "-O1", "-I", INCLUDE, "-o", program, source, library, *flags]
+    checks.ended(f"{what}: {name}.c", run(command))
     return program
 
 

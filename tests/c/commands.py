@@ -89,8 +89,8 @@ class Clone:
     def __init__(self, room):
         self.top, origin = os.path.join(room, "clone"), os.path.join(room, "origin")
         copy_tree(origin)
-        for words in (["init", "-q"], ["add", "-A"], ["-c", "user.name=Ann", "-c", "user.email=ann@example.com", "commit", "-q", "-m", "as it stands"],
-                      ["clone", "-q", origin, self.top]):
+        named = ("-c", "user.name=Ann", "-c", "user.email=ann@example.com")
+        for words in (["init", "-q"], ["add", "-A"], [*named, "commit", "-q", "-m", "as it stands"], ["clone", "-q", origin, self.top]):
             self.git(*words, at=origin)
 
     def git(self, *words, at=None):

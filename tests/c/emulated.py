@@ -16,6 +16,7 @@ import needs
 import static_library
 from c_library import INCLUDE, PROGRAMS, STRICT, check_program, compiled
 from process import run
+from proved import ROOT
 from running import read, write
 
 # How many rows of a derivation the key of a usual limit takes.
@@ -32,7 +33,7 @@ AARCH64 = Kind("AArch64", "aarch64-linux-gnu", "arm64", "aarch64", "AArch64")
 def fetch(kind, place, *packages):
     """Has apt-get fetch packages of Debian for a processor, with a list of packages of its own, and unpacks them into a directory."""
     if not needs.may_install():
-        raise needs.Missing(f"{' and '.join(packages)} for {kind.debian} is not here: unpack it into {os.path.relpath(place, static_library.proved.ROOT)}")
+        raise needs.Missing(f"{' and '.join(packages)} for {kind.debian} is not here: unpack it into {os.path.relpath(place, ROOT)}")
     with tempfile.TemporaryDirectory(prefix="packages-") as room:
         for directory in ("lists/partial", "cache/archives/partial"):
             os.makedirs(f"{room}/{directory}")
@@ -55,7 +56,7 @@ def fetch(kind, place, *packages):
 
 def sodium(kind):
     """What make is told of Debian's libsodium, whose archive has a directory of Debian's name for the processor."""
-    place = os.path.join(static_library.proved.ROOT, "out", f"libsodium-for-{kind.name.lower()}")
+    place = os.path.join(ROOT, "out", f"libsodium-for-{kind.name.lower()}")
     archives = f"{place}/usr/lib/*/libsodium.a"
     if not glob.glob(archives):
         fetch(kind, place, "libsodium-dev", "libsodium23")
@@ -73,8 +74,8 @@ def emulator(kind):
 
 def compiler(kind):
     """The path of the cross compiler, with the C library for it."""
-    found = needs.program(f"{kind.triple}-gcc", f"gcc-{kind.triple}")
-    needs.need(lambda: os.path.exists(f"/usr/{kind.triple}/include/stdio.h") or None, f"the C library for {kind.name}", f"libc6-dev-{kind.debian}-cross")
+    found, header = needs.program(f"{kind.triple}-gcc", f"gcc-{kind.triple}"), f"/usr/{kind.triple}/include/stdio.h"
+    needs.need(lambda: os.path.exists(header) or None, f"the C library for {kind.name}", f"libc6-dev-{kind.debian}-cross")
     return found
 
 

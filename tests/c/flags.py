@@ -75,12 +75,14 @@ class Building:
 
 def debian():
     """The flags that a package gets with all hardening and LTO."""
-    _, flags = run([needs.program("dpkg-buildflags", "dpkg-dev"), "--export=cmdline"], DEB_BUILD_MAINT_OPTIONS="hardening=+all optimize=+lto")
+    _, flags = run([needs.program("dpkg-buildflags", "dpkg-dev"), "--export=cmdline"],
+                   DEB_BUILD_MAINT_OPTIONS="hardening=+all optimize=+lto")
     return {name: value for name, value in re.findall(r'(\w+)="([^"]*)"', flags) if name in ("CFLAGS", "CPPFLAGS", "LDFLAGS")}
 
 
 def run_all(checks, room):
     building, compiler = Building(checks, room), needs.libsodium()
+    cross = needs.program("aarch64-linux-gnu-gcc", "gcc-aarch64-linux-gnu")
     fedora = {"CFLAGS": FEDORA_CFLAGS.format(room=room), "LDFLAGS": FEDORA_LDFLAGS.format(room=room)}
     write(room, "cc1", FEDORA_CC1)
     write(room, "ld", FEDORA_LD)
@@ -88,7 +90,7 @@ def run_all(checks, room):
     building.verifies("Ubuntu's flags", CC=compiler, **UBUNTU, C_CALLS="")
     building.verifies("Fedora's flags", CC=compiler, **fedora, C_CALLS="")
     building.has_notes("-fcf-protection=full", ("IBT", "SHSTK"), "endbr64", compiler)
-    building.has_notes("-mbranch-protection=standard", ("BTI", "PAC"), "bti\tc", needs.program("aarch64-linux-gnu-gcc", "gcc-aarch64-linux-gnu"))
+    building.has_notes("-mbranch-protection=standard", ("BTI", "PAC"), "bti\tc", cross)
 
 
 if __name__ == "__main__":

@@ -11,19 +11,20 @@ YES, NO = 0x796573, 0x6E6F
 
 class Signature(ctypes.Structure):
     _fields_ = [("mark", c_uint64), ("key_id", c_uint8 * 8), ("signature", c_uint8 * 64), ("comment_signature", c_uint8 * 64),
-                ("comment_offset", c_uint64), ("comment_len", c_uint64), ("text_digest", c_uint8 * 32), ("algorithm", c_uint8 * 2),
-                ("legacy", c_uint8), ("whole", c_uint8), ("reserved", c_uint32)]
+                ("comment_offset", c_uint64), ("comment_len", c_uint64), ("text_digest", c_uint8 * 32),
+                ("algorithm", c_uint8 * 2), ("legacy", c_uint8), ("whole", c_uint8), ("reserved", c_uint32)]
 
 
 class Questions(ctypes.Structure):
-    _fields_ = [("public_key", c_uint8 * 32), ("digest", c_uint8 * 64), ("signature", c_uint8 * 64), ("comment_signature", c_uint8 * 64),
-                ("message_len", c_uint64), ("comment_offset", c_uint64), ("comment_len", c_uint64), ("legacy", c_uint32), ("reserved", c_uint32)]
+    _fields_ = [("public_key", c_uint8 * 32), ("digest", c_uint8 * 64), ("signature", c_uint8 * 64),
+                ("comment_signature", c_uint8 * 64), ("message_len", c_uint64), ("comment_offset", c_uint64),
+                ("comment_len", c_uint64), ("legacy", c_uint32), ("reserved", c_uint32)]
 
 
 # What each call answers and takes.
 CALLS = {
-    "init": (None, c_void_p), "update": (c_uint32, c_void_p, c_char_p, c_size_t), "read_public_key": (c_uint32, c_char_p, c_size_t, c_void_p),
-    "read_signature": (c_uint32, c_char_p, c_size_t, c_void_p), "digest": (c_uint32, c_void_p, c_void_p),
+    "init": (None, c_void_p), "update": (c_uint32, c_void_p, c_char_p, c_size_t), "digest": (c_uint32, c_void_p, c_void_p),
+    "read_public_key": (c_uint32, c_char_p, c_size_t, c_void_p), "read_signature": (c_uint32, c_char_p, c_size_t, c_void_p),
     "ask": (c_uint32, c_void_p, c_void_p, c_void_p, c_char_p, c_size_t, c_uint32, c_void_p, c_void_p, c_size_t),
     "verdict": (c_uint32, c_void_p, c_uint32, c_uint32), "error_text": (c_size_t, c_uint32, c_void_p, c_size_t)}
 
@@ -62,7 +63,8 @@ def verified(library, sodium, key, data, signature):
     call(library, "init", state)
     call(library, "read_public_key", key or None, len(key), key_value)
     call(library, "read_signature", signature or None, len(signature), byref(signature_value))
-    call(library, "ask", state, key_value, byref(signature_value), signature or None, len(signature), 0, byref(questions), message, len(signature))
+    call(library, "ask", state, key_value, byref(signature_value), signature or None, len(signature), 0, byref(questions),
+         message, len(signature))
     call(library, "update", state, data or None, len(data))
     call(library, "digest", state, byref(questions, Questions.digest.offset))
     call(library, "verdict", state, answer(sodium, questions.signature, questions.digest, 64, questions.public_key),

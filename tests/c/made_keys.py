@@ -101,7 +101,8 @@ class Keys:
 
     def secret(self, secret=SECRET, *password, key_id=KEY_ID, salt=SALT, limits=LITTLE, keep_every=1, room=ROOM, comment=SECRET_COMMENT):
         """The text of a secret key, sealed where there is a password."""
-        return self.ours("secret", key_id.hex(), secret.hex(), salt.hex(), *map(str, limits), str(keep_every), str(room), comment, *password)[0]
+        numbers = map(str, (*limits, keep_every, room))
+        return self.ours("secret", key_id.hex(), secret.hex(), salt.hex(), *numbers, comment, *password)[0]
 
     def public(self, secret=SECRET, key_id=KEY_ID, room=ROOM, comment=None):
         """The text of a public key, with Minisign's own comment."""
@@ -144,7 +145,8 @@ def same_bytes(keys):
     keys.holds("the random bytes are not those that were given", record_of(theirs)[6:38] == SALT
                and record_of(unsealed)[54:62] == KEY_ID and secret[:32] == SEED)
     for keep_every in (1, 16):
-        keys.holds(f"the text of a sealed key, every {keep_every}-th row kept", keys.secret(secret, "pw", limits=USUAL, keep_every=keep_every) == theirs)
+        made = keys.secret(secret, "pw", limits=USUAL, keep_every=keep_every)
+        keys.holds(f"the text of a sealed key, every {keep_every}-th row kept", made == theirs)
     keys.holds("the text of a public key", keys.public(secret) == their_public == unsealed_public)
     made = keys.secret(secret)
     keys.holds("the text of a key that is not sealed", made.splitlines()[0] == unsealed.splitlines()[0]
@@ -244,7 +246,8 @@ def rejections(keys):
         answer = keys.secret(SECRET, password, **arguments)
         keys.holds(f"secret, {name}: {answer}, and not {wanted}", answer == wanted)
     keys.holds("secret, limits without a password", isinstance(keys.secret(limits=TOO_MUCH), bytes))
-    for name, wanted, comment, room in (("not UTF-8", 8, b"\n\xff", ROOM), ("of two lines", 9, "a\nb", 0), ("with a carriage return", 11, "\r", 77)):
+    for name, wanted, comment, room in (
+            ("not UTF-8", 8, b"\n\xff", ROOM), ("of two lines", 9, "a\nb", 0), ("with a carriage return", 11, "\r", 77)):
         answer = keys.public(comment=comment, room=room)
         keys.holds(f"public, a comment {name}: {answer}, and not {wanted}", answer == wanted)
 

@@ -1,5 +1,5 @@
-"""How the programs of `c/` are built over musl, whose compiler finds nothing of Debian's: with Debian's libsodium, which is
-built over the other C library.
+"""How the programs of `c/` are built over musl, whose compiler finds nothing of Debian's: with Debian's libsodium,
+which is built over the other C library.
 """
 
 import os
@@ -34,5 +34,5 @@ def headers_of_sodium(room):
 def variables(room):
     """What make is told."""
     run([compiler(), "-c", "-o", f"{room}/of-glibc.o", write(room, "of-glibc.c", OF_GLIBC)])
-    archive = run([needs.libsodium(), "-print-file-name=libsodium.a"])[1].strip()
-    return {"CC": compiler(), "CPPFLAGS": f"-isystem {headers_of_sodium(room)}", "SODIUM": f"{archive} {room}/of-glibc.o"}
+    archive, headers = run([needs.libsodium(), "-print-file-name=libsodium.a"])[1].strip(), headers_of_sodium(room)
+    return {"CC": compiler(), "CPPFLAGS": f"-isystem {headers}", "SODIUM": f"{archive} {room}/of-glibc.o"}

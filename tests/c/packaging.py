@@ -46,12 +46,12 @@ def check_flags(checks, room):
     """The flags are in each command, also of the environment."""
     for words, environment in (([f"{name}={value}" for name, value in GIVEN.items()], {}), ([], GIVEN)):
         _, said = make("-Bn", "CC=gcc", f"OUT={room}/flags", "all", *words, **environment)
-        lines = [{*line.split()} for line in said.splitlines() if line.startswith("gcc ")]
+        lines = [line.split() for line in said.splitlines() if line.startswith("gcc ")]
         compiling = [line for line in lines if any(word.endswith(".c") for word in line)]
         linking = [line for line in lines if "-c" not in line]
         checks.check(len(compiling) == 8 and len(linking) == 3, f"{len(compiling)} commands compile, and {len(linking)} link")
         for line, flags in [(line, COMPILING) for line in compiling] + [(line, LINKING) for line in linking]:
-            checks.check(flags <= line, f"{' '.join(line)} has not the flags {flags}")
+            checks.check(flags <= {*line}, f"{' '.join(line)} has not the flags {flags}")
 
 
 def check_hardened(checks, out):
@@ -91,7 +91,8 @@ def check_installed(checks, room):
         checks.check("loader" not in said, f"a package was told of the loader: {said}")
         checks.ended(f"uninstall {words}", make("-s", "uninstall", *words))
         checks.check(files_below(dest) == {other}, f"uninstall {words}: {files_below(dest)}")
-    checks.ended("install", make("-s", "install", out, f"PREFIX={room}/here"), says=f"run `ldconfig` as root, link with -Wl,-rpath,{room}/here/lib")
+    checks.ended("install", make("-s", "install", out, f"PREFIX={room}/here"),
+                 says=f"run `ldconfig` as root, link with -Wl,-rpath,{room}/here/lib")
     for words, wanted in ((["--variable=prefix"], f"{room}/here"), (["--define-variable=prefix=/moved", "--cflags", "--libs"],
                                                                    "-I/moved/include -L/moved/lib -lminisign")):
         _, said = run([needs.program("pkg-config", "pkg-config"), *words, "minisign"], PKG_CONFIG_PATH=f"{room}/here/lib/pkgconfig")

@@ -80,7 +80,8 @@ def check_script(checks, script, *arguments):
 def run_all(checks, room):
     os.chmod(room, 0o711)
     programs = [f"{room}/c/minisign", f"{room}/c/minisign-install"]
-    static_library.run_make(f"OUT={room}/c", f"CC={needs.libsodium()}", "CPPFLAGS=-D_FORTIFY_SOURCE=2 -DPOSIX_ONLY", "C_CALLS=", "-j4", *programs)
+    static_library.run_make(f"OUT={room}/c", f"CC={needs.libsodium()}", "CPPFLAGS=-D_FORTIFY_SOURCE=2 -DPOSIX_ONLY", "C_CALLS=",
+                            "-j4", *programs)
     for program in programs:
         check_calls(checks, program)
     check_script(checks, "command_line/command_line.py", "--posix-only", programs[0])

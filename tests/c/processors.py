@@ -43,31 +43,34 @@ RUNS = {
     "max": "v3",
     **{f"Haswell,-{part}": "v2" for part in ("avx2", "bmi1", "bmi2", "f16c", "fma", "abm", "movbe", "xsave")},
 }
-# The copies, by which names make is told of them, and the first initial value of Blake2b, as archives and as C have it, with another one.
+# The copies, by which names make is told of them, and the first initial value of Blake2b in each, with another one.
 IN_ARCHIVE = (bytes.fromhex("08c9bcf367e6096a"), bytes.fromhex("09c9bcf367e6096a"))
 IN_C = (b"0x6a09e667f3bcc908", b"0x6a09e667f3bcc909")
-COPIES = {"v2": ("V2", "calls-x86-64-v2.a", IN_ARCHIVE), "v3": ("V3", "calls-x86-64-v3.a", IN_ARCHIVE), "c": ("C_CALLS", "calls.c", IN_C)}
+COPIES = {"v2": ("V2", "calls-x86-64-v2.a", IN_ARCHIVE), "v3": ("V3", "calls-x86-64-v3.a", IN_ARCHIVE),
+          "c": ("C_CALLS", "calls.c", IN_C)}
 # Flags under which the compilers build for a processor without an archive, and what they say.
-REJECTED = (("gcc", "-m32"), ("gcc", "-mx32"), ("aarch64-linux-gnu-gcc", "-mbig-endian"), ("aarch64-linux-gnu-gcc", "-mabi=ilp32"))
-REJECTION = "the archives of dist/ are for x86-64 and AArch64, little-endian and with pointers of 64 bits: build with PORTABLE=1"
+REJECTED = ("gcc -m32", "gcc -mx32", "aarch64-linux-gnu-gcc -mbig-endian", "aarch64-linux-gnu-gcc -mabi=ilp32")
+REJECTION = ("the archives of dist/ are for x86-64 and AArch64, little-endian and with pointers of 64 bits: "
+             "build with PORTABLE=1")
 
 
 def check_copies(checks, room):
-    """The program that verifies, over the copies of dist/, of which one has another initial value, rejects where that one runs."""
+    """The program over the copies of dist/, of which one has another initial value, rejects where that one runs."""
     emulator = needs.program("qemu-x86_64-static", "qemu-user-static")
     for wrong, (variable, name, values) in COPIES.items():
         changed = write(room, f"wrong-{name}", read(static_library.DIST, name).replace(*values))
         static_library.run_make(f"OUT={room}/{wrong}", f"{variable}={changed}", f"{room}/{wrong}/minisign")
         for processor, copy in RUNS.items():
-            command = [emulator, "-cpu", processor, f"{room}/{wrong}/minisign", "-Vm", "test", "-p", "published.pub", "-x", "published.minisig"]
-            checks.ended(f"{processor}, {wrong} with a wrong value", run(command, CORPUS), status=int(wrong == copy))
+            program = [emulator, "-cpu", processor, f"{room}/{wrong}/minisign"]
+            ran = run([*program, "-Vm", "test", "-p", "published.pub", "-x", "published.minisig"], CORPUS)
+            checks.ended(f"{processor}, {wrong} with a wrong value", ran, status=int(wrong == copy))
 
 
 def check_rejected(checks):
     source = os.path.join(static_library.DIRECTORY, "library", "boundary.c")
-    for compiler, flag in REJECTED:
-        status, said = run([compiler, flag, "-std=c11", "-I", emulated.INCLUDE, "-c", "-o", os.devnull, source])
-        checks.check(status != 0 and REJECTION in said, f"{compiler} {flag}: status {status}: {said[-300:]}")
+    for compiler in REJECTED:
+        status, said = run([*compiler.split(), "-std=c11", "-I", emulated.INCLUDE, "-c", "-o", os.devnull, source])
+        checks.check(status != 0 and REJECTION in said, f"{compiler}: status {status}: {said[-300:]}")
 
 
 def run_all(checks, room):
