@@ -2,13 +2,7 @@
  * Reads the texts of signatures and asks about them, with keys and signatures that Minisign 0.11 made of the bytes
  * `hello` and a line feed, and compares the number of each rejected text. The bytes were read from the texts by
  * Python's base64; the digests are those of its hashlib.
- *
- * Prints a line for each check that failed; the last line is `N passed, M failed`.
  */
-#include <stdint.h>
-#include <string.h>
-
-#include "minisign.h"
 #include "texts_for_tests.h"
 
 static const char HELLO_KEY[] =

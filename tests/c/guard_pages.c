@@ -1,14 +1,10 @@
 /*
  * Puts each buffer of a call right before an inaccessible page, and then right after one: no call reads or writes a
  * byte beside it. A wild access ends the program.
- *
- * The last line is `N passed, M failed`.
  */
 #define _DEFAULT_SOURCE
 
-#include <stdint.h>
 #include <stdlib.h>
-#include <string.h>
 #include <sys/mman.h>
 #include <unistd.h>
 
@@ -33,10 +29,7 @@ static uint8_t *buffer(size_t len)
 
 static uint8_t *copied(const void *bytes, size_t len)
 {
-    uint8_t *to = buffer(len);
-
-    memcpy(to, bytes, len);
-    return to;
+    return memcpy(buffer(len), bytes, len);
 }
 
 /* Room for a value of a type. */

@@ -13,11 +13,8 @@
  * hexadecimal; or the number of the error, with the exit status 1.
  */
 #include <inttypes.h>
-#include <stdio.h>
 #include <stdlib.h>
-#include <string.h>
 
-#include "minisign.h"
 #include "texts_for_tests.h"
 
 #define BYTES 4096

@@ -3,7 +3,7 @@
 
     tests/c/made_keys.py [LIBRARY]
 
-With the limits of `minisign -G` and the random bytes that it drew (`known_random.c` is preloaded into it), the texts
+With the limits of `minisign -G` and the random bytes that it drew (`fixed_sources.c` is preloaded into it), the texts
 have to be those that it wrote, byte for byte. Minisign uses keys that the library makes. The library opens keys of
 `minisign -G`, and makes them again under another password, for Minisign to use, and writes their public keys again.
 Opening is bounded in work and in memory, and each rejection has its number, in the order that the header says.
@@ -27,7 +27,7 @@ sys.path.append(os.path.join(HERE, "..", "shared"))
 import ending
 import needs
 import static_library
-from running import read, write
+from running import build_preload, read, write
 
 INCLUDE = os.path.join(HERE, "..", "..", "include")
 SECONDS = 1200
@@ -45,9 +45,9 @@ USUAL_ROWS, ANY_ROWS = 1 << 20, (1 << 64) - 1
 SECRET_COMMENT = "minisign encrypted secret key"
 ROOM = 4096
 
-# The random bytes of known_random.c, and where Minisign's come from: 16 of a canary of libsodium's before them.
-STREAM = bytes((place * 167 + 13) % 256 for place in range(88))
-KEY_ID, SEED, SALT = STREAM[16:24], STREAM[24:56], STREAM[56:88]
+# The random bytes of fixed_sources.c, and where Minisign's come from: 32 that libsodium draws for itself before them.
+STREAM = bytes(range(104))
+KEY_ID, SEED, SALT = STREAM[32:40], STREAM[40:72], STREAM[72:104]
 
 KEPT_IN_FEW_ROWS = 80 << 20
 ALL_ROWS = 1 << 30
@@ -280,13 +280,12 @@ def rejections(keys):
 def run_all(library, room):
     """Runs everything: the failures, and how many checks there are."""
     compiler, minisign = needs.libsodium(), needs.minisign()
-    program, known = os.path.join(room, "keys"), os.path.join(room, "known_random.so")
-    for command in ([compiler, *STRICT, "-I", INCLUDE, "-o", program, os.path.join(HERE, "keys.c"), library],
-                    [compiler, *STRICT, "-shared", "-fPIC", "-o", known, os.path.join(HERE, "known_random.c"), "-lsodium"]):
-        ran = subprocess.run(command, stdout=subprocess.PIPE, stderr=subprocess.STDOUT, timeout=SECONDS)
-        if ran.returncode != 0:
-            return [f"{command[-2]} was not built: {ran.stdout.decode(errors='replace')[-1000:]}"], 0
-    keys = Keys(program, minisign, known, room)
+    program = os.path.join(room, "keys")
+    ran = subprocess.run([compiler, *STRICT, "-I", INCLUDE, "-o", program, os.path.join(HERE, "keys.c"), library],
+                         stdout=subprocess.PIPE, stderr=subprocess.STDOUT, timeout=SECONDS)
+    if ran.returncode != 0:
+        return [f"keys.c was not built: {ran.stdout.decode(errors='replace')[-1000:]}"], 0
+    keys = Keys(program, minisign, build_preload(room, "fixed_sources"), room)
     for part in (rejections, other_limits, bounds, sealed_as_hashlib_says, comments, same_bytes, made_again):
         part(keys)
     return keys.failures, keys.count

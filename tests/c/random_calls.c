@@ -2,14 +2,7 @@
  * 2,000,000 random calls, or with -DIS_EMULATED a tenth of them, on a few states, keys and signatures, beside a model
  * of each: the number of each call is the model's, an error changes nothing, and the digest is that of what the model
  * was fed.
- *
- * Prints a line for each check that failed; the last line is `N passed, M failed`. The answers of Ed25519 are made
- * up.
  */
-#include <stdint.h>
-#include <string.h>
-
-#include "minisign.h"
 #include "texts_for_tests.h"
 
 #ifdef IS_EMULATED

@@ -1,5 +1,5 @@
-/* Texts and a count of checks for the programs of these tests, each of which is one file. What Ed25519 would answer is
- * made up in them: no check depends on it. */
+/* Texts and a count of checks for the programs of these tests, each of which is one file: it prints a line for each check that
+ * failed, and a last line `N passed, M failed`. What Ed25519 would answer is made up in them: no check depends on it. */
 #ifndef TEXTS_FOR_TESTS_H
 #define TEXTS_FOR_TESTS_H
 

@@ -1,16 +1,11 @@
 /*
  * Several threads at once, each with states of its own: each verifies and signs its own data, again and again, and
  * gets what one thread alone gets.
- *
- * The last line is `N passed, M failed`.
  */
 #define _POSIX_C_SOURCE 200809L
 
 #include <pthread.h>
-#include <stdint.h>
-#include <string.h>
 
-#include "minisign.h"
 #include "texts_for_tests.h"
 
 enum { THREADS = 8, ROUNDS = 40, BYTES = 30011 };
