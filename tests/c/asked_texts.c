@@ -137,9 +137,6 @@ static void rejected(void)
         enum minisign_error number;
     } rows[] = {
         { HELLO_KEY, LEGACY, MINISIGN_LEGACY_NOT_ACCEPTED },
-        { "", PREHASHED, MINISIGN_MISSING_PUBLIC_KEY_COMMENT },
-        { "untrusted comment: x\n", PREHASHED, MINISIGN_MISSING_PUBLIC_KEY },
-        { "untrusted comment: x\nRWS4oO+O\n", PREHASHED, MINISIGN_PUBLIC_KEY_LENGTH },
         { "untrusted comment: x\nRWQBAgMEBQYHCFpaWlpaWlpaWlpaWlpaWlpaWlpaWlpaWlpaWlpaWlpa\n", PREHASHED,
           MINISIGN_DIFFERENT_KEY_IDS },
         { HELLO_KEY, "", MINISIGN_MISSING_UNTRUSTED_COMMENT },
