@@ -57,10 +57,6 @@ void *__real_malloc(size_t size);
 void *__real_realloc(void *old, size_t size);
 void __real_free(void *block);
 int __real_madvise(void *from, size_t len, int hint);
-void *__wrap_malloc(size_t size);
-void *__wrap_realloc(void *old, size_t size);
-void __wrap_free(void *block);
-int __wrap_madvise(void *from, size_t len, int hint);
 
 static void check_block_of(int holds, const char *what, size_t len, size_t alignment)
 {

@@ -19,8 +19,6 @@
 /* How many threads were asked for. */
 static long threads;
 
-int __wrap_pthread_create(void *thread, const void *attributes, void *(*begin)(void *), void *with);
-
 /* There is none to be had: the library does without. */
 int __wrap_pthread_create(void *thread, const void *attributes, void *(*begin)(void *), void *with)
 {
