@@ -55,18 +55,12 @@ def groups_of(path):
     return groups
 
 
-def processor_seconds():
-    """What the scripts that have ended, and all that they ran, have taken of the processor."""
-    times = os.times()
-    return times.children_user + times.children_system
-
-
 def run(script):
     """Runs a script, shows what it says, and returns how many of its checks passed and how many failed."""
     shown, last = " ".join(script.words), ""
     print(f"== {shown}", flush=True)
-    begun, used = time.monotonic(), processor_seconds()
-    environment = dict({name: value for name, value in os.environ.items() if name not in OF_MAKE}, PYTHONUNBUFFERED="1")
+    begun, used = time.monotonic(), os.times()
+    environment = {**{name: value for name, value in os.environ.items() if name not in OF_MAKE}, "PYTHONUNBUFFERED": "1"}
     with subprocess.Popen([sys.executable, *script.words], cwd=TOP, env=environment, stdin=subprocess.DEVNULL,
                           stdout=subprocess.PIPE) as process:
         for line in process.stdout:
@@ -77,16 +71,14 @@ def run(script):
     if not numbers or (process.returncode == 0) != (failed == 0):
         print(f"FAILED: {shown} ended with status {process.returncode}, and its last line is {last!r}")
         failed = max(failed, 1)
-    print(f"== {shown}: {time.monotonic() - begun:.0f} s, {processor_seconds() - used:.0f} of the processor", flush=True)
+    processor = os.times().children_user - used.children_user + os.times().children_system - used.children_system
+    print(f"== {shown}: {time.monotonic() - begun:.0f} s, {processor:.0f} of the processor", flush=True)
     return passed, failed
 
 
 def run_all(scripts):
     """Runs scripts, and prints the last line: the exit status."""
-    passed = failed = 0
-    for script in scripts:
-        more = run(script)
-        passed, failed = passed + more[0], failed + more[1]
+    passed, failed = map(sum, zip((0, 0), *map(run, scripts)))
     print(f"{passed} passed, {failed} failed")
     return 1 if failed or not passed else 0
 
@@ -113,8 +105,7 @@ def main(words):
     options = parser.parse_args(words)
     groups = groups_of(options.list)
     if options.groups:
-        for group in groups:
-            print(" ".join([group.name, *group.words]))
+        print("\n".join(" ".join([group.name, *group.words]) for group in groups))
         return 0
     if options.group:
         return run_all(script for group in groups if group.name == options.group for script in group.scripts

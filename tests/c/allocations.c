@@ -6,7 +6,7 @@
  *
  * Linked with -Wl,--wrap=malloc -Wl,--wrap=realloc -Wl,--wrap=free -Wl,--wrap=madvise. With -DMINISIGN_MALLOC_ALONE
  * the calls are those of c/library/portable/allocation.c, which asks the system for nothing, and nothing is about
- * pages. Prints a line for each check that failed; the last line is `N passed, M failed`.
+ * pages.
  */
 #ifdef MINISIGN_MALLOC_ALONE
 #include "../../c/library/portable/allocation.c"
@@ -31,10 +31,8 @@
 #endif
 
 #include <errno.h>
-#include <stdio.h>
 #include <time.h>
 
-#include "minisign.h"
 #include "texts_for_tests.h"
 
 enum { MOST = 256 };
@@ -59,10 +57,6 @@ void *__real_malloc(size_t size);
 void *__real_realloc(void *old, size_t size);
 void __real_free(void *block);
 int __real_madvise(void *from, size_t len, int hint);
-void *__wrap_malloc(size_t size);
-void *__wrap_realloc(void *old, size_t size);
-void __wrap_free(void *block);
-int __wrap_madvise(void *from, size_t len, int hint);
 
 static void check_block_of(int holds, const char *what, size_t len, size_t alignment)
 {

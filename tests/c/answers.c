@@ -5,12 +5,9 @@
  *
  *     answers FILE
  */
-#include <stdint.h>
-#include <stdio.h>
 #include <stdlib.h>
-#include <string.h>
 
-#include "minisign.h"
+#include "texts_for_tests.h"
 
 enum { MOST = 1 << 20 };
 
@@ -102,8 +99,7 @@ static void tell_verdict(const minisign_public_key *key, const minisign_signatur
         printf("%d ", minisign_update(&state, data + len / 3, len - len / 3));
         printf("%d ", minisign_digest(&state, questions.digest));
         add_questions(&questions);
-        printf("%d ", minisign_verdict(&state, answers & 1 ? MINISIGN_ANSWER_NO : MINISIGN_ANSWER_YES,
-                                       answers & 2 ? MINISIGN_ANSWER_NO : MINISIGN_ANSWER_YES));
+        printf("%d ", minisign_verdict(&state, answers & 1 ? NO : YES, answers & 2 ? NO : YES));
         add(&state, sizeof state);
     }
 }

@@ -2,13 +2,7 @@
  * Reads the texts of signatures and asks about them, with keys and signatures that Minisign 0.11 made of the bytes
  * `hello` and a line feed, and compares the number of each rejected text. The bytes were read from the texts by
  * Python's base64; the digests are those of its hashlib.
- *
- * Prints a line for each check that failed; the last line is `N passed, M failed`.
  */
-#include <stdint.h>
-#include <string.h>
-
-#include "minisign.h"
 #include "texts_for_tests.h"
 
 static const char HELLO_KEY[] =
@@ -143,9 +137,6 @@ static void rejected(void)
         enum minisign_error number;
     } rows[] = {
         { HELLO_KEY, LEGACY, MINISIGN_LEGACY_NOT_ACCEPTED },
-        { "", PREHASHED, MINISIGN_MISSING_PUBLIC_KEY_COMMENT },
-        { "untrusted comment: x\n", PREHASHED, MINISIGN_MISSING_PUBLIC_KEY },
-        { "untrusted comment: x\nRWS4oO+O\n", PREHASHED, MINISIGN_PUBLIC_KEY_LENGTH },
         { "untrusted comment: x\nRWQBAgMEBQYHCFpaWlpaWlpaWlpaWlpaWlpaWlpaWlpaWlpaWlpaWlpa\n", PREHASHED,
           MINISIGN_DIFFERENT_KEY_IDS },
         { HELLO_KEY, "", MINISIGN_MISSING_UNTRUSTED_COMMENT },

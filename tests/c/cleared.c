@@ -42,8 +42,9 @@ struct range {
 };
 
 /* What is the caller's own: secrets stand in it by right. */
-static const struct range own[] = { { secret_key, sizeof secret_key }, { password, sizeof password }, { unsealed, sizeof unsealed },
-                                    { &key, sizeof key }, { &opened, sizeof opened }, { &unopened, sizeof unopened } };
+static const struct range own[] = { { secret_key, sizeof secret_key }, { password, sizeof password },
+                                    { unsealed, sizeof unsealed },     { &key, sizeof key },
+                                    { &opened, sizeof opened },        { &unopened, sizeof unopened } };
 
 static const uint8_t *frame;
 static size_t depth;

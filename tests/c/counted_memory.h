@@ -16,9 +16,6 @@ static long requests, held;
 void *__real_malloc(size_t size);
 void *__real_realloc(void *old, size_t size);
 void __real_free(void *block);
-void *__wrap_malloc(size_t size);
-void *__wrap_realloc(void *old, size_t size);
-void __wrap_free(void *block);
 
 static int is_refused(size_t size)
 {

@@ -1,8 +1,6 @@
 /*
  * The text of each number of minisign.h: errors as the published list has them, and usage errors in the library's own
  * words; whole in MINISIGN_ERROR_TEXT_BYTES, cut in less, and no byte after it written.
- *
- * Prints a line for each check that failed; the last line is `N passed, M failed`.
  */
 #include "texts_for_tests.h"
 

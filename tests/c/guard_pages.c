@@ -1,14 +1,10 @@
 /*
  * Puts each buffer of a call right before an inaccessible page, and then right after one: no call reads or writes a
  * byte beside it. A wild access ends the program.
- *
- * The last line is `N passed, M failed`.
  */
 #define _DEFAULT_SOURCE
 
-#include <stdint.h>
 #include <stdlib.h>
-#include <string.h>
 #include <sys/mman.h>
 #include <unistd.h>
 
@@ -33,10 +29,7 @@ static uint8_t *buffer(size_t len)
 
 static uint8_t *copied(const void *bytes, size_t len)
 {
-    uint8_t *to = buffer(len);
-
-    memcpy(to, bytes, len);
-    return to;
+    return memcpy(buffer(len), bytes, len);
 }
 
 /* Room for a value of a type. */
@@ -283,6 +276,15 @@ static minisign_installation *installing(uint32_t due)
     return i;
 }
 
+/* Asks with so much of the text of a signature, and so much room for the message. */
+static enum minisign_error ask_to_install(size_t len, size_t room)
+{
+    used = 0;
+    minisign_installation *i = installing(MINISIGN_DUE_JUDGE);
+    used = 2;
+    return minisign_install_ask(i, copied(SIGNATURE, len), len, copied("test", 4), 4, 0, NEW(minisign_questions), buffer(room), room);
+}
+
 /* Records, names and comments of each length, and room of each length for the message and the record. */
 static void installations(void)
 {
@@ -296,22 +298,12 @@ static void installations(void)
         CHECK(minisign_install_due(i) == (0 < size && size <= 64 ? MINISIGN_DUE_JUDGE : MINISIGN_DUE_REFUSED));
     }
     for (size_t room = 0; room <= MESSAGE_LEN; room++) {
-        used = 0;
-        minisign_installation *i = installing(MINISIGN_DUE_JUDGE);
-        used = 2;
-        minisign_questions *q = NEW(minisign_questions);
-        CHECK(minisign_install_ask(i, copied(SIGNATURE, len), len, copied("test", 4), 4, 0, q, buffer(room), room)
-              == (room < MESSAGE_LEN ? MINISIGN_NO_ROOM : MINISIGN_OK));
+        CHECK(ask_to_install(len, room) == (room < MESSAGE_LEN ? MINISIGN_NO_ROOM : MINISIGN_OK));
     }
     for (size_t size = 0; size < len; size++) {
         minisign_signature read;
 
-        used = 0;
-        minisign_installation *i = installing(MINISIGN_DUE_JUDGE);
-        used = 2;
-        minisign_questions *q = NEW(minisign_questions);
-        CHECK(minisign_install_ask(i, copied(SIGNATURE, size), size, copied("test", 4), 4, 0, q, buffer(MESSAGE_LEN), MESSAGE_LEN)
-              == minisign_read_signature(bytes_of(SIGNATURE), size, &read));
+        CHECK(ask_to_install(size, MESSAGE_LEN) == minisign_read_signature(bytes_of(SIGNATURE), size, &read));
     }
     for (size_t room = 0; room <= MINISIGN_RECORD_TEXT_BYTES; room++) {
         used = 0;

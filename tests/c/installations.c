@@ -3,11 +3,9 @@
  * compares what is due then with a table of its own. A usage error changes no byte of the struct. Also the records
  * and the signed comments that are taken and rejected, and the questions to Ed25519; and nothing allocates.
  *
- * Linked with -Wl,--wrap=malloc -Wl,--wrap=realloc -Wl,--wrap=free. Prints a line for each check that failed; the
- * last line is `N passed, M failed`.
+ * Linked with -Wl,--wrap=malloc -Wl,--wrap=realloc -Wl,--wrap=free.
  */
 #include <stdlib.h>
-#include <string.h>
 
 #include "counted_memory.h"
 #include "minisign_install.h"
@@ -18,7 +16,7 @@
 #define NUMBER 1556193335
 /* What is written into the record of it, with the data `abc`: the key's bytes behind its key ID, and the digest below. */
 #define OWN_NUMBER "timestamp:1556193335"
-#define OWN_RECORD OWN_NUMBER                                                \
+#define OWN_RECORD OWN_NUMBER                                            \
     "\n79a561e70ee08cd3e754c63e9bd6b9c3520a1d4204cd104da2e7ef763b1853b7" \
     "\n" HEX_OF_ABC
 

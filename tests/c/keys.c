@@ -13,11 +13,8 @@
  * hexadecimal; or the number of the error, with the exit status 1.
  */
 #include <inttypes.h>
-#include <stdio.h>
 #include <stdlib.h>
-#include <string.h>
 
-#include "minisign.h"
 #include "texts_for_tests.h"
 
 #define BYTES 4096
@@ -183,18 +180,12 @@ static int open_key(int argc, char **argv)
 
 int main(int argc, char **argv)
 {
+    const char *how = argc > 1 ? argv[1] : "";
+
     memset(text, 0x5a, sizeof text);
-    if (argc >= 10 && strcmp(argv[1], "secret") == 0) {
-        return make_secret(argc, argv);
-    }
-    if (argc == 6 && strcmp(argv[1], "public") == 0) {
-        return make_public(argv);
-    }
-    if (argc >= 5 && (strcmp(argv[1], "open") == 0 || strcmp(argv[1], "place") == 0)) {
-        return open_key(argc, argv);
-    }
-    if (argc == 4 && strcmp(argv[1], "memory") == 0) {
-        return tell_memory(argv);
-    }
-    return 2;
+    return argc >= 10 && strcmp(how, "secret") == 0                               ? make_secret(argc, argv)
+           : argc == 6 && strcmp(how, "public") == 0                              ? make_public(argv)
+           : argc >= 5 && (strcmp(how, "open") == 0 || strcmp(how, "place") == 0) ? open_key(argc, argv)
+           : argc == 4 && strcmp(how, "memory") == 0                              ? tell_memory(argv)
+                                                                                  : 2;
 }

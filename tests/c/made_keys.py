@@ -3,7 +3,7 @@
 
     tests/c/made_keys.py
 
-With the limits of `minisign -G` and the random bytes that it drew (`known_random.c` is preloaded into it), the texts
+With the limits of `minisign -G` and the random bytes that it drew (`fixed_sources.c` is preloaded into it), the texts
 have to be those that it wrote, byte for byte. Minisign uses keys that the library makes. The library opens keys of
 `minisign -G`, and makes them again under another password, for Minisign to use, and writes their public keys again.
 Opening is bounded in work and in memory, and each rejection has its number, in the order that the header says (more
@@ -26,9 +26,8 @@ sys.path.append(os.path.join(HERE, "..", "shared"))
 import ending
 import needs
 import static_library
-from c_library import STRICT, compiled
-from process import run
-from running import read, write
+from c_library import compiled
+from running import build_preload, read, write
 
 # The limits of `minisign -G`, and some that take little: N is 1024, and p is 1 or 4; and some of which the memory is too much.
 USUAL = (33554432, 1073741824)
@@ -42,9 +41,9 @@ USUAL_ROWS = 1 << 20
 SECRET_COMMENT = "minisign encrypted secret key"
 ROOM = 4096
 
-# The random bytes of known_random.c, and where Minisign's come from: 16 of a canary of libsodium's before them.
-STREAM = bytes((place * 167 + 13) % 256 for place in range(88))
-KEY_ID, SEED, SALT = STREAM[16:24], STREAM[24:56], STREAM[56:88]
+# The random bytes of fixed_sources.c, and where Minisign's come from: 32 that libsodium draws for itself before them.
+STREAM = bytes(range(104))
+KEY_ID, SEED, SALT = STREAM[32:40], STREAM[40:72], STREAM[72:104]
 # A secret key, of which the library does not look at the second half.
 SECRET = SEED + SALT
 
@@ -78,9 +77,7 @@ class Keys:
         self.directory, self.minisign = directory, needs.minisign()
         library = static_library.library(os.path.join(directory, "c"))
         self.program = compiled(checks, "here", "keys", needs.libsodium(), library)
-        self.known = os.path.join(directory, "known_random.so")
-        checks.ended("known_random.c", run([needs.libsodium(), "-std=c11", *STRICT, "-shared", "-fPIC", "-o", self.known,
-                                            os.path.join(HERE, "known_random.c"), "-lsodium"]))
+        self.known = build_preload(directory, "fixed_sources")
 
     def run(self, *command, typed=b"", preloaded=""):
         """Runs a command: its status, what it wrote, and the most memory that it held, in bytes."""

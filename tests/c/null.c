@@ -1,12 +1,6 @@
 /*
  * For each pointer of each call, NULL with length 0 acts as a pointer to no bytes: the same number, state and bytes.
- *
- * Prints a line for each check that failed; the last line is `N passed, M failed`.
  */
-#include <stdint.h>
-#include <string.h>
-
-#include "minisign.h"
 #include "texts_for_tests.h"
 
 static void feeding(void)

@@ -5,24 +5,19 @@
  * of scrypt refused for a key sealed as `minisign -G` seals.
  *
  * Linked with -Wl,--wrap=malloc -Wl,--wrap=realloc -Wl,--wrap=free -Wl,--wrap=pthread_create, and built with
- * -DMINISIGN_NO_THREADS where the library is. Prints a line for each check that failed; the last line is `N passed, M
- * failed`.
+ * -DMINISIGN_NO_THREADS where the library is.
  */
 #define _DEFAULT_SOURCE
 
-#include <string.h>
 #ifdef __linux__
 #include <sys/mman.h>
 #endif
 
 #include "counted_memory.h"
-#include "minisign.h"
 #include "texts_for_tests.h"
 
 /* How many threads were asked for. */
 static long threads;
-
-int __wrap_pthread_create(void *thread, const void *attributes, void *(*begin)(void *), void *with);
 
 /* There is none to be had: the library does without. */
 int __wrap_pthread_create(void *thread, const void *attributes, void *(*begin)(void *), void *with)

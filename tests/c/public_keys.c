@@ -2,8 +2,6 @@
  * The texts of public keys, with the key and the key ID that they give, and rejected ones, with their numbers. The
  * keys were made by Minisign; their bytes and key IDs are those that Python's base64 decodes from the second lines. A
  * rejection changes neither, and nothing allocates.
- *
- * Prints a line for each check that failed; the last line is `N passed, M failed`.
  */
 #include "counted_memory.h"
 #include "texts_for_tests.h"

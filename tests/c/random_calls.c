@@ -2,14 +2,7 @@
  * 2,000,000 random calls, or with -DIS_EMULATED a tenth of them, on a few states, keys and signatures, beside a model
  * of each: the number of each call is the model's, an error changes nothing, and the digest is that of what the model
  * was fed.
- *
- * Prints a line for each check that failed; the last line is `N passed, M failed`. The answers of Ed25519 are made
- * up.
  */
-#include <stdint.h>
-#include <string.h>
-
-#include "minisign.h"
 #include "texts_for_tests.h"
 
 #ifdef IS_EMULATED
@@ -168,29 +161,29 @@ static void ask(int at)
     }
 }
 
+/* What a verdict answers: that of the comment alone is told before the digest is, and whatever the first answer would be. */
+static enum minisign_error verdict_number(const struct model *model, int is_due, uint32_t first, uint32_t second)
+{
+    return !is_answer(first) || !is_answer(second) ? MINISIGN_BAD_ANSWER
+           : model->phase == NONE                  ? MINISIGN_NOT_BEGUN
+           : !is_due || !model->asked              ? MINISIGN_NOT_ASKED
+           : first != YES                          ? MINISIGN_SIGNATURE_REFUSED
+           : model->whole && second == YES         ? MINISIGN_OK
+                                                   : MINISIGN_COMMENT_SIGNATURE_REFUSED;
+}
+
 static void comment_verdict(int at)
 {
-    const struct model *model = &models[at];
     uint32_t second = draw_answer();
-    enum minisign_error wanted = !is_answer(second)                                    ? MINISIGN_BAD_ANSWER
-                                 : model->phase == NONE                                ? MINISIGN_NOT_BEGUN
-                                 : !model->asked                                       ? MINISIGN_NOT_ASKED
-                                 : model->whole && second == YES       ? MINISIGN_OK
-                                                                                       : MINISIGN_COMMENT_SIGNATURE_REFUSED;
 
-    CHECK(minisign_comment_verdict(&states[at], (enum minisign_answer) second) == wanted);
+    CHECK(minisign_comment_verdict(&states[at], (enum minisign_answer) second) == verdict_number(&models[at], 1, YES, second));
 }
 
 static int verdict(int at)
 {
     struct model *model = &models[at];
     uint32_t first = draw_answer(), second = draw_answer();
-    enum minisign_error wanted = !is_answer(first) || !is_answer(second)               ? MINISIGN_BAD_ANSWER
-                                 : model->phase == NONE                                ? MINISIGN_NOT_BEGUN
-                                 : model->phase == FED || !model->asked                ? MINISIGN_NOT_ASKED
-                                 : first != YES                        ? MINISIGN_SIGNATURE_REFUSED
-                                 : model->whole && second == YES       ? MINISIGN_OK
-                                                                                       : MINISIGN_COMMENT_SIGNATURE_REFUSED;
+    enum minisign_error wanted = verdict_number(model, model->phase == TOLD, first, second);
     int ends = is_answer(first) && is_answer(second) && model->phase == TOLD && model->asked;
 
     CHECK(minisign_verdict(&states[at], (enum minisign_answer) first, (enum minisign_answer) second) == wanted);

@@ -1,5 +1,6 @@
-/* Texts and a count of checks for the programs of these tests, each of which is one file. What Ed25519 would answer is
- * made up in them: no check depends on it. */
+/* Texts and a count of checks for the programs of these tests, each of which is one file: it prints a line for each
+ * check that failed, and a last line `N passed, M failed`. What Ed25519 would answer is made up in them: no check
+ * depends on it. */
 #ifndef TEXTS_FOR_TESTS_H
 #define TEXTS_FOR_TESTS_H
 
@@ -138,20 +139,21 @@ static inline enum minisign_error read_and_open(const char *text, const char *pa
 {
     enum minisign_error error = minisign_read_secret_key(bytes_of(text), strlen(text), unopened);
 
-    return error != MINISIGN_OK ? error
-           : password == NULL   ? minisign_open_unsealed_key(unopened, key)
-                                : minisign_open_sealed_key(unopened, bytes_of(password), strlen(password), MINISIGN_KEEP_EVERY_ROW,
-                                                           MINISIGN_USUAL_ROWS, key);
+    if (error != MINISIGN_OK || password == NULL) {
+        return error != MINISIGN_OK ? error : minisign_open_unsealed_key(unopened, key);
+    }
+    return minisign_open_sealed_key(unopened, bytes_of(password), strlen(password), MINISIGN_KEEP_EVERY_ROW,
+                                    MINISIGN_USUAL_ROWS, key);
 }
 
-/* Writes the text of a secret key under a password, with so many bytes of memory: N is one for each KiB, of which p is so many. */
-static inline enum minisign_error seal(const minisign_secret_key *key, const char *password, size_t memory, uint64_t p, uint8_t *text,
-                                       size_t room, size_t *text_len)
+/* Writes the text of a secret key under a password, with so many bytes of memory, an N of one for each KiB, and this p. */
+static inline enum minisign_error seal(const minisign_secret_key *key, const char *password, size_t memory, uint64_t p,
+                                       uint8_t *text, size_t room, size_t *text_len)
 {
     const minisign_sealing sealing = { .operations_limit = memory / 32 * p, .memory_limit = memory };
 
-    return minisign_secret_key_text(key, 1, bytes_of(password), strlen(password), &sealing, MINISIGN_KEEP_EVERY_ROW, bytes_of("c"), 1,
-                                    text, room, text_len);
+    return minisign_secret_key_text(key, 1, bytes_of(password), strlen(password), &sealing, MINISIGN_KEEP_EVERY_ROW,
+                                    bytes_of("c"), 1, text, room, text_len);
 }
 
 /* Makes the text of a signature of what stands in different places. */

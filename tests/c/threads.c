@@ -1,16 +1,11 @@
 /*
  * Several threads at once, each with states of its own: each verifies and signs its own data, again and again, and
  * gets what one thread alone gets.
- *
- * The last line is `N passed, M failed`.
  */
 #define _POSIX_C_SOURCE 200809L
 
 #include <pthread.h>
-#include <stdint.h>
-#include <string.h>
 
-#include "minisign.h"
 #include "texts_for_tests.h"
 
 enum { THREADS = 8, ROUNDS = 40, BYTES = 30011 };
@@ -30,6 +25,7 @@ static struct told alone[THREADS], together[THREADS];
 
 static void run(struct told *told, int number, int rounds)
 {
+    const size_t sig_len = sizeof SIGNATURE - 1;
     uint8_t data[BYTES];
 
     memset(data, number, sizeof data);
@@ -40,16 +36,17 @@ static void run(struct told *told, int number, int rounds)
 
         minisign_init(&state);
         told->good &= minisign_read_public_key(bytes_of(KEY), sizeof KEY - 1, &key) == MINISIGN_OK;
-        told->good &= minisign_read_signature(bytes_of(SIGNATURE), sizeof SIGNATURE - 1, &told->signature) == MINISIGN_OK;
-        told->good &= minisign_ask(&state, &key, &told->signature, bytes_of(SIGNATURE), sizeof SIGNATURE - 1, 0, &told->questions,
+        told->good &= minisign_read_signature(bytes_of(SIGNATURE), sig_len, &told->signature) == MINISIGN_OK;
+        told->good &= minisign_ask(&state, &key, &told->signature, bytes_of(SIGNATURE), sig_len, 0, &told->questions,
                                    told->message, sizeof told->message) == MINISIGN_OK;
         told->good &= minisign_update(&state, data, sizeof data) == MINISIGN_OK;
         told->good &= minisign_digest(&state, told->questions.digest) == MINISIGN_OK;
         told->good &= minisign_verdict(&state, YES, number % 2 ? YES : NO)
                       == (number % 2 ? MINISIGN_OK : MINISIGN_COMMENT_SIGNATURE_REFUSED);
         told->good &= read_and_open(SECRET_KEY, NULL, &told->unopened, &told->key) == MINISIGN_OK;
-        told->good &= make_signed_text(&told->key, told->questions.signature, told->questions.comment_signature, bytes_of("12345678"),
-                                       (size_t) number, NULL, 0, told->text, sizeof told->text, &told->text_len) == MINISIGN_OK;
+        told->good &= make_signed_text(&told->key, told->questions.signature, told->questions.comment_signature,
+                                       bytes_of("12345678"), (size_t) number, NULL, 0, told->text, sizeof told->text,
+                                       &told->text_len) == MINISIGN_OK;
     }
 }
 

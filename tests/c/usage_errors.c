@@ -3,12 +3,7 @@
  * comments that Minisign would not read back, and more work than is allowed. Each is an error number, and changes
  * nothing. Right calls stand beside them, which shows that it is the use that is rejected. random_calls.c has calls
  * in the wrong order.
- *
- * Prints a line for each check that failed; the last line is `N passed, M failed`.
  */
-#include <string.h>
-
-#include "minisign.h"
 #include "texts_for_tests.h"
 
 /* The data. */

@@ -19,8 +19,8 @@ class AtTerminal:
         self.shown = b""
         self.person, self.side = pty.openpty()
         # (the terminal is that of the process, which has just begun a session)
-        self.process = subprocess.Popen(command, executable=program, cwd=directory, env=environment, stdin=self.side, stdout=self.side,
-                                        stderr=self.side, umask=0o022, start_new_session=True,
+        self.process = subprocess.Popen(command, executable=program, cwd=directory, env=environment, stdin=self.side,
+                                        stdout=self.side, stderr=self.side, umask=0o022, start_new_session=True,
                                         preexec_fn=lambda: fcntl.ioctl(self.side, termios.TIOCSCTTY, 0))
 
     def read_until(self, pattern):

@@ -64,7 +64,8 @@ class Disturbing:
         """A run with a library preloaded that has a call or a request for memory fail: by names that begin with this word it is told
         of that, and where to say that the run came to it."""
         environment = {"LD_PRELOAD": preload, **{f"{word}_{name}": str(value) for name, value in told_of.items()}}
-        ran, came = told(lambda says: self.run(directory, arguments, {**environment, f"{word}_SAYS": str(says)}, pass_fds=[says], **how))
+        run = lambda says: self.run(directory, arguments, {**environment, f"{word}_SAYS": str(says)}, pass_fds=[says], **how)
+        ran, came = told(run)
         return replace(ran, came=came)
 
     def run_broken(self, directory, arguments, how, **more):

@@ -177,30 +177,18 @@ static int open_in(const char *call, int directory, const char *path, int flags,
     return fd;
 }
 
-int open(const char *path, int flags, ...)
-{
-    LOOK;
-    return open_in("open", AT_FDCWD, path, flags, MODE_BEHIND(flags));
-}
+#define OPENS(name, call, directory, mode, parameters)                                    \
+    int name parameters                                                                   \
+    {                                                                                     \
+        LOOK;                                                                             \
+        return open_in(call, directory, path, flags, mode);                               \
+    }
 
-int openat(int directory, const char *path, int flags, ...)
-{
-    LOOK;
-    return open_in("openat", directory, path, flags, MODE_BEHIND(flags));
-}
-
+OPENS(open, "open", AT_FDCWD, MODE_BEHIND(flags), (const char *path, int flags, ...))
+OPENS(openat, "openat", directory, MODE_BEHIND(flags), (int directory, const char *path, int flags, ...))
 /* The same where a program was built with _FORTIFY_SOURCE. */
-int __open_2(const char *path, int flags)
-{
-    LOOK;
-    return open_in("open", AT_FDCWD, path, flags, 0);
-}
-
-int __openat_2(int directory, const char *path, int flags)
-{
-    LOOK;
-    return open_in("openat", directory, path, flags, 0);
-}
+OPENS(__open_2, "open", AT_FDCWD, 0, (const char *path, int flags))
+OPENS(__openat_2, "openat", directory, 0, (int directory, const char *path, int flags))
 
 /* Whether a record is written: the label of a field, a number, and two lines of hexadecimal digits. */
 static int is_record(const char *bytes, size_t length)
@@ -309,13 +297,6 @@ static int is_left_out(int fd, const char *step, const char *call, const char *m
     return 0;
 }
 
-int flock(int fd, int operation)
-{
-    LOOK;
-    wait_first();
-    return is_left_out(fd, "lock", "lock", "") ? 0 : is_broken("flock") ? -1 : REAL(flock)(fd, operation);
-}
-
 int fchmod(int fd, mode_t mode)
 {
     LOOK;
@@ -325,25 +306,20 @@ int fchmod(int fd, mode_t mode)
     return is_left_out(fd, "permissions", "permissions", more) ? 0 : is_broken("fchmod") ? -1 : REAL(fchmod)(fd, mode);
 }
 
-int fchown(int fd, uid_t owner, gid_t group)
-{
-    LOOK;
-    return is_left_out(fd, "owner", "owner", "") ? 0 : is_broken("fchown") ? -1 : REAL(fchown)(fd, owner, group);
-}
+#define BREAKS_AFTER(first, broken, answer, name, parameters, arguments)                  \
+    answer name parameters                                                                \
+    {                                                                                     \
+        LOOK;                                                                             \
+        first;                                                                            \
+        return broken(#name) ? (answer)-1 : REAL(name) arguments;                         \
+    }
 
-int unlink(const char *path)
-{
-    LOOK;
-    say("remove", last_part(path), "");
-    return is_broken("unlink") ? -1 : REAL(unlink)(path);
-}
+#define TELLS(first, answer, name, parameters, arguments) BREAKS_AFTER(first, is_broken, answer, name, parameters, arguments)
 
-int unlinkat(int directory, const char *path, int flags)
-{
-    LOOK;
-    say("remove", last_part(path), "");
-    return is_broken("unlinkat") ? -1 : REAL(unlinkat)(directory, path, flags);
-}
+TELLS(wait_first(); if (is_left_out(fd, "lock", "lock", "")) return 0, int, flock, (int fd, int operation), (fd, operation))
+TELLS(if (is_left_out(fd, "owner", "owner", "")) return 0, int, fchown, (int fd, uid_t owner, gid_t group), (fd, owner, group))
+TELLS(say("remove", last_part(path), ""), int, unlink, (const char *path), (path))
+TELLS(say("remove", last_part(path), ""), int, unlinkat, (int directory, const char *path, int flags), (directory, path, flags))
 
 /* == Calls that are broken alone == */
 
@@ -382,10 +358,7 @@ int getentropy(void *bytes, size_t length)
     LOOK;
     if (is_broken("getentropy"))
         return -1;
-    if (!getenv("DRAW_ZEROS"))
-        return REAL(getentropy)(bytes, length);
-    memset(bytes, 0, length);
-    return 0;
+    return getenv("DRAW_ZEROS") ? (memset(bytes, 0, length), 0) : REAL(getentropy)(bytes, length);
 }
 
 struct dirent *readdir(DIR *entries)
@@ -394,15 +367,8 @@ struct dirent *readdir(DIR *entries)
     return is_broken_if_named("readdir") ? NULL : REAL(readdir)(entries);
 }
 
-#define BREAKS_WHERE(broken, answer, name, parameters, arguments)                         \
-    answer name parameters                                                                \
-    {                                                                                     \
-        LOOK;                                                                             \
-        return broken(#name) ? (answer)-1 : REAL(name) arguments;                         \
-    }
-
-#define BREAKS(answer, name, parameters, arguments) BREAKS_WHERE(is_broken, answer, name, parameters, arguments)
-#define BREAKS_IF_NAMED(answer, name, parameters, arguments) BREAKS_WHERE(is_broken_if_named, answer, name, parameters, arguments)
+#define BREAKS(answer, name, parameters, arguments) BREAKS_AFTER(, is_broken, answer, name, parameters, arguments)
+#define BREAKS_IF_NAMED(answer, name, parameters, arguments) BREAKS_AFTER(, is_broken_if_named, answer, name, parameters, arguments)
 
 BREAKS(int, renameat2, (int from_directory, const char *from, int to_directory, const char *to, unsigned flags), (from_directory, from, to_directory, to, flags))
 BREAKS(int, linkat, (int from_directory, const char *from, int to_directory, const char *to, int flags), (from_directory, from, to_directory, to, flags))

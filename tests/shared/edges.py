@@ -26,8 +26,9 @@ def vectors():
 def texts(comment, key, algorithm, signature):
     """The texts of a public key, and of a signature by this algorithm of the data and of the comment."""
     record = lambda algorithm, rest: base64.b64encode(algorithm + KEY_ID + rest)
-    lines = [b"untrusted comment: " + comment, record(algorithm, signature), b"trusted comment: t", base64.b64encode(signature)]
-    return b"untrusted comment: %s\n%s\n" % (comment, record(b"Ed", key)), b"".join(line + b"\n" for line in lines)
+    first = b"untrusted comment: " + comment
+    lines = [first, record(algorithm, signature), b"trusted comment: t", base64.b64encode(signature)]
+    return first + b"\n" + record(b"Ed", key) + b"\n", b"".join(line + b"\n" for line in lines)
 
 
 def texts_for_every_file():

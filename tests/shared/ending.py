@@ -21,8 +21,8 @@ def check(name, run, *stops):
 
 
 def main(name, run, *stops):
-    """The same of a function that is given the directory alone: it returns the failures, how many cases there were, and where it
-    has them how many differ by intent, by their names."""
+    """The same of a function that is given the directory alone: it returns the failures, how many cases there were, and where
+    it has them how many differ by intent, by their names."""
 
     def run_cases(checks, room):
         checks.failures, count, *shown = run(room)

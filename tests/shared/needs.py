@@ -152,6 +152,7 @@ def chromium():
 def python_with_selenium():
     """The path of a Python that has selenium: this one, or Debian's."""
     def has_selenium(python):
-        return os.path.exists(python) and subprocess.run([python, "-c", "import selenium"], stderr=subprocess.DEVNULL).returncode == 0
+        command = [python, "-c", "import selenium"]
+        return os.path.exists(python) and subprocess.run(command, stderr=subprocess.DEVNULL).returncode == 0
 
     return need(lambda: next(filter(has_selenium, (sys.executable, "/usr/bin/python3")), None), "selenium", "python3-selenium")
