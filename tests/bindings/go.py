@@ -43,7 +43,7 @@ LINES = 500
 # What tools/bindings.py makes.
 MADE = ("errors.go", "header.go")
 # How many pages of 4 KiB may be in memory after so many calls, or keys, that were not after a tenth of them.
-CALLS, PAGES = 20_000, 100
+CALLS, PAGES = 50_000, 256
 KEYS, PAGES_OF_KEYS = 20_000, 512
 # go-minisign, as Debian has it, below a directory of sources.
 SOURCES, GO_MINISIGN = "/usr/share/gocode", "github.com/jedisct1/go-minisign"
