@@ -176,7 +176,8 @@ class Breaking(Programs):
     def ended_by_signal(self, task, number):
         """A run gets a signal when it brings its file to the disk or puts it in its place: nothing is left beside it."""
         directory = self.fresh(task.files)
-        ran = self.run_broken(directory, task.arguments, {"AT": 1, "CALLS": "fsync linkat rename renameat renameat2", "SIGNAL": int(number)})
+        calls = "fsync linkat rename renameat renameat2"
+        ran = self.run_broken(directory, task.arguments, {"AT": 1, "CALLS": calls, "SIGNAL": int(number)})
         expect(ran.status == -number and task.check(directory) == 0, ran)
 
     def keeps_permissions(self, task, mode):
@@ -261,17 +262,18 @@ class Breaking(Programs):
         pair, replaced, changed, _, new, over, several = found = tasks(self.keys)
         older, some = (replaced, changed, over, several), (pair, replaced, changed, over)
         unnamed = {"LD_PRELOAD": self.preload, "BREAK_UNNAMED": "1"}
+        half_way, ends = partial(self.failing_writes, SHORT=1), (signal.SIGTERM, signal.SIGINT, signal.SIGHUP)
         for what, which, run, *given in (
             ("killed", found, self.killed), ("killed, and named by its path", found, partial(self.killed, by_path=True)),
             ("and a call fails", found, self.failing, errno.EIO),
             ("and a write fails by ENOSPC", found, self.failing_writes, errno.ENOSPC),
             ("and a write fails by EDQUOT", found, self.failing_writes, errno.EDQUOT),
-            ("and a write fails half way", found, partial(self.failing_writes, SHORT=1), errno.ENOSPC),
-            ("named by its path, and a write fails half way", found, partial(self.failing_writes, by_path=True, SHORT=1), errno.ENOSPC),
+            ("and a write fails half way", found, half_way, errno.ENOSPC),
+            ("named by its path, and a write fails half way", found, partial(half_way, by_path=True), errno.ENOSPC),
             ("and an allocation fails", found, self.refused_allocations),
             ("on a full disk", found, self.on_full_disk), ("with a bound on files", found, self.within_file_size),
             ("through links", found, self.through_links),
-            *((f"and {number.name}", found, self.ended_by_signal, number) for number in (signal.SIGTERM, signal.SIGINT, signal.SIGHUP)),
+            *((f"and {number.name}", found, self.ended_by_signal, number) for number in ends),
             ("at once", older, self.at_once), ("at once", [pair], self.first_alone),
             ("keeping its permissions", [over], self.keeps_permissions, 0o640),
             ("keeping its permissions", [changed], self.keeps_permissions, 0o400 if os.geteuid() == 0 else 0o600),

@@ -28,8 +28,8 @@ ROWS, MEBIBYTES = "16", 68
 LARGE, BLOCK = 2000003, 4096
 NEW_PAIR, SEALED = ("-G", "-p", "a.pub", "-s", "a.key"), ("-Sm", "data", "-s", CLOSED)
 
-# What a shell does with a program that it starts in the foreground or in the background of its terminal: where that is stopped it looks
-# by what, and whether the terminal shows what is typed, and has it go on in the foreground a while later.
+# What a shell does with a program that it starts in the foreground or in the background of its terminal: where that is stopped
+# it looks by what, and whether the terminal shows what is typed, and has it go on in the foreground a while later.
 SHELL = """
 import os, signal, sys, termios, time
 how, program, *arguments = sys.argv[1:]
@@ -102,8 +102,8 @@ class Safety(Terminals):
 
     # ---- Passwords ----
 
-    @case("the terminal after {0.name} {1!r}", *((number, b"") for number in (signal.SIGINT, signal.SIGTERM, signal.SIGHUP, signal.SIGQUIT)),
-          (signal.SIGINT, b"\x03"))
+    @case("the terminal after {0.name} {1!r}", (signal.SIGINT, b"\x03"),
+          *((number, b"") for number in (signal.SIGINT, signal.SIGTERM, signal.SIGHUP, signal.SIGQUIT)))
     def echo_after(self, number, key):
         """A signal while a password is typed ends the program, or the key of a person for it, and the terminal shows again what is
         typed."""
@@ -156,7 +156,8 @@ class Safety(Terminals):
             at.process.send_signal(number)
             at.process.wait(SECONDS)
             status, found = at.end(), read(says)
-            expect(status == -number and re.search(rb"\+!\+!-$", found), f"it ended with {status}, and {secret!r} was found so: {found[-20:]}")
+            expect(status == -number and re.search(rb"\+!\+!-$", found),
+                   f"it ended with {status}, and {secret!r} was found so: {found[-20:]}")
 
     @case("what is after the line of a password is left on the pipe")
     def passwords_apart(self):
@@ -176,7 +177,7 @@ class Safety(Terminals):
         directory = self.directory(**{"default.key": files["a.key"][1], "default.pub": files["a.pub"][1]})
         for arguments, typed in ((("-Sm", "data"), b"p\n"), (("-C",), b"p\nq\nq\n")):
             status, kibibytes, said = with_memory([self.program, *arguments, "-s", "default.key", "-k", ROWS], directory, typed)
-            expect(status == 0 and kibibytes <= 1024 * MEBIBYTES, f"{arguments}: it ended with {status} and took {kibibytes} KiB: {said!r}")
+            expect(status == 0 and kibibytes <= 1024 * MEBIBYTES, arguments, f"it ended with {status} and took {kibibytes} KiB: {said!r}")
         self.expect_accepted(directory, "default.pub")
         ran = self.theirs(directory, "-Sm", "more", "-s", "default.key", typed=b"q\n")
         expect(ran.status == 0, "Minisign does not open what was changed", ran)
@@ -232,9 +233,9 @@ class Safety(Terminals):
             output, _ = process.communicate(timeout=SECONDS)
             return process.returncode, output, said.result()
 
-    @case("data that is {0} before it is copied", ("changed", 1000000, b"changed"), ("changed in its order", 256 * BLOCK, block(257) + block(256)),
-          ("changed at its end", LARGE - 1, b"\1"), ("longer", LARGE, b"\0"), ("cut", 1000000, b""), ("cut at a zero", LARGE - 1, b""),
-          ("emptied", 0, b""))
+    @case("data that is {0} before it is copied", ("changed", 1000000, b"changed"), ("changed at its end", LARGE - 1, b"\1"),
+          ("changed in its order", 256 * BLOCK, block(257) + block(256)), ("longer", LARGE, b"\0"), ("cut", 1000000, b""),
+          ("cut at a zero", LARGE - 1, b""), ("emptied", 0, b""))
     def changed_while_copied(self, _, at, written):
         """After it was verified something is written there, or it is cut there: what is copied is the front of what was verified, and
         it ends badly."""
@@ -254,13 +255,12 @@ class Safety(Terminals):
                and said.endswith(b"\nData changed between verification and output\n"),
                f"it ended with {status}, copied {len(output)} bytes, and said {said[-100:]}")
 
-    @case("data that is replaced before it is copied, {0} {3}", ("ours", 1, b"", ""), ("theirs", 0, DATA["more"], ""), ("ours", 0, DATA["data"], "-l"))
-    def replaced_while_copied(self, which, *wanted):
+    @case("data that is replaced before it is copied, {0}", ("ours", 1, b""), ("theirs", 0, DATA["more"]), ("ours", 0, DATA["data"], "-l"))
+    def replaced_while_copied(self, which, wanted, copied, *flags):
         """Of a legacy signature ours copies what was verified, and Minisign what is there."""
-        *wanted, flags = wanted
-        directory = self.signed(*filter(None, [flags]))
-        status, output, _ = self.copied(getattr(self.whole, which), directory, "data", lambda path: write("", path, DATA["more"]))
-        expect([status, output] == wanted, f"it ended with {status} and copied {output!r}")
+        program, change = getattr(self.whole, which), lambda path: write("", path, DATA["more"])
+        status, output, _ = self.copied(program, self.signed(*flags), "data", change)
+        expect((status, output) == (wanted, copied), f"it ended with {status} and copied {output!r}")
 
     @case("tags of pieces")
     def tags_of_pieces(self):
@@ -273,7 +273,7 @@ class Safety(Terminals):
             for length in (0, 1, 8, 15, 16, 17, 4095, 4096, 4097, 70000, 131071, 131072):
                 piece = os.urandom(length)
                 ran = run_program([program], self.room, key + piece)
-                expect(ran.status == 0 and int(ran.output, 16) == tag_of(key, piece), f"{length} bytes have the tag {ran.output}, {flags}")
+                expect(ran.status == 0 and int(ran.output, 16) == tag_of(key, piece), flags, f"the tag of {length} bytes is {ran.output}")
 
     @case("data of {0} bytes is copied whole", 4096, 4097, 131071, 131072, 131073, 262144, 1048576, 1500001)
     def copies_large_files(self, length):

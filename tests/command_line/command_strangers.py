@@ -9,6 +9,7 @@ of the system's settings (`fs.protected_regular`, `fs.protected_fifos`, `fs.prot
 import contextlib
 import os
 import pty
+import re
 import signal
 import stat
 import subprocess
@@ -20,7 +21,7 @@ from permissions import list_of
 from process import run_program
 from running import NOBODY, Failure, expect, read, run_one, set_list
 from command_breaking import is_public, is_secret, is_signature
-from command_running import CLOSED, OPEN, PASSED_THROUGH, PASSWORD, PUBLIC, Programs, case, expect_question, put_files
+from command_running import CLOSED, OPEN, PASSED_THROUGH, PASSWORD, PUBLIC, Programs, case, expect_end, expect_question, put_files
 
 # A run that does not end within so many seconds waits for somebody.
 SECONDS = 20
@@ -130,7 +131,8 @@ class Strangers(Programs):
     def run_as(self, user, directory, arguments, **how):
         """Runs as a user in a directory, with nothing typed."""
         try:
-            return run_program([self.program, *arguments], directory, seconds=SECONDS, user=user, group=user, extra_groups=[], **how)
+            who = {"user": user, "group": user, "extra_groups": []}
+            return run_program([self.program, *arguments], directory, seconds=SECONDS, **who, **how)
         except subprocess.TimeoutExpired as why:
             raise Failure("it waits for a stranger") from why
 
@@ -155,8 +157,8 @@ class Strangers(Programs):
         expect(ran.status == 0, ran)
         command.judge(came if standing.what == PIPE else read(path))
         found = os.stat(path)
-        expect(standing.what == PIPE or found.st_uid == owner, f"it is {found.st_uid}'s in place of {owner}'s")
-        expect(standing.what == PIPE or not command.is_secret or stat.S_IMODE(found.st_mode) == 0o600, f"its mode is {found.st_mode:o}")
+        is_kept = found.st_uid == owner and (not command.is_secret or stat.S_IMODE(found.st_mode) == 0o600)
+        expect(standing.what == PIPE or is_kept, f"it is {found.st_uid}'s in place of {owner}'s, with the mode {found.st_mode:o}")
 
     # ---- What comes while a password is typed ----
 
@@ -165,8 +167,8 @@ class Strangers(Programs):
         directory, path = self.around()
         at = self.asked(directory, *arguments)
         reader = standing.make(path, OLDER)
-        ended = answer(at, typed)
-        expect(ended == status and said.encode() in at.shown and not take(reader), f"it ended with {ended}, and showed {at.shown!r}")
+        expect_answered(at, typed, status, said)
+        expect(not take(reader), "it is written into the pipe")
         standing.expect_untouched(path, OLDER)
 
     def swapped_meanwhile(self, arguments, typed):
@@ -178,9 +180,8 @@ class Strangers(Programs):
         at = self.asked(directory, *arguments, LD_PRELOAD=self.preload, BREAK_AT="1", BREAK_CALLS="write")
         os.rename(path, path + ".older")
         Standing(FILE, STRANGER).make(path, b"his")
-        ended = answer(at, typed)
-        expect(ended == 2 and f"shared/it: {NOW_ANOTHERS}".encode() in at.shown and read(path) == b"his",
-               f"it ended with {ended}, and showed {at.shown!r}")
+        expect_answered(at, typed, 2, f"shared/it: {NOW_ANOTHERS}")
+        expect(read(path) == b"his", "his file was changed")
 
     def at_each_opening(self, own, strangers):
         """Runs for a new secret key, in a directory where all may do all: before each call that opens something, the stranger puts
@@ -188,10 +189,10 @@ class Strangers(Programs):
         for number in range(1, MAX_OPENINGS):
             directory, path = self.around(mode=0o777)
             readers = [own.make(path, OLDER)]
-            stopping = {"AT": number, "CALLS": "open openat", "SIGNAL": int(signal.SIGSTOP), "GOES_ON": 1}
+            stopping = {"BREAK_AT": str(number), "BREAK_CALLS": "open openat", "BREAK_SIGNAL": str(int(signal.SIGSTOP)), "BREAK_GOES_ON": "1"}
             process = subprocess.Popen([self.program, *self.secret.at("shared/it")], cwd=directory, stdin=subprocess.DEVNULL,
                                        stdout=subprocess.DEVNULL, stderr=subprocess.PIPE,
-                                       env={"LD_PRELOAD": self.preload, **{f"BREAK_{name}": str(value) for name, value in stopping.items()}})
+                                       env={"LD_PRELOAD": self.preload, **stopping})
 
             def swap():
                 os.rename(path, path + ".own")
@@ -347,11 +348,13 @@ class Strangers(Programs):
         for command in self.commands:
             for what in (FILE, PIPE, UNREAD):
                 for user in (ROOT, USER):
-                    yield f"{command.name} by {user}, over a stranger's {what}", self.rejected, user, command, Standing(what, STRANGER)
+                    there = Standing(what, STRANGER)
+                    yield f"{command.name} by {user}, over a stranger's {what}", self.rejected, user, command, there
                 for where, *around in (("in another's directory", OWNER), ("where a group may write", ROOT, 0o1775)):
                     yield (f"{command.name}, over a stranger's {what} {where}",
                            self.rejected, ROOT, command, Standing(what, STRANGER, *around))
-        for name, *arguments in (("a new secret key", "-Gf", "-p", "own/a.pub", "-s", "it"), ("a new public key", "-Gf", "-p", "it", "-s", "own/a.key"),
+        for name, *arguments in (("a new secret key", "-Gf", "-p", "own/a.pub", "-s", "it"),
+                                 ("a new public key", "-Gf", "-p", "it", "-s", "own/a.key"),
                                  ("a public key written again", "-Rf", "-p", "it", "-s", "own/closed.key")):
             yield (f"{name}, rejected before a password is asked for",
                    self.rejected, ROOT, Command(name, arguments), Standing(FILE, STRANGER))
@@ -368,15 +371,17 @@ class Strangers(Programs):
                 run, *owner = (self.rejected,) if command.is_secret else (self.accepted, OWNER)
                 yield (f"{command.name}, over a {what} of the directory's owner",
                        run, ROOT, command, Standing(what, OWNER, OWNER), *owner)
+        there = Standing(PIPE, ROOT, OWNER)
         for command in (self.signature, self.secret):
-            yield f"{command.name}, into a pipe of root's in another's directory", self.accepted, USER, command, Standing(PIPE, ROOT, OWNER)
+            yield f"{command.name}, into a pipe of root's in another's directory", self.accepted, USER, command, there
 
     def elsewhere(self):
         """A stranger's file or pipe in directories where others may not write, or may remove what they like."""
         for where, owner, mode in (("that others may not write", ROOT, 0o1755), ("where all may remove", ROOT, 0o777),
                                    ("of his own", STRANGER, 0o755)):
             file, pipe = Standing(FILE, STRANGER, owner, mode), Standing(PIPE, STRANGER, owner, mode)
-            for command, kept_by, run, *why in ((self.signature, STRANGER, self.accepted), (self.secret, ROOT, self.rejected, TO_ANOTHER)):
+            for command, kept_by, run, *why in ((self.signature, STRANGER, self.accepted),
+                                                (self.secret, ROOT, self.rejected, TO_ANOTHER)):
                 yield f"{command.name} over a stranger's file in a directory {where}", self.accepted, ROOT, command, file, kept_by
                 yield f"{command.name} into a stranger's pipe in a directory {where}", run, ROOT, command, pipe, *why
 
@@ -444,12 +449,12 @@ def everything(directory):
     return found
 
 
-def answer(at, typed):
-    """Types a line at each question, of which the first one stands there, and waits for the end: the exit status."""
+def expect_answered(at, typed, status, said):
+    """With a line typed at each question, of which the first one stands there, it ends so and says this."""
     for number, line in enumerate(typed, 1):
         expect_question(at, number)
         at.type(line)
-    return at.finish()
+    expect_end(at, status, re.escape(said.encode()))
 
 
 def expect_rejected(ran, came, name, why):

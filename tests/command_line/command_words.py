@@ -258,7 +258,7 @@ def wrong_texts(keys, signature):
 
 
 def damaged_keys(text):
-    """Texts that read as no key, and the two lines, or the only one, that are said of each."""
+    """Texts that read as no key, and the two lines that are said of each."""
     record, loading = with_checksum(record_of(text)), b"Error while loading the secret key file"
     text, damage = text_of(record), b"this secret key is damaged: "
     closed, number = record_of(sealed(text, PASSWORD)), lambda value: value.to_bytes(8, "little")
@@ -270,7 +270,7 @@ def damaged_keys(text):
         (text[:-3] + b"!=\n", no_base64, damage + b"its second line is not base64"),
         (text.replace(b"\n", b"\n ", 1), no_base64, damage + b"its second line is not base64"),
         (text_of(record[:-1]), no_base64, damage + b"its second line is too short"),
-        (b"\xff" + text, NOT_UTF8),
+        (b"\xff" + text, NOT_UTF8, damage + b"it is not UTF-8"),
         *((text_of(turned(record, at)), b"Corrupted key", damage + b"its checksum is wrong")
           for at in (0, 1, 54, 61, 62, 93, 94, 125, 126, 157)),
         (text_of(record[:2] + b"XX" + record[4:]), b"Unsupported key derivation function", damage + b"its second line names another key derivation"),

@@ -18,7 +18,6 @@ It installs what is missing if it may.
 import concurrent.futures
 import os
 import random
-import stat
 import subprocess
 import sys
 import tempfile
@@ -30,11 +29,11 @@ sys.path += [os.path.join(HERE, "..", name) for name in ("shared", "verdicts", "
 import ending
 import needs
 from process import run_program
-from running import Failure, build_preload, expect, read
+from running import Failure, Link, build_preload, expect
 from command_breaking import STAGE, is_secret
 from command_cases import keys_of
 from command_line import build_program, heed_signals
-from command_running import CLOSED, DATA, HOME, OPEN, OTHER, PASSWORD, PUBLIC, Step, Whole, put_files, run_steps
+from command_running import CLOSED, DATA, HOME, OPEN, OTHER, PASSWORD, PUBLIC, Step, Whole, files_in, put_files, run_steps
 
 LINES = 2000
 # After so many seconds no further line is begun; fewer lines than this are too few.
@@ -54,6 +53,7 @@ PUBLICS = [PUBLIC, OTHER, "cut.pub", "link.pub"]
 SIGNATURES = ["data.minisig", "legacy.minisig", "more.minisig", "cut.minisig"]
 COMMENTS = ["a comment", "", " ", "a\nb", "a\rb", b"\xff", "\u00e9\u20ac", "t" * 1003, "t" * 1004, "t" * 8173, "t" * 8174, "tab\there", "end "]
 TYPED = [PASSWORD + b"\n", b"wrong\n", b"\n", b"", b"\0\n", b"\xff\n", b"x" * 1023 + b"\n", b"x" * 3000 + b"\n", PASSWORD]
+LINKS = {"link": Link("data"), "dangling": Link("made"), "link.key": Link(OPEN), "link.pub": Link(PUBLIC)}
 # Of each command the flags that name files, how often, the usual names, and what becomes of those; and what it writes by
 # default.
 READ, SIGNED, WRITTEN = "it is read", "a signature is written beside it", "it is written"
@@ -87,11 +87,6 @@ class Directory:
                       "wide": keys[PUBLIC].decode().encode("utf-16"), "end ": b"end", "odd\x1b\u202ename": b"odd", os.fsdecode(b"caf\xe9"): b"latin",
                       "home/.minisign/minisign.key": keys[OPEN], "minisign.pub": keys[PUBLIC]}
         self.secrets = [keys[OPEN], keys[CLOSED]]
-
-    def make(self, directory):
-        put_files(directory, self.files)
-        for name, target in (("link", "data"), ("dangling", "made"), ("link.key", OPEN), ("link.pub", PUBLIC)):
-            os.symlink(target, os.path.join(directory, name))
 
 
 class Line:
@@ -176,20 +171,15 @@ def beside(name):
 def check_files(before, directory, line):
     """What the line may not do to the files."""
     outputs = {os.path.realpath(os.path.join(directory, os.fsdecode(name))) for name in line.outputs}
-    found = {}
-    for at, _, names in os.walk(directory):
-        for name in names:
-            path = os.path.join(at, name)
-            expect(not name.startswith(STAGE), f"it left {name}")
-            if not os.path.islink(path):
-                found[os.path.relpath(path, directory)] = read(path)
+    found = {name: held for name, held in files_in(directory).items() if isinstance(held[1], bytes)}
     for name, data in before.files.items():
         expect(name in found, f"{name!r} is gone")
-        expect(found[name] == data or os.path.realpath(os.path.join(directory, name)) in outputs, f"{name!r} was changed")
+        expect(found[name][1] == data or os.path.realpath(os.path.join(directory, name)) in outputs, f"{name!r} was changed")
         if data in before.secrets and (name == line.value_of("-s") and line.command != "G" or line.command == "C"):
-            is_secret(found[name])
-    for name, data in found.items():
-        mode, older = stat.S_IMODE(os.stat(os.path.join(directory, name)).st_mode), before.files.get(name)
+            is_secret(found[name][1])
+    for name, (mode, data) in found.items():
+        older = before.files.get(name)
+        expect(not os.path.basename(name).startswith(STAGE), f"it left {name}")
         expect(not data.startswith(b"untrusted comment: minisign encrypted secret key") or data == older or mode == 0o600,
                f"{name!r} has the mode {mode:o}")
         expect(data != b"" or older == b"", f"{name!r} is empty")
@@ -198,7 +188,7 @@ def check_files(before, directory, line):
 def check_line(before, line):
     """Raises a `Failure` where a line does something that it may not."""
     with tempfile.TemporaryDirectory(prefix="random-line-") as directory:
-        before.make(directory)
+        put_files(directory, {**before.files, **LINKS})
         ran = line.run(before.whole.ours, directory)
         expect(ran.status in (0, 1, 2) and not any(word in ran.said for word in REPORTS),
                f"it ended with {ran.status}, and said {ran.said[-1500:].decode(errors='replace')}")
@@ -246,7 +236,7 @@ def run_all(seed, numbers, room):
 
 def main(words):
     seed = int(words[0]) if words else random.SystemRandom().randrange(2**32)
-    numbers = [int(words[1])] if len(words) > 1 else list(range(LINES))
+    numbers = [int(words[1])] if len(words) > 1 else range(LINES)
     print(f"seed {seed}", flush=True)
     return ending.main("random-lines", lambda room: run_all(seed, numbers, room), RuntimeError)
 

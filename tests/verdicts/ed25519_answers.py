@@ -39,11 +39,11 @@ def put(room, key, signature, data):
 
 
 def vector_failures(room, verifying):
-    """What is wrong with the answers to the vectors, of the libsodium that the programs are built over, the program of c/, and the
-    program in Python."""
+    """What is wrong with the answers to the vectors: of the libsodium that the programs are built over, and of two programs."""
     source = write(room, "all.c", b"#include <sodium.h>\nint main(void) { return 0; }\n")
-    subprocess.run([needs.libsodium(), "-shared", "-fPIC", "-o", f"{room}/all.so", source, "-Wl,--no-as-needed", "-lsodium"], check=True)
-    sodium, by_python, failures = ctypes.CDLL(f"{room}/all.so"), installed_verify.opened_sodium(), []
+    made = f"{room}/all.so"
+    subprocess.run([needs.libsodium(), "-shared", "-fPIC", "-o", made, source, "-Wl,--no-as-needed", "-lsodium"], check=True)
+    sodium, by_python, failures = ctypes.CDLL(made), installed_verify.opened_sodium(), []
     for vector in edges.vectors():
         key, signature, message = (bytes.fromhex(vector[part]) for part in ("A", "sig", "msg"))
         paths, accepts = put(room, *edges.legacy_texts(vector), message), vector["sodium"]
@@ -76,7 +76,8 @@ def run_all(room):
     programs = build_programs(room)
     verifying = [programs.ours, "-V", "-p", "{key}", "-m", "{data}", "-x", "{signature}"]
     commands = {"c/minisign": verifying, "examples/rust": [programs.verify_rust, "{key}", "{data}", "{signature}"],
-                "Python": [sys.executable, installed_verify.__file__, f"{room}/c/libminisign.so", "{key}", "{data}", "{signature}"]}
+                "Python": [sys.executable, installed_verify.__file__, f"{room}/c/libminisign.so", "{key}", "{data}",
+                           "{signature}"]}
     failures = vector_failures(room, verifying) + every_file_failures(room, commands)
     return failures, 3 * len(edges.vectors()) + 3 * len(commands)
 

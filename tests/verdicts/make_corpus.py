@@ -81,7 +81,8 @@ def answer_of(program, directory, row):
     for name, kept in zip(("minisign.pub", "data", "data.minisig"), row):
         shutil.copyfile(os.path.join(directory, kept), os.path.join(made, name))
     ran = run_program([program, "-V", "-p", "minisign.pub", "-x", "data.minisig", "-m", "data"], made)
-    return {**dict(zip(("key", "data", "signature"), row)), "status": ran.status, "output": ran.output.decode("latin-1"), "said": ran.said.decode("latin-1")}
+    return {"key": row[0], "data": row[1], "signature": row[2], "status": ran.status,
+            "output": ran.output.decode("latin-1"), "said": ran.said.decode("latin-1")}
 
 
 def main(directory):
