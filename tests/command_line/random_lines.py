@@ -155,10 +155,6 @@ class Line:
         names = (os.path.join(os.fsencode(directory), os.fsencode(name)) for name in self.arguments[1:])
         return self.has("-H") or any(map(os.path.isdir, names))
 
-    def is_plain(self):
-        """Whether Minisign has the same flags, and takes no name more than ours."""
-        return not self.has("-k", "-K", "-G", "-S", "-Z", "-v", "-h", "--", "-") and self.arguments.count("-V") == 1
-
     def run(self, program, directory):
         return run_program([program, *self.arguments], directory, self.typed, SECONDS_OF_LINE, env=ENVIRONMENT)
 
@@ -198,7 +194,8 @@ def check_line(before, line):
         if line.command == "S" and ran.status == 0 and not line.has("-v", "-p", "-P", "-x") and data not in (None, *line.outputs):
             theirs = run_program([before.whole.theirs, "-Vm", data, "-P", before.inline], directory, seconds=SECONDS_OF_LINE)
             expect(theirs.status == 0, "Minisign does not verify what was signed", theirs)
-        if line.command == "V" and line.is_plain():
+        # (Minisign has the same flags, and takes no name more than ours)
+        if line.command == "V" and line.arguments.count("-V") == 1 and not line.has("-k", "-K", "-G", "-S", "-Z", "-v", "-h", "--", "-"):
             theirs = line.run(before.whole.theirs, directory)
             is_same_verdict = (theirs.status == 0) == (ran.status == 0)
             expect(theirs.status == ran.status or is_same_verdict and line.may_be_tested_in_another_order(directory),
