@@ -171,13 +171,14 @@ class Strangers(Programs):
         expect(not take(reader), "it is written into the pipe")
         standing.expect_untouched(path, OLDER)
 
-    def swapped_meanwhile(self, arguments, typed):
+    @case("a key changed by {0} that is swapped meanwhile", ("-CW", PASSWORD + b"\n"), ("-C", PASSWORD + b"\n", b"p\n", b"p\n"))
+    def swapped_meanwhile(self, flags, *typed):
         """In a directory where all may do all: a stranger puts a file of his in the place of root's key while its password is typed.
         It is not made his: it is written into no file, before which the program would be killed."""
         directory, path = self.around(mode=0o777)
         put_files(directory, {"shared/it": self.keys[CLOSED]})
         os.chmod(path, 0o600)
-        at = self.asked(directory, *arguments, LD_PRELOAD=self.preload, BREAK_AT="1", BREAK_CALLS="write")
+        at = self.asked(directory, flags, "-s", "shared/it", LD_PRELOAD=self.preload, BREAK_AT="1", BREAK_CALLS="write")
         os.rename(path, path + ".older")
         Standing(FILE, STRANGER).make(path, b"his")
         expect_answered(at, typed, 2, f"shared/it: {NOW_ANOTHERS}")
@@ -347,12 +348,11 @@ class Strangers(Programs):
         """A stranger's file or pipe: each command, by root and by another user."""
         for command in self.commands:
             for what in (FILE, PIPE, UNREAD):
-                for user in (ROOT, USER):
-                    there = Standing(what, STRANGER)
-                    yield f"{command.name} by {user}, over a stranger's {what}", self.rejected, user, command, there
-                for where, *around in (("in another's directory", OWNER), ("where a group may write", ROOT, 0o1775)):
-                    yield (f"{command.name}, over a stranger's {what} {where}",
-                           self.rejected, ROOT, command, Standing(what, STRANGER, *around))
+                for by, where, user, *around in ((f" by {ROOT}", "", ROOT), (f" by {USER}", "", USER),
+                                                 ("", " in another's directory", ROOT, OWNER),
+                                                 ("", " where a group may write", ROOT, ROOT, 0o1775)):
+                    there = Standing(what, STRANGER, *around)
+                    yield f"{command.name}{by}, over a stranger's {what}{where}", self.rejected, user, command, there
         for name, *arguments in (("a new secret key", "-Gf", "-p", "own/a.pub", "-s", "it"),
                                  ("a new public key", "-Gf", "-p", "it", "-s", "own/a.key"),
                                  ("a public key written again", "-Rf", "-p", "it", "-s", "own/closed.key")):
@@ -386,7 +386,7 @@ class Strangers(Programs):
                 yield f"{command.name} into a stranger's pipe in a directory {where}", run, ROOT, command, pipe, *why
 
     def meanwhile(self):
-        """What is made while a password is typed, without -f, and a key that is swapped then."""
+        """What is made while a password is typed, without -f."""
         for name, arguments, *typed in (
             ("a new secret key", ("-G", "-p", "own/a.pub", "-s", "shared/it"), b"p\n", b"p\n"),
             ("a public key written again", ("-R", "-p", "shared/it", "-s", "own/closed.key"), PASSWORD + b"\n"),
@@ -396,8 +396,6 @@ class Strangers(Programs):
                                             ("an own", ROOT, 1, "shared/it already exists.")):
                     yield (f"{name}, and {whose} {what} comes meanwhile",
                            self.made_meanwhile, arguments, typed, Standing(what, owner), *ends)
-        for flags, *typed in (("-CW", PASSWORD + b"\n"), ("-C", PASSWORD + b"\n", b"p\n", b"p\n")):
-            yield f"a key changed by {flags} that is swapped meanwhile", self.swapped_meanwhile, (flags, "-s", "shared/it"), typed
 
     def through_links(self):
         """Links of strangers, and those of others."""
