@@ -190,10 +190,10 @@ class Strangers(Programs):
         for number in range(1, MAX_OPENINGS):
             directory, path = self.around(mode=0o777)
             readers = [own.make(path, OLDER)]
-            stopping = {"BREAK_AT": str(number), "BREAK_CALLS": "open openat", "BREAK_SIGNAL": str(int(signal.SIGSTOP)), "BREAK_GOES_ON": "1"}
+            stopping = {"LD_PRELOAD": self.preload, "BREAK_AT": str(number), "BREAK_CALLS": "open openat",
+                        "BREAK_SIGNAL": str(int(signal.SIGSTOP)), "BREAK_GOES_ON": "1"}
             process = subprocess.Popen([self.program, *self.secret.at("shared/it")], cwd=directory, stdin=subprocess.DEVNULL,
-                                       stdout=subprocess.DEVNULL, stderr=subprocess.PIPE,
-                                       env={"LD_PRELOAD": self.preload, **stopping})
+                                       stdout=subprocess.DEVNULL, stderr=subprocess.PIPE, env=stopping)
 
             def swap():
                 os.rename(path, path + ".own")
@@ -411,7 +411,8 @@ class Strangers(Programs):
             ):
                 yield f"a stranger's link {name}, by {user}", self.by_link, user, written, links
             yield f"an own link to nothing yet, by {user}", self.by_link, user, "shared/link", [(user, *to_nothing[1:])], None
-        for name, written, link in (("to nothing yet", "shared/link", to_nothing), ("to a directory", "shared/link/made", to_directory)):
+        for name, written, link in (("to nothing yet", "shared/link", to_nothing),
+                                    ("to a directory", "shared/link/made", to_directory)):
             for suffix, *how in (("", None, OWNER), (", for a secret key", BY_LINK, OWNER, 0o1777, self.secret)):
                 yield f"a link of the directory's owner {name}{suffix}", self.by_link, ROOT, written, [(OWNER, *link[1:])], *how
         for name, *links in (
